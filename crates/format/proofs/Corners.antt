@@ -1,0 +1,92 @@
+-- Document 01's cases that are marked (P), as one table and one statement: every call in it gives the answer beside it.
+use Prim.Native.Nat.{ℕ}
+use Prim.Native.Char.{code}
+use Prim.Native.String.{String, [] as nil, _∷_ as cons}
+use mathlib.Core.Path.{_≡_, refl}
+use mathlib.Core.Bool.{Bool, true, false, _&&_}
+use mathlib.Core.List.{List, [], _∷_, _++_}
+use lib.Dec.{eqb}
+use Rattle.format.specs.Bytes.{same}
+use Rattle.format.specs.Calls as calls
+use Rattle.format.specs.Calls.{Answer, no, yes}
+
+-- the bytes of a text in ASCII
+ascii : String → List ℕ
+ascii nil = []
+ascii (cons c s) = code c ∷ ascii s
+
+-- a call, its arguments, and its answer; calls over a catalogue are given the one that reading the text gives
+pub data Case : Type 0 where
+  reading : String → Answer (List ℕ) → Case
+  looking : String → ℕ → ℕ → ℕ → ℕ → String → Case
+  leafing : String → Answer (List ℕ × ℕ) → Case
+  adding : String → String → Answer String → Case
+
+-- ---- the test
+
+sameAnswer : {A B : Type 0} → (A → B → Bool) → Answer A → Answer B → Bool
+sameAnswer e (no n l) (no m k) = eqb n m && eqb l k
+sameAnswer e (no n l) (yes b) = false
+sameAnswer e (yes a) (no m k) = false
+sameAnswer e (yes a) (yes b) = e a b
+
+listed : Answer (List ℕ) → List ℕ
+listed (no n l) = []
+listed (yes xs) = xs
+
+-- outputs with room for all
+own : List ℕ → List ℕ
+unfolding listed calls.reading
+own text = listed (calls.reading text 1000)
+
+holds : Case → Bool
+unfolding ascii sameAnswer own same calls.reading calls.looking calls.leafing calls.adding
+holds (reading t a) = sameAnswer same (calls.reading (ascii t) 1000) a
+holds (looking t k i a b v) = same (calls.looking (ascii t) (own (ascii t)) k i a b []) (ascii v)
+holds (leafing t a) = sameAnswer (λ x y. same (x .0) (y .0) && eqb (x .1) (y .1)) (calls.leafing (ascii t) (own (ascii t)) 1000) a
+holds (adding t p a) = sameAnswer (λ x y. same x (ascii y)) (calls.adding (ascii t) (own (ascii t)) (ascii p) [] 1000) a
+
+pub holdAll : List Case → Bool
+unfolding holds
+holdAll [] = true
+holdAll (c ∷ cs) = holds c && holdAll cs
+
+-- ---- the table
+
+pg0-pg3 : String
+pg0-pg3 = "@PG\tID:pg0\n@PG\tID:pg1\tPP:pg0\n@PG\tID:pg2\tPP:pg1\n@PG\tID:pg3\n"
+
+-- SN at offset 7, one byte, and LN in eight bytes, the largest number
+largest : List ℕ
+largest = 2 ∷ 7 ∷ 0 ∷ 0 ∷ 0 ∷ 1 ∷ 0 ∷ 0 ∷ 0 ∷ 255 ∷ 255 ∷ 255 ∷ 255 ∷ 255 ∷ 255 ∷ 255 ∷ 255 ∷ []
+
+-- version 1.6, no field
+one-six : List ℕ
+one-six = 1 ∷ 1 ∷ 0 ∷ 0 ∷ 0 ∷ 6 ∷ 0 ∷ 0 ∷ 0 ∷ []
+
+pub cases : List Case
+unfolding pg0-pg3 largest one-six
+cases =
+    reading "@SQ\tSN:s\tLN:0" (no 13 0)
+    ∷ reading "@SQ\tSN:s\tLN:8x" (no 6 0)
+    ∷ reading "@SQ\tSN:s\tLN:18446744073709551615" (yes largest)
+    ∷ reading "@SQ\tSN:s\tLN:18446744073709551616" (no 12 0)
+    ∷ reading "@HD" (no 15 0)
+    ∷ reading "@CO\t\n@HD\tVN:1.6\n" (no 17 1)
+    ∷ reading "\n" (no 3 0)
+    ∷ looking "@HD\tVN:1.5\tSO:unsorted\tSO:coordinate\n" 1 0 83 79 "coordinate"
+    ∷ reading "@HD\tVN:1.6\tSO:unsorted\tSO:coordinate\n" (no 14 0)
+    ∷ reading "@HD\tVN:1.5\tVN:1.6\n" (yes one-six)
+    ∷ leafing pg0-pg3 (yes (3 ∷ 2 ∷ [], 3))
+    ∷ adding pg0-pg3 "x" (yes "@PG\tID:pg0\n@PG\tID:pg1\tPP:pg0\n@PG\tID:pg2\tPP:pg1\n@PG\tID:pg3\n@PG\tID:x\tPP:pg3\n@PG\tID:x-pg2\tPP:pg2\n")
+    ∷ adding pg0-pg3 "pg0" (yes "@PG\tID:pg0\n@PG\tID:pg1\tPP:pg0\n@PG\tID:pg2\tPP:pg1\n@PG\tID:pg3\n@PG\tID:pg0-pg3\tPP:pg3\n@PG\tID:pg0-pg2\tPP:pg2\n")
+    ∷ leafing "@PG\tID:c\tPP:a\n@PG\tID:a\tPP:b\n@PG\tID:b\tPP:a\n" (no 23 0)
+    ∷ leafing "@PG\tID:a\tPP:a\n" (no 23 0)
+    ∷ leafing "@PG\tID:a\tPP:b\n" (no 22 0)
+    ∷ []
+
+-- ---- the statement
+
+pub corners : holdAll cases ≡ true
+unfolding holdAll cases
+corners = refl
