@@ -1,7 +1,7 @@
 -- A number at the front of a slice, and a number that is a whole slice. Assumes nothing.
 use Prim.Native.Nat.{ℕ, suc, _+_, _-_, _≤_, _<_}
 use mathlib.Core.Path.{_≡_, refl, sym, ap, _∙_}
-use mathlib.Core.Bool.{Bool, true, false, not, _&&_, cond}
+use mathlib.Core.Bool.{Bool, true, false, not, _&&_, cond, and-true, and-false}
 use mathlib.Core.List.{List, [], _∷_}
 use mathlib.Core.Option.{Option, none, some}
 use native.Mathlib.Omega.{arith}
@@ -105,5 +105,5 @@ unfolding front number digits
 number-front limit s = go (all digit s) refl
   where
     go : (t : Bool) → all digit s ≡ t → cond (not (none? s) && t && ltb (worth s) limit) (some (worth s)) none ≡ whole (length s) (counted limit (span s .0))
-    go true e = ?
-    go false e = ?
+    go true e = rw (and-true (not (none? s)), span-all s e) (sym (whole-all limit s))
+    go false e = rw (and-false (not (none? s))) (sym (whole-short limit (length s) (span s .0) (span-short s e)))
