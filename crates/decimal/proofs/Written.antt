@@ -58,12 +58,15 @@ written-rest (suc f) n rest = go (ltb n 10) (written-rest f (n / 10))
     go false ih =
         ih ((48 + n % 10) ∷ rest) ∙ sym (append-snoc (writtenF f (n / 10) []) (48 + n % 10) rest) ∙ ap (λ l. l ++ rest) (sym (ih ((48 + n % 10) ∷ [])))
 
+pub length-snoc : (xs : List ℕ) (d : ℕ) → length (xs ++ (d ∷ [])) ≡ suc (length xs)
+length-snoc xs d = length-append xs (d ∷ []) ∙ add-one _
+
 -- the last digit comes last
 last : (f n : ℕ) → 10 ≤ n → writtenF (suc f) n [] ≡ writtenF f (n / 10) [] ++ ((48 + n % 10) ∷ [])
 last f n h = large f n [] h ∙ written-rest f (n / 10) ((48 + n % 10) ∷ [])
 
 length-last : (f n : ℕ) → 10 ≤ n → length (writtenF (suc f) n []) ≡ suc (length (writtenF f (n / 10) []))
-length-last f n h = ap length (last f n h) ∙ length-append (writtenF f (n / 10) []) ((48 + n % 10) ∷ []) ∙ add-one _
+length-last f n h = ap length (last f n h) ∙ length-snoc (writtenF f (n / 10) []) (48 + n % 10)
 
 -- ---- how many turns are asked for
 
@@ -98,3 +101,46 @@ fuel (suc f) n rest h p =
     (λ k. small (suc f) n rest k ∙ sym (small f n rest k))
     (λ k. let t : Tenth f n = tenth f n h k in large (suc f) n rest k ∙ fuel f (n / 10) _ (t .fits) (t .left) ∙ sym (large f n rest k))
     (one-digit n)
+
+-- ---- the number as it is written
+
+pub written-one : (n : ℕ) → n < 10 → written n ≡ (48 + n) ∷ []
+unfolding written
+written-one n h = small 19 n [] h
+
+pub written-step : (n : ℕ) → n < 10 ^ 20 → 10 ≤ n → written n ≡ written (n / 10) ++ ((48 + n % 10) ∷ [])
+unfolding written
+written-step n h k = last 19 n k ∙ ap (λ l. l ++ ((48 + n % 10) ∷ [])) (sym (fuel 19 (n / 10) [] (omega arith) (omega arith)))
+
+pub length-step : (n : ℕ) → n < 10 ^ 20 → 10 ≤ n → length (written n) ≡ suc (length (written (n / 10)))
+length-step n h k = ap length (written-step n h k) ∙ length-snoc (written (n / 10)) (48 + n % 10)
+
+-- no longer than the turns asked for, nor than the digits that the number fits in
+length-turns : (f n : ℕ) → length (writtenF f n []) ≤ f
+length-turns zero n = omega (arith, ap length (none n []))
+length-turns (suc f) n =
+    ⊎-elim
+    (λ h. omega (arith, ap length (small f n [] h)))
+    (λ h. omega (arith, length-last f n h, length-turns f (n / 10)))
+    (one-digit n)
+
+length-fits : (f n k : ℕ) → n < 10 ^ k → 0 < k → length (writtenF f n []) ≤ k
+length-fits zero n k h p = omega (arith, ap length (none n []))
+length-fits (suc f) n zero h p = absurd (omega arith)
+length-fits (suc f) n (suc k) h p =
+    ⊎-elim
+    (λ o. omega (arith, ap length (small f n [] o)))
+    (λ o. let t : Tenth k n = tenth k n h o in omega (arith, length-last f n o, length-fits f (n / 10) k (t .fits) (t .left)))
+    (one-digit n)
+
+pub written-short : (n : ℕ) → length (written n) ≤ 20
+unfolding written
+written-short n = length-turns 20 n
+
+pub written-fits : (n k : ℕ) → n < 10 ^ k → 0 < k → length (written n) ≤ k
+unfolding written
+written-fits n k h p = length-fits 20 n k h p
+
+pub written-some : (n : ℕ) → 1 ≤ length (written n)
+unfolding written
+written-some n = ⊎-elim (λ h. omega (arith, ap length (small 19 n [] h))) (λ h. omega (arith, length-last 19 n h)) (one-digit n)
