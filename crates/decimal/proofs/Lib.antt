@@ -2,3 +2,4 @@ pub mod Front
 pub mod Whole
 pub mod Written
 pub mod OverBack
+pub mod ReadBack

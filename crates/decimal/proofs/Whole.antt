@@ -14,6 +14,7 @@ use Rattle.format.specs.Fields.{span}
 use Rattle.decimal.specs.Number.{counted, front}
 use Rattle.decimal.specs.declared.Number.{Number}
 use Rattle.decimal.specs.declared.Number.the-variants.{NoDigit, TooLarge, Is}
+use Rattle.decimal.proofs.Front.{both, span-digit}
 
 -- ---- the digits at the front
 
@@ -29,11 +30,9 @@ span-le (b ∷ s) = go (digit b) (span-le s)
 pub span-all : (s : List ℕ) → all digit s ≡ true → span s .0 ≡ s
 unfolding span all
 span-all [] e = refl
-span-all (b ∷ s) e = go (digit b) (span-all s) e
-  where
-    go : (t : Bool) → (all digit s ≡ true → span s .0 ≡ s) → t && all digit s ≡ true → (cond {A = List ℕ × List ℕ} t (b ∷ span s .0, span s .1) ([], b ∷ s)) .0 ≡ b ∷ s
-    go true ih e = ap (λ ds. b ∷ ds) (ih e)
-    go false ih e = cc
+span-all (b ∷ s) e =
+    let d : (digit b ≡ true) × (all digit s ≡ true) = both (digit b) (all digit s) e in
+    span-digit b s (d .0) ∙ ap (λ ds. b ∷ ds) (span-all s (d .1))
 
 pub span-short : (s : List ℕ) → all digit s ≡ false → length (span s .0) < length s
 unfolding span all
