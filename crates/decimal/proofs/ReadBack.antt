@@ -1,19 +1,18 @@
 -- What is written reads back, and no digits of the same worth are fewer. Assumes nothing.
 use Prim.Native.Nat.{ℕ, zero, suc, _+_, _-_, _*_, _/_, _%_, _^_, _≤_, _<_}
 use mathlib.Core.Path.{_≡_, refl, sym, ap, _∙_}
-use mathlib.Core.Bool.{Bool, true, false, not, _&&_, cond}
+use mathlib.Core.Bool.{true, false}
 use mathlib.Core.List.{List, [], _∷_, _++_}
 use mathlib.Core.Logic.{⊎-elim}
-use mathlib.Core.Option.{Option, none, some}
+use mathlib.Core.Option.{none, some}
 use native.Mathlib.Omega.{arith}
 use native.Mathlib.Nat.{pow-succ', mul-le-mul-right, mul-assoc}
 use lib.ListN.{length}
-use lib.Dec.{ltb}
-use borrow.Author.Tests.{lt-ltb, leb-true}
+use borrow.Author.Tests.{lt-ltb}
 use Rattle.format.specs.Bytes.{digit, all, none?}
-use Rattle.format.specs.Decimal.{worth, worthFrom, digits, number, written, writtenF}
+use Rattle.format.specs.Decimal.{worth, worthFrom, digits, number, written}
 use Rattle.format.specs.Fields.{span}
-use Rattle.decimal.specs.Number.{counted, front}
+use Rattle.decimal.specs.Number.{front}
 use Rattle.decimal.specs.declared.Number.the-variants.{Is}
 use Rattle.decimal.proofs.Front.{both, digit-yes, digit-top, span-digit}
 use Rattle.decimal.proofs.Written.{one-digit, written-one, written-step, written-some, written-fits}
