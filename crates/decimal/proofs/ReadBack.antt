@@ -80,7 +80,8 @@ span-append (b ∷ ds) rest e h =
     let t : (digit b ≡ true) × (all digit ds ≡ true) = both (digit b) (all digit ds) e in
     span-digit b (ds ++ rest) (t .0) ∙ ap (λ l. b ∷ l) (span-append ds rest (t .1) h)
 
-pub front-back : (limit n : ℕ) (rest : List ℕ) → n < limit → limit ≤ 10 ^ 20 → span rest .0 ≡ [] → front limit (written n ++ rest) ≡ Is n (length (written n))
+pub front-back : (limit n : ℕ) (rest : List ℕ) → n < limit → limit ≤ 10 ^ 20 → span rest .0 ≡ []
+    → front limit (written n ++ rest) ≡ Is n (length (written n))
 unfolding front
 front-back limit n rest h k e =
     rw (span-append (written n) rest (spells n n (omega arith) (omega arith) .digit-all) e)
