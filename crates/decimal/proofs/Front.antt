@@ -12,7 +12,7 @@ use lib.Dec.{eqb, leb, ltb}
 use borrow.Author.Tests.{leb-true, le-leb, lt-leb, lt-ltb, le-ltb, ne-eqb}
 use Rattle.format.specs.Bytes.{digit, none?}
 use Rattle.format.specs.Decimal.{worth, worthFrom}
-use Rattle.format.specs.Fields.{span}
+use Rattle.format.specs.Decimal.{span}
 use Rattle.decimal.specs.Number.{counted, front}
 use Rattle.decimal.specs.declared.Number.{Number}
 use Rattle.decimal.specs.declared.Number.the-variants.{NoDigit, TooLarge, Is}

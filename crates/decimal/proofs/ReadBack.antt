@@ -11,7 +11,7 @@ use lib.ListN.{length}
 use borrow.Author.Tests.{lt-ltb}
 use Rattle.format.specs.Bytes.{digit, all, none?}
 use Rattle.format.specs.Decimal.{worth, worthFrom, digits, number, written}
-use Rattle.format.specs.Fields.{span}
+use Rattle.format.specs.Decimal.{span}
 use Rattle.decimal.specs.Number.{front}
 use Rattle.decimal.specs.declared.Number.the-variants.{Is}
 use Rattle.decimal.proofs.Front.{both, digit-yes, digit-top, span-digit}

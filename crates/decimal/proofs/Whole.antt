@@ -10,7 +10,7 @@ use lib.Dec.{eqb, ltb}
 use borrow.Author.Tests.{eq-eqb, ne-eqb, ltb-true}
 use Rattle.format.specs.Bytes.{digit, all, none?}
 use Rattle.format.specs.Decimal.{worth, digits, number}
-use Rattle.format.specs.Fields.{span}
+use Rattle.format.specs.Decimal.{span}
 use Rattle.decimal.specs.Number.{counted, front}
 use Rattle.decimal.specs.declared.Number.{Number}
 use Rattle.decimal.specs.declared.Number.the-variants.{NoDigit, TooLarge, Is}
