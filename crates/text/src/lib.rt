@@ -1,9 +1,10 @@
-// Bytes of a lent slice: where one stands first, whether two slices are equal, and writing a run of them.
+// Bytes of a lent slice: where one stands first, whether two slices are equal, the first line, and writing a run of them.
 ghost use mathlib.Core.Path.{_≡_};
 ghost use Prim.Native.Nat.{_≤_, _+_};
 ghost use lib.ListN.{length};
 ghost use Rattle.format.specs.Bytes.{same, starts};
-ghost use Rattle.text.specs.Upto.{upto};
+ghost use Rattle.text.specs.Upto.{upto, leads};
+ghost use Rattle.text.specs.First.{firstLine};
 ghost use Rattle.text.specs.Over.{over};
 
 // How many bytes of `s` stand before the first `d`: all where there is none.
@@ -18,6 +19,73 @@ pub fn upto(s: &[u8], d: u8) -> usize
         i += 1;
     }
     i
+}
+
+// Whether `a` and `b` have the same bytes.
+pub fn same(a: &[u8], b: &[u8]) -> bool
+    ensures { λ r. ⌜ r ≡ same (now (a .entry)) (now (b .entry)) ⌝ }
+{
+    if a.len() != b.len() {
+        return false;
+    }
+    let mut i: usize = 0;
+    while i < a.len() {
+        if a[i] != b[i] {
+            return false;
+        }
+        i += 1;
+    }
+    true
+}
+
+// Whether `s` starts with `p`.
+pub fn starts(p: &[u8], s: &[u8]) -> bool
+    ensures { λ r. ⌜ r ≡ starts (now (p .entry)) (now (s .entry)) ⌝ }
+{
+    if s.len() < p.len() {
+        return false;
+    }
+    let mut i: usize = 0;
+    while i < p.len() {
+        if p[i] != s[i] {
+            return false;
+        }
+        i += 1;
+    }
+    true
+}
+
+// Whether the first byte of `s` is `b`.
+pub fn leads(s: &[u8], b: u8) -> bool
+    ensures { λ r. ⌜ r ≡ leads b (now (s .entry)) ⌝ }
+{
+    if s.len() == 0 {
+        return false;
+    }
+    s[0] == b
+}
+
+// A line at the front of a text: its length without the ending, and where the next line starts.
+pub struct Cut {
+    pub len: usize,
+    pub next: usize,
+}
+
+// The first line of `s`: it ends at LF, and one CR just before that LF belongs to the ending.
+pub fn first_line(s: &[u8]) -> Cut
+    ensures { λ r. ⌜ r ≡ firstLine (now (s .entry)) ⌝ }
+{
+    let n = upto(s, b'\n');
+    if n == s.len() {
+        return Cut { len: n, next: n };
+    }
+    if n == 0 {
+        return Cut { len: 0, next: 1 };
+    }
+    if s[n - 1] == b'\r' {
+        return Cut { len: n - 1, next: n + 1 };
+    }
+    Cut { len: n, next: n + 1 }
 }
 
 // Copies all of `from` into `out` at `at`.
