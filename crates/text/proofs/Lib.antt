@@ -1,3 +1,5 @@
 pub mod Lines
 pub mod Over
 pub mod Equal
+pub mod Before
+pub mod First

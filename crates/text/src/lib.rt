@@ -83,9 +83,15 @@ pub fn first_line(s: &[u8]) -> Cut
         return Cut { len: 0, next: 1 };
     }
     if s[n - 1] == b'\r' {
-        return Cut { len: n - 1, next: n + 1 };
+        return Cut {
+            len: n - 1,
+            next: n + 1,
+        };
     }
-    Cut { len: n, next: n + 1 }
+    Cut {
+        len: n,
+        next: n + 1,
+    }
 }
 
 // Copies all of `from` into `out` at `at`.
