@@ -2,14 +2,23 @@
 use Prim.Native.Nat.{ℕ, zero, suc, _+_, _-_, _≤_, _<_}
 use mathlib.Core.Path.{_≡_, refl, sym, ap, _∙_}
 use mathlib.Core.Bool.{Bool, true, false, cond}
+use mathlib.Core.Logic.{_⊎_, inl, inr}
 use mathlib.Core.List.{List, [], _∷_}
 use native.Mathlib.Omega.{arith}
 use lib.ListN.{length, take, getD}
 use lib.Seq.{length-take-le}
-use lib.Dec.{eqb}
-use borrow.Author.Tests.{eqb-true}
+use lib.Dec.{eqb, ltb}
+use borrow.Author.Tests.{eqb-true, ltb-true, ltb-false}
 use Rattle.text.specs.Upto.{upto, before}
 use Rattle.text.proofs.Lines.{upto-le}
+
+-- a `d` in reach, or none
+pub upto-cases : (d : ℕ) (s : List ℕ) → (upto d s < length s) ⊎ (upto d s ≡ length s)
+upto-cases d s = go (ltb (upto d s) (length s)) refl
+  where
+    go : (t : Bool) → ltb (upto d s) (length s) ≡ t → (upto d s < length s) ⊎ (upto d s ≡ length s)
+    go true q = inl (ltb-true (upto d s) (length s) q)
+    go false q = inr (omega (arith, upto-le d s, ltb-false (upto d s) (length s) q))
 
 -- the byte itself
 pub upto-at : (d : ℕ) (s : List ℕ) → upto d s < length s → getD s (upto d s) 0 ≡ d

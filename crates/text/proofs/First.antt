@@ -2,19 +2,20 @@
 use Prim.Native.Nat.{ℕ, zero, suc, _+_, _-_, _≤_, _<_}
 use mathlib.Core.Path.{_≡_, refl, sym, ap, _∙_}
 use mathlib.Core.Bool.{Bool, true, false, cond}
+use mathlib.Core.Logic.{⊎-elim}
 use mathlib.Core.List.{List, [], _∷_}
 use native.Mathlib.Omega.{arith}
 use native.Mathlib.Numerals.{add-one}
 use lib.ListN.{length, take, drop, getD, length-take}
 use lib.Seq.{length-take-le, take-all, take-take, take-length, drop-length}
-use lib.Dec.{eqb, ltb}
-use borrow.Author.Tests.{eq-eqb, ltb-true, ltb-false}
+use lib.Dec.{eqb}
+use borrow.Author.Tests.{eq-eqb}
 use Rattle.format.specs.Lines.{Piece, chomp, linesFrom}
 use Rattle.text.specs.declared.Cut.{Cut}
 use Rattle.text.specs.Upto.{upto}
 use Rattle.text.specs.First.{firstLine}
-use Rattle.text.proofs.Lines.{upto-le, lines-none, lines-more, lines-last}
-use Rattle.text.proofs.Before.{upto-at}
+use Rattle.text.proofs.Lines.{lines-none, lines-more, lines-last}
+use Rattle.text.proofs.Before.{upto-at, upto-cases}
 
 -- ---- `chomp`
 
@@ -84,6 +85,15 @@ pub chomp-at : (s : List ℕ) (n : ℕ) → n < length s → getD s n 0 ≡ 10 �
 chomp-at s zero h e k = absurd (k refl)
 chomp-at s (suc m) h e k = let q : suc m - 1 ≡ m = omega arith in rw q (chomp-more m s h e)
 
+-- the LF goes, and maybe more
+chomp-lf : (s : List ℕ) (n : ℕ) → n < length s → getD s n 0 ≡ 10 → length (chomp (take (suc n) s)) ≤ n
+chomp-lf s zero h e = rw (chomp-one s h e) (omega arith)
+chomp-lf s (suc m) h e = rw (chomp-more m s h e) (go (eqb (getD s m 0) 13))
+  where
+    go : (t : Bool) → length (cond t (take m s) (take (suc m) s)) ≤ suc m
+    go true = omega (arith, length-take m s)
+    go false = omega (arith, length-take (suc m) s)
+
 -- ---- `firstLine`
 
 -- no LF: the whole text
@@ -108,6 +118,13 @@ first-within s = omega (arith, length-take (suc (upto 10 s)) s)
 pub first-some : (s : List ℕ) → 0 < length s → 0 < firstLine s .next
 unfolding firstLine
 first-some s h = omega (arith, length-take (suc (upto 10 s)) s)
+
+-- no LF in the line
+pub first-before : (s : List ℕ) → firstLine s .len ≤ upto 10 s
+first-before s = ⊎-elim
+    (λ h. rw (first-more s h) (chomp-lf s (upto 10 s) h (upto-at 10 s h)))
+    (λ h. rw (first-whole s h) (omega arith))
+    (upto-cases 10 s)
 
 -- the bytes of the line
 first-bytes : (s : List ℕ) → chomp (take (suc (upto 10 s)) s) ≡ take (firstLine s .len) s
@@ -136,10 +153,4 @@ module _ (at : ℕ) (s : List ℕ) where
   pub lines-first : 0 < length s
       → linesFrom at s
       ≡ record { at = at; bytes = take (firstLine s .len) s } ∷ linesFrom (at + firstLine s .next) (drop (firstLine s .next) s)
-  lines-first p = go (ltb (upto 10 s) (length s)) refl
-    where
-      go : (t : Bool) → ltb (upto 10 s) (length s) ≡ t
-          → linesFrom at s
-          ≡ record { at = at; bytes = take (firstLine s .len) s } ∷ linesFrom (at + firstLine s .next) (drop (firstLine s .next) s)
-      go true q = with-lf (ltb-true (upto 10 s) (length s) q)
-      go false q = without-lf (omega (arith, upto-le 10 s, ltb-false (upto 10 s) (length s) q)) p
+  lines-first p = ⊎-elim with-lf (λ h. without-lf h p) (upto-cases 10 s)

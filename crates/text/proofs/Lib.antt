@@ -3,3 +3,5 @@ pub mod Over
 pub mod Equal
 pub mod Before
 pub mod First
+pub mod Pieces
+pub mod Stands

@@ -1,3 +1,4 @@
 pub mod Upto
 pub mod Over
 pub mod First
+pub mod Stands
