@@ -2,3 +2,4 @@ pub mod Upto
 pub mod Over
 pub mod First
 pub mod Stands
+pub mod Little
