@@ -4,7 +4,9 @@ use mathlib.Core.Path.{_≡_, refl, sym, ap, _∙_}
 use mathlib.Core.List.{List, [], _∷_, _++_}
 use native.Mathlib.Omega.{arith}
 use native.Mathlib.Nat.{pow-zero, pow-suc, pow-succ', div-add-mod, div-div-eq-div-mul, div-one, mod-lt, mod-eq-of-lt, mul-add-mod-self-left, one-le-pow, zero-add, suc-add, mul-assoc}
-use lib.ListN.{length, take, drop}
+use native.Mathlib.Numerals.{add-one, add-two, add-three}
+use lib.ListN.{length, take, drop, getD, length-drop}
+use lib.Seq.{length-take-le, take-add, drop-drop, drop-cons}
 use Rattle.format.specs.Catalogue.{little}
 use Rattle.text.specs.Little.{ofLittle}
 use Rattle.text.specs.Over.{over}
@@ -62,3 +64,30 @@ little-rem (suc n) v =
     let rest : r / 256 ≡ v / 256 % m =
     sym (ap (λ k. k % m) high ∙ mul-add-mod-self-left m q (r / 256) ∙ mod-eq-of-lt fits) in
     rw (low, rest, little-rem n (v / 256)) refl
+
+-- a number by its low part and its high part
+pub little-parts : (m n v : ℕ) → little m (v % 256 ^ m) ++ little n (v / 256 ^ m) ≡ little (m + n) v
+little-parts m n v = rw (little-rem m v, little-append m n v) refl
+
+-- ---- in a text
+
+pub of-parts : (m n at : ℕ) (s : List ℕ) → at + m ≤ length s
+    → ofLittle (take (m + n) (drop at s)) ≡ ofLittle (take m (drop at s)) + 256 ^ m * ofLittle (take n (drop (at + m) s))
+of-parts m n at s h =
+    let l : length (take m (drop at s)) ≡ m = length-take-le m (drop at s) (omega (arith, length-drop at s)) in
+    ap ofLittle (take-add m n (drop at s)) ∙ of-append (take m (drop at s)) (take n (drop m (drop at s))) ∙ rw (l, drop-drop m at s) refl
+
+pub of-four : (at : ℕ) (s : List ℕ) → at + 4 ≤ length s
+    → ofLittle (take 4 (drop at s)) ≡ getD s at 0 + 256 * (getD s (at + 1) 0 + 256 * (getD s (at + 2) 0 + 256 * getD s (at + 3) 0))
+unfolding ofLittle
+of-four at s h =
+    rw (
+      drop-cons s at 0 (omega arith),
+      drop-cons s (suc at) 0 (omega arith),
+      drop-cons s (suc (suc at)) 0 (omega arith),
+      drop-cons s (suc (suc (suc at))) 0 (omega arith),
+      add-one at,
+      add-two at,
+      add-three at,
+    )
+    (omega arith)
