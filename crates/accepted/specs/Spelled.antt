@@ -7,7 +7,7 @@ use mathlib.Core.Option.{Option, none, some}
 use Rattle.format.specs.Lines.{Piece, cut, placed}
 use Rattle.format.specs.Decimal.{worth}
 use Rattle.format.specs.Fields.{Field, field, good, tagged, isValue, isTag, repeats, lastOf, settled, without}
-use Rattle.format.specs.Records.{Record, header, reference, group, program, comment, kindOf}
+use Rattle.format.specs.Records.{Record, header, reference, group, program, comment}
 use Rattle.format.specs.Version.{version}
 use Rattle.format.specs.declared.Version.{Version}
 use Rattle.format.specs.declared.Kind.{Kind}
@@ -39,15 +39,27 @@ pub data Made (fs : List Field) : Kind → Record → Type 0 where
   of-group : (p : Piece) → lastOf 73 68 fs ≡ some p → Made fs ReadGroup (group p (settled (without 73 68 fs)))
   of-program : (p : Piece) → lastOf 73 68 fs ≡ some p → Made fs Program (program p (settled (without 73 68 fs)))
 
+-- the two kind bytes
+unfoldable pub kind₀ : Kind → ℕ
+kind₀ Header = 72
+kind₀ ReferenceSequence = 83
+kind₀ ReadGroup = 82
+kind₀ Program = 80
+kind₀ Comment = 67
+
+unfoldable pub kind₁ : Kind → ℕ
+kind₁ Header = 68
+kind₁ ReferenceSequence = 81
+kind₁ ReadGroup = 71
+kind₁ Program = 71
+kind₁ Comment = 79
+
 -- `@`, two kind bytes, a tab, then fields with a tab between two
 pub record Spelled (strict : Bool) (at : ℕ) (s : List ℕ) (r : Record) : Type 0 where
   pub kind : Kind
-  pub first : ℕ
-  pub second : ℕ
   pub rest : List ℕ
   pub fields : List Field
-  pub spells : s ≡ 64 ∷ first ∷ second ∷ 9 ∷ rest
-  pub kinds : kindOf first second ≡ some kind
+  pub spells : s ≡ 64 ∷ kind₀ kind ∷ kind₁ kind ∷ 9 ∷ rest
   pub each : Pairs (λ p f. Good kind (p .at) (p .bytes) f) (placed (at + 4) (cut 9 rest)) fields
   pub once : strict && repeats fields ≡ false
   pub made : Made fields kind r
