@@ -1,0 +1,4 @@
+pub mod Bools
+pub mod Tags
+pub mod Good
+pub mod Spelled
