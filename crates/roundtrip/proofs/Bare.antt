@@ -2,7 +2,7 @@
 use Prim.Native.Nat.{ℕ, _+_}
 use mathlib.Core.Path.{_≡_, refl, sym, ap, _∙_}
 use mathlib.Core.Bool.{Bool, true, false, _&&_, cond}
-use mathlib.Core.List.{List, [], _∷_, _++_, map}
+use mathlib.Core.List.{List, [], _∷_, _++_, map, map-append}
 use lib.Dec.{eqb}
 use Rattle.format.specs.Fields.{Field}
 use Rattle.format.specs.Records.{Record, header, reference, group, program, comment, code, key}
@@ -10,9 +10,6 @@ use Rattle.format.specs.Reading.{ofKind}
 use Rattle.format.specs.Tidy.{fieldText, fieldsText, recordText, text, inOrder, tidy}
 use Rattle.roundtrip.specs.Bare.{nowhere, bareField, bare, bares, Equal}
 
-pub map-append : {A B : Type 0} (f : A → B) (xs ys : List A) → map f (xs ++ ys) ≡ map f xs ++ map f ys
-map-append f [] ys = refl
-map-append f (x ∷ xs) ys = ap (λ l. f x ∷ l) (map-append f xs ys)
 
 -- ---- the kind
 

@@ -1,1 +1,4 @@
 pub mod Bare
+pub mod Once
+pub mod Pieces
+pub mod Fine

@@ -1,1 +1,2 @@
 pub mod Bare
+pub mod Line

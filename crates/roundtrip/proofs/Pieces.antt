@@ -1,0 +1,79 @@
+-- A line of good fields is cut into these fields: what `scan` answers for the fields of a line that the tidy text has.
+use Prim.Native.Nat.{ℕ, suc, _+_, _≤_}
+use mathlib.Core.Path.{_≡_, refl, sym, ap, _∙_}
+use mathlib.Core.Bool.{Bool, true, false, not, _&&_, _||_, cond}
+use mathlib.Core.List.{List, [], _∷_, _++_, map}
+use mathlib.Core.Option.{Option, none, some}
+use native.Mathlib.Omega.{arith}
+use lib.ListN.{length}
+use lib.Dec.{eqb, leb}
+use borrow.Author.Tests.{eqb-true, leb-true, leb-false, le-leb, ne-eqb}
+use Rattle.format.specs.Bytes.{digit, letter, printable, all, any, none?}
+use Rattle.format.specs.Lines.{Piece, onto, cut, placed}
+use Rattle.format.specs.Fields.{Field, Judged, good, isTag, isValue, field, Scan, onward, scan}
+use Rattle.format.specs.Records.{breaks}
+use Rattle.format.specs.Tidy.{fieldText, fieldsText}
+use Rattle.format.specs.declared.Kind.{Kind}
+use Rattle.text.specs.Stands.{Each}
+use Rattle.accepted.proofs.Bools.{and-left, and-right, or-left, or-right, any-append}
+use Rattle.roundtrip.specs.Line.{pieceText, put-at, located}
+
+-- ---- bytes
+
+-- a byte from space to tilde is no tab, LF or CR
+printable-no-tab : (b : ℕ) → printable b ≡ true → eqb b 9 ≡ false
+unfolding printable
+printable-no-tab b h = ne-eqb b 9 (λ e. let l : 32 ≤ b = leb-true 32 b (and-left (leb 32 b) (leb b 126) h) in omega arith)
+
+printable-no-break : (b : ℕ) → printable b ≡ true → breaks b ≡ false
+unfolding printable breaks
+printable-no-break b h =
+    let l : 32 ≤ b = leb-true 32 b (and-left (leb 32 b) (leb b 126) h) in
+    rw (ne-eqb b 10 (λ e. omega arith), ne-eqb b 13 (λ e. omega arith)) refl
+
+pub printable-unbroken : (s : List ℕ) → all printable s ≡ true → any breaks s ≡ false
+unfolding all any
+printable-unbroken [] h = refl
+printable-unbroken (b ∷ s) h =
+    rw (printable-no-break b (and-left (printable b) (all printable s) h), printable-unbroken s (and-right (printable b) (all printable s) h)) refl
+
+-- ---- a cut line
+
+-- a piece with no tab in it, and the tab behind it
+cut-piece : (p s : List ℕ) → all printable p ≡ true → cut 9 (p ++ (9 ∷ s)) ≡ p ∷ cut 9 s
+unfolding all cut onto
+cut-piece [] s h = refl
+cut-piece (b ∷ p) s h =
+    rw (printable-no-tab b (and-left (printable b) (all printable p) h), cut-piece p s (and-right (printable b) (all printable p) h)) refl
+
+cut-end : (p : List ℕ) → all printable p ≡ true → cut 9 p ≡ p ∷ []
+unfolding all cut onto
+cut-end [] h = refl
+cut-end (b ∷ p) h = rw (printable-no-tab b (and-left (printable b) (all printable p) h), cut-end p (and-right (printable b) (all printable p) h)) refl
+
+-- a field that is read where it stands in a line of kind `k`
+pub record Fine (k : Kind) (f : Field) : Type 0 where
+  pub bytes : all printable (pieceText f) ≡ true
+  pub reads : (at : ℕ) → field k at (pieceText f) ≡ good (put-at (at + 3) f)
+
+cut-fields : (k : Kind) (p : List ℕ) (fs : List Field) → all printable p ≡ true → Each (Fine k) fs → cut 9 (p ++ fieldsText fs) ≡ p ∷ map pieceText fs
+unfolding fieldsText Each pieceText
+cut-fields k p [] h e = rw (mathlib.Core.List.append-nil p) (cut-end p h)
+cut-fields k p (f ∷ fs) h e = cut-piece p (pieceText f ++ fieldsText fs) h ∙ ap (λ l. p ∷ l) (cut-fields k (pieceText f) fs (e .0 .bytes) (e .1))
+
+scan-pieces : (k : Kind) (at : ℕ) (fs : List Field) → Each (Fine k) fs → scan k (placed at (map pieceText fs)) ≡ record { fields = located at fs; stop = 0 }
+unfolding scan placed located Each onward
+scan-pieces k at [] e = refl
+scan-pieces k at (f ∷ fs) e =
+    rw (e .0 .reads at, scan-pieces k (at + length (pieceText f) + 1) fs (e .1)) refl
+
+pub scan-fields : (k : Kind) (at : ℕ) (f : Field) (fs : List Field) → Each (Fine k) (f ∷ fs)
+    → scan k (placed at (cut 9 (pieceText f ++ fieldsText fs))) ≡ record { fields = located at (f ∷ fs); stop = 0 }
+unfolding Each
+scan-fields k at f fs e = ap (λ ps. scan k (placed at ps)) (cut-fields k (pieceText f) fs (e .0 .bytes) (e .1)) ∙ scan-pieces k at (f ∷ fs) e
+
+pub fields-unbroken : (k : Kind) (fs : List Field) → Each (Fine k) fs → any breaks (fieldsText fs) ≡ false
+unfolding any breaks fieldsText Each pieceText
+fields-unbroken k [] e = refl
+fields-unbroken k (f ∷ fs) e =
+    any-append breaks (pieceText f) (fieldsText fs) ∙ rw (printable-unbroken (pieceText f) (e .0 .bytes), fields-unbroken k fs (e .1)) refl
