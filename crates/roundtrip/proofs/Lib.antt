@@ -2,3 +2,5 @@ pub mod Bare
 pub mod Once
 pub mod Pieces
 pub mod Fine
+pub mod Made
+pub mod Line

@@ -19,7 +19,7 @@ own a b v = record { tag₀ = a; tag₁ = b; value = nowhere v }
 
 -- what comes first in a line: VN; SN and LN; ID
 unfoldable pub keys : Record → List Field
-unfolding own written
+unfolding own
 keys (header v fs) = own 86 78 (written (v .major) ++ (46 ∷ written (v .minor))) ∷ []
 keys (reference p n fs) = own 83 78 (p .bytes) ∷ own 76 78 (written n) ∷ []
 keys (group p fs) = own 73 68 (p .bytes) ∷ []
@@ -28,7 +28,6 @@ keys (comment p) = []
 
 -- a record's line without its LF
 unfoldable pub lineText : Record → List ℕ
-unfolding fieldsText keys
 lineText (header v fs) = 64 ∷ 72 ∷ 68 ∷ fieldsText (keys (header v fs) ++ fs)
 lineText (reference p n fs) = 64 ∷ 83 ∷ 81 ∷ fieldsText (keys (reference p n fs) ++ fs)
 lineText (group p fs) = 64 ∷ 82 ∷ 71 ∷ fieldsText (keys (group p fs) ++ fs)
