@@ -4,3 +4,5 @@ pub mod Pieces
 pub mod Fine
 pub mod Made
 pub mod Line
+pub mod Lines
+pub mod Admits
