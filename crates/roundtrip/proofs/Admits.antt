@@ -5,13 +5,14 @@ use mathlib.Core.Bool.{Bool, true, false, not, _&&_, _||_, cond}
 use mathlib.Core.List.{List, [], _∷_, _++_, map, append-assoc, append-nil}
 use native.Mathlib.Omega.{arith}
 use lib.ListN.{length}
+use lib.Seq.{append-snoc}
 use lib.Dec.{eqb, leb}
-use borrow.Author.Tests.{eqb-true, eqb-false, eq-eqb, ne-eqb}
+use borrow.Author.Tests.{eqb-true, eqb-false, ne-eqb, not-false}
 use Rattle.format.specs.Bytes.{any, none?}
 use Rattle.format.specs.Records.{Record, code, key}
 use Rattle.format.specs.Reading.{clash, sameKeys, ofKind, barred}
 use Rattle.format.specs.Tidy.{inOrder}
-use Rattle.accepted.proofs.Bools.{split}
+use Rattle.accepted.proofs.Bools.{eqb-sym}
 use Rattle.roundtrip.specs.Admits.{Admits}
 
 never : _≡_ {A = ℕ} 0 1 → ⊥
@@ -50,10 +51,31 @@ kind-same k (r ∷ rs) = go (eqb (code r) k) refl (kind-same k rs)
 
 -- ---- why a record may not follow others: it depends on those of its kind
 
+clash-other : (r q : Record) → eqb (code q) (code r) ≡ false → clash r q ≡ false
+unfolding clash
+clash-other r q e = rw (eqb-sym (code r) (code q), e) refl
+
 clash-kind : (r : Record) (rs : List Record) → any (clash r) rs ≡ any (clash r) (ofKind (code r) rs)
-unfolding any clash ofKind
+unfolding any ofKind
 clash-kind r [] = refl
-clash-kind r (q ∷ rs) = ?
+clash-kind r (q ∷ rs) = go (eqb (code q) (code r)) refl (clash-kind r rs)
+  where
+    go : (t : Bool) → eqb (code q) (code r) ≡ t → any (clash r) rs ≡ any (clash r) (ofKind (code r) rs)
+        → clash r q || any (clash r) rs ≡ any (clash r) (cond t (q ∷ ofKind (code r) rs) (ofKind (code r) rs))
+    go true e ih = ap (λ t. clash r q || t) ih
+    go false e ih = rw (clash-other r q e) ih
+
+-- three tests that all fail
+record Fail (x y z : Bool) : Type 0 where
+  one : x ≡ false
+  two : y ≡ false
+  three : z ≡ false
+
+fail : (x y z : Bool) → cond {A = ℕ} x 17 (cond y 18 (cond z 19 0)) ≡ 0 → Fail x y z
+fail true y z h = absurd (omega arith)
+fail false true z h = absurd (omega arith)
+fail false false true h = absurd (omega arith)
+fail false false false h = record { one = refl; two = refl; three = refl }
 
 -- `b` may stand for `a` before records of kind `k`
 record Stand (k : ℕ) (a b : List Record) : Type 0 where
@@ -62,18 +84,83 @@ record Stand (k : ℕ) (a b : List Record) : Type 0 where
 
 barred-kind : (a b : List Record) (r : Record) → Stand (code r) a b → barred a r ≡ 0 → barred b r ≡ 0
 unfolding barred
-barred-kind a b r s h = ?
+barred-kind a b r s h =
+    let f : Fail (eqb (code r) 1 && not (none? a)) (any (clash r) a) (eqb (code r) 4 && leb 1024 (length (ofKind 4 a))) = fail _ _ _ h in
+    rw (alone (eqb (code r) 1) refl (f .one), others (f .two), few (eqb (code r) 4) refl (f .three)) refl
+  where
+    alone : (t : Bool) → eqb (code r) 1 ≡ t → t && not (none? a) ≡ false → t && not (none? b) ≡ false
+    alone true e n = ap not (s .first (eqb-true (code r) 1 e) (not-false (none? a) n))
+    alone false e n = refl
+
+    others : any (clash r) a ≡ false → any (clash r) b ≡ false
+    others n = clash-kind r b ∙ ap (any (clash r)) (sym (s .kinds)) ∙ sym (clash-kind r a) ∙ n
+
+    few : (t : Bool) → eqb (code r) 4 ≡ t → t && leb 1024 (length (ofKind 4 a)) ≡ false → t && leb 1024 (length (ofKind 4 b)) ≡ false
+    few true e n =
+        let q : ofKind 4 b ≡ ofKind 4 a = ap (λ k. ofKind k b) (sym (eqb-true (code r) 4 e)) ∙ sym (s .kinds) ∙ ap (λ k. ofKind k a) (eqb-true (code r) 4 e) in
+        rw q n
+    few false e n = refl
+
+-- ---- a record more
+
+-- once there is a record, HD may not follow
+stand-on : (k : ℕ) (a b : List Record) (r : Record) → ofKind k (a ++ (r ∷ [])) ≡ ofKind k b → Stand k (a ++ (r ∷ [])) b
+unfolding none?
+stand-on k a b r e = record { kinds = e; first = λ q h. absurd (some-snoc a h) }
+  where
+    some-snoc : (xs : List Record) → none? (xs ++ (r ∷ [])) ≡ true → ⊥
+    some-snoc [] h = never (cc)
+    some-snoc (x ∷ xs) h = never (cc)
+
+kind-snoc : (k : ℕ) (a : List Record) (r : Record) → eqb (code r) k ≡ true → ofKind k (a ++ (r ∷ [])) ≡ ofKind k a ++ (r ∷ [])
+unfolding ofKind
+kind-snoc k a r e = kind-append k a (r ∷ []) ∙ rw e refl
+
+kind-snoc-other : (k : ℕ) (a : List Record) (r : Record) → eqb (code r) k ≡ false → ofKind k (a ++ (r ∷ [])) ≡ ofKind k a
+unfolding ofKind
+kind-snoc-other k a r e = kind-append k a (r ∷ []) ∙ rw e (append-nil (ofKind k a))
 
 admits-kind : (k : ℕ) (a b rs : List Record) → Stand k a b → Admits a rs → Admits b (ofKind k rs)
 unfolding Admits ofKind
 admits-kind k a b [] s h = tt
-admits-kind k a b (r ∷ rs) s h = ?
+admits-kind k a b (r ∷ rs) s h = go (eqb (code r) k) refl (λ a b. admits-kind k a b rs)
+  where
+    go : (t : Bool) → eqb (code r) k ≡ t → ((a b : List Record) → Stand k a b → Admits a rs → Admits b (ofKind k rs)) → Admits b (cond t (r ∷ ofKind k rs) (ofKind k rs))
+    go true e ih =
+        let q : code r ≡ k = eqb-true (code r) k e in
+        let on : ofKind k (a ++ (r ∷ [])) ≡ ofKind k (b ++ (r ∷ [])) = kind-snoc k a r e ∙ ap (λ l. l ++ (r ∷ [])) (s .kinds) ∙ sym (kind-snoc k b r e) in
+        (barred-kind a b r (rw q s) (h .0), ih (a ++ (r ∷ [])) (b ++ (r ∷ [])) (stand-on k a (b ++ (r ∷ [])) r on) (h .1))
+    go false e ih = ih (a ++ (r ∷ [])) b (stand-on k a b r (kind-snoc-other k a r e ∙ s .kinds)) (h .1)
 
 admits-append : (a xs ys : List Record) → Admits a xs → Admits (a ++ xs) ys → Admits a (xs ++ ys)
 unfolding Admits
 admits-append a [] ys h g = rw (append-nil a) at g
-admits-append a (x ∷ xs) ys h g = (h .0, admits-append (a ++ (x ∷ [])) xs ys (h .1) ?)
+admits-append a (x ∷ xs) ys h g = (h .0, admits-append (a ++ (x ∷ [])) xs ys (h .1) (rw (append-snoc a x xs) g))
 
-pub admits-order : (rs : List Record) → Admits [] rs → Admits [] (inOrder rs)
-unfolding inOrder
-admits-order rs h = ?
+-- ---- in order
+
+-- before records of a kind, records of other kinds are none
+stand-none : (k : ℕ) (b : List Record) → (k ≡ 1 → ⊥) → ofKind k b ≡ [] → Stand k [] b
+unfolding ofKind
+stand-none k b h e = record { kinds = sym e; first = λ q. absurd (h q) }
+
+-- the records of one kind more
+module _ (rs : List Record) (h : Admits [] rs) where
+  admits-more : (k : ℕ) (b : List Record) → (k ≡ 1 → ⊥) → ofKind k b ≡ [] → Admits [] b → Admits [] (b ++ ofKind k rs)
+  admits-more k b n e a = admits-append [] b (ofKind k rs) a (admits-kind k [] b rs (stand-none k b n e) h)
+
+  none-more : (k j : ℕ) (b : List Record) → (k ≡ j → ⊥) → ofKind k b ≡ [] → ofKind k (b ++ ofKind j rs) ≡ []
+  none-more k j b n e = kind-append k b (ofKind j rs) ∙ rw (e, kind-other k j rs n) refl
+
+  pub admits-order : Admits [] (inOrder rs)
+  unfolding inOrder
+  admits-order =
+      let a : List Record = ofKind 1 rs in
+      let b : List Record = a ++ ofKind 2 rs in
+      let c : List Record = b ++ ofKind 3 rs in
+      let no : (k : ℕ) → (k ≡ 1 → ⊥) → ofKind k a ≡ [] = λ k q. kind-other k 1 rs q in
+      admits-more 5 (c ++ ofKind 4 rs) (λ q. omega arith)
+      (none-more 5 4 c (λ q. omega arith) (none-more 5 3 b (λ q. omega arith) (none-more 5 2 a (λ q. omega arith) (no 5 (λ q. omega arith)))))
+      (admits-more 4 c (λ q. omega arith) (none-more 4 3 b (λ q. omega arith) (none-more 4 2 a (λ q. omega arith) (no 4 (λ q. omega arith))))
+      (admits-more 3 b (λ q. omega arith) (none-more 3 2 a (λ q. omega arith) (no 3 (λ q. omega arith)))
+      (admits-more 2 a (λ q. omega arith) (no 2 (λ q. omega arith)) (admits-kind 1 [] [] rs (record { kinds = refl; first = λ q e. e }) h))))
