@@ -6,3 +6,6 @@ pub mod Made
 pub mod Line
 pub mod Lines
 pub mod Admits
+pub mod Barred
+pub mod Order
+pub mod Back

@@ -1,0 +1,72 @@
+-- Records in order, HD, then SQ, RG, PG, CO, are an equal header, and what holds of each holds in order.
+use Prim.Native.Nat.{ℕ, _≤_}
+use mathlib.Core.Path.{_≡_, refl, sym, ap, _∙_}
+use mathlib.Core.Bool.{Bool, true, false, cond}
+use mathlib.Core.List.{List, [], _∷_, _++_, map, append-nil}
+use native.Mathlib.Omega.{arith}
+use lib.Dec.{eqb}
+use Rattle.format.specs.Records.{Record, code}
+use Rattle.format.specs.Reading.{ofKind}
+use Rattle.format.specs.Tidy.{inOrder}
+use Rattle.text.specs.Stands.{Each}
+use Rattle.roundtrip.specs.Bare.{bare, bares, Equal}
+use Rattle.roundtrip.proofs.Bare.{kind-bare}
+use Rattle.roundtrip.proofs.Admits.{kind-append, kind-other, kind-same}
+
+-- ---- each
+
+module _ (P : Record → Type 0) where
+  each-append : (xs ys : List Record) → Each P xs → Each P ys → Each P (xs ++ ys)
+  unfolding Each
+  each-append [] ys h g = g
+  each-append (x ∷ xs) ys h g = (h .0, each-append xs ys (h .1) g)
+
+  each-kind : (k : ℕ) (rs : List Record) → Each P rs → Each P (ofKind k rs)
+  unfolding Each ofKind
+  each-kind k [] h = tt
+  each-kind k (r ∷ rs) h = go (eqb (code r) k) (each-kind k rs (h .1))
+    where
+      go : (t : Bool) → Each P (ofKind k rs) → Each P (cond t (r ∷ ofKind k rs) (ofKind k rs))
+      go true ih = (h .0, ih)
+      go false ih = ih
+
+  pub each-order : (rs : List Record) → Each P rs → Each P (inOrder rs)
+  unfolding inOrder
+  each-order rs h =
+      let e : (k : ℕ) → Each P (ofKind k rs) = λ k. each-kind k rs h in
+      each-append _ _ (each-append _ _ (each-append _ _ (each-append _ _ (e 1) (e 2)) (e 3)) (e 4)) (e 5)
+
+-- ---- kind by kind
+
+module _ (rs : List Record) where
+  no : (j k : ℕ) → (j ≡ k → ⊥) → ofKind j (ofKind k rs) ≡ []
+  no j k h = kind-other j k rs h
+
+  kinds : (k : ℕ) → ofKind k (inOrder rs) ≡ ofKind k (ofKind 1 rs) ++ ofKind k (ofKind 2 rs) ++ ofKind k (ofKind 3 rs) ++ ofKind k (ofKind 4 rs) ++ ofKind k (ofKind 5 rs)
+  unfolding inOrder
+  kinds k = simp kind-append
+
+  pub order-equal : Equal (inOrder rs) rs
+  unfolding bares
+  order-equal =
+      record {
+        hd = rw (kinds 1, kind-same 1 rs, no 1 2 (λ q. omega arith), no 1 3 (λ q. omega arith), no 1 4 (λ q. omega arith), no 1 5 (λ q. omega arith)) (simp append-nil);
+        sq = rw (kinds 2, kind-same 2 rs, no 2 1 (λ q. omega arith), no 2 3 (λ q. omega arith), no 2 4 (λ q. omega arith), no 2 5 (λ q. omega arith)) (simp append-nil);
+        rg = rw (kinds 3, kind-same 3 rs, no 3 1 (λ q. omega arith), no 3 2 (λ q. omega arith), no 3 4 (λ q. omega arith), no 3 5 (λ q. omega arith)) (simp append-nil);
+        pg = rw (kinds 4, kind-same 4 rs, no 4 1 (λ q. omega arith), no 4 2 (λ q. omega arith), no 4 3 (λ q. omega arith), no 4 5 (λ q. omega arith)) (simp append-nil);
+        co = rw (kinds 5, kind-same 5 rs, no 5 1 (λ q. omega arith), no 5 2 (λ q. omega arith), no 5 3 (λ q. omega arith), no 5 4 (λ q. omega arith)) refl;
+      }
+
+-- equal records, place by place, are equal kind by kind
+pub same-equal : (rs qs : List Record) → map bare rs ≡ map bare qs → Equal rs qs
+unfolding bares
+same-equal rs qs e =
+    let k : (k : ℕ) → map bare (ofKind k rs) ≡ map bare (ofKind k qs) = λ k. sym (kind-bare k rs) ∙ ap (ofKind k) e ∙ kind-bare k qs in
+    record { hd = k 1; sq = k 2; rg = k 3; pg = k 4; co = k 5 }
+
+pub equal-sym : (rs qs : List Record) → Equal rs qs → Equal qs rs
+equal-sym rs qs e = record { hd = sym (e .hd); sq = sym (e .sq); rg = sym (e .rg); pg = sym (e .pg); co = sym (e .co) }
+
+pub equal-trans : (rs qs ps : List Record) → Equal rs qs → Equal qs ps → Equal rs ps
+equal-trans rs qs ps e f =
+    record { hd = e .hd ∙ f .hd; sq = e .sq ∙ f .sq; rg = e .rg ∙ f .rg; pg = e .pg ∙ f .pg; co = e .co ∙ f .co }
