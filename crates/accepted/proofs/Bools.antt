@@ -47,6 +47,11 @@ pub split : {C : Type 0} (t : Bool) → (t ≡ true → C) → (t ≡ false → 
 split true f g = f refl
 split false f g = g refl
 
+-- one half of a test that holds, holds
+pub or-split : {C : Type 0} (a b : Bool) → a || b ≡ true → (a ≡ true → C) → (b ≡ true → C) → C
+or-split true b h f g = f refl
+or-split false b h f g = g h
+
 pub eqb-sym : (a b : ℕ) → eqb a b ≡ eqb b a
 eqb-sym a b = split (eqb a b) (λ h. h ∙ sym (eq-eqb b a (sym (eqb-true a b h)))) (λ h. h ∙ sym (ne-eqb b a (λ e. eqb-false a b h (sym e))))
 

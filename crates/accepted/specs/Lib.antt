@@ -1,3 +1,4 @@
 pub mod Pieces
 pub mod Sound
 pub mod Spelled
+pub mod Clean
