@@ -16,11 +16,11 @@ use Rattle.format.specs.declared.Kind.{Kind}
 use Rattle.format.specs.declared.Kind.the-variants.{Header, ReferenceSequence, ReadGroup, Program, Comment}
 use Rattle.text.specs.Stands.{Each}
 use Rattle.text.proofs.Stands.{each-bytes}
-use Rattle.accepted.specs.Pieces.{Pairs}
 use Rattle.accepted.specs.Clean.{clean}
 use Rattle.accepted.specs.Spelled as sp
 use Rattle.accepted.specs.Spelled.{Good, kind₀, kind₁, Spelled, Accepted}
 use Rattle.accepted.proofs.Bools.{and-left, and-right, or-true, or-split}
+use Rattle.accepted.proofs.Pairs.{pairs-left}
 use Rattle.accepted.proofs.Good.{never}
 use Rattle.accepted.proofs.Spelled.{prefixed-accepted}
 
@@ -68,13 +68,6 @@ good-clean k at s f g =
       printable-clean v (and-right (not (none? v)) (all printable v) (g .value)),
     ) refl
 
-pairs-clean : (k : Kind) (ps : List Piece) (fs : List Field) → Pairs (λ p f. Good k (p .at) (p .bytes) f) ps fs → Each (λ p. all clean (p .bytes) ≡ true) ps
-unfolding Pairs Each
-pairs-clean k [] [] h = tt
-pairs-clean k [] (f ∷ fs) h = tt
-pairs-clean k (p ∷ ps) [] h = absurd h
-pairs-clean k (p ∷ ps) (f ∷ fs) h = (good-clean k (p .at) (p .bytes) f (h .0), pairs-clean k ps fs (h .1))
-
 -- pieces with tabs between them
 cut-clean : (s : List ℕ) → Each (λ p. all clean p ≡ true) (cut 9 s) → all clean s ≡ true
 unfolding Each cut all onto clean
@@ -105,7 +98,9 @@ unfolding code all
 accepted-clean strict at s r (sp.remark t) n = absurd (n refl)
 accepted-clean strict at s r (sp.fielded a) n =
     let h = kind-clean (a .kind) in
-    let c : all clean (a .rest) ≡ true = cut-clean (a .rest) (each-bytes (λ p. all clean p ≡ true) (at + 4) (cut 9 (a .rest)) (pairs-clean (a .kind) (placed (at + 4) (cut 9 (a .rest))) (a .fields) (a .each))) in
+    let ps : List Piece = placed (at + 4) (cut 9 (a .rest)) in
+    let e : Each (λ p. all clean (p .bytes) ≡ true) ps = pairs-left (λ p f. Good (a .kind) (p .at) (p .bytes) f) (λ p. all clean (p .bytes) ≡ true) (λ p f g. good-clean (a .kind) (p .at) (p .bytes) f g) ps (a .fields) (a .each) in
+    let c : all clean (a .rest) ≡ true = cut-clean (a .rest) (each-bytes (λ p. all clean p ≡ true) (at + 4) (cut 9 (a .rest)) e) in
     rw (a .spells, h .0, h .1, c) (unfold clean in refl)
 
 -- neither LF nor CR
