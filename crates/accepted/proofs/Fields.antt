@@ -86,8 +86,3 @@ without-none a b (f ∷ fs) = go (tagged a b f) refl (without-none a b fs)
     go : (t : Bool) → tagged a b f ≡ t → Each (λ f. tagged a b f ≡ false) (without a b fs) → Each (λ f. tagged a b f ≡ false) (cond t (without a b fs) (f ∷ without a b fs))
     go true e ih = ih
     go false e ih = (e, ih)
-
-pub each-both : {A : Type 0} (P Q : A → Type 0) (xs : List A) → Each P xs → Each Q xs → Each (λ x. P x × Q x) xs
-unfolding Each
-each-both P Q [] p q = tt
-each-both P Q (x ∷ xs) p q = ((p .0, q .0), each-both P Q xs (p .1) (q .1))

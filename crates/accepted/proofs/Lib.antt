@@ -6,3 +6,4 @@ pub mod Spelled
 pub mod Clean
 pub mod Fields
 pub mod Stands
+pub mod Sound

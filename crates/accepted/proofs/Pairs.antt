@@ -7,6 +7,17 @@ use lib.ListN.{length, getD}
 use Rattle.text.specs.Stands.{Each}
 use Rattle.accepted.specs.Pieces.{Pairs}
 
+-- what holds of all holds of each
+pub each-all : {A : Type 0} (P : A → Type 0) → ((x : A) → P x) → (xs : List A) → Each P xs
+unfolding Each
+each-all P f [] = tt
+each-all P f (x ∷ xs) = (f x, each-all P f xs)
+
+pub each-both : {A : Type 0} (P Q : A → Type 0) (xs : List A) → Each P xs → Each Q xs → Each (λ x. P x × Q x) xs
+unfolding Each
+each-both P Q [] p q = tt
+each-both P Q (x ∷ xs) p q = ((p .0, q .0), each-both P Q xs (p .1) (q .1))
+
 module _ {A B : Type 0} (R : A → B → Type 0) where
   pub pairs-left : (Q : A → Type 0) → ((x : A) (y : B) → R x y → Q x) → (xs : List A) (ys : List B) → Pairs R xs ys → Each Q xs
   unfolding Pairs Each
