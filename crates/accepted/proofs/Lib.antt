@@ -7,3 +7,6 @@ pub mod Clean
 pub mod Fields
 pub mod Stands
 pub mod Sound
+pub mod Admits
+pub mod Apart
+pub mod Text

@@ -2,3 +2,4 @@ pub mod Pieces
 pub mod Sound
 pub mod Spelled
 pub mod Clean
+pub mod Admits
