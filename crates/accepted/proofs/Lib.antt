@@ -10,3 +10,4 @@ pub mod Sound
 pub mod Admits
 pub mod Apart
 pub mod Text
+pub mod Onward
