@@ -1,5 +1,5 @@
 -- Reading that accepts gives the record of each line, in order: each admitted after those before it.
-use Prim.Native.Nat.{ℕ, zero, suc, _+_, _≤_, _<_}
+use Prim.Native.Nat.{ℕ, zero, suc, _+_, _<_}
 use mathlib.Core.Path.{_≡_, refl, sym, ap, _∙_}
 use mathlib.Core.Bool.{Bool, true, false, not, _&&_, cond}
 use mathlib.Core.List.{List, [], _∷_, _++_, append-nil, append-assoc}
@@ -9,10 +9,10 @@ use lib.Dec.{eqb, leb}
 use Rattle.format.specs.Bytes.{any, none?}
 use Rattle.format.specs.Lines.{Piece}
 use Rattle.format.specs.Records.{Record, code, Line, refused, read, line}
-use Rattle.format.specs.Reading.{Reading, refuse, accept, clash, ofKind, barred, unless, following, admitted, taken, readFrom}
+use Rattle.format.specs.Reading.{accept, clash, ofKind, barred, unless, following, admitted, taken, readFrom}
 use Rattle.accepted.specs.Pieces.{Pairs}
 use Rattle.accepted.specs.Admits.{Admits, Unbarred, Clear}
-use Rattle.accepted.proofs.Good.{never}
+use Rattle.accepted.proofs.Bools.{never}
 
 -- ---- one line
 

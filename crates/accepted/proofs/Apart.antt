@@ -1,21 +1,22 @@
 -- Records that may follow one another: keys of one kind differ, programs are at most 1,024, HD comes first.
 use Prim.Native.Nat.{ℕ, zero, suc, _+_, _≤_, _<_}
-use mathlib.Core.Path.{_≡_, refl, sym, ap, _∙_}
-use mathlib.Core.Bool.{Bool, true, false, not, _&&_, _||_, cond, and-true}
+use mathlib.Core.Path.{_≡_, refl, sym, _∙_}
+use mathlib.Core.Bool.{Bool, true, false, _&&_, cond, and-true}
 use mathlib.Core.List.{List, [], _∷_, _++_, append-nil, append-assoc}
 use mathlib.Core.Option.{Option, none, some}
 use native.Mathlib.Omega.{arith}
 use lib.ListN.{length, drop, getD, length-append}
 use lib.Dec.{eqb, leb}
-use borrow.Author.Tests.{leb-false, eqb-false}
+use borrow.Author.Tests.{leb-false}
 use Rattle.format.specs.Bytes.{any, none?, same}
 use Rattle.format.specs.Lines.{Piece}
 use Rattle.format.specs.Records.{Record, code, key}
-use Rattle.format.specs.Reading.{clash, sameKeys, ofKind, barred}
+use Rattle.format.specs.Reading.{clash, sameKeys, ofKind}
 use Rattle.text.specs.Stands.{Each}
 use Rattle.text.proofs.Stands.{each-map}
 use Rattle.accepted.specs.Admits.{Unbarred, Apart, Clear}
 use Rattle.accepted.proofs.Bools.{or-left, or-right, eqb-sym, any-snoc}
+use Rattle.accepted.proofs.OfKind.{ofKind-append}
 use Rattle.accepted.proofs.Admits.{barred-clear}
 
 -- ---- keys
@@ -50,7 +51,7 @@ unbarred-before before [] h = tt
 unbarred-before before (r ∷ rs) h = (
   barred-clear before r (h .0) .apart,
   each-map (λ q. any (clash q) (before ++ (r ∷ [])) ≡ false) (λ q. any (clash q) before ≡ false)
-  (λ q g. or-left (any (clash q) before) (clash q r) (sym (any-snoc (clash q) before r) ∙ g)) rs (unbarred-before (before ++ (r ∷ [])) rs (h .1)),
+      (λ q g. or-left (any (clash q) before) (clash q r) (sym (any-snoc (clash q) before r) ∙ g)) rs (unbarred-before (before ++ (r ∷ [])) rs (h .1)),
 )
 
 pub unbarred-apart : (before rs : List Record) → Unbarred before rs → Apart rs
@@ -58,9 +59,9 @@ unfolding Unbarred Apart
 unbarred-apart before [] h = tt
 unbarred-apart before (r ∷ rs) h = (
   any-each (clash r) rs (
-    each-map (λ q. any (clash q) (before ++ (r ∷ [])) ≡ false) (λ q. clash r q ≡ false)
-    (λ q g. clash-sym r q ∙ or-right (any (clash q) before) (clash q r) (sym (any-snoc (clash q) before r) ∙ g)) rs
-    (unbarred-before (before ++ (r ∷ [])) rs (h .1))),
+      each-map (λ q. any (clash q) (before ++ (r ∷ [])) ≡ false) (λ q. clash r q ≡ false)
+      (λ q g. clash-sym r q ∙ or-right (any (clash q) before) (clash q r) (sym (any-snoc (clash q) before r) ∙ g)) rs
+      (unbarred-before (before ++ (r ∷ [])) rs (h .1))),
   unbarred-apart (before ++ (r ∷ [])) rs (h .1),
 )
 
@@ -79,16 +80,6 @@ apart-at (q ∷ rs) zero (suc j) r h m l = any-at (clash q) rs j r (h .0) (omega
 apart-at (q ∷ rs) (suc i) (suc j) r h m l = apart-at rs i j r (h .1) (omega arith) (omega arith)
 
 -- ---- programs
-
-pub ofKind-append : (k : ℕ) (rs qs : List Record) → ofKind k (rs ++ qs) ≡ ofKind k rs ++ ofKind k qs
-unfolding ofKind
-ofKind-append k [] qs = refl
-ofKind-append k (r ∷ rs) qs = go (eqb (code r) k) (ofKind-append k rs qs)
-  where
-    go : (t : Bool) → ofKind k (rs ++ qs) ≡ ofKind k rs ++ ofKind k qs
-        → cond t (r ∷ ofKind k (rs ++ qs)) (ofKind k (rs ++ qs)) ≡ cond t (r ∷ ofKind k rs) (ofKind k rs) ++ ofKind k qs
-    go true ih = ap (λ l. r ∷ l) ih
-    go false ih = ih
 
 clear-programs : (before : List Record) (r : Record) → Clear before r → length (ofKind 4 before) ≤ 1024 → length (ofKind 4 (before ++ (r ∷ []))) ≤ 1024
 unfolding ofKind
@@ -119,12 +110,6 @@ unbarred-headless before (r ∷ rs) h n = (
     go : (b : List Record) → none? (b ++ (r ∷ [])) ≡ false
     go [] = refl
     go (q ∷ b) = refl
-
--- no record has the kind
-pub ofKind-none : (k : ℕ) (rs : List Record) → Each (λ r. eqb (code r) k ≡ false) rs → ofKind k rs ≡ []
-unfolding ofKind Each
-ofKind-none k [] h = refl
-ofKind-none k (r ∷ rs) h = rw (h .0, ofKind-none k rs (h .1)) refl
 
 -- HD is the first record or none
 pub unbarred-first : (rs : List Record) → Unbarred [] rs → Each (λ r. eqb (code r) 1 ≡ false) (drop 1 rs)

@@ -1,13 +1,11 @@
 -- An accepted line of fields holds tabs and printable bytes alone: no LF and no CR.
-use Prim.Native.Nat.{ℕ, zero, suc, _+_, _≤_, _<_}
-use mathlib.Core.Path.{_≡_, refl, sym, ap, _∙_}
+use Prim.Native.Nat.{ℕ, _+_, _≤_}
+use mathlib.Core.Path.{_≡_, refl}
 use mathlib.Core.Bool.{Bool, true, false, not, _&&_, _||_, cond}
 use mathlib.Core.List.{List, [], _∷_}
-use mathlib.Core.Option.{Option, none, some}
 use native.Mathlib.Omega.{arith}
-use lib.ListN.{length}
 use lib.Dec.{eqb, leb}
-use borrow.Author.Tests.{eqb-true, leb-true, le-leb, eq-eqb, ne-eqb}
+use borrow.Author.Tests.{leb-true, le-leb, ne-eqb}
 use Rattle.format.specs.Bytes.{between, digit, letter, printable, all, any, none?}
 use Rattle.format.specs.Lines.{Piece, onto, cut, placed}
 use Rattle.format.specs.Fields.{Field, isValue, isTag}
@@ -18,10 +16,9 @@ use Rattle.text.specs.Stands.{Each}
 use Rattle.text.proofs.Stands.{each-bytes}
 use Rattle.accepted.specs.Clean.{clean}
 use Rattle.accepted.specs.Spelled as sp
-use Rattle.accepted.specs.Spelled.{Good, kind₀, kind₁, Spelled, Accepted}
-use Rattle.accepted.proofs.Bools.{and-left, and-right, or-true, or-split}
+use Rattle.accepted.specs.Spelled.{Good, kind₀, kind₁, Accepted}
+use Rattle.accepted.proofs.Bools.{never, and-left, and-right, or-true, or-split}
 use Rattle.accepted.proofs.Pairs.{pairs-left}
-use Rattle.accepted.proofs.Good.{never}
 use Rattle.accepted.proofs.Spelled.{prefixed-accepted}
 
 -- ---- bytes
@@ -43,9 +40,12 @@ letter-bounds b h = or-split (between 65 90 b) (between 97 122 b) h
 
 pub tag-bounds : (a b : ℕ) → isTag a b ≡ true → ((65 ≤ a) × (a ≤ 122)) × ((48 ≤ b) × (b ≤ 122))
 unfolding isTag digit
-tag-bounds a b h = (letter-bounds a (and-left (letter a) (letter b || digit b) h), or-split (letter b) (digit b) (and-right (letter a) (letter b || digit b) h)
-    (λ t. let x = letter-bounds b t in (omega arith, omega arith))
-    (λ t. let x = between-bounds 48 57 b t in (omega arith, omega arith)))
+tag-bounds a b h = (
+  letter-bounds a (and-left (letter a) (letter b || digit b) h),
+  or-split (letter b) (digit b) (and-right (letter a) (letter b || digit b) h)
+      (λ t. let x = letter-bounds b t in (omega arith, omega arith))
+      (λ t. let x = between-bounds 48 57 b t in (omega arith, omega arith)),
+)
 
 -- ---- pieces
 
@@ -95,8 +95,8 @@ kind-clean Comment = (refl, refl)
 
 pub accepted-clean : (strict : Bool) (at : ℕ) (s : List ℕ) (r : Record) → Accepted strict at s r → (code r ≡ 5 → ⊥) → all clean s ≡ true
 unfolding code all
-accepted-clean strict at s r (sp.remark t) n = absurd (n refl)
-accepted-clean strict at s r (sp.fielded a) n =
+accepted-clean strict at s r (sp.of-remark t) n = absurd (n refl)
+accepted-clean strict at s r (sp.of-fields a) n =
     let h = kind-clean (a .kind) in
     let ps : List Piece = placed (at + 4) (cut 9 (a .rest)) in
     let e : Each (λ p. all clean (p .bytes) ≡ true) ps = pairs-left (λ p f. Good (a .kind) (p .at) (p .bytes) f) (λ p. all clean (p .bytes) ≡ true) (λ p f g. good-clean (a .kind) (p .at) (p .bytes) f g) ps (a .fields) (a .each) in

@@ -1,18 +1,15 @@
 -- What holds of each field of a line holds of what is picked from them: the last with a tag, those without one, the settled ones.
 use Prim.Native.Nat.{ℕ}
-use mathlib.Core.Path.{_≡_, refl, sym, ap, _∙_}
-use mathlib.Core.Bool.{Bool, true, false, _&&_, _||_, cond}
-use mathlib.Core.List.{List, [], _∷_, map}
+use mathlib.Core.Path.{_≡_, refl, _∙_}
+use mathlib.Core.Bool.{Bool, true, false, cond}
+use mathlib.Core.List.{List, [], _∷_}
 use mathlib.Core.Option.{Option, none, some}
-use lib.Dec.{eqb}
-use Rattle.format.specs.Bytes.{any}
 use Rattle.format.specs.Lines.{Piece}
 use Rattle.format.specs.Fields.{Field, tagged, repeats, later, lastOf, without, put, settledOn, settled}
 use Rattle.text.specs.Stands.{Each}
 use Rattle.accepted.specs.Pieces.{values}
-use Rattle.accepted.proofs.Good.{never}
-use Rattle.accepted.proofs.Bools.{or-left, or-right, or-false}
-use Rattle.accepted.proofs.Tags.{tagged-same, any-put, any-settled, repeats-put}
+use Rattle.accepted.proofs.Bools.{never}
+use Rattle.accepted.proofs.Tags.{repeats-put}
 
 -- `p` is the value of a field with the tag `a`, `b` of which `P` holds
 pub record Of (P : Field → Type 0) (a b : ℕ) (p : Piece) : Type 0 where

@@ -8,6 +8,7 @@ pub mod Fields
 pub mod Stands
 pub mod Sound
 pub mod Admits
+pub mod OfKind
 pub mod Apart
 pub mod Text
 pub mod Onward

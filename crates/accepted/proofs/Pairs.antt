@@ -13,6 +13,13 @@ unfolding Each
 each-all P f [] = tt
 each-all P f (x ∷ xs) = (f x, each-all P f xs)
 
+-- of one, by its place
+pub each-at : {A : Type 0} (P : A → Type 0) (xs : List A) (i : ℕ) (x : A) → Each P xs → i < length xs → P (getD xs i x)
+unfolding Each
+each-at P [] i x h l = absurd (omega arith)
+each-at P (y ∷ xs) zero x h l = h .0
+each-at P (y ∷ xs) (suc i) x h l = each-at P xs i x (h .1) (omega arith)
+
 pub each-both : {A : Type 0} (P Q : A → Type 0) (xs : List A) → Each P xs → Each Q xs → Each (λ x. P x × Q x) xs
 unfolding Each
 each-both P Q [] p q = tt

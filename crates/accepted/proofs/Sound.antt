@@ -1,26 +1,25 @@
 -- Every record of an accepted line is sound: numbers fit, values are values, other fields are no keys and have no tag twice.
 use Prim.Native.Nat.{ℕ, _+_, _^_, _≤_, _<_}
-use mathlib.Core.Path.{_≡_, refl, sym, ap, subst, _∙_}
-use mathlib.Core.Bool.{Bool, true, false, _&&_, _||_, cond}
-use mathlib.Core.List.{List, [], _∷_}
+use mathlib.Core.Path.{_≡_, refl}
+use mathlib.Core.Bool.{Bool, true, false, _&&_, cond}
+use mathlib.Core.List.{List}
 use mathlib.Core.Option.{Option, none, some}
 use lib.Dec.{ltb}
 use borrow.Author.Tests.{ltb-true}
 use Rattle.format.specs.Decimal.{worth, digits, number}
 use Rattle.format.specs.Lines.{Piece, cut, placed}
 use Rattle.format.specs.Fields.{Field, tagged, isValue, isTag, repeats, lastOf, settled, without}
-use Rattle.format.specs.Records.{Record, header, reference, group, program, comment, key, others, read, line}
+use Rattle.format.specs.Records.{Record, key, others, read, line}
 use Rattle.format.specs.Version.{version, numbered, both, sides}
 use Rattle.format.specs.declared.Version.{Version}
 use Rattle.format.specs.declared.Kind.{Kind}
-use Rattle.format.specs.declared.Kind.the-variants.{Header, ReferenceSequence, ReadGroup, Program, Comment}
+use Rattle.format.specs.declared.Kind.the-variants.{Header, ReferenceSequence, ReadGroup, Program}
 use Rattle.text.specs.Stands.{Each}
 use Rattle.text.proofs.Stands.{each-map}
 use Rattle.accepted.specs.Sound.{isKey, kind, Fits, Named, Other, Sound}
 use Rattle.accepted.specs.Spelled as sp
 use Rattle.accepted.specs.Spelled.{Sized, Good, Made, Spelled, Accepted}
-use Rattle.accepted.proofs.Bools.{and-right}
-use Rattle.accepted.proofs.Good.{never}
+use Rattle.accepted.proofs.Bools.{never, and-right}
 use Rattle.accepted.proofs.Pairs.{each-all, each-both, pairs-right}
 use Rattle.accepted.proofs.Fields.{Of, lastOf-of, each-without, each-settled, without-none, repeats-settled}
 use Rattle.accepted.proofs.Spelled.{line-accepted}
@@ -71,8 +70,8 @@ rest-other : (k : Kind) (Q : Field → Type 0) → ((f : Field) → Q f → isKe
     → (gs : List Field) → Each (Meant k) gs → Each Q gs → Each (Other k) (settled gs)
 rest-other k Q n gs h q =
     each-settled (Other k) gs (
-      each-map (λ f. Meant k f × Q f) (Other k) (λ f m. record { tag = m .0 .tag; no-key = n f (m .1); value = m .0 .value }) gs
-      (each-both (Meant k) Q gs h q))
+    each-map (λ f. Meant k f × Q f) (Other k) (λ f m. record { tag = m .0 .tag; no-key = n f (m .1); value = m .0 .value }) gs
+    (each-both (Meant k) Q gs h q))
 
 -- one key taken out
 one-out : (k : Kind) (a b : ℕ) (fs : List Field) → ((f : Field) → tagged a b f ≡ false → isKey k (f .tag₀) (f .tag₁) ≡ false)
@@ -99,29 +98,44 @@ last-sized fs n h e =
     let o : Of (Meant ReferenceSequence) 76 78 n = lastOf-of (Meant ReferenceSequence) 76 78 fs n h e in
     rw (← o .value) (o .holds .sized (o .tag))
 
+pub made-kind : (fs : List Field) (k : Kind) (r : Record) → Made fs k r → kind r ≡ k
+unfolding kind
+made-kind fs k r (sp.of-header p v e g) = refl
+made-kind fs k r (sp.of-reference p n e g) = refl
+made-kind fs k r (sp.of-group p e) = refl
+made-kind fs k r (sp.of-program p e) = refl
+
 made-sound : (fs : List Field) (k : Kind) (r : Record) → Each (Meant k) fs → Made fs k r → Sound r
 unfolding Fits Named key others kind isKey tagged
 made-sound fs k r h (sp.of-header p v e g) = record {
-  fits = version-below (p .bytes) v g; named = tt;
-  other = one-out Header 86 78 fs (λ f q. q) h; once = repeats-settled (without 86 78 fs);
+  fits = version-below (p .bytes) v g;
+  named = tt;
+  other = one-out Header 86 78 fs (λ f q. q) h;
+  once = repeats-settled (without 86 78 fs);
 }
 made-sound fs k r h (sp.of-reference p n e g) = record {
-  fits = last-sized fs n h g; named = last-value ReferenceSequence fs 83 78 p h e;
-  other = two-out fs h; once = repeats-settled (without 83 78 (without 76 78 fs));
+  fits = last-sized fs n h g;
+  named = last-value ReferenceSequence fs 83 78 p h e;
+  other = two-out fs h;
+  once = repeats-settled (without 83 78 (without 76 78 fs));
 }
 made-sound fs k r h (sp.of-group p e) = record {
-  fits = tt; named = last-value ReadGroup fs 73 68 p h e;
-  other = one-out ReadGroup 73 68 fs (λ f q. q) h; once = repeats-settled (without 73 68 fs);
+  fits = tt;
+  named = last-value ReadGroup fs 73 68 p h e;
+  other = one-out ReadGroup 73 68 fs (λ f q. q) h;
+  once = repeats-settled (without 73 68 fs);
 }
 made-sound fs k r h (sp.of-program p e) = record {
-  fits = tt; named = last-value Program fs 73 68 p h e;
-  other = one-out Program 73 68 fs (λ f q. q) h; once = repeats-settled (without 73 68 fs);
+  fits = tt;
+  named = last-value Program fs 73 68 p h e;
+  other = one-out Program 73 68 fs (λ f q. q) h;
+  once = repeats-settled (without 73 68 fs);
 }
 
 pub accepted-sound : (strict : Bool) (at : ℕ) (s : List ℕ) (r : Record) → Accepted strict at s r → Sound r
 unfolding Fits Named key others kind repeats Each
-accepted-sound strict at s r (sp.remark t) = record { fits = tt; named = tt; other = tt; once = refl }
-accepted-sound strict at s r (sp.fielded a) = made-sound (a .fields) (a .kind) r (fields-meant strict at s r a) (a .made)
+accepted-sound strict at s r (sp.of-remark t) = record { fits = tt; named = tt; other = tt; once = refl }
+accepted-sound strict at s r (sp.of-fields a) = made-sound (a .fields) (a .kind) r (fields-meant strict at s r a) (a .made)
 
 pub line-sound : (strict : Bool) (p : Piece) (r : Record) → line strict p ≡ read r → Sound r
 line-sound strict p r e = accepted-sound strict (p .at) (p .bytes) r (line-accepted strict p r e)

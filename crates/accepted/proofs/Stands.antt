@@ -1,12 +1,12 @@
 -- The pieces of an accepted record stand in its line.
-use Prim.Native.Nat.{ℕ, zero, suc, _+_, _-_, _≤_, _<_}
-use mathlib.Core.Path.{_≡_, refl, sym, ap, subst, _∙_}
+use Prim.Native.Nat.{ℕ, zero, suc, _+_, _-_, _≤_}
+use mathlib.Core.Path.{_≡_, refl, ap, subst, _∙_}
 use mathlib.Core.Bool.{Bool}
 use mathlib.Core.List.{List, [], _∷_}
-use mathlib.Core.Option.{Option, none, some}
+use mathlib.Core.Option.{some}
 use native.Mathlib.Omega.{arith}
 use lib.ListN.{length, take, drop}
-use lib.Seq.{take-take, take-length, take-nil, drop-drop}
+use lib.Seq.{take-take, take-length, drop-drop}
 use Rattle.format.specs.Lines.{Piece, cut, placed}
 use Rattle.format.specs.Fields.{Field, lastOf, settled, without}
 use Rattle.format.specs.Records.{Record, read, line}
@@ -39,11 +39,11 @@ stands-within t base p q h k =
       from = omega (arith, h .from, k .from);
       within = omega (arith, h .from, k .from, h .within, k .within);
       bytes =
-        k .bytes
-        ∙ ap (λ l. take n (drop i l)) (h .bytes)
-        ∙ take-drop-take i n (length (p .bytes)) (drop j t) (k .within)
-        ∙ ap (take n) (drop-drop i j t)
-        ∙ ap (λ m. take n (drop m t)) e;
+          k .bytes
+          ∙ ap (λ l. take n (drop i l)) (h .bytes)
+          ∙ take-drop-take i n (length (p .bytes)) (drop j t) (k .within)
+          ∙ ap (take n) (drop-drop i j t)
+          ∙ ap (λ m. take n (drop m t)) e;
     }
 
 pub stands-whole : (s : List ℕ) (at : ℕ) → Stands s at (record { at = at; bytes = s })
@@ -87,8 +87,8 @@ fields-stand strict at s r a = rw (a .spells) (
 
 pub accepted-stand : (strict : Bool) (at : ℕ) (s : List ℕ) (r : Record) → Accepted strict at s r → Each (Stands s at) (pieces r)
 unfolding pieces Each
-accepted-stand strict at s r (sp.remark t) = (stands-onward s at 4 (omega arith) (record { at = at + 4; bytes = t }) (stands-whole t (at + 4)), tt)
-accepted-stand strict at s r (sp.fielded a) = made-stand s at (a .fields) (a .kind) r (fields-stand strict at s r a) (a .made)
+accepted-stand strict at s r (sp.of-remark t) = (stands-onward s at 4 (omega arith) (record { at = at + 4; bytes = t }) (stands-whole t (at + 4)), tt)
+accepted-stand strict at s r (sp.of-fields a) = made-stand s at (a .fields) (a .kind) r (fields-stand strict at s r a) (a .made)
 
 pub line-stand : (strict : Bool) (p : Piece) (r : Record) → line strict p ≡ read r → Each (Stands (p .bytes) (p .at)) (pieces r)
 line-stand strict p r e = accepted-stand strict (p .at) (p .bytes) r (line-accepted strict p r e)

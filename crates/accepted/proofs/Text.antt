@@ -1,32 +1,28 @@
 -- What is known of the records of an accepted text.
-use Prim.Native.Nat.{ℕ, _+_, _-_, _≤_, _<_}
-use mathlib.Core.Path.{_≡_, refl, sym, ap, subst, _∙_}
+use Prim.Native.Nat.{ℕ, _+_, _≤_, _<_}
+use mathlib.Core.Path.{_≡_, refl, sym}
 use mathlib.Core.Bool.{Bool, true, false, cond}
-use mathlib.Core.List.{List, [], _∷_, _++_}
+use mathlib.Core.List.{List, []}
 use native.Mathlib.Omega.{arith}
 use lib.ListN.{length, take, drop, getD}
 use lib.Dec.{eqb, ltb}
 use borrow.Author.Tests.{ltb-false}
 use Rattle.format.specs.Lines.{Piece, lines}
 use Rattle.format.specs.Records.{Record, code, read, line}
-use Rattle.format.specs.Reading.{accept, refuse, announced, isStrict, admitted, readFrom, longest, readText, ofKind}
+use Rattle.format.specs.Reading.{accept, refuse, admitted, readFrom, longest, readText, ofKind}
 use Rattle.text.specs.Stands.{Stands, Each}
 use Rattle.text.proofs.Stands.{each-map, lines-stand}
 use Rattle.accepted.specs.Pieces.{pieces, Pairs}
 use Rattle.accepted.specs.Sound.{Sound}
-use Rattle.accepted.specs.Admits.{Admits, Unbarred, Apart}
-use Rattle.accepted.proofs.Good.{never}
+use Rattle.accepted.specs.Admits.{strictly, Admits, Unbarred, Apart}
+use Rattle.accepted.proofs.Bools.{never}
 use Rattle.accepted.proofs.Pairs.{each-all, pairs-right, pairs-length}
 use Rattle.accepted.proofs.Stands.{stands-within, line-stand}
 use Rattle.accepted.proofs.Sound.{line-sound}
 use Rattle.accepted.proofs.Admits.{Rest, read-rest, admits-lines, admits-unbarred, admits-at}
-use Rattle.accepted.proofs.Apart.{unbarred-apart, unbarred-programs, unbarred-first, ofKind-none}
+use Rattle.accepted.proofs.Apart.{unbarred-apart, unbarred-programs, unbarred-first}
+use Rattle.accepted.proofs.OfKind.{ofKind-none}
 use Rattle.accepted.proofs.Onward.{lines-count}
-
--- whether the text forbids repeated tags
-unfoldable pub strictly : List ℕ → Bool
-unfolding isStrict announced lines
-strictly t = isStrict (announced (lines t))
 
 module _ (t : List ℕ) (rs : List Record) (h : readText t ≡ accept rs) where
   -- not too long, and read from its first line on

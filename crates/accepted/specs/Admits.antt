@@ -6,9 +6,14 @@ use mathlib.Core.List.{List, [], _∷_, _++_}
 use lib.ListN.{length}
 use lib.Dec.{eqb, leb}
 use Rattle.format.specs.Bytes.{any, none?}
-use Rattle.format.specs.Lines.{Piece}
+use Rattle.format.specs.Lines.{Piece, lines}
 use Rattle.format.specs.Records.{Record, code, read}
-use Rattle.format.specs.Reading.{clash, ofKind, barred, admitted}
+use Rattle.format.specs.Reading.{announced, isStrict, clash, ofKind, barred, admitted}
+
+-- whether the text forbids repeated tags
+unfoldable pub strictly : List ℕ → Bool
+unfolding isStrict announced lines
+strictly t = isStrict (announced (lines t))
 
 -- `rs` are the records of the lines `ps`, each admitted after `before` and those before it
 unfoldable pub Admits : Bool → List Record → List Piece → List Record → Type 0
