@@ -1,25 +1,21 @@
 -- A piece that is judged good is a tag, a colon and a value, and LN of SQ is a number that fits.
-use Prim.Native.Nat.{ℕ, zero, suc, _+_, _^_, _≤_, _<_}
-use mathlib.Core.Path.{_≡_, refl, sym, ap, _∙_}
-use mathlib.Core.Bool.{Bool, true, false, not, _&&_, _||_, cond}
+use Prim.Native.Nat.{ℕ, zero, suc, _+_, _^_, _≤_}
+use mathlib.Core.Path.{_≡_, refl, ap}
+use mathlib.Core.Bool.{Bool, true, false, not, _&&_, cond}
 use mathlib.Core.List.{List, [], _∷_, _++_, append-nil}
 use mathlib.Core.Option.{Option, none, some}
 use native.Mathlib.Omega.{arith}
 use lib.Dec.{eqb, ltb, leb}
-use borrow.Author.Tests.{eqb-true, eqb-false, ltb-true, leb-true, le-leb, not-true, not-false}
+use borrow.Author.Tests.{eqb-true, eqb-false, ltb-true, leb-true, le-leb}
 use Rattle.format.specs.Bytes.{digit, printable, all, none?}
 use Rattle.format.specs.Decimal.{worth, span}
-use Rattle.format.specs.Lines.{Piece}
-use Rattle.format.specs.Fields.{Field, Judged, bad, good, goodThen, tagged, isValue, isTag, plain, spelled, versionField, lengthField, valueField, field}
+use Rattle.format.specs.Fields.{Field, bad, good, goodThen, tagged, isValue, isTag, plain, spelled, versionField, lengthField, valueField, field}
 use Rattle.format.specs.Version.{version}
 use Rattle.format.specs.declared.Version.{Version}
 use Rattle.format.specs.declared.Kind.{Kind}
 use Rattle.format.specs.declared.Kind.the-variants.{Header, ReferenceSequence, ReadGroup, Program, Comment}
 use Rattle.accepted.specs.Spelled.{Sized, Good}
-use Rattle.accepted.proofs.Bools.{and-left, and-right, or-left, or-right}
-
-pub never : _≡_ {A = ℕ} 0 1 → ⊥
-never h = omega arith
+use Rattle.accepted.proofs.Bools.{never, and-left, and-right}
 
 -- ---- digits
 

@@ -1,6 +1,6 @@
 -- An accepted line is a comment, or fields that are all good and that make its record.
 use Prim.Native.Nat.{ℕ, zero, suc, _+_, _^_}
-use mathlib.Core.Path.{_≡_, refl, sym, ap, subst, _∙_}
+use mathlib.Core.Path.{_≡_, refl, ap, subst, _∙_}
 use mathlib.Core.Bool.{Bool, true, false, not, _&&_, _||_, cond}
 use mathlib.Core.List.{List, [], _∷_}
 use mathlib.Core.Option.{Option, none, some}
@@ -11,7 +11,7 @@ use Rattle.format.specs.Bytes.{any, none?}
 use Rattle.format.specs.Decimal.{worth, span}
 use Rattle.format.specs.Lines.{Piece, cut, placed}
 use Rattle.format.specs.Fields.{Field, Judged, bad, good, goodThen, isValue, isTag, plain, spelled, versionField, lengthField, valueField, field, Scan, onward, scan, repeats, lastOf, settled, without}
-use Rattle.format.specs.Records.{Record, header, reference, group, program, comment, Line, refused, read, announcing, versioned, measured, keyed, made, stopped, judged, fielded, remark, body, kindOf, bodied, kinded, prefixed, breaks, line}
+use Rattle.format.specs.Records.{Record, header, reference, group, program, comment, refused, read, announcing, versioned, measured, keyed, made, stopped, judged, fielded, remark, body, kindOf, bodied, kinded, prefixed, breaks, line}
 use Rattle.format.specs.Version.{version}
 use Rattle.format.specs.declared.Version.{Version}
 use Rattle.format.specs.declared.Kind.{Kind}
@@ -19,8 +19,8 @@ use Rattle.format.specs.declared.Kind.the-variants.{Header, ReferenceSequence, 
 use Rattle.accepted.specs.Pieces.{Pairs}
 use Rattle.accepted.specs.Spelled as sp
 use Rattle.accepted.specs.Spelled.{Good, Made, kind₀, kind₁, Spelled, Accepted}
-use Rattle.accepted.proofs.Bools.{and-left, and-right}
-use Rattle.accepted.proofs.Good.{never, good-field}
+use Rattle.accepted.proofs.Bools.{never, and-left, and-right}
+use Rattle.accepted.proofs.Good.{good-field}
 
 -- ---- a refusal is never 0
 
@@ -170,8 +170,13 @@ module _ (strict : Bool) (at : ℕ) (r : Record) where
       go true n h j e = absurd (never (cc))
       go false (suc n) h j e = absurd (never (cc))
       go false zero h j e = record {
-        kind = k; rest = s; fields = fs; spells = refl;
-        each = scan-good k (placed (at + 4) (cut 9 s)) j; once = h; made = made-made k fs r e;
+        kind = k;
+        rest = s;
+        fields = fs;
+        spells = refl;
+        each = scan-good k (placed (at + 4) (cut 9 s)) j;
+        once = h;
+        made = made-made k fs r e;
       }
 
   fielded-spelled : (k : Kind) (s : List ℕ) → fielded strict k (at + 3) s ≡ read r → Accepted strict at (64 ∷ kind₀ k ∷ kind₁ k ∷ s) r
@@ -182,7 +187,7 @@ module _ (strict : Bool) (at : ℕ) (r : Record) where
       go : (t : Bool) → eqb c 9 ≡ t → cond t (judged strict k (scan k (placed (at + 3 + 1) (cut 9 s)))) (refused 6) ≡ read r → Accepted strict at (64 ∷ kind₀ k ∷ kind₁ k ∷ c ∷ s) r
       go true h e =
           let q : at + 3 + 1 ≡ at + 4 = omega arith in
-          rw (eqb-true c 9 h) (sp.fielded (judged-spelled k s (rw q at e)))
+          rw (eqb-true c 9 h) (sp.of-fields (judged-spelled k s (rw q at e)))
       go false h e = absurd (never (cc))
 
   remark-accepted : (s : List ℕ) → remark (at + 3) s ≡ read r → Accepted strict at (64 ∷ 67 ∷ 79 ∷ s) r
@@ -194,7 +199,7 @@ module _ (strict : Bool) (at : ℕ) (r : Record) where
       go true h e =
           let p : at + 3 + 1 ≡ at + 4 = omega arith in
           let q : comment (record { at = at + 4; bytes = s }) ≡ r = cc in
-          rw (eqb-true c 9 h) (subst (Accepted strict at (64 ∷ 67 ∷ 79 ∷ 9 ∷ s)) q (sp.remark s))
+          rw (eqb-true c 9 h) (subst (Accepted strict at (64 ∷ 67 ∷ 79 ∷ 9 ∷ s)) q (sp.of-remark s))
       go false h e = absurd (never (cc))
 
   body-accepted : (k : Kind) (s : List ℕ) → body strict k (at + 3) s ≡ read r → Accepted strict at (64 ∷ kind₀ k ∷ kind₁ k ∷ s) r

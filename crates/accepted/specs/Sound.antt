@@ -1,13 +1,11 @@
 -- What every record of an accepted line is: its numbers fit, its values are values, and its other fields are no keys.
-use Prim.Native.Nat.{ℕ, _+_, _^_, _≤_, _<_}
+use Prim.Native.Nat.{ℕ, _^_, _≤_, _<_}
 use mathlib.Core.Path.{_≡_}
 use mathlib.Core.Bool.{Bool, true, false, _&&_, _||_}
-use mathlib.Core.List.{List, [], _∷_}
 use mathlib.Core.Option.{Option, none, some}
 use lib.Dec.{eqb}
 use Rattle.format.specs.Lines.{Piece}
-use Rattle.format.specs.Decimal.{worth}
-use Rattle.format.specs.Fields.{Field, tagged, isValue, isTag, repeats}
+use Rattle.format.specs.Fields.{Field, isValue, isTag, repeats}
 use Rattle.format.specs.Records.{Record, header, reference, group, program, comment, key, others}
 use Rattle.format.specs.declared.Kind.{Kind}
 use Rattle.format.specs.declared.Kind.the-variants.{Header, ReferenceSequence, ReadGroup, Program, Comment}

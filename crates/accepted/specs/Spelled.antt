@@ -2,11 +2,11 @@
 use Prim.Native.Nat.{ℕ, _+_, _^_, _≤_, _<_}
 use mathlib.Core.Path.{_≡_}
 use mathlib.Core.Bool.{Bool, true, false, _&&_}
-use mathlib.Core.List.{List, [], _∷_}
-use mathlib.Core.Option.{Option, none, some}
+use mathlib.Core.List.{List, _∷_}
+use mathlib.Core.Option.{some}
 use Rattle.format.specs.Lines.{Piece, cut, placed}
 use Rattle.format.specs.Decimal.{worth}
-use Rattle.format.specs.Fields.{Field, field, good, tagged, isValue, isTag, repeats, lastOf, settled, without}
+use Rattle.format.specs.Fields.{Field, tagged, isValue, isTag, repeats, lastOf, settled, without}
 use Rattle.format.specs.Records.{Record, header, reference, group, program, comment}
 use Rattle.format.specs.Version.{version}
 use Rattle.format.specs.declared.Version.{Version}
@@ -66,5 +66,5 @@ pub record Spelled (strict : Bool) (at : ℕ) (s : List ℕ) (r : Record) : Type
 
 -- an accepted line is a comment, or fields
 pub data Accepted (strict : Bool) (at : ℕ) : List ℕ → Record → Type 0 where
-  remark : (s : List ℕ) → Accepted strict at (64 ∷ 67 ∷ 79 ∷ 9 ∷ s) (comment (record { at = at + 4; bytes = s }))
-  fielded : {s : List ℕ} {r : Record} → Spelled strict at s r → Accepted strict at s r
+  of-remark : (s : List ℕ) → Accepted strict at (64 ∷ 67 ∷ 79 ∷ 9 ∷ s) (comment (record { at = at + 4; bytes = s }))
+  of-fields : {s : List ℕ} {r : Record} → Spelled strict at s r → Accepted strict at s r
