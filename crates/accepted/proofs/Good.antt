@@ -8,7 +8,7 @@ use native.Mathlib.Omega.{arith}
 use lib.Dec.{eqb, ltb, leb}
 use borrow.Author.Tests.{eqb-true, eqb-false, ltb-true, leb-true, le-leb}
 use Rattle.format.specs.Bytes.{digit, printable, all, none?}
-use Rattle.format.specs.Decimal.{worth, span}
+use Rattle.format.specs.Decimal.{worth, span, digits}
 use Rattle.format.specs.Fields.{Field, bad, good, goodThen, tagged, isValue, isTag, plain, spelled, versionField, lengthField, valueField, field}
 use Rattle.format.specs.Version.{version}
 use Rattle.format.specs.declared.Version.{Version}
@@ -26,13 +26,19 @@ printable-digit b h =
     let u : b ≤ 57 = leb-true b 57 (and-right (leb 48 b) (leb b 57) h) in
     rw (le-leb 32 b (omega arith), le-leb b 126 (omega arith)) refl
 
-span-printable : (s : List ℕ) → all printable (span s .0) ≡ true
+digits-printable : (s : List ℕ) → all digit s ≡ true → all printable s ≡ true
+unfolding all
+digits-printable [] h = refl
+digits-printable (b ∷ s) h =
+    rw (printable-digit b (and-left (digit b) (all digit s) h), digits-printable s (and-right (digit b) (all digit s) h)) refl
+
+span-digits : (s : List ℕ) → all digit (span s .0) ≡ true
 unfolding span all
-span-printable [] = refl
-span-printable (b ∷ s) = go (digit b) refl (span-printable s)
+span-digits [] = refl
+span-digits (b ∷ s) = go (digit b) refl (span-digits s)
   where
-    go : (t : Bool) → digit b ≡ t → all printable (span s .0) ≡ true → all printable (cond {A = List ℕ × List ℕ} t (b ∷ span s .0, span s .1) ([], b ∷ s) .0) ≡ true
-    go true e ih = rw (printable-digit b e, ih) refl
+    go : (t : Bool) → digit b ≡ t → all digit (span s .0) ≡ true → all digit (cond {A = List ℕ × List ℕ} t (b ∷ span s .0, span s .1) ([], b ∷ s) .0) ≡ true
+    go true e ih = rw (e, ih) refl
     go false e ih = refl
 
 span-join : (s : List ℕ) → span s .0 ++ span s .1 ≡ s
@@ -79,8 +85,8 @@ version-kept at v f e = go (isValue v) e
     go false e = absurd (never (cc))
 
 -- digits, and nothing after them
-length-kept : (at : ℕ) (ds rest : List ℕ) (f : Field) → all printable ds ≡ true → lengthField at (ds, rest) ≡ good f → Kept ReferenceSequence 76 78 at (ds ++ rest) f
-unfolding lengthField none? isValue Sized
+length-kept : (at : ℕ) (ds rest : List ℕ) (f : Field) → all digit ds ≡ true → lengthField at (ds, rest) ≡ good f → Kept ReferenceSequence 76 78 at (ds ++ rest) f
+unfolding lengthField none? isValue Sized digits
 length-kept at [] rest f p e = absurd (never (cc))
 length-kept at (d ∷ ds) rest f p e = go (ltb n (2 ^ 64)) (eqb n 0) rest refl refl e
   where
@@ -97,7 +103,7 @@ length-kept at (d ∷ ds) rest f p e = go (ltb n (2 ^ 64)) (eqb n 0) rest refl r
         let q : f ≡ own 76 78 at (d ∷ ds) = cc in
         let j : d ∷ ds ++ [] ≡ d ∷ ds = append-nil (d ∷ ds) in
         let l : 1 ≤ n = one-up n (eqb-false n 0 k) in
-        rw j (record { same = q; value = p; sized = rw q (λ t. (l, ltb-true n (2 ^ 64) h)) })
+        rw j (record { same = q; value = digits-printable (d ∷ ds) p; sized = rw q (λ t. (l, ltb-true n (2 ^ 64) h, p)) })
       where
         one-up : (m : ℕ) → (m ≡ 0 → ⊥) → 1 ≤ m
         one-up zero z = absurd (z refl)
@@ -115,7 +121,7 @@ value-kept ReferenceSequence a b at v f e = go (eqb a 76 && eqb b 78) refl e
     go : (t : Bool) → eqb a 76 && eqb b 78 ≡ t → cond t (lengthField at (span v)) (plain a b at v) ≡ good f → Kept ReferenceSequence a b at v f
     go true h e =
         rw (eqb-true a 76 (and-left (eqb a 76) (eqb b 78) h), eqb-true b 78 (and-right (eqb a 76) (eqb b 78) h), ← span-join v)
-        (length-kept at (span v .0) (span v .1) f (span-printable v) e)
+        (length-kept at (span v .0) (span v .1) f (span-digits v) e)
     go false h e = plain-kept ReferenceSequence a b at v f (λ t. absurd (never (cc))) e
 value-kept ReadGroup a b at v f e = plain-kept ReadGroup a b at v f tt e
 value-kept Program a b at v f e = plain-kept Program a b at v f tt e

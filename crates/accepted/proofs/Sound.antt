@@ -96,7 +96,8 @@ last-sized : (fs : List Field) (n : Piece) → Each (Meant ReferenceSequence) fs
 unfolding Sized
 last-sized fs n h e =
     let o : Of (Meant ReferenceSequence) 76 78 n = lastOf-of (Meant ReferenceSequence) 76 78 fs n h e in
-    rw (← o .value) (o .holds .sized (o .tag))
+    let z = o .holds .sized (o .tag) in
+    rw (← o .value) (z .0, z .1)
 
 pub made-kind : (fs : List Field) (k : Kind) (r : Record) → Made fs k r → kind r ≡ k
 unfolding kind
