@@ -16,7 +16,7 @@ use Rattle.text.proofs.Lines.{lines-none}
 use Rattle.accepted.specs.Sound.{Sound}
 use Rattle.roundtrip.specs.Bare.{bare, Equal}
 use Rattle.roundtrip.specs.Line.{lineText, Unbroken}
-use Rattle.roundtrip.specs.Admits.{Admits}
+use Rattle.accepted.specs.Admits.{Unbarred}
 use Rattle.roundtrip.proofs.Line.{Reads, line-back}
 use Rattle.roundtrip.proofs.Lines.{lines-record}
 use Rattle.roundtrip.proofs.Barred.{barred-bare}
@@ -33,9 +33,9 @@ taken-on : (strict : Bool) (l : ℕ) (before : List Record) (p : Piece) (ps : Li
 unfolding readFrom taken admitted following unless
 taken-on strict l before p ps r e b = rw (e, b) refl
 
-back : (strict : Bool) (l at : ℕ) (now before rs : List Record) → map bare now ≡ map bare before → Admits before rs → Each Sound rs → Each Unbroken rs
+back : (strict : Bool) (l at : ℕ) (now before rs : List Record) → map bare now ≡ map bare before → Unbarred before rs → Each Sound rs → Each Unbroken rs
     → Back (before ++ rs) (readFrom strict l now (linesFrom at (text rs)))
-unfolding Admits Each text readFrom
+unfolding Unbarred Each text readFrom
 back strict l at now before [] e a s u = record { found = now; reads = ap (readFrom strict l now) (lines-none at); same = rw (append-nil before) e }
 back strict l at now before (r ∷ rs) e a s u =
     let here : Reads strict at (lineText r) r = line-back strict at r (s .0) (u .0) in
@@ -51,6 +51,6 @@ back strict l at now before (r ∷ rs) e a s u =
       same = next .same ∙ ap (map bare) (append-snoc before r rs);
     }
 
-pub text-back : (rs : List Record) → Admits [] rs → Each Sound rs → Each Unbroken rs → length (text rs) ≤ 16777216 → Back rs (readText (text rs))
+pub text-back : (rs : List Record) → Unbarred [] rs → Each Sound rs → Each Unbroken rs → length (text rs) ≤ 16777216 → Back rs (readText (text rs))
 unfolding readText longest
 text-back rs a s u h = rw (le-ltb 16777216 (length (text rs)) h) (back _ 0 0 [] [] rs refl a s u)

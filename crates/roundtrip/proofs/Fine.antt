@@ -16,33 +16,24 @@ use Rattle.format.specs.declared.Kind.{Kind}
 use Rattle.format.specs.declared.Kind.the-variants.{Header, ReferenceSequence, ReadGroup, Program, Comment}
 use Rattle.decimal.proofs.ReadBack.{number-back, reads-back, written-digits}
 use Rattle.accepted.specs.Sound.{isKey, Other}
-use Rattle.accepted.proofs.Bools.{and-left, and-right, or-left, or-right, split}
+use Rattle.accepted.proofs.Bools.{and-left, and-right, or-right}
+use Rattle.accepted.proofs.Clean.{between-bounds, tag-bounds}
 use Rattle.roundtrip.specs.Bare.{nowhere}
 use Rattle.roundtrip.specs.Line.{own, pieceText, put-at}
 use Rattle.roundtrip.proofs.Pieces.{Fine}
 
 -- ---- bytes
 
-between-printable : (lo hi b : ℕ) → 32 ≤ lo → hi ≤ 126 → between lo hi b ≡ true → printable b ≡ true
-unfolding between printable
-between-printable lo hi b l u h =
-    let x : lo ≤ b = leb-true lo b (and-left (leb lo b) (leb b hi) h) in
-    let y : b ≤ hi = leb-true b hi (and-right (leb lo b) (leb b hi) h) in
-    rw (le-leb 32 b (omega arith), le-leb b 126 (omega arith)) refl
+within-printable : (b : ℕ) → 32 ≤ b → b ≤ 126 → printable b ≡ true
+unfolding printable
+within-printable b l u = rw (le-leb 32 b l, le-leb b 126 u) refl
+
+digit-bounds : (b : ℕ) → digit b ≡ true → (48 ≤ b) × (b ≤ 57)
+unfolding digit
+digit-bounds b h = between-bounds 48 57 b h
 
 digit-printable : (b : ℕ) → digit b ≡ true → printable b ≡ true
-unfolding digit
-digit-printable b h = between-printable 48 57 b (omega arith) (omega arith) h
-
--- of two tests one holds
-one-of : {C : Type 0} (t u : Bool) → (t ≡ true → C) → (u ≡ true → C) → t || u ≡ true → C
-one-of true u f g h = f refl
-one-of false u f g h = g h
-
-letter-printable : (b : ℕ) → letter b ≡ true → printable b ≡ true
-unfolding letter
-letter-printable b h =
-    one-of (between 65 90 b) (between 97 122 b) (between-printable 65 90 b (omega arith) (omega arith)) (between-printable 97 122 b (omega arith) (omega arith)) h
+digit-printable b h = let x = digit-bounds b h in within-printable b (omega arith) (omega arith)
 
 all-printable : (s : List ℕ) → all digit s ≡ true → all printable s ≡ true
 unfolding all
@@ -52,10 +43,11 @@ all-printable (b ∷ s) h =
 
 -- a piece with a tag and a value
 piece-printable : (a b : ℕ) (v : List ℕ) → isTag a b ≡ true → isValue v ≡ true → all printable (a ∷ b ∷ 58 ∷ v) ≡ true
-unfolding all isTag isValue printable
+unfolding all isValue printable
 piece-printable a b v t h =
-    let x : printable a ≡ true = letter-printable a (and-left (letter a) (letter b || digit b) t) in
-    let y : printable b ≡ true = one-of (letter b) (digit b) (letter-printable b) (digit-printable b) (and-right (letter a) (letter b || digit b) t) in
+    let w = tag-bounds a b t in
+    let x : printable a ≡ true = within-printable a (omega arith) (omega arith) in
+    let y : printable b ≡ true = within-printable b (omega arith) (omega arith) in
     let z : all printable v ≡ true = and-right (not (none? v)) (all printable v) h in
     rw (x, y, z) refl
 
@@ -117,16 +109,12 @@ fine-length n l u =
 
 -- ---- versions
 
-digit-least : (b : ℕ) → digit b ≡ true → 48 ≤ b
-unfolding digit
-digit-least b h = leb-true 48 b (and-left (leb 48 b) (leb b 57) h)
-
 -- the first dot stands behind the digits
 sides-digits : (l r : List ℕ) → all digit l ≡ true → sides 46 (l ++ (46 ∷ r)) ≡ some (l, r)
 unfolding sides grow all
 sides-digits [] r h = refl
 sides-digits (b ∷ l) r h =
-    let d : eqb b 46 ≡ false = ne-eqb b 46 (λ e. omega (arith, digit-least b (and-left (digit b) (all digit l) h))) in
+    let d : eqb b 46 ≡ false = ne-eqb b 46 (λ e. omega (arith, digit-bounds b (and-left (digit b) (all digit l) h))) in
     rw (d, sides-digits l r (and-right (digit b) (all digit l) h)) refl
 
 pub version-back : (v : Version) → v .major < 2 ^ 32 → v .minor < 2 ^ 32 → version (written (v .major) ++ (46 ∷ written (v .minor))) ≡ some v

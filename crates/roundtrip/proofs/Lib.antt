@@ -5,7 +5,9 @@ pub mod Fine
 pub mod Made
 pub mod Line
 pub mod Lines
-pub mod Admits
+pub mod Unbarred
 pub mod Barred
 pub mod Order
 pub mod Back
+pub mod Accepted
+pub mod Length

@@ -15,19 +15,19 @@ use Rattle.roundtrip.specs.Line.{put-at, located, pieceText}
 
 -- ---- no field has the tag
 
-pub without-none : (a b : ℕ) (fs : List Field) → any (tagged a b) fs ≡ false → without a b fs ≡ fs
+pub without-absent : (a b : ℕ) (fs : List Field) → any (tagged a b) fs ≡ false → without a b fs ≡ fs
 unfolding any without
-without-none a b [] h = refl
-without-none a b (f ∷ fs) h = go (tagged a b f) h (without-none a b fs)
+without-absent a b [] h = refl
+without-absent a b (f ∷ fs) h = go (tagged a b f) h (without-absent a b fs)
   where
     go : (t : Bool) → t || any (tagged a b) fs ≡ false → (any (tagged a b) fs ≡ false → without a b fs ≡ fs) → cond t (without a b fs) (f ∷ without a b fs) ≡ f ∷ fs
     go true h ih = absurd (let z : _≡_ {A = ℕ} 0 1 = cc in omega native.Mathlib.Omega.arith)
     go false h ih = ap (λ l. f ∷ l) (ih h)
 
-pub last-none : (a b : ℕ) (fs : List Field) → any (tagged a b) fs ≡ false → lastOf a b fs ≡ none
+pub last-absent : (a b : ℕ) (fs : List Field) → any (tagged a b) fs ≡ false → lastOf a b fs ≡ none
 unfolding any lastOf later
-last-none a b [] h = refl
-last-none a b (f ∷ fs) h = rw (or-left (tagged a b f) (any (tagged a b) fs) h, last-none a b fs (or-right (tagged a b f) (any (tagged a b) fs) h)) refl
+last-absent a b [] h = refl
+last-absent a b (f ∷ fs) h = rw (or-left (tagged a b f) (any (tagged a b) fs) h, last-absent a b fs (or-right (tagged a b f) (any (tagged a b) fs) h)) refl
 
 -- ---- no tag stands twice
 

@@ -9,9 +9,10 @@ use Rattle.format.specs.Records.{Record, code}
 use Rattle.format.specs.Reading.{ofKind}
 use Rattle.format.specs.Tidy.{inOrder}
 use Rattle.text.specs.Stands.{Each}
+use Rattle.accepted.proofs.OfKind.{ofKind-append, each-ofKind}
 use Rattle.roundtrip.specs.Bare.{bare, bares, Equal}
 use Rattle.roundtrip.proofs.Bare.{kind-bare}
-use Rattle.roundtrip.proofs.Admits.{kind-append, kind-other, kind-same}
+use Rattle.roundtrip.proofs.Unbarred.{kind-other, kind-same}
 
 -- ---- each
 
@@ -21,19 +22,10 @@ module _ (P : Record → Type 0) where
   each-append [] ys h g = g
   each-append (x ∷ xs) ys h g = (h .0, each-append xs ys (h .1) g)
 
-  each-kind : (k : ℕ) (rs : List Record) → Each P rs → Each P (ofKind k rs)
-  unfolding Each ofKind
-  each-kind k [] h = tt
-  each-kind k (r ∷ rs) h = go (eqb (code r) k) (each-kind k rs (h .1))
-    where
-      go : (t : Bool) → Each P (ofKind k rs) → Each P (cond t (r ∷ ofKind k rs) (ofKind k rs))
-      go true ih = (h .0, ih)
-      go false ih = ih
-
   pub each-order : (rs : List Record) → Each P rs → Each P (inOrder rs)
   unfolding inOrder
   each-order rs h =
-      let e : (k : ℕ) → Each P (ofKind k rs) = λ k. each-kind k rs h in
+      let e : (k : ℕ) → Each P (ofKind k rs) = λ k. each-ofKind P k rs h in
       each-append _ _ (each-append _ _ (each-append _ _ (each-append _ _ (e 1) (e 2)) (e 3)) (e 4)) (e 5)
 
 -- ---- kind by kind
@@ -44,7 +36,7 @@ module _ (rs : List Record) where
 
   kinds : (k : ℕ) → ofKind k (inOrder rs) ≡ ofKind k (ofKind 1 rs) ++ ofKind k (ofKind 2 rs) ++ ofKind k (ofKind 3 rs) ++ ofKind k (ofKind 4 rs) ++ ofKind k (ofKind 5 rs)
   unfolding inOrder
-  kinds k = simp kind-append
+  kinds k = simp ofKind-append
 
   pub order-equal : Equal (inOrder rs) rs
   unfolding bares

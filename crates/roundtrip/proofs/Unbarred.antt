@@ -12,23 +12,12 @@ use Rattle.format.specs.Bytes.{any, none?}
 use Rattle.format.specs.Records.{Record, code, key}
 use Rattle.format.specs.Reading.{clash, sameKeys, ofKind, barred}
 use Rattle.format.specs.Tidy.{inOrder}
-use Rattle.accepted.proofs.Bools.{eqb-sym}
-use Rattle.roundtrip.specs.Admits.{Admits}
-
-never : _≡_ {A = ℕ} 0 1 → ⊥
-never h = omega arith
+use Rattle.accepted.proofs.Bools.{never, eqb-sym}
+use Rattle.accepted.proofs.OfKind.{ofKind-append}
+use Rattle.accepted.proofs.Admits.{barred-clear}
+use Rattle.accepted.specs.Admits.{Unbarred, Clear}
 
 -- ---- the records of a kind
-
-pub kind-append : (k : ℕ) (xs ys : List Record) → ofKind k (xs ++ ys) ≡ ofKind k xs ++ ofKind k ys
-unfolding ofKind
-kind-append k [] ys = refl
-kind-append k (x ∷ xs) ys = go (eqb (code x) k) (kind-append k xs ys)
-  where
-    go : (t : Bool) → ofKind k (xs ++ ys) ≡ ofKind k xs ++ ofKind k ys
-        → cond t (x ∷ ofKind k (xs ++ ys)) (ofKind k (xs ++ ys)) ≡ cond t (x ∷ ofKind k xs) (ofKind k xs) ++ ofKind k ys
-    go true ih = ap (λ l. x ∷ l) ih
-    go false ih = ih
 
 -- of two kinds, nothing
 pub kind-other : (j k : ℕ) (rs : List Record) → (j ≡ k → ⊥) → ofKind j (ofKind k rs) ≡ []
@@ -65,18 +54,6 @@ clash-kind r (q ∷ rs) = go (eqb (code q) (code r)) refl (clash-kind r rs)
     go true e ih = ap (λ t. clash r q || t) ih
     go false e ih = rw (clash-other r q e) ih
 
--- three tests that all fail
-record Fail (x y z : Bool) : Type 0 where
-  one : x ≡ false
-  two : y ≡ false
-  three : z ≡ false
-
-fail : (x y z : Bool) → cond {A = ℕ} x 17 (cond y 18 (cond z 19 0)) ≡ 0 → Fail x y z
-fail true y z h = absurd (omega arith)
-fail false true z h = absurd (omega arith)
-fail false false true h = absurd (omega arith)
-fail false false false h = record { one = refl; two = refl; three = refl }
-
 -- `b` may stand for `a` before records of kind `k`
 record Stand (k : ℕ) (a b : List Record) : Type 0 where
   kinds : ofKind k a ≡ ofKind k b
@@ -85,8 +62,8 @@ record Stand (k : ℕ) (a b : List Record) : Type 0 where
 barred-kind : (a b : List Record) (r : Record) → Stand (code r) a b → barred a r ≡ 0 → barred b r ≡ 0
 unfolding barred
 barred-kind a b r s h =
-    let f : Fail (eqb (code r) 1 && not (none? a)) (any (clash r) a) (eqb (code r) 4 && leb 1024 (length (ofKind 4 a))) = fail _ _ _ h in
-    rw (alone (eqb (code r) 1) refl (f .one), others (f .two), few (eqb (code r) 4) refl (f .three)) refl
+    let f : Clear a r = barred-clear a r h in
+    rw (alone (eqb (code r) 1) refl (f .leading), others (f .apart), few (eqb (code r) 4) refl (f .room)) refl
   where
     alone : (t : Bool) → eqb (code r) 1 ≡ t → t && not (none? a) ≡ false → t && not (none? b) ≡ false
     alone true e n = ap not (s .first (eqb-true (code r) 1 e) (not-false (none? a) n))
@@ -114,28 +91,28 @@ stand-on k a b r e = record { kinds = e; first = λ q h. absurd (some-snoc a h) 
 
 kind-snoc : (k : ℕ) (a : List Record) (r : Record) → eqb (code r) k ≡ true → ofKind k (a ++ (r ∷ [])) ≡ ofKind k a ++ (r ∷ [])
 unfolding ofKind
-kind-snoc k a r e = kind-append k a (r ∷ []) ∙ rw e refl
+kind-snoc k a r e = ofKind-append k a (r ∷ []) ∙ rw e refl
 
 kind-snoc-other : (k : ℕ) (a : List Record) (r : Record) → eqb (code r) k ≡ false → ofKind k (a ++ (r ∷ [])) ≡ ofKind k a
 unfolding ofKind
-kind-snoc-other k a r e = kind-append k a (r ∷ []) ∙ rw e (append-nil (ofKind k a))
+kind-snoc-other k a r e = ofKind-append k a (r ∷ []) ∙ rw e (append-nil (ofKind k a))
 
-admits-kind : (k : ℕ) (a b rs : List Record) → Stand k a b → Admits a rs → Admits b (ofKind k rs)
-unfolding Admits ofKind
-admits-kind k a b [] s h = tt
-admits-kind k a b (r ∷ rs) s h = go (eqb (code r) k) refl (λ a b. admits-kind k a b rs)
+unbarred-kind : (k : ℕ) (a b rs : List Record) → Stand k a b → Unbarred a rs → Unbarred b (ofKind k rs)
+unfolding Unbarred ofKind
+unbarred-kind k a b [] s h = tt
+unbarred-kind k a b (r ∷ rs) s h = go (eqb (code r) k) refl (λ a b. unbarred-kind k a b rs)
   where
-    go : (t : Bool) → eqb (code r) k ≡ t → ((a b : List Record) → Stand k a b → Admits a rs → Admits b (ofKind k rs)) → Admits b (cond t (r ∷ ofKind k rs) (ofKind k rs))
+    go : (t : Bool) → eqb (code r) k ≡ t → ((a b : List Record) → Stand k a b → Unbarred a rs → Unbarred b (ofKind k rs)) → Unbarred b (cond t (r ∷ ofKind k rs) (ofKind k rs))
     go true e ih =
         let q : code r ≡ k = eqb-true (code r) k e in
         let on : ofKind k (a ++ (r ∷ [])) ≡ ofKind k (b ++ (r ∷ [])) = kind-snoc k a r e ∙ ap (λ l. l ++ (r ∷ [])) (s .kinds) ∙ sym (kind-snoc k b r e) in
         (barred-kind a b r (rw q s) (h .0), ih (a ++ (r ∷ [])) (b ++ (r ∷ [])) (stand-on k a (b ++ (r ∷ [])) r on) (h .1))
     go false e ih = ih (a ++ (r ∷ [])) b (stand-on k a b r (kind-snoc-other k a r e ∙ s .kinds)) (h .1)
 
-admits-append : (a xs ys : List Record) → Admits a xs → Admits (a ++ xs) ys → Admits a (xs ++ ys)
-unfolding Admits
-admits-append a [] ys h g = rw (append-nil a) at g
-admits-append a (x ∷ xs) ys h g = (h .0, admits-append (a ++ (x ∷ [])) xs ys (h .1) (rw (append-snoc a x xs) g))
+unbarred-append : (a xs ys : List Record) → Unbarred a xs → Unbarred (a ++ xs) ys → Unbarred a (xs ++ ys)
+unfolding Unbarred
+unbarred-append a [] ys h g = rw (append-nil a) at g
+unbarred-append a (x ∷ xs) ys h g = (h .0, unbarred-append (a ++ (x ∷ [])) xs ys (h .1) (rw (append-snoc a x xs) g))
 
 -- ---- in order
 
@@ -145,22 +122,22 @@ unfolding ofKind
 stand-none k b h e = record { kinds = sym e; first = λ q. absurd (h q) }
 
 -- the records of one kind more
-module _ (rs : List Record) (h : Admits [] rs) where
-  admits-more : (k : ℕ) (b : List Record) → (k ≡ 1 → ⊥) → ofKind k b ≡ [] → Admits [] b → Admits [] (b ++ ofKind k rs)
-  admits-more k b n e a = admits-append [] b (ofKind k rs) a (admits-kind k [] b rs (stand-none k b n e) h)
+module _ (rs : List Record) (h : Unbarred [] rs) where
+  unbarred-more : (k : ℕ) (b : List Record) → (k ≡ 1 → ⊥) → ofKind k b ≡ [] → Unbarred [] b → Unbarred [] (b ++ ofKind k rs)
+  unbarred-more k b n e a = unbarred-append [] b (ofKind k rs) a (unbarred-kind k [] b rs (stand-none k b n e) h)
 
   none-more : (k j : ℕ) (b : List Record) → (k ≡ j → ⊥) → ofKind k b ≡ [] → ofKind k (b ++ ofKind j rs) ≡ []
-  none-more k j b n e = kind-append k b (ofKind j rs) ∙ rw (e, kind-other k j rs n) refl
+  none-more k j b n e = ofKind-append k b (ofKind j rs) ∙ rw (e, kind-other k j rs n) refl
 
-  pub admits-order : Admits [] (inOrder rs)
+  pub unbarred-order : Unbarred [] (inOrder rs)
   unfolding inOrder
-  admits-order =
+  unbarred-order =
       let a : List Record = ofKind 1 rs in
       let b : List Record = a ++ ofKind 2 rs in
       let c : List Record = b ++ ofKind 3 rs in
       let no : (k : ℕ) → (k ≡ 1 → ⊥) → ofKind k a ≡ [] = λ k q. kind-other k 1 rs q in
-      admits-more 5 (c ++ ofKind 4 rs) (λ q. omega arith)
+      unbarred-more 5 (c ++ ofKind 4 rs) (λ q. omega arith)
       (none-more 5 4 c (λ q. omega arith) (none-more 5 3 b (λ q. omega arith) (none-more 5 2 a (λ q. omega arith) (no 5 (λ q. omega arith)))))
-      (admits-more 4 c (λ q. omega arith) (none-more 4 3 b (λ q. omega arith) (none-more 4 2 a (λ q. omega arith) (no 4 (λ q. omega arith))))
-      (admits-more 3 b (λ q. omega arith) (none-more 3 2 a (λ q. omega arith) (no 3 (λ q. omega arith)))
-      (admits-more 2 a (λ q. omega arith) (no 2 (λ q. omega arith)) (admits-kind 1 [] [] rs (record { kinds = refl; first = λ q e. e }) h))))
+      (unbarred-more 4 c (λ q. omega arith) (none-more 4 3 b (λ q. omega arith) (none-more 4 2 a (λ q. omega arith) (no 4 (λ q. omega arith))))
+      (unbarred-more 3 b (λ q. omega arith) (none-more 3 2 a (λ q. omega arith) (no 3 (λ q. omega arith)))
+      (unbarred-more 2 a (λ q. omega arith) (no 2 (λ q. omega arith)) (unbarred-kind 1 [] [] rs (record { kinds = refl; first = λ q e. e }) h))))

@@ -1,0 +1,1 @@
+-- How long the tidy text is.
