@@ -11,3 +11,4 @@ pub mod Order
 pub mod Back
 pub mod Accepted
 pub mod Length
+pub mod Total
