@@ -12,3 +12,5 @@ pub mod Back
 pub mod Accepted
 pub mod Length
 pub mod Total
+pub mod Tidy
+pub mod Faithful

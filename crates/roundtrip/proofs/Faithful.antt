@@ -1,0 +1,75 @@
+-- The tidy text is what is demanded of it.
+use Prim.Native.Nat.{ℕ, _+_, _≤_}
+use mathlib.Core.Path.{_≡_, refl, sym, ap, _∙_}
+use mathlib.Core.Bool.{Bool, true, false, cond}
+use mathlib.Core.List.{List, map}
+use mathlib.Core.Logic.{_↔_}
+use mathlib.Core.Option.{none}
+use native.Mathlib.Omega.{arith}
+use lib.ListN.{length}
+use lib.Dec.{ltb}
+use borrow.Author.Tests.{le-ltb}
+use Rattle.format.specs.Records.{Record}
+use Rattle.format.specs.Reading.{Reading, refuse, accept, readText, longest}
+use Rattle.format.specs.Tidy.{inOrder, tidy, unwritable}
+use Rattle.format.specs.Calls.{Answer, no, yes, then, readAnswer, records, fitting, writing, tidying}
+use Rattle.accepted.proofs.Bools.{never}
+use Rattle.roundtrip.specs.Bare.{bare, Equal}
+use Rattle.roundtrip.specs.Faithful.{Allowed, Kept, tidied, Faithful}
+use Rattle.roundtrip.proofs.Bare.{tidy-equal}
+use Rattle.roundtrip.proofs.Back.{Back}
+use Rattle.roundtrip.proofs.Total.{tidy-length}
+use Rattle.roundtrip.proofs.Tidy.{tidy-back, back-equal, tidy-again, tidy-tells, names-again}
+
+-- a text whose records are answered was accepted
+read-of : (t : List ℕ) (rs : List Record) → records t ≡ yes rs → readText t ≡ accept rs
+unfolding records readAnswer
+read-of t rs e = go (readText t) e
+  where
+    go : (g : Reading) → readAnswer g ≡ yes rs → g ≡ accept rs
+    go (refuse n l) e = absurd (never (cc))
+    go (accept qs) e = let q : qs ≡ rs = cc in ap accept q
+
+-- a header that can be written
+tidying-fits : (t : List ℕ) (rs : List Record) (room : ℕ) → records t ≡ yes rs → unwritable 0 rs ≡ none → length (tidy rs) ≤ 16777216 → tidying t room ≡ fitting room (tidy rs)
+unfolding tidying then writing longest
+tidying-fits t rs room e n h = rw (e, n, le-ltb 16777216 (length (tidy rs)) h) refl
+
+module _ (t : List ℕ) (rs : List Record) (a : Allowed t rs) where
+  reads : readText t ≡ accept rs
+  reads = read-of t rs (a .accepted)
+
+  fits : length (tidy rs) ≤ 16777216
+  fits = omega (arith, tidy-length t rs reads, a .small)
+
+  kept : Kept t rs
+  unfolding records readAnswer
+  kept =
+      let b : Back (inOrder rs) (readText (tidy rs)) = tidy-back t rs reads fits in
+      let yes-found : records (tidy rs) ≡ yes (b .found) = ap readAnswer (b .reads) in
+      let self : tidy (b .found) ≡ tidy rs = tidy-again t rs reads fits in
+      record {
+        answers = λ room. tidying-fits t rs room (a .accepted) (a .names) fits;
+        long = tidy-length t rs reads;
+        found = b .found;
+        accepted = yes-found;
+        equal = back-equal t rs reads fits;
+        order = b .same;
+        again = λ room. tidying-fits (tidy rs) (b .found) room yes-found (names-again rs (b .found) (b .same) (a .names)) (rw self fits) ∙ ap (fitting room) self;
+      }
+
+  tidied-yes : tidied t ≡ yes (tidy rs)
+  unfolding tidied fitting
+  tidied-yes = tidying-fits t rs 16777216 (a .accepted) (a .names) fits ∙ rw (le-ltb 16777216 (length (tidy rs)) fits) refl
+
+one-yes : (x y : List ℕ) → _≡_ {A = Answer (List ℕ)} (yes x) (yes y) → x ≡ y
+one-yes x y e = cc
+
+told : (t u : List ℕ) (rs qs : List Record) → Allowed t rs → Allowed u qs → (tidied t ≡ tidied u) ↔ Equal rs qs
+told t u rs qs a b = (
+  λ e. tidy-tells t u rs qs (reads t rs a) (reads u qs b) (fits t rs a) (one-yes (tidy rs) (tidy qs) (sym (tidied-yes t rs a) ∙ e ∙ tidied-yes u qs b)),
+  λ e. tidied-yes t rs a ∙ ap yes (tidy-equal rs qs e) ∙ sym (tidied-yes u qs b),
+)
+
+pub faithful : Faithful
+faithful = record { kept = kept; told = told }
