@@ -2,9 +2,9 @@
 use Prim.Native.Nat.{ℕ}
 use mathlib.Core.Path.{_≡_}
 use mathlib.Core.Bool.{Bool, false}
-use mathlib.Core.List.{List, [], _∷_}
+use mathlib.Core.List.{List}
 use Rattle.format.specs.Bytes.{any}
-use Rattle.format.specs.Lines.{Piece, lines}
+use Rattle.format.specs.Lines.{lines}
 use Rattle.format.specs.Fields.{Field}
 use Rattle.format.specs.Records.{Record, read, breaks, line}
 use Rattle.format.specs.Reading.{accept, readText}

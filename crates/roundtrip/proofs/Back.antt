@@ -1,20 +1,19 @@
 -- The tidy text reads back.
 use Prim.Native.Nat.{ℕ, _+_, _≤_}
 use mathlib.Core.Path.{_≡_, refl, sym, ap, _∙_}
-use mathlib.Core.Bool.{Bool, true, false, cond}
+use mathlib.Core.Bool.{Bool}
 use mathlib.Core.List.{List, [], _∷_, _++_, map, map-append, append-nil}
 use lib.ListN.{length}
 use lib.Seq.{append-snoc}
-use lib.Dec.{ltb}
 use borrow.Author.Tests.{le-ltb}
-use Rattle.format.specs.Lines.{Piece, lines, linesFrom}
-use Rattle.format.specs.Records.{Record, Line, read, refused, line}
-use Rattle.format.specs.Reading.{Reading, accept, refuse, barred, unless, following, admitted, taken, readFrom, readText, longest, isStrict, announced}
-use Rattle.format.specs.Tidy.{recordText, text, inOrder, tidy}
+use Rattle.format.specs.Lines.{Piece, linesFrom}
+use Rattle.format.specs.Records.{Record, read, line}
+use Rattle.format.specs.Reading.{Reading, accept, barred, unless, following, admitted, taken, readFrom, readText, longest}
+use Rattle.format.specs.Tidy.{recordText, text}
 use Rattle.text.specs.Stands.{Each}
 use Rattle.text.proofs.Lines.{lines-none}
 use Rattle.accepted.specs.Sound.{Sound}
-use Rattle.roundtrip.specs.Bare.{bare, Equal}
+use Rattle.roundtrip.specs.Bare.{bare}
 use Rattle.roundtrip.specs.Line.{lineText, Unbroken}
 use Rattle.accepted.specs.Admits.{Unbarred}
 use Rattle.roundtrip.proofs.Line.{Reads, line-back}

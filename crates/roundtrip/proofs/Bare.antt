@@ -1,15 +1,14 @@
 -- What depends on records without their offsets only: the kind, the tidy text, and why a record may not follow others.
-use Prim.Native.Nat.{ℕ, _+_}
+use Prim.Native.Nat.{ℕ}
 use mathlib.Core.Path.{_≡_, refl, sym, ap, _∙_}
-use mathlib.Core.Bool.{Bool, true, false, _&&_, cond}
+use mathlib.Core.Bool.{Bool, true, false, cond}
 use mathlib.Core.List.{List, [], _∷_, _++_, map, map-append}
 use lib.Dec.{eqb}
 use Rattle.format.specs.Fields.{Field}
-use Rattle.format.specs.Records.{Record, header, reference, group, program, comment, code, key}
+use Rattle.format.specs.Records.{Record, header, reference, group, program, comment, code}
 use Rattle.format.specs.Reading.{ofKind}
 use Rattle.format.specs.Tidy.{fieldText, fieldsText, recordText, text, inOrder, tidy}
 use Rattle.roundtrip.specs.Bare.{nowhere, bareField, bare, bares, Equal}
-
 
 -- ---- the kind
 

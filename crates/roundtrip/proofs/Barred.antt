@@ -1,13 +1,11 @@
 -- Why a record may not follow others doesn't depend on offsets.
-use Prim.Native.Nat.{ℕ}
-use mathlib.Core.Path.{_≡_, refl, sym, ap, _∙_}
-use mathlib.Core.Bool.{_||_}
+use mathlib.Core.Path.{_≡_, refl}
 use mathlib.Core.List.{List, [], _∷_, map}
 use mathlib.Core.Option.{Option, none, some}
-use lib.ListN.{length, length-map}
+use lib.ListN.{length-map}
 use Rattle.format.specs.Bytes.{any, none?}
 use Rattle.format.specs.Lines.{Piece}
-use Rattle.format.specs.Records.{Record, header, reference, group, program, comment, code, key}
+use Rattle.format.specs.Records.{Record, header, reference, group, program, comment, key}
 use Rattle.format.specs.Reading.{sameKeys, clash, ofKind, barred}
 use Rattle.roundtrip.specs.Bare.{nowhere, bare}
 use Rattle.roundtrip.proofs.Bare.{code-bare, kind-bare}

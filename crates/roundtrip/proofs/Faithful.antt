@@ -1,20 +1,18 @@
 -- The tidy text is what is demanded of it.
-use Prim.Native.Nat.{ℕ, _+_, _≤_}
+use Prim.Native.Nat.{ℕ, _≤_}
 use mathlib.Core.Path.{_≡_, refl, sym, ap, _∙_}
-use mathlib.Core.Bool.{Bool, true, false, cond}
-use mathlib.Core.List.{List, map}
+use mathlib.Core.List.{List}
 use mathlib.Core.Logic.{_↔_}
 use mathlib.Core.Option.{none}
 use native.Mathlib.Omega.{arith}
 use lib.ListN.{length}
-use lib.Dec.{ltb}
 use borrow.Author.Tests.{le-ltb}
 use Rattle.format.specs.Records.{Record}
 use Rattle.format.specs.Reading.{Reading, refuse, accept, readText, longest}
 use Rattle.format.specs.Tidy.{inOrder, tidy, unwritable}
-use Rattle.format.specs.Calls.{Answer, no, yes, then, readAnswer, records, fitting, writing, tidying}
+use Rattle.format.specs.Calls.{Answer, yes, then, readAnswer, records, fitting, writing, tidying}
 use Rattle.accepted.proofs.Bools.{never}
-use Rattle.roundtrip.specs.Bare.{bare, Equal}
+use Rattle.roundtrip.specs.Bare.{Equal}
 use Rattle.roundtrip.specs.Faithful.{Allowed, Kept, tidied, Faithful}
 use Rattle.roundtrip.proofs.Bare.{tidy-equal}
 use Rattle.roundtrip.proofs.Back.{Back}

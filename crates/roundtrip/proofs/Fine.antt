@@ -1,15 +1,15 @@
 -- The fields of a line of the tidy text are read where they stand: VN and LN as they are written, other keys and values as they are.
-use Prim.Native.Nat.{ℕ, suc, _+_, _^_, _≤_, _<_}
-use mathlib.Core.Path.{_≡_, refl, sym, ap, _∙_}
-use mathlib.Core.Bool.{Bool, true, false, not, _&&_, _||_, cond}
+use Prim.Native.Nat.{ℕ, _+_, _^_, _≤_, _<_}
+use mathlib.Core.Path.{_≡_, refl, _∙_}
+use mathlib.Core.Bool.{true, false, not, _&&_}
 use mathlib.Core.List.{List, [], _∷_, _++_}
-use mathlib.Core.Option.{Option, none, some}
+use mathlib.Core.Option.{some}
 use native.Mathlib.Omega.{arith}
-use lib.Dec.{eqb, leb}
-use borrow.Author.Tests.{leb-true, le-leb, lt-ltb, ne-eqb, not-true}
-use Rattle.format.specs.Bytes.{between, digit, letter, printable, all, none?}
-use Rattle.format.specs.Decimal.{worth, span, digits, number, written}
-use Rattle.format.specs.Fields.{Field, Judged, bad, good, goodThen, isTag, isValue, plain, spelled, versionField, lengthField, valueField, field}
+use lib.Dec.{eqb}
+use borrow.Author.Tests.{le-leb, lt-ltb, ne-eqb, not-true}
+use Rattle.format.specs.Bytes.{digit, printable, all, none?}
+use Rattle.format.specs.Decimal.{worth, span, digits, written}
+use Rattle.format.specs.Fields.{Field, good, isTag, isValue, plain, spelled, versionField, lengthField, valueField, field}
 use Rattle.format.specs.Version.{grow, sides, both, numbered, version}
 use Rattle.format.specs.declared.Version.{Version}
 use Rattle.format.specs.declared.Kind.{Kind}
@@ -18,7 +18,6 @@ use Rattle.decimal.proofs.ReadBack.{number-back, reads-back, written-digits}
 use Rattle.accepted.specs.Sound.{isKey, Other}
 use Rattle.accepted.proofs.Bools.{and-left, and-right, or-right}
 use Rattle.accepted.proofs.Clean.{between-bounds, tag-bounds}
-use Rattle.roundtrip.specs.Bare.{nowhere}
 use Rattle.roundtrip.specs.Line.{own, pieceText, put-at}
 use Rattle.roundtrip.proofs.Pieces.{Fine}
 

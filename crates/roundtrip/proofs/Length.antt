@@ -7,11 +7,10 @@ use mathlib.Core.Option.{Option, none, some}
 use native.Mathlib.Omega.{arith}
 use lib.ListN.{length, length-append}
 use lib.Dec.{eqb, ltb}
-use borrow.Author.Tests.{eqb-true}
 use Rattle.format.specs.Decimal.{worth, digits, number, written}
 use Rattle.format.specs.Lines.{Piece}
 use Rattle.format.specs.Fields.{Field, tagged, later, lastOf, without, put, settledOn, settled}
-use Rattle.format.specs.Tidy.{fieldText, fieldsText}
+use Rattle.format.specs.Tidy.{fieldsText}
 use Rattle.format.specs.Version.{grow, sides, both, numbered, version}
 use Rattle.format.specs.declared.Version.{Version}
 use Rattle.decimal.proofs.ReadBack.{written-fewest}

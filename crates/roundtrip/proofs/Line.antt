@@ -1,17 +1,17 @@
 -- A record's line in the tidy text is read as this record.
-use Prim.Native.Nat.{ℕ, suc, _+_, _^_, _≤_, _<_}
-use mathlib.Core.Path.{_≡_, refl, sym, ap, _∙_}
-use mathlib.Core.Bool.{Bool, true, false, not, _&&_, _||_, cond, and-false}
+use Prim.Native.Nat.{ℕ, _+_}
+use mathlib.Core.Path.{_≡_, refl, ap, _∙_}
+use mathlib.Core.Bool.{Bool, false, _&&_, and-false}
 use mathlib.Core.List.{List, [], _∷_, _++_, append-assoc}
-use mathlib.Core.Option.{Option, none, some}
+use mathlib.Core.Option.{some}
 use native.Mathlib.Omega.{arith}
 use lib.ListN.{length}
 use lib.Dec.{eqb}
 use Rattle.format.specs.Bytes.{any}
-use Rattle.format.specs.Decimal.{worth, written}
-use Rattle.format.specs.Lines.{Piece, cut, placed}
-use Rattle.format.specs.Fields.{Field, tagged, isTag, plain, valueField, scan, repeats}
-use Rattle.format.specs.Records.{Record, header, reference, group, program, comment, code, key, others, Line, read, refused, made, stopped, judged, fielded, remark, body, kindOf, bodied, kinded, prefixed, breaks, line}
+use Rattle.format.specs.Decimal.{written}
+use Rattle.format.specs.Lines.{Piece}
+use Rattle.format.specs.Fields.{Field, tagged, isTag, valueField, repeats}
+use Rattle.format.specs.Records.{Record, header, reference, group, program, comment, key, others, read, made, stopped, judged, fielded, remark, body, kindOf, bodied, kinded, prefixed, breaks, line}
 use Rattle.format.specs.Tidy.{fieldText, fieldsText, recordText}
 use Rattle.format.specs.declared.Version.{Version}
 use Rattle.format.specs.declared.Kind.{Kind}
@@ -21,7 +21,7 @@ use Rattle.text.proofs.Stands.{each-map}
 use Rattle.decimal.proofs.ReadBack.{reads-back}
 use Rattle.accepted.specs.Sound.{isKey, kind, Fits, Named, Other, Sound}
 use Rattle.accepted.proofs.Bools.{or-left, or-right}
-use Rattle.roundtrip.specs.Bare.{nowhere, bareField, bare}
+use Rattle.roundtrip.specs.Bare.{nowhere, bare}
 use Rattle.roundtrip.specs.Line.{own, keys, lineText, pieceText, put-at, located, Unbroken}
 use Rattle.roundtrip.proofs.Once.{tags-located, repeats-located, bare-located}
 use Rattle.roundtrip.proofs.Pieces.{Fine, scan-fields, fields-unbroken}

@@ -1,13 +1,13 @@
 -- The lines of the tidy text are its records' lines.
 use Prim.Native.Nat.{ℕ, _+_}
-use mathlib.Core.Path.{_≡_, refl, sym, ap, _∙_}
-use mathlib.Core.Bool.{Bool, true, false, _||_, cond}
+use mathlib.Core.Path.{_≡_, refl, ap}
+use mathlib.Core.Bool.{false, _||_}
 use mathlib.Core.List.{List, [], _∷_, _++_}
 use lib.ListN.{length}
 use lib.Seq.{append-snoc}
 use lib.Dec.{eqb}
 use Rattle.format.specs.Bytes.{any}
-use Rattle.format.specs.Lines.{Piece, onto, broken, laid, chomp, chomped, linesFrom}
+use Rattle.format.specs.Lines.{onto, broken, chomp, linesFrom}
 use Rattle.format.specs.Records.{Record, breaks}
 use Rattle.format.specs.Tidy.{recordText}
 use Rattle.accepted.specs.Sound.{Sound}

@@ -1,14 +1,14 @@
 -- The record that a tidy line's fields make: keys first, then fields that are no keys, no tag twice.
 use Prim.Native.Nat.{ℕ}
 use mathlib.Core.Path.{_≡_, refl}
-use mathlib.Core.Bool.{Bool, true, false, _&&_, _||_}
-use mathlib.Core.List.{List, [], _∷_}
+use mathlib.Core.Bool.{false}
+use mathlib.Core.List.{List, _∷_}
 use mathlib.Core.Option.{some}
 use Rattle.format.specs.Bytes.{any}
 use Rattle.format.specs.Decimal.{worth}
 use Rattle.format.specs.Lines.{Piece}
 use Rattle.format.specs.Fields.{Field, tagged, repeats, later, lastOf, without}
-use Rattle.format.specs.Records.{Record, header, reference, group, program, read, announcing, versioned, measured, keyed, made}
+use Rattle.format.specs.Records.{header, reference, group, program, read, announcing, versioned, measured, keyed, made}
 use Rattle.format.specs.Version.{version}
 use Rattle.format.specs.declared.Version.{Version}
 use Rattle.format.specs.declared.Kind.the-variants.{Header, ReferenceSequence, ReadGroup, Program}

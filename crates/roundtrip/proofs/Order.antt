@@ -1,11 +1,9 @@
 -- Records in order, HD, then SQ, RG, PG, CO, are an equal header, and what holds of each holds in order.
-use Prim.Native.Nat.{ℕ, _≤_}
+use Prim.Native.Nat.{ℕ}
 use mathlib.Core.Path.{_≡_, refl, sym, ap, _∙_}
-use mathlib.Core.Bool.{Bool, true, false, cond}
 use mathlib.Core.List.{List, [], _∷_, _++_, map, append-nil}
 use native.Mathlib.Omega.{arith}
-use lib.Dec.{eqb}
-use Rattle.format.specs.Records.{Record, code}
+use Rattle.format.specs.Records.{Record}
 use Rattle.format.specs.Reading.{ofKind}
 use Rattle.format.specs.Tidy.{inOrder}
 use Rattle.text.specs.Stands.{Each}

@@ -1,21 +1,20 @@
 -- A line of good fields is cut into these fields: what `scan` answers for the fields of a line that the tidy text has.
-use Prim.Native.Nat.{ℕ, suc, _+_, _≤_}
-use mathlib.Core.Path.{_≡_, refl, sym, ap, _∙_}
-use mathlib.Core.Bool.{Bool, true, false, not, _&&_, _||_, cond}
+use Prim.Native.Nat.{ℕ, _+_, _≤_}
+use mathlib.Core.Path.{_≡_, refl, ap, _∙_}
+use mathlib.Core.Bool.{true, false}
 use mathlib.Core.List.{List, [], _∷_, _++_, map}
-use mathlib.Core.Option.{Option, none, some}
 use native.Mathlib.Omega.{arith}
 use lib.ListN.{length}
 use lib.Dec.{eqb, leb}
-use borrow.Author.Tests.{eqb-true, leb-true, leb-false, le-leb, ne-eqb}
-use Rattle.format.specs.Bytes.{digit, letter, printable, all, any, none?}
-use Rattle.format.specs.Lines.{Piece, onto, cut, placed}
-use Rattle.format.specs.Fields.{Field, Judged, good, isTag, isValue, field, Scan, onward, scan}
+use borrow.Author.Tests.{leb-true, ne-eqb}
+use Rattle.format.specs.Bytes.{printable, all, any}
+use Rattle.format.specs.Lines.{onto, cut, placed}
+use Rattle.format.specs.Fields.{Field, good, field, onward, scan}
 use Rattle.format.specs.Records.{breaks}
-use Rattle.format.specs.Tidy.{fieldText, fieldsText}
+use Rattle.format.specs.Tidy.{fieldsText}
 use Rattle.format.specs.declared.Kind.{Kind}
 use Rattle.text.specs.Stands.{Each}
-use Rattle.accepted.proofs.Bools.{and-left, and-right, or-left, or-right, any-append}
+use Rattle.accepted.proofs.Bools.{and-left, and-right, any-append}
 use Rattle.roundtrip.specs.Line.{pieceText, put-at, located}
 
 -- ---- bytes

@@ -3,10 +3,10 @@ use Prim.Native.Nat.{ℕ, _+_, _≤_}
 use mathlib.Core.Path.{_≡_, refl, sym, ap, _∙_}
 use mathlib.Core.Bool.{Bool, true, false, cond}
 use mathlib.Core.List.{List, [], _∷_, map}
-use mathlib.Core.Option.{Option, none, some}
+use mathlib.Core.Option.{none, some}
 use lib.ListN.{length}
 use Rattle.format.specs.Records.{Record, header, reference, group, program, comment}
-use Rattle.format.specs.Reading.{Reading, accept, readText}
+use Rattle.format.specs.Reading.{accept, readText}
 use Rattle.format.specs.Tidy.{inOrder, tidy, isWritable, unwritable}
 use Rattle.text.specs.Stands.{Each}
 use Rattle.accepted.specs.Sound.{Sound}

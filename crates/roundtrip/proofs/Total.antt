@@ -1,7 +1,7 @@
 -- The tidy text is at most one byte longer than the text: each record's line in it is no longer than the line read.
-use Prim.Native.Nat.{ℕ, suc, _+_, _-_, _≤_, _<_}
-use mathlib.Core.Path.{_≡_, refl, sym, ap, _∙_}
-use mathlib.Core.Bool.{Bool, true, false, _&&_, cond}
+use Prim.Native.Nat.{ℕ, suc, _+_, _≤_, _<_}
+use mathlib.Core.Path.{_≡_, refl, ap, _∙_}
+use mathlib.Core.Bool.{Bool, true, false, cond}
 use mathlib.Core.List.{List, [], _∷_, _++_}
 use mathlib.Core.Logic.{⊎-elim}
 use mathlib.Core.Option.{some}
@@ -15,7 +15,7 @@ use Rattle.format.specs.Lines.{Piece, onto, cut, placed, lines, linesFrom}
 use Rattle.format.specs.Fields.{Field, tagged, lastOf, settled, without}
 use Rattle.format.specs.Records.{Record, header, reference, group, program, comment, code, read, line}
 use Rattle.format.specs.Reading.{accept, readText, ofKind}
-use Rattle.format.specs.Tidy.{fieldText, fieldsText, recordText, text, inOrder, tidy}
+use Rattle.format.specs.Tidy.{fieldsText, recordText, text, inOrder, tidy}
 use Rattle.format.specs.declared.Kind.{Kind}
 use Rattle.format.specs.declared.Kind.the-variants.{ReferenceSequence}
 use Rattle.text.specs.Upto.{upto}
@@ -30,7 +30,7 @@ use Rattle.accepted.specs.Pieces.{Pairs}
 use Rattle.accepted.specs.Spelled as sp
 use Rattle.accepted.specs.Spelled.{Sized, Good, Made, Spelled, Accepted}
 use Rattle.accepted.specs.Admits.{strictly}
-use Rattle.accepted.proofs.Bools.{never, and-left}
+use Rattle.accepted.proofs.Bools.{and-left}
 use Rattle.accepted.proofs.Fields.{Of, lastOf-of}
 use Rattle.accepted.proofs.Pairs.{pairs-right, each-all}
 use Rattle.accepted.proofs.Spelled.{line-accepted}

@@ -1,16 +1,16 @@
 -- Records that may follow one another may do so kind by kind too.
-use Prim.Native.Nat.{ℕ, zero, suc, _+_, _≤_}
+use Prim.Native.Nat.{ℕ}
 use mathlib.Core.Path.{_≡_, refl, sym, ap, _∙_}
 use mathlib.Core.Bool.{Bool, true, false, not, _&&_, _||_, cond}
-use mathlib.Core.List.{List, [], _∷_, _++_, map, append-assoc, append-nil}
+use mathlib.Core.List.{List, [], _∷_, _++_, append-nil}
 use native.Mathlib.Omega.{arith}
 use lib.ListN.{length}
 use lib.Seq.{append-snoc}
 use lib.Dec.{eqb, leb}
-use borrow.Author.Tests.{eqb-true, eqb-false, ne-eqb, not-false}
+use borrow.Author.Tests.{eqb-true, ne-eqb, not-false}
 use Rattle.format.specs.Bytes.{any, none?}
-use Rattle.format.specs.Records.{Record, code, key}
-use Rattle.format.specs.Reading.{clash, sameKeys, ofKind, barred}
+use Rattle.format.specs.Records.{Record, code}
+use Rattle.format.specs.Reading.{clash, ofKind, barred}
 use Rattle.format.specs.Tidy.{inOrder}
 use Rattle.accepted.proofs.Bools.{never, eqb-sym}
 use Rattle.accepted.proofs.OfKind.{ofKind-append}

@@ -6,7 +6,6 @@ use mathlib.Core.List.{List, [], _∷_, _++_}
 use lib.ListN.{length}
 use Rattle.format.specs.Bytes.{any}
 use Rattle.format.specs.Decimal.{written}
-use Rattle.format.specs.Lines.{Piece}
 use Rattle.format.specs.Fields.{Field}
 use Rattle.format.specs.Records.{Record, header, reference, group, program, comment, breaks}
 use Rattle.format.specs.Tidy.{fieldsText}
