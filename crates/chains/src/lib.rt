@@ -3,8 +3,8 @@ ghost use mathlib.Core.Path.{_≡_};
 ghost use mathlib.Core.Bool.{true};
 ghost use Prim.Native.Nat.{_≤_, _<_};
 ghost use lib.ListN.{length, getD};
-ghost use Rattle.format.specs.Programs.{reaches, loopsFrom, depth, hops, leaves, roots};
-ghost use Rattle.chains.specs.Parents.{linkOf, linksOf, within, inArray};
+ghost use Rattle.format.specs.Programs.{reaches, loopsFrom, depth, hops, counting, leaves, roots};
+ghost use Rattle.chains.specs.Parents.{linkOf, linksOf, within, inArray, placeOf};
 
 pub const NOBODY: u32 = 4294967295;
 
@@ -85,6 +85,58 @@ pub fn hops(parents: &[u32]) -> u32
 pub struct Ordinals {
     pub list: [u32; 1024],
     pub count: usize,
+}
+
+// The first `n` ordinals.
+fn counting(n: usize) -> [u32; 1024]
+    requires { ⌜ n ≤ 1024 ⌝ }
+    ensures { λ r. ⌜ r ≡ inArray (counting 0 n) ⌝ }
+{
+    let mut list: [u32; 1024] = [0; 1024];
+    let mut i: usize = 0;
+    while i < n {
+        list[i] = i as u32;
+        i += 1;
+    }
+    list
+}
+
+// The place of `x` in a list, or the list's length where it is not there.
+fn place(list: &[u32], x: u32) -> usize
+    ensures { λ r. ⌜ r ≡ placeOf x (now (list .entry)) ⌝ }
+{
+    let mut i: usize = 0;
+    while i < list.len() {
+        if x == list[i] {
+            return i;
+        }
+        i += 1;
+    }
+    i
+}
+
+// The leaves in the crate's order: for each program in order that has a PP, the last of the list takes the parent's place.
+pub fn leaves(parents: &[u32]) -> Ordinals
+    requires { ⌜ within (length (now parents)) (now parents) ≡ true ⌝ }
+    requires { ⌜ length (now parents) ≤ 1024 ⌝ }
+    ensures { λ r. ⌜ (r .list ≡ inArray (leaves (linksOf (now (parents .entry))))) × (r .count ≡ length (leaves (linksOf (now (parents .entry))))) ⌝ }
+{
+    let mut list: [u32; 1024] = counting(parents.len());
+    let mut count: usize = parents.len();
+    let mut i: usize = 0;
+    while i < parents.len() {
+        let k = parents[i];
+        if k != NOBODY {
+            let at = place(&list[..count], k);
+            if at < count {
+                count -= 1;
+                list[at] = list[count];
+                list[count] = 0;
+            }
+        }
+        i += 1;
+    }
+    Ordinals { list, count }
 }
 
 // The programs without PP, in order.
