@@ -3,8 +3,8 @@ use Prim.Native.Nat.{ℕ, zero, suc, _+_, _-_, _≤_, _<_}
 use mathlib.Core.Path.{_≡_, refl, sym, ap, _∙_}
 use mathlib.Core.List.{List, [], _∷_, _++_}
 use native.Mathlib.Omega.{arith}
-use lib.ListN.{length, set, replicate, length-append, length-replicate}
-use lib.Seq.{set-append-seam, append-snoc}
+use lib.ListN.{length, getD, set, replicate, length-append, length-replicate, length-set, List·getD-append}
+use lib.Seq.{set-append-seam, set-append-left, append-snoc}
 use Rattle.chains.specs.Parents.{inArray}
 
 pub array-length : (xs : List ℕ) → length xs ≤ 1024 → length (inArray xs) ≡ 1024
@@ -19,3 +19,22 @@ array-push xs v h =
     ap (λ n. set (xs ++ replicate n 0) (length xs) v) more
     ∙ set-append-seam xs 0 (replicate (1024 - length (xs ++ v ∷ [])) 0) v
     ∙ sym (append-snoc xs v (replicate (1024 - length (xs ++ v ∷ [])) 0))
+
+pub array-at : (xs : List ℕ) (i : ℕ) → i < length xs → getD (inArray xs) i 0 ≡ getD xs i 0
+unfolding inArray
+array-at xs i h = List·getD-append xs (replicate (1024 - length xs) 0) 0 i h
+
+pub array-set : (xs : List ℕ) (i v : ℕ) → i < length xs → set (inArray xs) i v ≡ inArray (set xs i v)
+unfolding inArray
+array-set xs i v h =
+    set-append-left xs (replicate (1024 - length xs) 0) i v h
+    ∙ ap (λ n. set xs i v ++ replicate (1024 - n) 0) (sym (length-set xs i v))
+
+-- the last place of the list takes a zero, and the list is shorter
+pub array-pop : (xs : List ℕ) (v : ℕ) → length xs < 1024 → set (inArray (xs ++ v ∷ [])) (length xs) 0 ≡ inArray xs
+unfolding inArray
+array-pop xs v h =
+    let more : 1024 - length xs ≡ suc (1024 - length (xs ++ v ∷ [])) = omega (arith, length-append xs (v ∷ [])) in
+    ap (λ l. set l (length xs) 0) (append-snoc xs v (replicate (1024 - length (xs ++ v ∷ [])) 0))
+    ∙ set-append-seam xs v (replicate (1024 - length (xs ++ v ∷ [])) 0) 0
+    ∙ ap (λ n. xs ++ replicate n 0) (sym more)

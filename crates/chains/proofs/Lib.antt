@@ -1,6 +1,6 @@
 pub mod Arrays
 pub mod Bools
-pub mod Leaves
+pub mod Leaf
 pub mod Swaps
 pub mod Times
 pub mod Walks

@@ -4,13 +4,14 @@ use mathlib.Core.Path.{_≡_, refl, sym, ap, _∙_}
 use mathlib.Core.Bool.{Bool, true, false, cond, _||_}
 use mathlib.Core.List.{List, [], _∷_, _++_, map}
 use native.Mathlib.Omega.{arith}
-use lib.ListN.{length, getD, set, replicate, length-append, length-set, List·getD-append}
-use lib.Seq.{set-append-left, set-append-seam, append-snoc}
+use lib.ListN.{length, getD, set, length-set, length-append}
+use lib.Seq.{getD-append-seam}
 use lib.Dec.{eqb, ltb, leb·suc-suc}
 use borrow.Author.Tests.{lt-ltb}
 use Rattle.format.specs.Bytes.{any}
 use Rattle.format.specs.Programs.{lastOr, butLast, instead, swapRemove}
 use Rattle.chains.specs.Parents.{inArray, placeOf}
+use Rattle.chains.proofs.Arrays.{array-at, array-set, array-pop}
 use Rattle.chains.proofs.Times.{hit, times, times-last, swap-some}
 
 -- ---- places
@@ -82,3 +83,48 @@ swap-set k l o h =
     ∙ instead-set k (lastOr 0 l) (butLast l) (omega (arith, times-last k l (omega arith)))
     ∙ ap (λ i. set (butLast l) i (lastOr 0 l)) (place-front k l h)
     ∙ front-set l (placeOf k l) (lastOr 0 l)
+
+-- ---- the same in the array
+
+front-last : (l : List ℕ) → 0 < length l → butLast l ++ lastOr 0 l ∷ [] ≡ l
+unfolding butLast lastOr
+front-last [] h = absurd (omega arith)
+front-last (a ∷ []) h = refl
+front-last (a ∷ b ∷ l) h = ap (λ r. a ∷ r) (front-last (b ∷ l) (omega arith))
+
+pub front-length : (l : List ℕ) → length (butLast l) ≡ length l - 1
+unfolding butLast
+front-length [] = omega arith
+front-length (a ∷ []) = omega arith
+front-length (a ∷ b ∷ l) = omega (arith, front-length (b ∷ l))
+
+last-at : (l : List ℕ) → 0 < length l → getD l (length l - 1) 0 ≡ lastOr 0 l
+last-at l h =
+    ap (λ r. getD r (length l - 1) 0) (sym (front-last l h))
+    ∙ ap (λ n. getD (butLast l ++ lastOr 0 l ∷ []) n 0) (sym (front-length l))
+    ∙ getD-append-seam (butLast l) (lastOr 0 l) [] 0
+
+array-front : (l : List ℕ) → 0 < length l → length l ≤ 1024 → set (inArray l) (length l - 1) 0 ≡ inArray (butLast l)
+array-front l h f =
+    ap (λ r. set (inArray r) (length l - 1) 0) (sym (front-last l h))
+    ∙ ap (λ n. set (inArray (butLast l ++ lastOr 0 l ∷ [])) n 0) (sym (front-length l))
+    ∙ array-pop (butLast l) (lastOr 0 l) (omega (arith, front-length l))
+
+-- the last of the list to the place of `k`, a zero to the last place
+pub array-swap : (k n : ℕ) (l : List ℕ) → times k l ≤ 1 → placeOf k l < length l → length l ≤ 1024 → n ≡ length l - 1
+    → set (set (inArray l) (placeOf k l) (getD (inArray l) n 0)) n 0 ≡ inArray (swapRemove k l)
+array-swap k n l o h f e =
+    let p = placeOf k l in
+    let z : getD (inArray l) n 0 ≡ lastOr 0 l = ap (λ m. getD (inArray l) m 0) e ∙ array-at l (length l - 1) (omega arith) ∙ last-at l (omega arith) in
+    let s : length (set l p (lastOr 0 l)) ≡ length l = length-set l p (lastOr 0 l) in
+    ap (λ v. set (set (inArray l) p v) n 0) z
+    ∙ ap (λ r. set r n 0) (array-set l p (lastOr 0 l) h)
+    ∙ ap (λ m. set (inArray (set l p (lastOr 0 l))) m 0) (e ∙ ap (λ m. m - 1) (sym s))
+    ∙ array-front (set l p (lastOr 0 l)) (omega arith) (omega arith)
+    ∙ ap inArray (sym (swap-set k l o h))
+
+pub swap-shorter : (k : ℕ) (l : List ℕ) → times k l ≤ 1 → placeOf k l < length l → length (swapRemove k l) ≡ length l - 1
+swap-shorter k l o h =
+    ap length (swap-set k l o h)
+    ∙ front-length (set l (placeOf k l) (lastOr 0 l))
+    ∙ ap (λ n. n - 1) (length-set l (placeOf k l) (lastOr 0 l))

@@ -12,6 +12,7 @@ use Rattle.format.specs.Bytes.{any}
 use Rattle.format.specs.Programs.{Link, root, dangling, child, rootsFrom, roots, counting, lastOr, butLast, instead, swapRemove, leavesFrom, leaves}
 use Rattle.chains.specs.Listed.{named, distinct}
 use Rattle.chains.proofs.Times.{hit, times, Once, hit-same, hit-other, times-none, times-some, swap-once, swap-none, swap-some}
+use Rattle.chains.proofs.Swaps.{front-length}
 
 -- ---- counting
 
@@ -91,7 +92,7 @@ leaves-times ls x =
     ∙ ap (cond (named x ls) 0) (counting-times x (length ls))
     ∙ go (ltb x (length ls)) (named x ls)
   where
-    go : (s t : Bool) → cond t 0 (cond s 1 0) ≡ cond (s && not t) 1 0
+    go : (s t : Bool) → _≡_ {A = ℕ} (cond t 0 (cond s 1 0)) (cond (s && not t) 1 0)
     go true true = refl
     go true false = refl
     go false true = refl
@@ -128,12 +129,6 @@ leaves-distinct ls = once-distinct (leaves ls) (λ x. rw (leaves-times ls x) (go
     go false = omega arith
 
 -- ---- at most one for each program
-
-pub front-length : (l : List ℕ) → length (butLast l) ≡ length l - 1
-unfolding butLast
-front-length [] = omega arith
-front-length (a ∷ []) = omega arith
-front-length (a ∷ b ∷ l) = omega (arith, front-length (b ∷ l))
 
 pub swap-length : (k : ℕ) (l : List ℕ) → length (swapRemove k l) ≤ length l
 swap-length k l = go (any (eqb k) l) refl
