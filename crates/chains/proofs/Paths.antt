@@ -144,6 +144,7 @@ module _ (ls : List Link) (acyclic : loopsFrom ls 0 ls ≡ false) (below : (k : 
     where
       gone : times k (path ls f (getD ls k root)) ≡ 0
       gone = times-none k (path ls f (getD ls k root)) (path-any ls k f (getD ls k root) ∙ reaches-fewer ls k f (length ls) (getD ls k root) (omega arith) (no-return k))
+
       go : (t : Bool) → eqb x k ≡ t → times x (path ls f (getD ls k root)) ≤ 1 → cond t 1 0 + times x (path ls f (getD ls k root)) ≤ 1
       go true e ih = omega (arith, ap (λ y. times y (path ls f (getD ls k root))) (eqb-true x k e), gone)
       go false e ih = omega arith

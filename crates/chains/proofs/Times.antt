@@ -1,12 +1,12 @@
 -- How often a number stands in a list, and what a swap leaves of that. Assumes nothing.
-use Prim.Native.Nat.{ℕ, zero, suc, _+_, _≤_, _<_}
+use Prim.Native.Nat.{ℕ, _+_, _≤_, _<_}
 use mathlib.Core.Path.{_≡_, refl, sym, ap, _∙_}
 use mathlib.Core.Bool.{Bool, true, false, cond, _||_, false≢true}
-use mathlib.Core.List.{List, [], _∷_, _++_, map}
+use mathlib.Core.List.{List, [], _∷_, map}
 use native.Mathlib.Omega.{arith}
 use lib.ListN.{length}
 use lib.Dec.{eqb}
-use borrow.Author.Tests.{eq-eqb, ne-eqb, eqb-true, eqb-false}
+use borrow.Author.Tests.{eq-eqb, ne-eqb, eqb-true}
 use Rattle.format.specs.Bytes.{any}
 use Rattle.format.specs.Programs.{lastOr, butLast, instead, swapRemove}
 
@@ -137,6 +137,7 @@ swap-once x k l o = go (any (eqb k) l) refl (eqb x k) refl
   where
     gone : any (eqb k) l ≡ true → times x (swapRemove k l) + cond (eqb x k) 1 0 ≡ times x l
     gone e = swap-times x k l e (omega (arith, o k, times-some k l e))
+
     go : (s : Bool) → any (eqb k) l ≡ s → (t : Bool) → eqb x k ≡ t → times x (swapRemove k l) ≡ cond t 0 (times x l)
     go true e true d = omega (arith, o x, rw d at (gone e))
     go true e false d = omega (arith, rw d at (gone e))

@@ -63,6 +63,11 @@ unfolding depth
 depth-root ls zero = refl
 depth-root ls (suc f) = refl
 
+pub depth-dangling : (ls : List Link) (f : ℕ) → depth ls f dangling ≡ 0
+unfolding depth
+depth-dangling ls zero = refl
+depth-dangling ls (suc f) = refl
+
 -- no step where none is left
 pub reaches-none : (ls : List Link) (i f : ℕ) (l : Link) → f ≤ 0 → reaches ls i f l ≡ false
 unfolding reaches

@@ -8,8 +8,6 @@ use Rattle.chains.specs.Parents.{linkOf, linksOf}
 use Rattle.chains.proofs.Walks.{within-at, link-none, reaches-here, reaches-on, reaches-root, reaches-none}
 use Rattle.chains.proofs.comes_back.Statement.{statement}
 use Rattle.chains.proofs.comes_back.Tie as tie
-use Rattle.chains.proofs.comes_back.Reads as reads
-use Rattle.chains.proofs.comes_back.Lts as lts
 
 abbrev Inv-loop : tie.InvT-loop
 Inv-loop parents i at₀ left₀ at left = ((at ≡ 4294967295 → ⊥) → at < length parents) × (reaches (linksOf parents) i (length parents) (linkOf (getD parents i 0)) ≡ reaches (linksOf parents) i left (linkOf at))
@@ -27,7 +25,7 @@ loop-holds : tie.Need-loop-holds Inv-loop μ-loop
 loop-holds c = (within-at _ _ _ (c .before .pre .0) (c .before .pre .1), refl)
 
 returns : tie.Need-returns Inv-loop μ-loop
-returns c = 
+returns c =
     let l = c .before .before .loop in
     sym (l .inv .1 ∙ ap (reaches _ _ (l .left)) (link-none _ (c .if1 .taken)) ∙ reaches-root _ _ (l .left))
 
@@ -35,7 +33,7 @@ cast-k : tie.Need-cast-k Inv-loop μ-loop
 cast-k c = omega (arith, c .before .before .loop .inv .0 (c .if1 .left))
 
 returns-2 : tie.Need-returns-2 Inv-loop μ-loop
-returns-2 c = 
+returns-2 c =
     let l = c .before .before .before .loop in
     let ne = c .before .if1 .left in
     sym (l .inv .1 ∙ reaches-here _ (l .at) (l .left) ne (l .inv .0 ne) (omega arith) _ (c .if2 .taken))
@@ -53,7 +51,7 @@ loop-less : tie.Need-loop-less Inv-loop μ-loop
 loop-less c = omega arith
 
 loop-again : tie.Need-loop-again Inv-loop μ-loop
-loop-again c = 
+loop-again c =
     let l = c .before .before .before .before .loop in
     let s = c .before .before .before .before .before .before in
     let ne = c .before .before .if1 .left in (
@@ -62,7 +60,7 @@ loop-again c =
     )
 
 returns-3 : tie.Need-returns-3 Inv-loop μ-loop
-returns-3 c = 
+returns-3 c =
     let l = c .before .loop in
     sym (l .inv .1 ∙ reaches-none _ _ (l .left) _ (omega arith))
 

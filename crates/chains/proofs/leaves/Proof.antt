@@ -1,14 +1,13 @@
 -- `chains::leaves` meets its contract: what is listed has no number twice, and the rest of the programs makes of it the leaves.
 -- Assumes nothing.
-use Prim.Native.Nat.{ℕ, suc, _+_, _-_, _≤_, _<_}
+use Prim.Native.Nat.{ℕ, _+_, _-_, _≤_, _<_}
 use mathlib.Core.Path.{_≡_, refl, sym, ap, _∙_}
-use mathlib.Core.List.{List, [], _∷_, _++_}
+use mathlib.Core.List.{List}
 use mathlib.Core.Logic.{⊎-elim}
 use native.Mathlib.Omega.{arith}
 use native.Mathlib.Numerals.{add-one}
 use lib.ListN.{length, getD, set, take, drop, drop-of-length-le, replicate, length-map}
 use lib.Seq.{drop-cons, take-at}
-use lib.Dec.{eqb}
 use borrow.Author.Tests.{le-ltb}
 use Rattle.format.specs.Programs.{leaves, leavesFrom, counting, swapRemove}
 use Rattle.chains.specs.Parents.{linkOf, linksOf, inArray, placeOf}
@@ -19,8 +18,6 @@ use Rattle.chains.proofs.Times.{Once, swap-none}
 use Rattle.chains.proofs.Walks.{link-none, link-some}
 use Rattle.chains.proofs.leaves.Statement.{statement}
 use Rattle.chains.proofs.leaves.Tie as tie
-use Rattle.chains.proofs.leaves.Reads as reads
-use Rattle.chains.proofs.leaves.Lts as lts
 
 module _ (ps : List ℕ) (i : ℕ) (xs : List ℕ) where
   without : i < length ps → getD ps i 0 ≡ 4294967295 → leavesFrom xs (linksOf (drop i ps)) ≡ leavesFrom xs (linksOf (drop (i + 1) ps))

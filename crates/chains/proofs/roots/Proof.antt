@@ -1,5 +1,5 @@
 -- `chains::roots` meets its contract: the roots listed, and those from `i` on, are all. Assumes nothing.
-use Prim.Native.Nat.{ℕ, suc, _+_, _-_, _≤_, _<_}
+use Prim.Native.Nat.{ℕ, _+_, _-_, _≤_, _<_}
 use mathlib.Core.Path.{_≡_, refl, sym, ap, _∙_}
 use mathlib.Core.List.{List, [], _∷_, _++_, append-nil}
 use mathlib.Core.Logic.{⊎-elim}
@@ -10,11 +10,9 @@ use lib.Seq.{drop-cons, append-snoc}
 use borrow.Author.Tests.{eq-eqb, ne-eqb}
 use Rattle.format.specs.Programs.{roots, rootsFrom}
 use Rattle.chains.specs.Parents.{nobody, linkOf, linksOf, inArray}
-use Rattle.chains.proofs.Arrays.{array-length, array-push}
+use Rattle.chains.proofs.Arrays.{array-push}
 use Rattle.chains.proofs.roots.Statement.{statement}
 use Rattle.chains.proofs.roots.Tie as tie
-use Rattle.chains.proofs.roots.Reads as reads
-use Rattle.chains.proofs.roots.Lts as lts
 
 module _ (ps : List ℕ) (i : ℕ) where
   one-more : i < length ps → getD ps i 0 ≡ 4294967295 → rootsFrom i (linksOf (drop i ps)) ≡ i ∷ rootsFrom (i + 1) (linksOf (drop (i + 1) ps))
