@@ -17,7 +17,7 @@ use Rattle.chains.specs.Parents.{nobody, linkOf, linksOf, within}
 use Rattle.chains.proofs.Bools.{both-true}
 use Rattle.chains.proofs.Pairs.{under, unders, pairs, under-next}
 use Rattle.chains.proofs.Paths.{Below, below-at, depth-less}
-use Rattle.chains.proofs.Walks.{depth-root, depth-dangling}
+use Rattle.chains.proofs.Walks.{map-at, depth-root, depth-dangling}
 
 -- a walk that ends in time is the same with one step less
 depth-same : (ls : List Link) (f : ℕ) (l : Link) → depth ls (suc f) l ≤ f → depth ls f l ≡ depth ls (suc f) l
@@ -34,11 +34,6 @@ unfolding depth
 depth-next ls zero k h = absurd (omega arith)
 depth-next ls (suc f) k h = ap suc (depth-same ls f (getD ls k root) (omega arith))
 
-getD-map : (f : Link → ℕ) (ls : List Link) (k : ℕ) → k < length ls → getD (map f ls) k 0 ≡ f (getD ls k root)
-getD-map f [] k h = absurd (omega arith)
-getD-map f (l ∷ ls) zero h = refl
-getD-map f (l ∷ ls) (suc k) h = getD-map f ls k (omega arith)
-
 module _ (ls : List Link) (acyclic : loopsFrom ls 0 ls ≡ false) (below : (k : ℕ) → named k ls ≡ true → k < length ls) where
   abbrev far : Link → ℕ
   far l = depth ls (length ls) l
@@ -50,7 +45,7 @@ module _ (ls : List Link) (acyclic : loopsFrom ls 0 ls ≡ false) (below : (k : 
   ranks (suc d) dangling b e = absurd (omega (arith, depth-dangling ls (length ls)))
   ranks (suc d) (child k) b e =
       let up : far (getD ls k root) ≡ d = omega (arith, depth-next ls (length ls) k (depth-less ls acyclic below k b)) in
-      omega (arith, ranks d (getD ls k root) (below-at (length ls) ls below k) up, under-next d k (map far ls) (omega (arith, length-map ls far)) (getD-map far ls k b ∙ up))
+      omega (arith, ranks d (getD ls k root) (below-at (length ls) ls below k) up, under-next d k (map far ls) (omega (arith, length-map ls far)) (map-at far ls k root 0 b ∙ up))
 
   sums : (ms : List Link) → ((j : ℕ) → Below (length ls) (getD ms j root)) → depths ls ms ≤ unders (map far ms) (map far ls)
   unfolding depths unders

@@ -2,7 +2,7 @@
 use Prim.Native.Nat.{ℕ, zero, suc, _-_, _≤_, _<_}
 use mathlib.Core.Path.{_≡_, refl, ap, ap₂, _∙_}
 use mathlib.Core.Bool.{true, false, _||_}
-use mathlib.Core.List.{List, [], _∷_}
+use mathlib.Core.List.{List, [], _∷_, map}
 use native.Mathlib.Omega.{arith}
 use lib.ListN.{length, getD}
 use lib.Dec.{eqb, ltb}
@@ -20,11 +20,15 @@ pub link-some : (p : ℕ) → (p ≡ 4294967295 → ⊥) → linkOf p ≡ child 
 unfolding linkOf nobody
 link-some p e = rw (ne-eqb _ _ e) refl
 
+-- what stands at a place of a mapped list
+pub map-at : {A B : Type 0} (f : A → B) (l : List A) (k : ℕ) (d : A) (e : B) → k < length l → getD (map f l) k e ≡ f (getD l k d)
+map-at f [] k d e h = absurd (omega arith)
+map-at f (x ∷ l) zero d e h = refl
+map-at f (x ∷ l) (suc k) d e h = map-at f l k d e (omega arith)
+
 pub link-at : (ps : List ℕ) (k : ℕ) → k < length ps → getD (linksOf ps) k root ≡ linkOf (getD ps k 0)
 unfolding linksOf
-link-at [] k h = absurd (omega arith)
-link-at (p ∷ ps) zero h = refl
-link-at (p ∷ ps) (suc k) h = link-at ps k (omega arith)
+link-at ps k h = map-at linkOf ps k 0 root h
 
 -- each parent that there is stands below `n`
 pub within-at : (n : ℕ) (ps : List ℕ) (k : ℕ) → within n ps ≡ true → k < length ps → (getD ps k 0 ≡ 4294967295 → ⊥) → getD ps k 0 < n
