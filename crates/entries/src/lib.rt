@@ -3,7 +3,7 @@ use format::Version;
 ghost use mathlib.Core.Path.{_≡_};
 ghost use Prim.Native.Nat.{_≤_, _+_};
 ghost use lib.ListN.{length, drop};
-ghost use Rattle.entries.specs.Entries.{kindOf, kindSize, sizeOf};
+ghost use Rattle.entries.specs.Entries.{kindOf, kindSize, sizeOf, versionOf, placeOf, bodied, entryOf};
 
 // Where a piece of the text stands.
 pub struct Place {
@@ -23,7 +23,7 @@ pub enum Entry {
 }
 
 // The byte of kind of an entry: 0 for what is none.
-pub fn kind(e: Entry) -> u8
+pub fn kind_of(e: Entry) -> u8
     ensures { λ r. ⌜ r ≡ kindOf e ⌝ }
 {
     match e {
@@ -42,8 +42,11 @@ fn kind_size(kind: u8) -> usize
     ensures { λ r. ⌜ r ≡ kindSize kind ⌝ }
 {
     match kind {
-        1 | 3 | 4 | 5 => 9,
+        1 => 9,
         2 => 17,
+        3 => 9,
+        4 => 9,
+        5 => 9,
         6 => 11,
         _ => 0,
     }
@@ -53,5 +56,55 @@ fn kind_size(kind: u8) -> usize
 pub fn size(e: Entry) -> usize
     ensures { λ r. ⌜ r ≡ sizeOf e ⌝ }
 {
-    kind_size(kind(e))
+    kind_size(kind_of(e))
+}
+
+// The version in the eight bytes at `at`: major, then minor.
+fn version_at(s: &[u8], at: usize) -> Version
+    requires { ⌜ at + 8 ≤ length (now s) ⌝ }
+    ensures { λ r. ⌜ r ≡ versionOf (drop at (now (s .entry))) ⌝ }
+{
+    let major = text::get_u32(s, at);
+    let minor = text::get_u32(s, at + 4);
+    Version { major, minor }
+}
+
+// The place in the eight bytes at `at`: offset, then length.
+fn place_at(s: &[u8], at: usize) -> Place
+    requires { ⌜ at + 8 ≤ length (now s) ⌝ }
+    ensures { λ r. ⌜ r ≡ placeOf (drop at (now (s .entry))) ⌝ }
+{
+    let offset = text::get_u32(s, at);
+    let len = text::get_u32(s, at + 4);
+    Place { at: offset, len }
+}
+
+// The entry of a kind at `at`: its body is behind the byte of kind.
+fn body_at(s: &[u8], at: usize, kind: u8) -> Entry
+    requires { ⌜ at + kindSize kind ≤ length (now s) ⌝ }
+    ensures { λ r. ⌜ r ≡ bodied kind (drop (at + 1) (now (s .entry))) ⌝ }
+{
+    match kind {
+        1 => Entry::Header(version_at(s, at + 1)),
+        2 => Entry::ReferenceSequence(place_at(s, at + 1), text::get_u64(s, at + 9)),
+        3 => Entry::ReadGroup(place_at(s, at + 1)),
+        4 => Entry::Program(place_at(s, at + 1)),
+        5 => Entry::Comment(place_at(s, at + 1)),
+        6 => Entry::Field(s[at + 1], s[at + 2], place_at(s, at + 3)),
+        _ => Entry::End,
+    }
+}
+
+// What stands at `at`: `End` where nothing is left, the kind is unknown or the body is short.
+pub fn entry_at(catalogue: &[u8], at: usize) -> Entry
+    ensures { λ r. ⌜ r ≡ entryOf (drop at (now (catalogue .entry))) ⌝ }
+{
+    if catalogue.len() <= at {
+        return Entry::End;
+    }
+    let kind = catalogue[at];
+    if catalogue.len() - at < kind_size(kind) {
+        return Entry::End;
+    }
+    body_at(catalogue, at, kind)
 }

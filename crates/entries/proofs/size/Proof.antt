@@ -1,14 +1,16 @@
 use borrow.Author.Needs.{needs}
+use mathlib.Core.Path.{_≡_, ap, _∙_}
+use Rattle.entries.specs.Entries.{kindSize, sizeOf}
 use Rattle.entries.proofs.size.Statement.{statement}
 use Rattle.entries.proofs.size.Tie as tie
 use Rattle.entries.proofs.size.Reads as reads
 use Rattle.entries.proofs.size.Lts as lts
-use Rattle.entries.proofs.kind.Reads as kind-reads
+use Rattle.entries.proofs.kind_of.Reads as kind-of-reads
 use Rattle.entries.proofs.kind_size.Reads as kind-size-reads
 
 -- src/lib.rt:56:15
-kind-requires : tie.Need-kind-requires
-kind-requires c κs = search needs
+kind-of-requires : tie.Need-kind-of-requires
+kind-of-requires c κs = search needs
 
 -- src/lib.rt:56:5
 kind-size-requires : tie.Need-kind-size-requires
@@ -16,7 +18,8 @@ kind-size-requires c κs = search needs
 
 -- src/lib.rt:53:1
 returns : tie.Need-returns
-returns c = ?
+unfolding sizeOf
+returns c = c .kind-size .ensures ∙ ap kindSize (c .before .kind-of .ensures)
 
 pub size-spec : {M : Type 1} → statement M
-size-spec = tie.close (tie.spec kind-requires kind-size-requires returns)
+size-spec = tie.close (tie.spec kind-of-requires kind-size-requires returns)

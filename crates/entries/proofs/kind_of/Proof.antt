@@ -1,8 +1,9 @@
 use borrow.Author.Needs.{needs}
-use Rattle.entries.proofs.kind.Statement.{statement}
-use Rattle.entries.proofs.kind.Tie as tie
-use Rattle.entries.proofs.kind.Reads as reads
-use Rattle.entries.proofs.kind.Lts as lts
+use Rattle.entries.specs.Entries.{kindOf}
+use Rattle.entries.proofs.kind_of.Statement.{statement}
+use Rattle.entries.proofs.kind_of.Tie as tie
+use Rattle.entries.proofs.kind_of.Reads as reads
+use Rattle.entries.proofs.kind_of.Lts as lts
 
 -- src/lib.rt:30:23
 enum-told : tie.Need-enum-told
@@ -34,34 +35,41 @@ enum-told-7 c = search needs
 
 -- src/lib.rt:26:1
 returns : tie.Need-returns
-returns c = ?
+unfolding kindOf
+returns c = search needs
 
 -- src/lib.rt:26:1
 returns-2 : tie.Need-returns-2
-returns-2 c = ?
+unfolding kindOf
+returns-2 c = search needs
 
 -- src/lib.rt:26:1
 returns-3 : tie.Need-returns-3
-returns-3 c = ?
+unfolding kindOf
+returns-3 c = search needs
 
 -- src/lib.rt:26:1
 returns-4 : tie.Need-returns-4
-returns-4 c = ?
+unfolding kindOf
+returns-4 c = search needs
 
 -- src/lib.rt:26:1
 returns-5 : tie.Need-returns-5
-returns-5 c = ?
+unfolding kindOf
+returns-5 c = search needs
 
 -- src/lib.rt:26:1
 returns-6 : tie.Need-returns-6
-returns-6 c = ?
+unfolding kindOf
+returns-6 c = search needs
 
 -- src/lib.rt:26:1
 returns-7 : tie.Need-returns-7
-returns-7 c = ?
+unfolding kindOf
+returns-7 c = search needs
 
-pub kind-spec : {M : Type 1} → statement M
-kind-spec =
+pub kind-of-spec : {M : Type 1} → statement M
+kind-of-spec =
     tie.close
     (tie.spec
     enum-told
