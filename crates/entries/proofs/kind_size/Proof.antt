@@ -4,8 +4,6 @@ use borrow.Author.Tests.{ne-eqb}
 use Rattle.entries.specs.Entries.{kindSize}
 use Rattle.entries.proofs.kind_size.Statement.{statement}
 use Rattle.entries.proofs.kind_size.Tie as tie
-use Rattle.entries.proofs.kind_size.Reads as reads
-use Rattle.entries.proofs.kind_size.Lts as lts
 
 returns : tie.Need-returns
 unfolding kindSize

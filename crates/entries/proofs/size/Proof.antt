@@ -1,22 +1,16 @@
+-- `entries::size` meets its contract: the size of its kind.
 use borrow.Author.Needs.{needs}
 use mathlib.Core.Path.{_≡_, ap, _∙_}
 use Rattle.entries.specs.Entries.{kindSize, sizeOf}
 use Rattle.entries.proofs.size.Statement.{statement}
 use Rattle.entries.proofs.size.Tie as tie
-use Rattle.entries.proofs.size.Reads as reads
-use Rattle.entries.proofs.size.Lts as lts
-use Rattle.entries.proofs.kind_of.Reads as kind-of-reads
-use Rattle.entries.proofs.kind_size.Reads as kind-size-reads
 
--- src/lib.rt:56:15
 kind-of-requires : tie.Need-kind-of-requires
 kind-of-requires c κs = search needs
 
--- src/lib.rt:56:5
 kind-size-requires : tie.Need-kind-size-requires
 kind-size-requires c κs = search needs
 
--- src/lib.rt:53:1
 returns : tie.Need-returns
 unfolding sizeOf
 returns c = c .kind-size .ensures ∙ ap kindSize (c .before .kind-of .ensures)

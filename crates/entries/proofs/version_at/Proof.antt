@@ -1,26 +1,20 @@
+-- `entries::version_at` meets its contract: two numbers, one behind the other.
 use mathlib.Core.Path.{_≡_, refl, sym}
 use borrow.Author.Needs.{needs}
 use lib.Seq.{drop-drop}
 use Rattle.entries.specs.Entries.{versionOf}
 use Rattle.entries.proofs.version_at.Statement.{statement}
 use Rattle.entries.proofs.version_at.Tie as tie
-use Rattle.entries.proofs.version_at.Reads as reads
-use Rattle.entries.proofs.version_at.Lts as lts
-use Rattle.text.proofs.get_u32.Reads as get-u32-reads
 
--- src/lib.rt:67:9
 get-u32-requires : tie.Need-get-u32-requires
 get-u32-requires c κs = search needs
 
--- src/lib.rt:68:34
 add-get-u32 : tie.Need-add-get-u32
 add-get-u32 c = search needs
 
--- src/lib.rt:68:9
 get-u32-requires-2 : tie.Need-get-u32-requires-2
 get-u32-requires-2 c κs = search needs
 
--- src/lib.rt:63:1
 returns : tie.Need-returns
 unfolding versionOf
 returns c =
