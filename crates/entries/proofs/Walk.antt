@@ -13,7 +13,7 @@ use Rattle.text.specs.Little.{ofLittle}
 use Rattle.entries.specs.declared.Entry.{Entry}
 use Rattle.entries.specs.declared.Entry.the-variants.{End, Header, ReferenceSequence, ReadGroup, Program, Comment, Field}
 use Rattle.entries.specs.Entries.{kindOf, kindSize, sizeOf, versionOf, placeOf, bodied, entryOf, entryBytes, bytesOf, Fits, entriesWithin, entriesIn}
-use Rattle.entries.proofs.Written.{entry-length, bytes-length, fit-size, entry-back}
+use Rattle.entries.proofs.Written.{fit-size, end-size, first-entry, other-entries, no-entry}
 
 -- ---- an entry is within its bytes
 
@@ -37,24 +37,74 @@ body-size k s = go (eqb k 1) (eqb k 2) (eqb k 3) (eqb k 4) (eqb k 5) (eqb k 6)
     go false false false false false false = refl
 
 pub size-within : (s : List ℕ) → sizeOf (entryOf s) ≤ length s
-unfolding entryOf
-size-within [] = ?
+unfolding entryOf sizeOf kindOf kindSize
+size-within [] = omega arith
 size-within (k ∷ s) = go (leb (kindSize k) (length (k ∷ s))) refl
   where
     go : (t : Bool) → leb (kindSize k) (length (k ∷ s)) ≡ t → sizeOf (cond t (bodied k s) End) ≤ length (k ∷ s)
     go true q = omega (arith, body-size k s, leb-true (kindSize k) (length (k ∷ s)) q)
-    go false q = ?
+    go false q = omega arith
+
+-- what stands behind the first entry
+abbrev behind : List ℕ → List ℕ
+behind s = drop (sizeOf (entryOf s)) s
+
+behind-less : (s : List ℕ) → (sizeOf (entryOf s) ≡ 0 → ⊥) → length (behind s) < length s
+behind-less s h = omega (arith, h, size-within s, length-drop (sizeOf (entryOf s)) s)
 
 -- ---- the entries of any bytes
 
 module _ (s : List ℕ) where
-  pub entries-none : sizeOf (entryOf s) ≡ 0 → entriesIn s ≡ []
-  entries-none h = ?
+  within-none : (f : ℕ) → sizeOf (entryOf s) ≡ 0 → entriesWithin f s ≡ []
+  unfolding entriesWithin
+  within-none zero h = refl
+  within-none (suc f) h = rw (eq-eqb (sizeOf (entryOf s)) 0 h) refl
 
-  pub entries-more : (sizeOf (entryOf s) ≡ 0 → ⊥) → entriesIn s ≡ entryOf s ∷ entriesIn (drop (sizeOf (entryOf s)) s)
-  entries-more h = ?
+  within-more : (f : ℕ) → (sizeOf (entryOf s) ≡ 0 → ⊥) → entriesWithin (suc f) s ≡ entryOf s ∷ entriesWithin f (behind s)
+  unfolding entriesWithin
+  within-more f h = rw (ne-eqb (sizeOf (entryOf s)) 0 h) refl
+
+-- more fuel than bytes changes nothing
+within-enough : (f g : ℕ) (s : List ℕ) → length s ≤ f → length s ≤ g → entriesWithin f s ≡ entriesWithin g s
+within-enough zero g s h k =
+    let z : sizeOf (entryOf s) ≡ 0 = omega (arith, size-within s) in
+    within-none s 0 z ∙ sym (within-none s g z)
+within-enough (suc f) zero s h k =
+    let z : sizeOf (entryOf s) ≡ 0 = omega (arith, size-within s) in
+    within-none s (suc f) z ∙ sym (within-none s 0 z)
+within-enough (suc f) (suc g) s h k = go (eqb (sizeOf (entryOf s)) 0) refl (within-enough f g (behind s))
+  where
+    go : (t : Bool) → eqb (sizeOf (entryOf s)) 0 ≡ t
+        → (length (behind s) ≤ f → length (behind s) ≤ g → entriesWithin f (behind s) ≡ entriesWithin g (behind s))
+        → entriesWithin (suc f) s ≡ entriesWithin (suc g) s
+    go true q ih =
+        let z : sizeOf (entryOf s) ≡ 0 = eqb-true (sizeOf (entryOf s)) 0 q in
+        within-none s (suc f) z ∙ sym (within-none s (suc g) z)
+    go false q ih =
+        let z : sizeOf (entryOf s) ≡ 0 → ⊥ = eqb-false (sizeOf (entryOf s)) 0 q in
+        let l : length (behind s) < length s = behind-less s z in
+        within-more s f z ∙ ap (λ es. entryOf s ∷ es) (ih (omega arith) (omega arith)) ∙ sym (within-more s g z)
+
+pub entries-none : (s : List ℕ) → sizeOf (entryOf s) ≡ 0 → entriesIn s ≡ []
+unfolding entriesIn
+entries-none s h = within-none s (length s) h
+
+pub entries-more : (s : List ℕ) → (sizeOf (entryOf s) ≡ 0 → ⊥) → entriesIn s ≡ entryOf s ∷ entriesIn (drop (sizeOf (entryOf s)) s)
+unfolding entriesIn
+entries-more [] h = absurd (h (omega (arith, size-within [])))
+entries-more (b ∷ t) h =
+    let s : List ℕ = b ∷ t in
+    let l : length (behind s) < length s = behind-less s h in
+    within-more s (length t) h
+    ∙ ap (λ es. entryOf s ∷ es) (within-enough (length t) (length (behind s)) (behind s) (omega arith) (omega arith))
 
 -- ---- the entries that were written
 
 pub entries-back : (es : List Entry) → Each Fits es → entriesIn (bytesOf es) ≡ es
-entries-back es h = ?
+unfolding Each
+entries-back [] h = entries-none (bytesOf []) (ap sizeOf no-entry ∙ end-size)
+entries-back (e ∷ es) h =
+    let s : List ℕ = bytesOf (e ∷ es) in
+    let r : entryOf s ≡ e = first-entry e es (h .0) in
+    let z : sizeOf (entryOf s) ≡ 0 → ⊥ = λ q. omega (arith, fit-size e (h .0), ap sizeOf r) in
+    entries-more s z ∙ rw (r, other-entries e es, entries-back es (h .1)) refl

@@ -86,15 +86,29 @@ entry-back (Field a b p) rest h = whole 6 (a ∷ b ∷ placeBytes p ++ rest) (om
 
 -- ---- a walk from entry to entry
 
+pub end-size : sizeOf End ≡ 0
+unfolding sizeOf kindOf kindSize
+end-size = refl
+
+pub first-entry : (e : Entry) (es : List Entry) → Fits e → entryOf (bytesOf (e ∷ es)) ≡ e
+unfolding bytesOf
+first-entry e es h = entry-back e (bytesOf es) h
+
+pub other-entries : (e : Entry) (es : List Entry) → drop (sizeOf e) (bytesOf (e ∷ es)) ≡ bytesOf es
+unfolding bytesOf
+other-entries e es = drop-at (entryBytes e) (bytesOf es) (sizeOf e) (entry-length e)
+
+pub no-entry : entryOf (bytesOf []) ≡ End
+unfolding bytesOf entryOf
+no-entry = refl
+
+-- the same at a place of a catalogue
 module _ (c : List ℕ) (at : ℕ) (e : Entry) (es : List Entry) (h : drop at c ≡ bytesOf (e ∷ es)) where
   pub walk-entry : Fits e → entryOf (drop at c) ≡ e
-  unfolding bytesOf
-  walk-entry k = ap entryOf h ∙ entry-back e (bytesOf es) k
+  walk-entry k = ap entryOf h ∙ first-entry e es k
 
   pub walk-next : drop (at + sizeOf e) c ≡ bytesOf es
-  unfolding bytesOf
-  walk-next = sym (drop-drop (sizeOf e) at c) ∙ ap (drop (sizeOf e)) h ∙ drop-at (entryBytes e) (bytesOf es) (sizeOf e) (entry-length e)
+  walk-next = sym (drop-drop (sizeOf e) at c) ∙ ap (drop (sizeOf e)) h ∙ other-entries e es
 
 pub walk-end : (c : List ℕ) (at : ℕ) → drop at c ≡ bytesOf [] → entryOf (drop at c) ≡ End
-unfolding bytesOf entryOf
-walk-end c at h = ap entryOf h
+walk-end c at h = ap entryOf h ∙ no-entry
