@@ -5,7 +5,7 @@ use mathlib.Core.Bool.{Bool, true, false, cond}
 use mathlib.Core.List.{List, [], _∷_, _++_}
 use native.Mathlib.Omega.{arith}
 use lib.ListN.{length, take, drop, getD, length-drop}
-use lib.Seq.{drop-at}
+use lib.Seq.{drop-drop}
 use lib.Dec.{eqb, leb}
 use borrow.Author.Tests.{leb-true, eq-eqb, ne-eqb, eqb-true, eqb-false}
 use Rattle.text.specs.Stands.{Each}
@@ -97,6 +97,22 @@ entries-more (b ∷ t) h =
     let l : length (behind s) < length s = behind-less s h in
     within-more s (length t) h
     ∙ ap (λ es. entryOf s ∷ es) (within-enough (length t) (length (behind s)) (behind s) (omega arith) (omega arith))
+
+-- a turn of a walk that is at `at` and found `e` there, `len` bytes long
+module _ (c : List ℕ) (at len : ℕ) (e : Entry) (found : e ≡ entryOf (drop at c)) (long : len ≡ sizeOf e) where
+  size-found : sizeOf (entryOf (drop at c)) ≡ len
+  size-found = sym (long ∙ ap sizeOf found)
+
+  pub turn-end : len ≡ 0 → entriesIn (drop at c) ≡ []
+  turn-end h = entries-none (drop at c) (size-found ∙ h)
+
+  pub turn-within : (len ≡ 0 → ⊥) → at + len ≤ length c
+  turn-within h = omega (arith, h, size-found, size-within (drop at c), length-drop at c)
+
+  pub turn-on : (len ≡ 0 → ⊥) → entriesIn (drop at c) ≡ e ∷ entriesIn (drop (at + len) c)
+  turn-on h =
+      let n : sizeOf (entryOf (drop at c)) ≡ 0 → ⊥ = λ q. h (sym size-found ∙ q) in
+      entries-more (drop at c) n ∙ rw (size-found, drop-drop len at c, ← found) refl
 
 -- ---- the entries that were written
 

@@ -3,7 +3,7 @@ use format::Version;
 ghost use mathlib.Core.Path.{_≡_};
 ghost use Prim.Native.Nat.{_≤_, _+_};
 ghost use lib.ListN.{length, drop};
-ghost use Rattle.entries.specs.Entries.{kindOf, kindSize, sizeOf, versionOf, placeOf, bodied, entryOf};
+ghost use Rattle.entries.specs.Entries.{kindOf, kindSize, sizeOf, versionOf, placeOf, bodied, entryOf, entriesIn, counted, entriesBefore, sizes};
 
 // Where a piece of the text stands.
 pub struct Place {
@@ -107,4 +107,45 @@ pub fn entry_at(catalogue: &[u8], at: usize) -> Entry
         return Entry::End;
     }
     body_at(catalogue, at, kind)
+}
+
+// How many entries of a kind a catalogue has.
+pub fn count_kind(catalogue: &[u8], kind: u8) -> usize
+    ensures { λ r. ⌜ r ≡ counted kind (entriesIn (now (catalogue .entry))) ⌝ }
+{
+    let mut at: usize = 0;
+    let mut n: usize = 0;
+    loop {
+        let e = entry_at(catalogue, at);
+        let len = size(e);
+        if len == 0 {
+            return n;
+        }
+        if kind_of(e) == kind {
+            n += 1;
+        }
+        at += len;
+    }
+}
+
+// Where the entry of a kind stands that has `ordinal` of that kind before it: behind the last entry where there is none.
+pub fn find_kind(catalogue: &[u8], kind: u8, ordinal: usize) -> usize
+    ensures { λ r. ⌜ r ≡ sizes (entriesBefore kind ordinal (entriesIn (now (catalogue .entry)))) ⌝ }
+{
+    let mut at: usize = 0;
+    let mut left = ordinal;
+    loop {
+        let e = entry_at(catalogue, at);
+        let len = size(e);
+        if len == 0 {
+            return at;
+        }
+        if kind_of(e) == kind {
+            if left == 0 {
+                return at;
+            }
+            left -= 1;
+        }
+        at += len;
+    }
 }
