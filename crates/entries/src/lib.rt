@@ -128,8 +128,8 @@ pub fn count_kind(catalogue: &[u8], kind: u8) -> usize
     }
 }
 
-// Where the entry of a kind stands that has `ordinal` of that kind before it: behind the last entry where there is none.
-pub fn find_kind(catalogue: &[u8], kind: u8, ordinal: usize) -> usize
+// Where the record entry of a kind with an ordinal among its kind stands: behind the last entry where there is none.
+pub fn find_record(catalogue: &[u8], kind: u8, ordinal: usize) -> usize
     ensures { λ r. ⌜ r ≡ sizes (entriesBefore kind ordinal (entriesIn (now (catalogue .entry)))) ⌝ }
 {
     let mut at: usize = 0;

@@ -1,4 +1,4 @@
--- `entries::find_kind` meets its contract: what was passed, and what is still to pass, add up.
+-- `entries::find_record` meets its contract: what was passed, and what is still to pass, add up.
 use Prim.Native.Nat.{ℕ, zero, suc, _+_, _-_, _≤_, _<_}
 use mathlib.Core.Path.{_≡_, refl, sym, ap, _∙_}
 use mathlib.Core.Logic.{⊎-elim}
@@ -10,8 +10,8 @@ use lib.ListN.{length, drop}
 use Rattle.entries.specs.declared.Entry.{Entry}
 use Rattle.entries.specs.Entries.{kindOf, sizeOf, entryOf, entriesIn, entriesBefore, sizes}
 use Rattle.entries.proofs.Walk.{turn-end, turn-within, turn-on}
-use Rattle.entries.proofs.find_kind.Statement.{statement}
-use Rattle.entries.proofs.find_kind.Tie as tie
+use Rattle.entries.proofs.find_record.Statement.{statement}
+use Rattle.entries.proofs.find_record.Tie as tie
 
 -- how far it is from `at` on
 abbrev ahead : List ℕ → ℕ → ℕ → ℕ → ℕ
@@ -103,8 +103,8 @@ loop-again c =
     (λ w. (f, omega (arith, l .inv .1, h (λ q. w .0 .left (is ∙ q)) (l .left), ap far (w .1))))
     (c .if2 .came)
 
-pub find-kind-spec : {M : Type 1} → statement M
-find-kind-spec =
+pub find-record-spec : {M : Type 1} → statement M
+find-record-spec =
     tie.close
     (tie.spec
     Inv-loop
