@@ -1,6 +1,6 @@
 -- A catalogue is the bytes of its records' entries.
-use Prim.Native.Nat.{ℕ, suc, _+_, _≤_, _<_}
-use mathlib.Core.Path.{_≡_, refl, sym, ap, _∙_}
+use Prim.Native.Nat.{ℕ, suc, _<_}
+use mathlib.Core.Path.{_≡_, refl, ap}
 use mathlib.Core.Bool.{Bool, true, false, cond}
 use mathlib.Core.List.{List, [], _∷_, _++_, map, append-assoc}
 use native.Mathlib.Omega.{arith}
@@ -48,7 +48,7 @@ catalogue-entries (r ∷ rs) =
 
 -- ---- how many of a kind
 
-head-kind : (r : Record) → kindOf (headEntry r) ≡ code r
+pub head-kind : (r : Record) → kindOf (headEntry r) ≡ code r
 unfolding kindOf headEntry code
 head-kind (header v fs) = refl
 head-kind (reference p n fs) = refl

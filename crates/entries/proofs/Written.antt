@@ -1,16 +1,14 @@
 -- The laws of an entry and its bytes: how long they are, and what is read at their front.
 use Prim.Native.Nat.{ℕ, _+_, _^_, _≤_, _<_}
 use mathlib.Core.Path.{_≡_, refl, sym, ap, _∙_}
-use mathlib.Core.Bool.{Bool, true, false, cond}
-use mathlib.Core.List.{List, [], _∷_, _++_, append-assoc}
+use mathlib.Core.List.{List, [], _∷_, _++_}
 use native.Mathlib.Omega.{arith}
-use lib.ListN.{length, take, drop, length-append}
-use lib.Seq.{take-at, drop-at, drop-drop}
-use lib.Dec.{eqb, leb}
-use borrow.Author.Tests.{le-leb, leb-true}
+use lib.ListN.{length, drop, length-append}
+use lib.Seq.{drop-at, drop-drop}
+use borrow.Author.Tests.{le-leb}
 use Rattle.format.specs.Catalogue.{little}
 use Rattle.text.specs.Little.{ofLittle}
-use Rattle.text.proofs.Little.{little-length, of-little}
+use Rattle.text.proofs.Little.{of-little}
 use Rattle.format.specs.declared.Version.{Version}
 use Rattle.entries.specs.declared.Place.{Place}
 use Rattle.entries.specs.declared.Entry.{Entry}

@@ -1,8 +1,8 @@
 -- `entries::find_record` meets its contract: what was passed, and what is still to pass, add up.
-use Prim.Native.Nat.{ℕ, zero, suc, _+_, _-_, _≤_, _<_}
+use Prim.Native.Nat.{ℕ, zero, suc, _+_, _-_, _≤_}
 use mathlib.Core.Path.{_≡_, refl, sym, ap, _∙_}
 use mathlib.Core.Logic.{⊎-elim}
-use mathlib.Core.List.{List, [], _∷_}
+use mathlib.Core.List.{List}
 use native.Mathlib.Omega.{arith}
 use borrow.Author.Needs.{needs}
 use borrow.Author.Tests.{eq-eqb, ne-eqb}
@@ -63,7 +63,8 @@ returns c =
     let t = c .before in
     let l = t .before .before .loop in
     let a = t .before .before .before .before .args in
-    omega (arith, l .inv .1, ended (a .catalogue .now) (l .at) (t .size .result) (t .before .entry-at .result) (t .before .entry-at .ensures) (t .size .ensures) (a .kind) (l .left) (c .if1 .taken))
+    let h = ended (a .catalogue .now) (l .at) (t .size .result) (t .before .entry-at .result) (t .before .entry-at .ensures) (t .size .ensures) (a .kind) in
+    omega (arith, l .inv .1, h (l .left) (c .if1 .taken))
 
 kind-of-requires : tie.Need-kind-of-requires Inv-loop μ-loop
 kind-of-requires c κs = search needs
@@ -75,7 +76,8 @@ returns-2 c =
     let a = t .before .before .before .before .args in
     let some = c .before .before .before .if1 .left in
     let is = c .before .before .kind-of .ensures in
-    omega (arith, l .inv .1, here (a .catalogue .now) (l .at) (t .size .result) (t .before .entry-at .result) (t .before .entry-at .ensures) (t .size .ensures) (a .kind) some (sym is ∙ c .before .if2 .taken) (l .left) (c .if3 .taken))
+    let h = here (a .catalogue .now) (l .at) (t .size .result) (t .before .entry-at .result) (t .before .entry-at .ensures) (t .size .ensures) (a .kind) some in
+    omega (arith, l .inv .1, h (sym is ∙ c .before .if2 .taken) (l .left) (c .if3 .taken))
 
 sub-left : tie.Need-sub-left Inv-loop μ-loop
 sub-left c = omega (arith, c .if3 .left)

@@ -1,5 +1,5 @@
 -- `entries::kind_size` meets its contract: one arm for each kind.
-use mathlib.Core.Path.{_≡_, refl, sym, ap, _∙_}
+use mathlib.Core.Path.{sym, ap}
 use borrow.Author.Tests.{ne-eqb}
 use Rattle.entries.specs.Entries.{kindSize}
 use Rattle.entries.proofs.kind_size.Statement.{statement}

@@ -1,5 +1,5 @@
 -- `entries::place_at` meets its contract: two numbers, one behind the other.
-use mathlib.Core.Path.{_≡_, refl, sym}
+use mathlib.Core.Path.{refl, sym}
 use borrow.Author.Needs.{needs}
 use lib.Seq.{drop-drop}
 use Rattle.entries.specs.Entries.{placeOf}

@@ -1,6 +1,6 @@
 -- `entries::size` meets its contract: the size of its kind.
 use borrow.Author.Needs.{needs}
-use mathlib.Core.Path.{_≡_, ap, _∙_}
+use mathlib.Core.Path.{ap, _∙_}
 use Rattle.entries.specs.Entries.{kindSize, sizeOf}
 use Rattle.entries.proofs.size.Statement.{statement}
 use Rattle.entries.proofs.size.Tie as tie

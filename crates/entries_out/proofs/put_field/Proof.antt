@@ -1,5 +1,5 @@
 -- `entries_out::put_field` meets its contract: three bytes, and two numbers behind them.
-use mathlib.Core.Path.{_≡_, _∙_}
+use mathlib.Core.Path.{_∙_}
 use mathlib.Core.List.{_++_}
 use native.Mathlib.Omega.{arith}
 use lib.ListN.{length-set}

@@ -1,5 +1,5 @@
 -- `entries_out::put_kind` meets its contract: a byte, and two numbers behind it.
-use mathlib.Core.Path.{_≡_, _∙_}
+use mathlib.Core.Path.{_∙_}
 use mathlib.Core.List.{_++_}
 use native.Mathlib.Omega.{arith}
 use lib.ListN.{length-set}

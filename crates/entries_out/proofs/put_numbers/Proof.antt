@@ -1,6 +1,6 @@
 -- `entries_out::put_numbers` meets its contract: the second number stands behind the first.
 use Prim.Native.Nat.{_+_}
-use mathlib.Core.Path.{_≡_, ap, _∙_}
+use mathlib.Core.Path.{ap, _∙_}
 use native.Mathlib.Omega.{arith}
 use Rattle.format.specs.Catalogue.{little}
 use Rattle.text.specs.Over.{over}

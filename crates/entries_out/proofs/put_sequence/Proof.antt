@@ -1,6 +1,6 @@
 -- `entries_out::put_sequence` meets its contract: the LN stands behind the place of the name.
 use Prim.Native.Nat.{_+_}
-use mathlib.Core.Path.{_≡_, ap, _∙_}
+use mathlib.Core.Path.{ap, _∙_}
 use mathlib.Core.List.{_∷_, _++_}
 use native.Mathlib.Omega.{arith}
 use Rattle.format.specs.Catalogue.{little}
