@@ -1,0 +1,5 @@
+pub mod Written
+pub mod Records
+pub mod Walk
+pub mod Found
+pub mod Example

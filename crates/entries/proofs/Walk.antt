@@ -1,0 +1,126 @@
+-- The laws of a walk: what stands at the front is the first entry, and the walk goes on behind it.
+use Prim.Native.Nat.{ℕ, zero, suc, _+_, _≤_, _<_}
+use mathlib.Core.Path.{_≡_, refl, sym, ap, _∙_}
+use mathlib.Core.Bool.{Bool, true, false, cond}
+use mathlib.Core.List.{List, [], _∷_}
+use native.Mathlib.Omega.{arith}
+use lib.ListN.{length, take, drop, getD, length-drop}
+use lib.Seq.{drop-drop}
+use lib.Dec.{eqb, leb}
+use borrow.Author.Tests.{leb-true, eq-eqb, ne-eqb, eqb-true, eqb-false}
+use Rattle.text.specs.Stands.{Each}
+use Rattle.text.specs.Little.{ofLittle}
+use Rattle.entries.specs.declared.Entry.{Entry}
+use Rattle.entries.specs.declared.Entry.the-variants.{End, Header, ReferenceSequence, ReadGroup, Program, Comment, Field}
+use Rattle.entries.specs.Entries.{kindOf, kindSize, sizeOf, versionOf, placeOf, bodied, entryOf, bytesOf, Fits, entriesWithin, entriesIn}
+use Rattle.entries.proofs.Written.{fit-size, end-size, first-entry, other-entries, no-entry}
+
+-- ---- an entry is within its bytes
+
+body-size : (k : ℕ) (s : List ℕ) → sizeOf (bodied k s) ≡ kindSize k
+unfolding sizeOf kindOf kindSize bodied
+body-size k s = go (eqb k 1) (eqb k 2) (eqb k 3) (eqb k 4) (eqb k 5) (eqb k 6)
+  where
+    go : (t u v w x y : Bool)
+        → sizeOf (cond t (Header (versionOf s))
+        (cond u (ReferenceSequence (placeOf s) (ofLittle (take 8 (drop 8 s))))
+        (cond v (ReadGroup (placeOf s))
+        (cond w (Program (placeOf s))
+        (cond x (Comment (placeOf s)) (cond y (Field (getD s 0 0) (getD s 1 0) (placeOf (drop 2 s))) End))))))
+        ≡ cond t 9 (cond u 17 (cond v 9 (cond w 9 (cond x 9 (cond y 11 0)))))
+    go true u v w x y = refl
+    go false true v w x y = refl
+    go false false true w x y = refl
+    go false false false true x y = refl
+    go false false false false true y = refl
+    go false false false false false true = refl
+    go false false false false false false = refl
+
+pub size-within : (s : List ℕ) → sizeOf (entryOf s) ≤ length s
+unfolding entryOf sizeOf kindOf kindSize
+size-within [] = omega arith
+size-within (k ∷ s) = go (leb (kindSize k) (length (k ∷ s))) refl
+  where
+    go : (t : Bool) → leb (kindSize k) (length (k ∷ s)) ≡ t → sizeOf (cond t (bodied k s) End) ≤ length (k ∷ s)
+    go true q = omega (arith, body-size k s, leb-true (kindSize k) (length (k ∷ s)) q)
+    go false q = omega arith
+
+-- what stands behind the first entry
+abbrev behind : List ℕ → List ℕ
+behind s = drop (sizeOf (entryOf s)) s
+
+behind-less : (s : List ℕ) → (sizeOf (entryOf s) ≡ 0 → ⊥) → length (behind s) < length s
+behind-less s h = omega (arith, h, size-within s, length-drop (sizeOf (entryOf s)) s)
+
+-- ---- the entries of any bytes
+
+module _ (s : List ℕ) where
+  within-none : (f : ℕ) → sizeOf (entryOf s) ≡ 0 → entriesWithin f s ≡ []
+  unfolding entriesWithin
+  within-none zero h = refl
+  within-none (suc f) h = rw (eq-eqb (sizeOf (entryOf s)) 0 h) refl
+
+  within-more : (f : ℕ) → (sizeOf (entryOf s) ≡ 0 → ⊥) → entriesWithin (suc f) s ≡ entryOf s ∷ entriesWithin f (behind s)
+  unfolding entriesWithin
+  within-more f h = rw (ne-eqb (sizeOf (entryOf s)) 0 h) refl
+
+-- more fuel than bytes changes nothing
+within-enough : (f g : ℕ) (s : List ℕ) → length s ≤ f → length s ≤ g → entriesWithin f s ≡ entriesWithin g s
+within-enough zero g s h k =
+    let z : sizeOf (entryOf s) ≡ 0 = omega (arith, size-within s) in
+    within-none s 0 z ∙ sym (within-none s g z)
+within-enough (suc f) zero s h k =
+    let z : sizeOf (entryOf s) ≡ 0 = omega (arith, size-within s) in
+    within-none s (suc f) z ∙ sym (within-none s 0 z)
+within-enough (suc f) (suc g) s h k = go (eqb (sizeOf (entryOf s)) 0) refl (within-enough f g (behind s))
+  where
+    go : (t : Bool) → eqb (sizeOf (entryOf s)) 0 ≡ t
+        → (length (behind s) ≤ f → length (behind s) ≤ g → entriesWithin f (behind s) ≡ entriesWithin g (behind s))
+        → entriesWithin (suc f) s ≡ entriesWithin (suc g) s
+    go true q ih =
+        let z : sizeOf (entryOf s) ≡ 0 = eqb-true (sizeOf (entryOf s)) 0 q in
+        within-none s (suc f) z ∙ sym (within-none s (suc g) z)
+    go false q ih =
+        let z : sizeOf (entryOf s) ≡ 0 → ⊥ = eqb-false (sizeOf (entryOf s)) 0 q in
+        let l : length (behind s) < length s = behind-less s z in
+        within-more s f z ∙ ap (λ es. entryOf s ∷ es) (ih (omega arith) (omega arith)) ∙ sym (within-more s g z)
+
+pub entries-none : (s : List ℕ) → sizeOf (entryOf s) ≡ 0 → entriesIn s ≡ []
+unfolding entriesIn
+entries-none s h = within-none s (length s) h
+
+pub entries-more : (s : List ℕ) → (sizeOf (entryOf s) ≡ 0 → ⊥) → entriesIn s ≡ entryOf s ∷ entriesIn (drop (sizeOf (entryOf s)) s)
+unfolding entriesIn
+entries-more [] h = absurd (h (omega (arith, size-within [])))
+entries-more (b ∷ t) h =
+    let s : List ℕ = b ∷ t in
+    let l : length (behind s) < length s = behind-less s h in
+    within-more s (length t) h
+    ∙ ap (λ es. entryOf s ∷ es) (within-enough (length t) (length (behind s)) (behind s) (omega arith) (omega arith))
+
+-- a turn of a walk that is at `at` and found `e` there, `len` bytes long
+module _ (c : List ℕ) (at len : ℕ) (e : Entry) (found : e ≡ entryOf (drop at c)) (long : len ≡ sizeOf e) where
+  size-found : sizeOf (entryOf (drop at c)) ≡ len
+  size-found = sym (long ∙ ap sizeOf found)
+
+  pub turn-end : len ≡ 0 → entriesIn (drop at c) ≡ []
+  turn-end h = entries-none (drop at c) (size-found ∙ h)
+
+  pub turn-within : (len ≡ 0 → ⊥) → at + len ≤ length c
+  turn-within h = omega (arith, h, size-found, size-within (drop at c), length-drop at c)
+
+  pub turn-on : (len ≡ 0 → ⊥) → entriesIn (drop at c) ≡ e ∷ entriesIn (drop (at + len) c)
+  turn-on h =
+      let n : sizeOf (entryOf (drop at c)) ≡ 0 → ⊥ = λ q. h (sym size-found ∙ q) in
+      entries-more (drop at c) n ∙ rw (size-found, drop-drop len at c, ← found) refl
+
+-- ---- the entries that were written
+
+pub entries-back : (es : List Entry) → Each Fits es → entriesIn (bytesOf es) ≡ es
+unfolding Each
+entries-back [] h = entries-none (bytesOf []) (ap sizeOf no-entry ∙ end-size)
+entries-back (e ∷ es) h =
+    let s : List ℕ = bytesOf (e ∷ es) in
+    let r : entryOf s ≡ e = first-entry e es (h .0) in
+    let z : sizeOf (entryOf s) ≡ 0 → ⊥ = λ q. omega (arith, fit-size e (h .0), ap sizeOf r) in
+    entries-more s z ∙ rw (r, other-entries e es, entries-back es (h .1)) refl

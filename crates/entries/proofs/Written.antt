@@ -1,0 +1,112 @@
+-- The laws of an entry and its bytes: how long they are, and what is read at their front.
+use Prim.Native.Nat.{ℕ, _+_, _^_, _≤_, _<_}
+use mathlib.Core.Path.{_≡_, refl, sym, ap, _∙_}
+use mathlib.Core.List.{List, [], _∷_, _++_}
+use native.Mathlib.Omega.{arith}
+use lib.ListN.{length, drop, length-append}
+use lib.Seq.{drop-at, drop-drop}
+use borrow.Author.Tests.{le-leb}
+use Rattle.format.specs.Catalogue.{little}
+use Rattle.text.specs.Little.{ofLittle}
+use Rattle.text.proofs.Little.{of-little}
+use Rattle.format.specs.declared.Version.{Version}
+use Rattle.entries.specs.declared.Place.{Place}
+use Rattle.entries.specs.declared.Entry.{Entry}
+use Rattle.entries.specs.declared.Entry.the-variants.{End, Header, ReferenceSequence, ReadGroup, Program, Comment, Field}
+use Rattle.entries.specs.Entries.{kindOf, kindSize, sizeOf, versionOf, placeOf, bodied, entryOf, placeBytes, entryBytes, bytesOf, FitsPlace, Fits, sizes}
+
+-- ---- how long
+
+pub entry-length : (e : Entry) → length (entryBytes e) ≡ sizeOf e
+unfolding entryBytes sizeOf kindOf kindSize little placeBytes
+entry-length End = refl
+entry-length (Header v) = refl
+entry-length (ReferenceSequence p n) = refl
+entry-length (ReadGroup p) = refl
+entry-length (Program p) = refl
+entry-length (Comment p) = refl
+entry-length (Field a b p) = refl
+
+pub bytes-length : (e : Entry) (es : List Entry) → length (bytesOf (e ∷ es)) ≡ sizeOf e + length (bytesOf es)
+unfolding bytesOf
+bytes-length e es = omega (arith, length-append (entryBytes e) (bytesOf es), entry-length e)
+
+pub bytes-sizes : (es : List Entry) → length (bytesOf es) ≡ sizes es
+unfolding bytesOf sizes
+bytes-sizes [] = refl
+bytes-sizes (e ∷ es) = omega (arith, bytes-length e es, bytes-sizes es)
+
+-- no entry is empty
+pub fit-size : (e : Entry) → Fits e → 0 < sizeOf e
+unfolding Fits sizeOf kindOf kindSize
+fit-size End h = absurd h
+fit-size (Header v) h = omega arith
+fit-size (ReferenceSequence p n) h = omega arith
+fit-size (ReadGroup p) h = omega arith
+fit-size (Program p) h = omega arith
+fit-size (Comment p) h = omega arith
+fit-size (Field a b p) h = omega arith
+
+-- ---- what is read at the front
+
+version-back : (v : Version) (rest : List ℕ) → v .major < 2 ^ 32 → v .minor < 2 ^ 32 → versionOf (little 4 (v .major) ++ little 4 (v .minor) ++ rest) ≡ v
+unfolding versionOf little
+version-back v rest h k = go _ _ (of-little 4 (v .major) h) (of-little 4 (v .minor) k)
+  where
+    go : (a b : ℕ) → a ≡ v .major → b ≡ v .minor → _≡_ {A = Version} (record { major = a; minor = b }) v
+    go a b p q = rw (p, q) refl
+
+place-back : (p : Place) (rest : List ℕ) → FitsPlace p → placeOf (placeBytes p ++ rest) ≡ p
+unfolding placeOf placeBytes
+place-back p rest h = go _ _ (of-little 4 (p .at) (h .0)) (of-little 4 (p .len) (h .1))
+  where
+    go : (a b : ℕ) → a ≡ p .at → b ≡ p .len → _≡_ {A = Place} (record { at = a; len = b }) p
+    go a b p q = rw (p, q) refl
+
+-- a body that is there
+whole : (k : ℕ) (s : List ℕ) → kindSize k ≤ length (k ∷ s) → entryOf (k ∷ s) ≡ bodied k s
+unfolding entryOf
+whole k s h = rw (le-leb (kindSize k) (length (k ∷ s)) h) refl
+
+-- an entry that fits is read back
+pub entry-back : (e : Entry) (rest : List ℕ) → Fits e → entryOf (entryBytes e ++ rest) ≡ e
+unfolding Fits entryBytes bodied kindSize
+entry-back End rest h = absurd h
+entry-back (Header v) rest h = whole 1 (little 4 (v .major) ++ little 4 (v .minor) ++ rest) (omega arith) ∙ ap Header (version-back v rest (h .0) (h .1))
+entry-back (ReferenceSequence p n) rest h =
+    whole 2 (placeBytes p ++ little 8 n ++ rest) (omega arith)
+    ∙ ap (λ q. ReferenceSequence q (ofLittle (little 8 n))) (place-back p (little 8 n ++ rest) (h .0))
+    ∙ ap (ReferenceSequence p) (of-little 8 n (h .1))
+entry-back (ReadGroup p) rest h = whole 3 (placeBytes p ++ rest) (omega arith) ∙ ap ReadGroup (place-back p rest h)
+entry-back (Program p) rest h = whole 4 (placeBytes p ++ rest) (omega arith) ∙ ap Program (place-back p rest h)
+entry-back (Comment p) rest h = whole 5 (placeBytes p ++ rest) (omega arith) ∙ ap Comment (place-back p rest h)
+entry-back (Field a b p) rest h = whole 6 (a ∷ b ∷ placeBytes p ++ rest) (omega arith) ∙ ap (Field a b) (place-back p rest (h .2))
+
+-- ---- a walk from entry to entry
+
+pub end-size : sizeOf End ≡ 0
+unfolding sizeOf kindOf kindSize
+end-size = refl
+
+pub first-entry : (e : Entry) (es : List Entry) → Fits e → entryOf (bytesOf (e ∷ es)) ≡ e
+unfolding bytesOf
+first-entry e es h = entry-back e (bytesOf es) h
+
+pub other-entries : (e : Entry) (es : List Entry) → drop (sizeOf e) (bytesOf (e ∷ es)) ≡ bytesOf es
+unfolding bytesOf
+other-entries e es = drop-at (entryBytes e) (bytesOf es) (sizeOf e) (entry-length e)
+
+pub no-entry : entryOf (bytesOf []) ≡ End
+unfolding bytesOf entryOf
+no-entry = refl
+
+-- the same at a place of a catalogue
+module _ (c : List ℕ) (at : ℕ) (e : Entry) (es : List Entry) (h : drop at c ≡ bytesOf (e ∷ es)) where
+  pub walk-entry : Fits e → entryOf (drop at c) ≡ e
+  walk-entry k = ap entryOf h ∙ first-entry e es k
+
+  pub walk-next : drop (at + sizeOf e) c ≡ bytesOf es
+  walk-next = sym (drop-drop (sizeOf e) at c) ∙ ap (drop (sizeOf e)) h ∙ other-entries e es
+
+pub walk-end : (c : List ℕ) (at : ℕ) → drop at c ≡ bytesOf [] → entryOf (drop at c) ≡ End
+walk-end c at h = ap entryOf h ∙ no-entry

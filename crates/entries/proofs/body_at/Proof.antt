@@ -1,0 +1,169 @@
+-- `entries::body_at` meets its contract: one arm for each kind, whose size says that its body is there.
+use Prim.Native.Nat.{ℕ, _+_}
+use mathlib.Core.Path.{_≡_, refl, sym, ap, _∙_}
+use native.Mathlib.Omega.{arith}
+use borrow.Author.Needs.{needs}
+use borrow.Author.Tests.{ne-eqb}
+use mathlib.Core.List.{List}
+use lib.ListN.{take, drop, getD}
+use lib.Seq.{drop-drop, getD-drop}
+use Rattle.entries.specs.declared.Entry.the-variants.{Header, ReferenceSequence, ReadGroup, Program, Comment, Field}
+use Rattle.entries.specs.Entries.{kindSize, placeOf, bodied}
+use Rattle.text.specs.Little.{ofLittle}
+use Rattle.entries.proofs.body_at.Statement.{statement}
+use Rattle.entries.proofs.body_at.Tie as tie
+
+module _ (at : ℕ) (s : List ℕ) where
+  sequence : bodied 2 (drop (at + 1) s) ≡ ReferenceSequence (placeOf (drop (at + 1) s)) (ofLittle (take 8 (drop (at + 9) s)))
+  unfolding bodied
+  sequence =
+      let e : at + 1 + 8 ≡ at + 9 = omega arith in
+      rw (drop-drop 8 (at + 1) s, e) refl
+
+  field : bodied 6 (drop (at + 1) s) ≡ Field (getD s (at + 1) 0) (getD s (at + 2) 0) (placeOf (drop (at + 3) s))
+  unfolding bodied
+  field =
+      let e : at + 1 + 0 ≡ at + 1 = omega arith in
+      let f : at + 1 + 1 ≡ at + 2 = omega arith in
+      let g : at + 1 + 2 ≡ at + 3 = omega arith in
+      rw (getD-drop (at + 1) s 0 0, getD-drop (at + 1) s 1 0, drop-drop 2 (at + 1) s, e, f, g) refl
+
+add-version-at : tie.Need-add-version-at
+add-version-at c = search needs
+
+version-at-requires : tie.Need-version-at-requires
+unfolding kindSize
+version-at-requires c κs = omega (arith, ap kindSize (c .match .keys1))
+
+add-place-at : tie.Need-add-place-at
+add-place-at c = search needs
+
+place-at-requires : tie.Need-place-at-requires
+unfolding kindSize
+place-at-requires c κs = omega (arith, ap kindSize (c .match .keys2))
+
+add-get-u64 : tie.Need-add-get-u64
+add-get-u64 c = search needs
+
+get-u64-requires : tie.Need-get-u64-requires
+unfolding kindSize
+get-u64-requires c κs = omega (arith, ap kindSize (c .before .match .keys2))
+
+add-place-at-2 : tie.Need-add-place-at-2
+add-place-at-2 c = search needs
+
+place-at-requires-2 : tie.Need-place-at-requires-2
+unfolding kindSize
+place-at-requires-2 c κs = omega (arith, ap kindSize (c .match .keys3))
+
+add-place-at-3 : tie.Need-add-place-at-3
+add-place-at-3 c = search needs
+
+place-at-requires-3 : tie.Need-place-at-requires-3
+unfolding kindSize
+place-at-requires-3 c κs = omega (arith, ap kindSize (c .match .keys4))
+
+add-place-at-4 : tie.Need-add-place-at-4
+add-place-at-4 c = search needs
+
+place-at-requires-4 : tie.Need-place-at-requires-4
+unfolding kindSize
+place-at-requires-4 c κs = omega (arith, ap kindSize (c .match .keys5))
+
+add-t17 : tie.Need-add-t17
+add-t17 c = search needs
+
+shared-slice-read-t19 : tie.Need-shared-slice-read-t19
+unfolding kindSize
+shared-slice-read-t19 c = omega (arith, ap kindSize (c .before .match .keys6))
+
+add-t20 : tie.Need-add-t20
+add-t20 c = search needs
+
+shared-slice-read-t22 : tie.Need-shared-slice-read-t22
+unfolding kindSize
+shared-slice-read-t22 c = omega (arith, ap kindSize (c .before .before .match .keys6))
+
+add-place-at-5 : tie.Need-add-place-at-5
+add-place-at-5 c = search needs
+
+place-at-requires-5 : tie.Need-place-at-requires-5
+unfolding kindSize
+place-at-requires-5 c κs = omega (arith, ap kindSize (c .before .before .match .keys6))
+
+returns : tie.Need-returns
+unfolding bodied
+returns c =
+    let a = c .before .before .before .args in
+    ap Header (c .version-at .ensures) ∙ sym (ap (λ k. bodied k (drop (a .at + 1) (a .s .now))) (c .before .match .keys1))
+
+returns-2 : tie.Need-returns-2
+returns-2 c =
+    let a = c .before .before .before .before .args in
+    cc (sequence (a .at) (a .s .now), c .before .place-at .ensures, c .get-u64 .ensures, c .before .before .match .keys2)
+
+returns-3 : tie.Need-returns-3
+unfolding bodied
+returns-3 c =
+    let a = c .before .before .before .args in
+    ap ReadGroup (c .place-at2 .ensures) ∙ sym (ap (λ k. bodied k (drop (a .at + 1) (a .s .now))) (c .before .match .keys3))
+
+returns-4 : tie.Need-returns-4
+unfolding bodied
+returns-4 c =
+    let a = c .before .before .before .args in
+    ap Program (c .place-at3 .ensures) ∙ sym (ap (λ k. bodied k (drop (a .at + 1) (a .s .now))) (c .before .match .keys4))
+
+returns-5 : tie.Need-returns-5
+unfolding bodied
+returns-5 c =
+    let a = c .before .before .before .args in
+    ap Comment (c .place-at4 .ensures) ∙ sym (ap (λ k. bodied k (drop (a .at + 1) (a .s .now))) (c .before .match .keys5))
+
+returns-6 : tie.Need-returns-6
+returns-6 c =
+    let a = c .before .before .before .before .before .args in
+    cc (field (a .at) (a .s .now), c .place-at5 .ensures, c .before .before .before .match .keys6)
+
+returns-7 : tie.Need-returns-7
+unfolding bodied
+returns-7 c =
+    let r = c .match .rest in
+    simp (
+      ne-eqb _ _ (r .0 .0 .0 .0 .0 .1),
+      ne-eqb _ _ (r .0 .0 .0 .0 .1),
+      ne-eqb _ _ (r .0 .0 .0 .1),
+      ne-eqb _ _ (r .0 .0 .1),
+      ne-eqb _ _ (r .0 .1),
+      ne-eqb _ _ (r .1),
+    )
+
+pub body-at-spec : {M : Type 1} → statement M
+body-at-spec =
+    tie.close
+    (tie.spec
+    add-version-at
+    version-at-requires
+    add-place-at
+    place-at-requires
+    add-get-u64
+    get-u64-requires
+    add-place-at-2
+    place-at-requires-2
+    add-place-at-3
+    place-at-requires-3
+    add-place-at-4
+    place-at-requires-4
+    add-t17
+    shared-slice-read-t19
+    add-t20
+    shared-slice-read-t22
+    add-place-at-5
+    place-at-requires-5
+    returns
+    returns-2
+    returns-3
+    returns-4
+    returns-5
+    returns-6
+    returns-7)

@@ -1,0 +1,167 @@
+-- The entries of a catalogue: what stands at its front, the bytes that an entry is, and the entries that records have.
+use Prim.Native.Nat.{ℕ, zero, suc, _+_, _^_, _<_}
+use mathlib.Core.Bool.{cond}
+use mathlib.Core.List.{List, [], _∷_, _++_, map}
+use lib.ListN.{length, take, drop, getD}
+use lib.Dec.{eqb, leb}
+use Rattle.format.specs.Lines.{Piece}
+use Rattle.format.specs.Fields as fields
+use Rattle.format.specs.Records.{Record, header, reference, group, program, comment, others}
+use Rattle.format.specs.Catalogue.{little}
+use Rattle.text.specs.Little.{ofLittle}
+use Rattle.format.specs.declared.Version.{Version}
+use Rattle.entries.specs.declared.Place.{Place}
+use Rattle.entries.specs.declared.Entry.{Entry}
+use Rattle.entries.specs.declared.Entry.the-variants.{End, Header, ReferenceSequence, ReadGroup, Program, Comment, Field}
+
+-- ---- kinds and sizes
+
+-- the byte of kind; 0 for what is no entry
+unfoldable pub kindOf : Entry → ℕ
+kindOf End = 0
+kindOf (Header v) = 1
+kindOf (ReferenceSequence p n) = 2
+kindOf (ReadGroup p) = 3
+kindOf (Program p) = 4
+kindOf (Comment p) = 5
+kindOf (Field a b p) = 6
+
+-- how long an entry of a kind is, its byte of kind and its body; 0 where there is no such kind
+unfoldable pub kindSize : ℕ → ℕ
+kindSize k =
+    cond (eqb k 1) 9
+    (cond (eqb k 2) 17
+    (cond (eqb k 3) 9
+    (cond (eqb k 4) 9
+    (cond (eqb k 5) 9
+    (cond (eqb k 6) 11 0)))))
+
+unfoldable pub sizeOf : Entry → ℕ
+unfolding kindOf kindSize
+sizeOf e = kindSize (kindOf e)
+
+-- ---- from bytes
+
+-- major and minor, in four bytes each
+unfoldable pub versionOf : List ℕ → Version
+unfolding ofLittle
+versionOf s = record { major = ofLittle (take 4 s); minor = ofLittle (take 4 (drop 4 s)) }
+
+-- offset and length, in four bytes each
+unfoldable pub placeOf : List ℕ → Place
+unfolding ofLittle
+placeOf s = record { at = ofLittle (take 4 s); len = ofLittle (take 4 (drop 4 s)) }
+
+-- the entry of kind `k` with the body at the front of `s`
+unfoldable pub bodied : ℕ → List ℕ → Entry
+unfolding versionOf placeOf ofLittle
+bodied k s =
+    cond (eqb k 1) (Header (versionOf s))
+    (cond (eqb k 2) (ReferenceSequence (placeOf s) (ofLittle (take 8 (drop 8 s))))
+    (cond (eqb k 3) (ReadGroup (placeOf s))
+    (cond (eqb k 4) (Program (placeOf s))
+    (cond (eqb k 5) (Comment (placeOf s))
+    (cond (eqb k 6) (Field (getD s 0 0) (getD s 1 0) (placeOf (drop 2 s))) End)))))
+
+-- what stands at the front of `s`: no entry where nothing is left, where the kind is unknown, or where the body is short
+unfoldable pub entryOf : List ℕ → Entry
+unfolding kindSize bodied
+entryOf [] = End
+entryOf (k ∷ s) = cond (leb (kindSize k) (length (k ∷ s))) (bodied k s) End
+
+-- ---- to bytes
+
+unfoldable pub placeBytes : Place → List ℕ
+unfolding little
+placeBytes p = little 4 (p .at) ++ little 4 (p .len)
+
+unfoldable pub entryBytes : Entry → List ℕ
+unfolding little placeBytes
+entryBytes End = []
+entryBytes (Header v) = 1 ∷ little 4 (v .major) ++ little 4 (v .minor)
+entryBytes (ReferenceSequence p n) = 2 ∷ placeBytes p ++ little 8 n
+entryBytes (ReadGroup p) = 3 ∷ placeBytes p
+entryBytes (Program p) = 4 ∷ placeBytes p
+entryBytes (Comment p) = 5 ∷ placeBytes p
+entryBytes (Field a b p) = 6 ∷ a ∷ b ∷ placeBytes p
+
+-- one after another
+unfoldable pub bytesOf : List Entry → List ℕ
+unfolding entryBytes
+bytesOf [] = []
+bytesOf (e ∷ es) = entryBytes e ++ bytesOf es
+
+-- ---- what the bytes can hold
+
+abbrev pub FitsPlace : Place → Type 0
+FitsPlace p = (p .at < 2 ^ 32) × (p .len < 2 ^ 32)
+
+-- each number is below what its bytes hold
+unfoldable pub Fits : Entry → Type 0
+Fits End = ⊥
+Fits (Header v) = (v .major < 2 ^ 32) × (v .minor < 2 ^ 32)
+Fits (ReferenceSequence p n) = FitsPlace p × (n < 2 ^ 64)
+Fits (ReadGroup p) = FitsPlace p
+Fits (Program p) = FitsPlace p
+Fits (Comment p) = FitsPlace p
+Fits (Field a b p) = (a < 256) × (b < 256) × FitsPlace p
+
+-- ---- from records
+
+-- where a piece stands
+unfoldable pub pieceAt : Piece → Place
+pieceAt p = record { at = p .at; len = length (p .bytes) }
+
+-- a record's own entry
+unfoldable pub headEntry : Record → Entry
+unfolding pieceAt
+headEntry (header v fs) = Header v
+headEntry (reference p n fs) = ReferenceSequence (pieceAt p) n
+headEntry (group p fs) = ReadGroup (pieceAt p)
+headEntry (program p fs) = Program (pieceAt p)
+headEntry (comment p) = Comment (pieceAt p)
+
+-- the entry of a field besides the keys
+unfoldable pub fieldEntry : fields.Field → Entry
+unfolding pieceAt
+fieldEntry f = Field (f .tag₀) (f .tag₁) (pieceAt (f .value))
+
+-- a field entry belongs to the record before it
+unfoldable pub entriesOf : List Record → List Entry
+unfolding headEntry fieldEntry others
+entriesOf [] = []
+entriesOf (r ∷ rs) = headEntry r ∷ map fieldEntry (others r) ++ entriesOf rs
+
+-- ---- a walk
+
+-- the entries from the front of `s` on, `f` at most, up to what is no entry
+unfoldable pub entriesWithin : ℕ → List ℕ → List Entry
+unfolding entryOf sizeOf
+entriesWithin zero s = []
+entriesWithin (suc f) s =
+    let e : Entry = entryOf s in
+    cond (eqb (sizeOf e) 0) [] (e ∷ entriesWithin f (drop (sizeOf e) s))
+
+-- the entries of a catalogue: no more than it has bytes
+unfoldable pub entriesIn : List ℕ → List Entry
+unfolding entriesWithin
+entriesIn c = entriesWithin (length c) c
+
+-- how many are of kind `k`
+unfoldable pub counted : ℕ → List Entry → ℕ
+unfolding kindOf
+counted k [] = 0
+counted k (e ∷ es) = cond (eqb (kindOf e) k) (suc (counted k es)) (counted k es)
+
+-- those before the one of kind `k` with `i` of that kind before it; all where there is none
+unfoldable pub entriesBefore : ℕ → ℕ → List Entry → List Entry
+unfolding kindOf
+entriesBefore k i [] = []
+entriesBefore k zero (e ∷ es) = cond (eqb (kindOf e) k) [] (e ∷ entriesBefore k zero es)
+entriesBefore k (suc i) (e ∷ es) = e ∷ cond (eqb (kindOf e) k) (entriesBefore k i es) (entriesBefore k (suc i) es)
+
+-- the bytes that entries take
+unfoldable pub sizes : List Entry → ℕ
+unfolding sizeOf
+sizes [] = 0
+sizes (e ∷ es) = sizeOf e + sizes es

@@ -1,0 +1,151 @@
+// The entries of a catalogue, one at a time.
+use format::Version;
+ghost use mathlib.Core.Path.{_≡_};
+ghost use Prim.Native.Nat.{_≤_, _+_};
+ghost use lib.ListN.{length, drop};
+ghost use Rattle.entries.specs.Entries.{kindOf, kindSize, sizeOf, versionOf, placeOf, bodied, entryOf, entriesIn, counted, entriesBefore, sizes};
+
+// Where a piece of the text stands.
+pub struct Place {
+    pub at: u32,
+    pub len: u32,
+}
+
+// What stands at a place of a catalogue. `End` is also what is no entry.
+pub enum Entry {
+    End,
+    Header(Version),
+    ReferenceSequence(Place, u64),
+    ReadGroup(Place),
+    Program(Place),
+    Comment(Place),
+    Field(u8, u8, Place),
+}
+
+// The byte of kind of an entry: 0 for what is none.
+pub fn kind_of(e: Entry) -> u8
+    ensures { λ r. ⌜ r ≡ kindOf e ⌝ }
+{
+    match e {
+        Entry::End => 0,
+        Entry::Header(_) => 1,
+        Entry::ReferenceSequence(_, _) => 2,
+        Entry::ReadGroup(_) => 3,
+        Entry::Program(_) => 4,
+        Entry::Comment(_) => 5,
+        Entry::Field(_, _, _) => 6,
+    }
+}
+
+// How long an entry of a kind is, with its byte of kind: 0 where there is no such kind.
+fn kind_size(kind: u8) -> usize
+    ensures { λ r. ⌜ r ≡ kindSize kind ⌝ }
+{
+    match kind {
+        1 => 9,
+        2 => 17,
+        3 => 9,
+        4 => 9,
+        5 => 9,
+        6 => 11,
+        _ => 0,
+    }
+}
+
+// How long an entry is.
+pub fn size(e: Entry) -> usize
+    ensures { λ r. ⌜ r ≡ sizeOf e ⌝ }
+{
+    kind_size(kind_of(e))
+}
+
+// The version in the eight bytes at `at`: major, then minor.
+fn version_at(s: &[u8], at: usize) -> Version
+    requires { ⌜ at + 8 ≤ length (now s) ⌝ }
+    ensures { λ r. ⌜ r ≡ versionOf (drop at (now (s .entry))) ⌝ }
+{
+    let major = text::get_u32(s, at);
+    let minor = text::get_u32(s, at + 4);
+    Version { major, minor }
+}
+
+// The place in the eight bytes at `at`: offset, then length.
+fn place_at(s: &[u8], at: usize) -> Place
+    requires { ⌜ at + 8 ≤ length (now s) ⌝ }
+    ensures { λ r. ⌜ r ≡ placeOf (drop at (now (s .entry))) ⌝ }
+{
+    let offset = text::get_u32(s, at);
+    let len = text::get_u32(s, at + 4);
+    Place { at: offset, len }
+}
+
+// The entry of a kind at `at`: its body is behind the byte of kind.
+fn body_at(s: &[u8], at: usize, kind: u8) -> Entry
+    requires { ⌜ at + kindSize kind ≤ length (now s) ⌝ }
+    ensures { λ r. ⌜ r ≡ bodied kind (drop (at + 1) (now (s .entry))) ⌝ }
+{
+    match kind {
+        1 => Entry::Header(version_at(s, at + 1)),
+        2 => Entry::ReferenceSequence(place_at(s, at + 1), text::get_u64(s, at + 9)),
+        3 => Entry::ReadGroup(place_at(s, at + 1)),
+        4 => Entry::Program(place_at(s, at + 1)),
+        5 => Entry::Comment(place_at(s, at + 1)),
+        6 => Entry::Field(s[at + 1], s[at + 2], place_at(s, at + 3)),
+        _ => Entry::End,
+    }
+}
+
+// What stands at `at`: `End` where nothing is left, the kind is unknown or the body is short.
+pub fn entry_at(catalogue: &[u8], at: usize) -> Entry
+    ensures { λ r. ⌜ r ≡ entryOf (drop at (now (catalogue .entry))) ⌝ }
+{
+    if catalogue.len() <= at {
+        return Entry::End;
+    }
+    let kind = catalogue[at];
+    if catalogue.len() - at < kind_size(kind) {
+        return Entry::End;
+    }
+    body_at(catalogue, at, kind)
+}
+
+// How many entries of a kind a catalogue has.
+pub fn count_kind(catalogue: &[u8], kind: u8) -> usize
+    ensures { λ r. ⌜ r ≡ counted kind (entriesIn (now (catalogue .entry))) ⌝ }
+{
+    let mut at: usize = 0;
+    let mut n: usize = 0;
+    loop {
+        let e = entry_at(catalogue, at);
+        let len = size(e);
+        if len == 0 {
+            return n;
+        }
+        if kind_of(e) == kind {
+            n += 1;
+        }
+        at += len;
+    }
+}
+
+// Where the record entry of a kind with an ordinal among its kind stands: behind the last entry where there is none.
+pub fn find_record(catalogue: &[u8], kind: u8, ordinal: usize) -> usize
+    ensures { λ r. ⌜ r ≡ sizes (entriesBefore kind ordinal (entriesIn (now (catalogue .entry)))) ⌝ }
+{
+    let mut at: usize = 0;
+    let mut left = ordinal;
+    loop {
+        let e = entry_at(catalogue, at);
+        let len = size(e);
+        if len == 0 {
+            return at;
+        }
+        if kind_of(e) == kind {
+            if left == 0 {
+                return at;
+            }
+            left -= 1;
+        }
+        at += len;
+    }
+}

@@ -1,0 +1,91 @@
+// Entries of a catalogue, written into a lent slice.
+use entries::Entry;
+use entries::Place;
+ghost use mathlib.Core.Path.{_≡_};
+ghost use mathlib.Core.List.{[], _∷_, _++_};
+ghost use Prim.Native.Nat.{_≤_, _+_};
+ghost use lib.ListN.{length};
+ghost use Rattle.format.specs.Catalogue.{little};
+ghost use Rattle.text.specs.Over.{over};
+ghost use Rattle.entries.specs.Entries.{sizeOf, entryBytes};
+
+// Writes two numbers in four bytes each.
+fn put_numbers(out: &mut [u8], at: usize, a: u32, b: u32)
+    requires { ⌜ at + 8 ≤ length (now out) ⌝ }
+    ensures { λ _. ⌜ now (out .exit) ≡ over (now (out .entry)) at (little 4 a ++ little 4 b) ⌝ }
+{
+    text::put_u32(out, at, a);
+    text::put_u32(out, at + 4, b);
+}
+
+// Writes a byte of kind, and two numbers behind it.
+fn put_kind(out: &mut [u8], at: usize, kind: u8, a: u32, b: u32)
+    requires { ⌜ at + 9 ≤ length (now out) ⌝ }
+    ensures { λ _. ⌜ now (out .exit) ≡ over (now (out .entry)) at (kind ∷ little 4 a ++ little 4 b) ⌝ }
+{
+    out[at] = kind;
+    put_numbers(out, at + 1, a, b);
+}
+
+// Writes the entry of an SQ: where its name stands, and its LN.
+fn put_sequence(out: &mut [u8], at: usize, name: Place, n: u64)
+    requires { ⌜ at + 17 ≤ length (now out) ⌝ }
+    ensures { λ _. ⌜ now (out .exit) ≡ over (now (out .entry)) at (entryBytes (Entry.ReferenceSequence name n)) ⌝ }
+{
+    let offset = name.at;
+    let len = name.len;
+    put_kind(out, at, 2, offset, len);
+    text::put_u64(out, at + 9, n);
+}
+
+// Writes the entry of a field: its tag, and where its value stands.
+fn put_field(out: &mut [u8], at: usize, a: u8, b: u8, value: Place)
+    requires { ⌜ at + 11 ≤ length (now out) ⌝ }
+    ensures { λ _. ⌜ now (out .exit) ≡ over (now (out .entry)) at (entryBytes (Entry.Field a b value)) ⌝ }
+{
+    let offset = value.at;
+    let len = value.len;
+    out[at] = 6;
+    out[at + 1] = a;
+    out[at + 2] = b;
+    put_numbers(out, at + 3, offset, len);
+}
+
+// Writes an entry at `at`, and gives the place behind it. `End` is no byte.
+pub fn put_entry(out: &mut [u8], at: usize, e: Entry) -> usize
+    requires { ⌜ at + sizeOf e ≤ length (now out) ⌝ }
+    ensures next { λ r. ⌜ r ≡ at + sizeOf e ⌝ }
+    ensures wrote { λ _. ⌜ now (out .exit) ≡ over (now (out .entry)) at (entryBytes e) ⌝ }
+{
+    let next = at + entries::size(e);
+    match e {
+        Entry::End => {}
+        Entry::Header(v) => {
+            let major = v.major;
+            let minor = v.minor;
+            put_kind(out, at, 1, major, minor);
+        }
+        Entry::ReferenceSequence(p, n) => {
+            put_sequence(out, at, p, n);
+        }
+        Entry::ReadGroup(p) => {
+            let offset = p.at;
+            let len = p.len;
+            put_kind(out, at, 3, offset, len);
+        }
+        Entry::Program(p) => {
+            let offset = p.at;
+            let len = p.len;
+            put_kind(out, at, 4, offset, len);
+        }
+        Entry::Comment(p) => {
+            let offset = p.at;
+            let len = p.len;
+            put_kind(out, at, 5, offset, len);
+        }
+        Entry::Field(a, b, p) => {
+            put_field(out, at, a, b, p);
+        }
+    }
+    next
+}
