@@ -48,7 +48,7 @@ module _ (t : List ℕ) (rs : List Record) (a : Allowed t rs) where
       let self : tidy (b .found) ≡ tidy rs = tidy-again t rs reads fits in
       record {
         answers = λ room. tidying-fits t rs room (a .accepted) (a .names) fits;
-        long = tidy-length t rs reads;
+        long = omega (arith, tidy-length t rs reads);
         found = b .found;
         accepted = yes-found;
         equal = back-equal t rs reads fits;

@@ -14,3 +14,4 @@ pub mod Length
 pub mod Total
 pub mod Tidy
 pub mod Faithful
+pub mod Example
