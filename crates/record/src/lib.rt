@@ -1,0 +1,4 @@
+// One line of a header.
+pub fn nothing() -> bool {
+    true
+}
