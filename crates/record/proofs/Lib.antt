@@ -1,3 +1,4 @@
 pub mod Bools
 pub mod Tags
 pub mod Firsts
+pub mod Turn

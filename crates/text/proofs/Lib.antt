@@ -1,2 +1,8 @@
 pub mod Lines
 pub mod Over
+pub mod Equal
+pub mod Before
+pub mod First
+pub mod Pieces
+pub mod Stands
+pub mod Little

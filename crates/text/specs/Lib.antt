@@ -1,2 +1,5 @@
 pub mod Upto
 pub mod Over
+pub mod First
+pub mod Stands
+pub mod Little
