@@ -2,3 +2,4 @@ pub mod Bools
 pub mod Tags
 pub mod Firsts
 pub mod Turn
+pub mod Region

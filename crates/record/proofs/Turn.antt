@@ -54,6 +54,7 @@ fielded-tail strict k at (b ∷ s) = go (eqb b 9)
     six : (u : Bool) → refused 6 ≡ cond (u && repeats []) (refused 14) (refused 6)
     six true = refl
     six false = refl
+
     go : (t : Bool) → cond t (judged strict k (scan k (placed (at + 1) (cut 9 s)))) (refused 6) ≡ judged strict k (cond t (scan k (placed (at + 1) (cut 9 s))) (record { fields = []; stop = 6 }))
     go true = refl
     go false = six strict
@@ -71,6 +72,7 @@ module _ (k : Kind) (at : ℕ) (s : List ℕ) where
     where
       more : upto 9 s < length s → scan k (placed at (cut 9 s)) ≡ onward (field k at (before 9 s)) tail
       more h = ap (scan k) (placed-more 9 at s h) ∙ rw (drop-cons s (upto 9 s) 0 h, upto-at 9 s h) refl
+
       last : upto 9 s ≡ length s → scan k (placed at (cut 9 s)) ≡ onward (field k at (before 9 s)) tail
       last h = ap (scan k) (placed-last 9 at s h) ∙ rw (drop-of-length-le s {i = upto 9 s} (omega arith)) refl
 
