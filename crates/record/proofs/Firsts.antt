@@ -12,7 +12,7 @@ use Rattle.format.specs.Bytes.{any}
 use Rattle.format.specs.Lines.{Piece}
 use Rattle.format.specs.Fields.{Field, tagged, repeats, later, lastOf, without, put, settledOn, settled}
 use Rattle.format.specs.declared.Kind.{Kind}
-use Rattle.record.specs.Others.{isKey, orLast, latest, firsts}
+use Rattle.record.specs.Others.{isKey, unkeyed, orLast, latest, firsts}
 use Rattle.record.proofs.Bools.{or-assoc, or-comm, or-true, or-false, eqb-sym, any-append, any-snoc, and-left, and-right, or-left, or-right, split}
 use Rattle.record.proofs.Tags.{tagged-sym, tagged-same, any-same, any-put, repeats-put}
 
@@ -83,11 +83,6 @@ map-put f fs (g ∷ gs) h =
     go false e l ih = ap (λ x. x ∷ map (latest fs) (put f gs)) (sym (latest-other f fs g e)) ∙ ap (λ x. latest (f ∷ fs) g ∷ x) ih
 
 -- ---- settled fields are those at first places
-
--- the fields that are no key
-unfoldable pub unkeyed : Kind → List Field → List Field
-unkeyed k [] = []
-unkeyed k (f ∷ fs) = cond (isKey k (f .tag₀) (f .tag₁)) (unkeyed k fs) (f ∷ unkeyed k fs)
 
 module _ (k : Kind) (a b : ℕ) (n : isKey k a b ≡ false) where
   -- a tag that is no key is no key's tag

@@ -1,2 +1,4 @@
+pub mod Head
 pub mod Others
 pub mod Occurs
+pub mod Keys

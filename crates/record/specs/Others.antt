@@ -18,6 +18,12 @@ isKey ReadGroup a b = eqb a 73 && eqb b 68
 isKey Program a b = eqb a 73 && eqb b 68
 isKey Comment a b = false
 
+-- the fields that are no key
+unfoldable pub unkeyed : Kind → List Field → List Field
+unfolding isKey
+unkeyed k [] = []
+unkeyed k (f ∷ fs) = cond (isKey k (f .tag₀) (f .tag₁)) (unkeyed k fs) (f ∷ unkeyed k fs)
+
 unfoldable pub orLast : Piece → Option Piece → Piece
 orLast p none = p
 orLast p (some q) = q

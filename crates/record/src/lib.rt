@@ -1,6 +1,57 @@
 // One line of a header: the record that it is, or the refusal that it gets.
+use field::{Field, Parsed, Says};
+use format::{Kind, Version};
+use kind::ParsedKind;
 ghost use mathlib.Core.Path.{_≡_};
-ghost use Rattle.record.specs.Occurs.{occurs};
+ghost use mathlib.Core.Bool.{_&&_, _||_};
+ghost use Prim.Native.Nat.{_≤_, _+_, _*_, _%_};
+ghost use lib.ListN.{length, drop};
+ghost use lib.Dec.{eqb};
+ghost use Rattle.format.specs.Bytes.{any};
+ghost use Rattle.format.specs.Records.{line, prefixed, fielded, remark, breaks};
+ghost use Rattle.record.specs.Head.{headOf};
+ghost use Rattle.record.specs.Keys.{keysOf, withField, headFrom};
+ghost use Rattle.record.specs.Others.{isKey};
+ghost use Rattle.record.specs.Occurs.{occurs, slotOf};
+
+// Where a piece of the text stands.
+pub struct Place {
+    pub at: usize,
+    pub len: usize,
+}
+
+// A line's refusal, or its record: version or key, length, and how many other fields it has.
+pub enum Head {
+    Refused(u8),
+    Header(Version, usize),
+    ReferenceSequence(Place, u64, usize),
+    ReadGroup(Place, usize),
+    Program(Place, usize),
+    Comment(Place),
+}
+
+pub enum KeyPlace {
+    Missing,
+    At(Place),
+}
+
+pub enum KeyVersion {
+    Missing,
+    Is(Version),
+}
+
+pub enum KeyLength {
+    Missing,
+    Is(u64),
+}
+
+// What the fields read so far give.
+pub struct Keys {
+    pub key: KeyPlace,
+    pub version: KeyVersion,
+    pub length: KeyLength,
+    pub others: usize,
+}
 
 // Whether a field with the tag `a`, `b` stands among the fields `src`: looked for from the end, so that a tag that comes again and again is found near.
 fn occurs(src: &[u8], a: u8, b: u8) -> bool
@@ -21,4 +72,138 @@ fn occurs(src: &[u8], a: u8, b: u8) -> bool
         }
     }
     false
+}
+
+// VN of HD, SN and LN of SQ, ID of RG and PG.
+pub fn is_key(kind: Kind, a: u8, b: u8) -> bool
+    ensures { λ r. ⌜ r ≡ isKey kind a b ⌝ }
+{
+    match kind {
+        Kind::Header => a == b'V' && b == b'N',
+        Kind::ReferenceSequence => (a == b'S' && b == b'N') || (a == b'L' && b == b'N'),
+        Kind::ReadGroup => a == b'I' && b == b'D',
+        Kind::Program => a == b'I' && b == b'D',
+        Kind::Comment => false,
+    }
+}
+
+// The place of a tag among 64: tags of the specification that stand in one record have different ones.
+fn slot(a: u8, b: u8) -> usize
+    ensures { λ r. ⌜ r ≡ slotOf a b ⌝ }
+{
+    ((a as usize) * 4 + (b as usize)) % 64
+}
+
+// Whether the tag `a`, `b` stands among the fields `src`, which is looked up only where its place was `seen`.
+fn stands_again(src: &[u8], a: u8, b: u8, seen: bool) -> bool
+    ensures { λ r. ⌜ r ≡ (seen && occurs a b (now (src .entry))) ⌝ }
+{
+    if seen {
+        return occurs(src, a, b);
+    }
+    false
+}
+
+impl Keys {
+    pub fn new() -> Self
+    {
+        Keys {
+            key: KeyPlace::Missing,
+            version: KeyVersion::Missing,
+            length: KeyLength::Missing,
+            others: 0,
+        }
+    }
+
+    // One field more, whose value stands at `at`: the last value of a key stands, and a tag that comes `again` is no field more.
+    fn with(self, kind: Kind, f: Field, at: usize, again: bool) -> Keys
+        requires { ⌜ self .others + 1 ≤ 18446744073709551615 ⌝ }
+        ensures { λ r. ⌜ r ≡ withField kind f at again self ⌝ }
+    {
+        let key = self.key;
+        let version = self.version;
+        let length = self.length;
+        let others = self.others;
+        let says = f.says;
+        match says {
+            Says::Version(v) => Keys { key, version: KeyVersion::Is(v), length, others },
+            Says::Length(n) => Keys { key, version, length: KeyLength::Is(n), others },
+            Says::Bytes => {
+                if is_key(kind, f.tag_0, f.tag_1) {
+                    let place = Place { at, len: f.len };
+                    return Keys { key: KeyPlace::At(place), version, length, others };
+                }
+                if again {
+                    return Keys { key, version, length, others };
+                }
+                Keys { key, version, length, others: others + 1 }
+            }
+        }
+    }
+
+    // The line ends: HD needs VN; SQ needs SN, then LN; RG and PG need ID.
+    fn head(self, kind: Kind) -> Head
+        ensures { λ r. ⌜ r ≡ headFrom kind self ⌝ }
+    {
+        let others = self.others;
+        if let Kind::Header = kind {
+            let version = self.version;
+            let KeyVersion::Is(v) = version else { return Head::Refused(15); };
+            return Head::Header(v, others);
+        }
+        let key = self.key;
+        match kind {
+            Kind::Header => Head::Refused(15),
+            Kind::ReferenceSequence => {
+                let KeyPlace::At(p) = key else { return Head::Refused(15); };
+                let length = self.length;
+                let KeyLength::Is(n) = length else { return Head::Refused(16); };
+                Head::ReferenceSequence(p, n, others)
+            }
+            Kind::ReadGroup => {
+                let KeyPlace::At(p) = key else { return Head::Refused(15); };
+                Head::ReadGroup(p, others)
+            }
+            Kind::Program => {
+                let KeyPlace::At(p) = key else { return Head::Refused(15); };
+                Head::Program(p, others)
+            }
+            Kind::Comment => Head::Refused(15),
+        }
+    }
+}
+
+// The fields of a line of any kind but CO, from its third byte on: one walk, and each value is looked at once.
+fn parse_fields(kind: Kind, src: &[u8], at: usize, strict: bool) -> Head
+    requires { ⌜ 3 ≤ length (now src) ⌝ }
+    requires { ⌜ at + length (now src) ≤ 4294967295 ⌝ }
+    ensures { λ r. ⌜ r ≡ headOf (fielded strict kind (at + 3) (drop 3 (now (src .entry)))) ⌝ }
+{
+    let mut seen = [false; 64];
+    let mut keys = Keys::new();
+    let mut pos: usize = 3;
+    while pos < src.len() {
+        if src[pos] != b'\t' {
+            return Head::Refused(6);
+        }
+        let parsed = field::parse_field(kind, &src[pos + 1..]);
+        match parsed {
+            Parsed::Bad(n) => {
+                return Head::Refused(n);
+            }
+            Parsed::Good(f) => {
+                let place = slot(f.tag_0, f.tag_1);
+                let again = stands_again(&src[3..pos], f.tag_0, f.tag_1, seen[place]);
+                if strict {
+                    if again {
+                        return Head::Refused(14);
+                    }
+                }
+                seen[place] = true;
+                keys = keys.with(kind, f, at + pos + 4, again);
+                pos = pos + 4 + f.len;
+            }
+        }
+    }
+    keys.head(kind)
 }
