@@ -1,0 +1,21 @@
+-- What reading a number at the front of a slice answers.
+use Prim.Native.Nat.{ℕ}
+use mathlib.Core.Bool.{cond}
+use mathlib.Core.List.{List}
+use lib.ListN.{length}
+use lib.Dec.{ltb}
+use Rattle.format.specs.Bytes.{none?}
+use Rattle.format.specs.Decimal.{worth}
+use Rattle.format.specs.Fields.{span}
+use Rattle.decimal.specs.declared.Number.{Number}
+use Rattle.decimal.specs.declared.Number.the-variants.{NoDigit, TooLarge, Is}
+
+-- a run of digits: none; worth `limit` or more; or its worth and how many they are
+unfoldable pub counted : ℕ → List ℕ → Number
+unfolding none? worth
+counted limit ds = cond (none? ds) NoDigit (cond (ltb (worth ds) limit) (Is (worth ds) (length ds)) TooLarge)
+
+-- the digits at the front of `s`, read as a number below `limit`
+unfoldable pub front : ℕ → List ℕ → Number
+unfolding counted span
+front limit s = counted limit (span s .0)
