@@ -1,15 +1,15 @@
 -- The laws of reading digit by digit: what the rest of a slice adds to a number read so far. Assumes nothing.
-use Prim.Native.Nat.{ℕ, zero, suc, _+_, _-_, _*_, _≤_, _<_}
-use mathlib.Core.Path.{_≡_, refl, sym, ap, _∙_}
-use mathlib.Core.Bool.{Bool, true, false, cond}
+use Prim.Native.Nat.{ℕ, suc, _+_, _-_, _*_, _≤_, _<_}
+use mathlib.Core.Path.{_≡_, refl, _∙_}
+use mathlib.Core.Bool.{Bool, true, false, _&&_, cond}
 use mathlib.Core.List.{List, [], _∷_}
 use native.Mathlib.Omega.{arith}
 use native.Mathlib.Numerals.{add-one}
 use native.Mathlib.Nat.{add-zero, zero-add}
 use lib.ListN.{length, drop, getD, drop-of-length-le}
 use lib.Seq.{drop-cons}
-use lib.Dec.{eqb, ltb}
-use borrow.Author.Tests.{le-leb, lt-leb, lt-ltb, le-ltb, eq-eqb, ne-eqb}
+use lib.Dec.{eqb, leb, ltb}
+use borrow.Author.Tests.{leb-true, le-leb, lt-leb, lt-ltb, le-ltb, ne-eqb}
 use Rattle.format.specs.Bytes.{digit, none?}
 use Rattle.format.specs.Decimal.{worth, worthFrom}
 use Rattle.format.specs.Fields.{span}
@@ -30,6 +30,14 @@ digit-low b h = rw (lt-leb 48 b h)
 pub digit-high : (b : ℕ) → 57 < b → digit b ≡ false
 unfolding digit
 digit-high b h = rw (le-leb 48 b (omega arith), lt-leb b 57 h)
+
+pub both : (a b : Bool) → a && b ≡ true → (a ≡ true) × (b ≡ true)
+both true b e = (refl, e)
+both false b e = (e, absurd (let z : _≡_ {A = ℕ} 0 1 = cc in omega arith))
+
+pub digit-top : (b : ℕ) → digit b ≡ true → b ≤ 57
+unfolding digit
+digit-top b e = leb-true b 57 (both (leb 48 b) (leb b 57) e .1)
 
 pub span-digit : (b : ℕ) (s : List ℕ) → digit b ≡ true → span (b ∷ s) .0 ≡ b ∷ span s .0
 unfolding span

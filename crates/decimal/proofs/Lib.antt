@@ -1,2 +1,5 @@
 pub mod Front
 pub mod Whole
+pub mod Written
+pub mod OverBack
+pub mod ReadBack

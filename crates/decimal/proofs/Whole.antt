@@ -1,7 +1,7 @@
 -- A number at the front of a slice, and a number that is a whole slice. Assumes nothing.
-use Prim.Native.Nat.{ℕ, suc, _+_, _-_, _≤_, _<_}
+use Prim.Native.Nat.{ℕ, suc, _-_, _≤_, _<_}
 use mathlib.Core.Path.{_≡_, refl, sym, ap, _∙_}
-use mathlib.Core.Bool.{Bool, true, false, not, _&&_, cond}
+use mathlib.Core.Bool.{Bool, true, false, not, _&&_, cond, and-true, and-false}
 use mathlib.Core.List.{List, [], _∷_}
 use mathlib.Core.Option.{Option, none, some}
 use native.Mathlib.Omega.{arith}
@@ -14,6 +14,7 @@ use Rattle.format.specs.Fields.{span}
 use Rattle.decimal.specs.Number.{counted, front}
 use Rattle.decimal.specs.declared.Number.{Number}
 use Rattle.decimal.specs.declared.Number.the-variants.{NoDigit, TooLarge, Is}
+use Rattle.decimal.proofs.Front.{both, span-digit}
 
 -- ---- the digits at the front
 
@@ -29,11 +30,9 @@ span-le (b ∷ s) = go (digit b) (span-le s)
 pub span-all : (s : List ℕ) → all digit s ≡ true → span s .0 ≡ s
 unfolding span all
 span-all [] e = refl
-span-all (b ∷ s) e = go (digit b) (span-all s) e
-  where
-    go : (t : Bool) → (all digit s ≡ true → span s .0 ≡ s) → t && all digit s ≡ true → (cond {A = List ℕ × List ℕ} t (b ∷ span s .0, span s .1) ([], b ∷ s)) .0 ≡ b ∷ s
-    go true ih e = ap (λ ds. b ∷ ds) (ih e)
-    go false ih e = cc
+span-all (b ∷ s) e =
+    let d : (digit b ≡ true) × (all digit s ≡ true) = both (digit b) (all digit s) e in
+    span-digit b s (d .0) ∙ ap (λ ds. b ∷ ds) (span-all s (d .1))
 
 pub span-short : (s : List ℕ) → all digit s ≡ false → length (span s .0) < length s
 unfolding span all
@@ -105,5 +104,5 @@ unfolding front number digits
 number-front limit s = go (all digit s) refl
   where
     go : (t : Bool) → all digit s ≡ t → cond (not (none? s) && t && ltb (worth s) limit) (some (worth s)) none ≡ whole (length s) (counted limit (span s .0))
-    go true e = ?
-    go false e = ?
+    go true e = rw (and-true (not (none? s)), span-all s e) (sym (whole-all limit s))
+    go false e = rw (and-false (not (none? s))) (sym (whole-short limit (length s) (span s .0) (span-short s e)))
