@@ -1,18 +1,22 @@
 -- The bytes before the next tab, one byte at a time.
-use Prim.Native.Nat.{ℕ, suc, _+_, _≤_, _<_}
+use Prim.Native.Nat.{ℕ, _-_}
 use mathlib.Core.Path.{_≡_, refl, sym, ap, _∙_}
-use mathlib.Core.Bool.{Bool, true, false, cond}
+use mathlib.Core.Bool.{Bool, true, false}
 use mathlib.Core.List.{List, [], _∷_}
 use native.Mathlib.Omega.{arith}
-use lib.ListN.{length, take, drop}
-use lib.Seq.{length-take-le}
+use lib.ListN.{length, take, drop, length-drop}
+use lib.Seq.{length-take-le, take-all}
 use lib.Dec.{eqb}
-use borrow.Author.Tests.{eq-eqb, ne-eqb, eqb-true}
+use borrow.Author.Tests.{eqb-true}
 use Rattle.format.specs.Bytes.{digit}
 use Rattle.format.specs.Fields.{span}
 use Rattle.decimal.proofs.Front.{digit-low, span-digit, span-stop}
 use Rattle.text.proofs.Lines.{upto-le}
 use Rattle.text.specs.Upto.{upto, before}
+
+-- the rest of a slice from `k` on, as a callee that is lent it sees it
+pub rest : (k : ℕ) (s : List ℕ) → take (length s - k) (drop k s) ≡ drop k s
+rest k s = take-all (length s - k) (drop k s) (omega (arith, length-drop k s))
 
 pub before-stop : (d b : ℕ) (s : List ℕ) → eqb b d ≡ true → before d (b ∷ s) ≡ []
 unfolding before
