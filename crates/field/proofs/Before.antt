@@ -39,6 +39,7 @@ span-before (b ∷ s) = tab (eqb b 9) refl (more (digit b) refl (span-before s))
     more : (t : Bool) → digit b ≡ t → span (before 9 s) .0 ≡ span s .0 → span (b ∷ before 9 s) .0 ≡ span (b ∷ s) .0
     more true e ih = span-digit b (before 9 s) e ∙ ap (λ ds. b ∷ ds) ih ∙ sym (span-digit b s e)
     more false e ih = span-stop b (before 9 s) e ∙ sym (span-stop b s e)
+
     tab : (t : Bool) → eqb b 9 ≡ t → span (b ∷ before 9 s) .0 ≡ span (b ∷ s) .0 → span (before 9 (b ∷ s)) .0 ≡ span (b ∷ s) .0
     tab true e k = ap (λ p. span p .0) (before-stop 9 b s e) ∙ sym (span-stop b s (digit-low b (omega (arith, eqb-true b 9 e))))
     tab false e k = ap (λ p. span p .0) (before-pass 9 b s e) ∙ k

@@ -1,6 +1,7 @@
 // One field of a header line: tag, colon and value, and the numbers that VN of HD and LN of SQ spell.
 use decimal::Number;
-use format::{Kind, Version};
+use format::Kind;
+use format::Version;
 ghost use mathlib.Core.Path.{_≡_};
 ghost use mathlib.Core.Bool.{_&&_};
 ghost use lib.Dec.{eqb};
@@ -136,8 +137,12 @@ pub fn parse_version(src: &[u8]) -> Spelled
     if dot == src.len() {
         return Spelled::Invalid;
     }
-    let Part::Is(major) = parse_part(&src[..dot]) else { return Spelled::Invalid; };
-    let Part::Is(minor) = parse_part(&src[dot + 1..]) else { return Spelled::Invalid; };
+    let Part::Is(major) = parse_part(&src[..dot]) else {
+        return Spelled::Invalid;
+    };
+    let Part::Is(minor) = parse_part(&src[dot + 1..]) else {
+        return Spelled::Invalid;
+    };
     Spelled::Is(Version { major, minor })
 }
 
@@ -168,7 +173,11 @@ fn parse_plain_value(a: u8, b: u8, src: &[u8]) -> Parsed
 {
     match parse_value(src) {
         Taken::Wrong => Parsed::Bad(10),
-        Taken::Value(len) => Parsed::Plain(Field { tag_0: a, tag_1: b, len }),
+        Taken::Value(len) => Parsed::Plain(Field {
+            tag_0: a,
+            tag_1: b,
+            len,
+        }),
     }
 }
 
@@ -176,10 +185,19 @@ fn parse_plain_value(a: u8, b: u8, src: &[u8]) -> Parsed
 fn parse_version_value(src: &[u8]) -> Parsed
     ensures { λ r. ⌜ r ≡ parsedOf Kind.Header (versionField 3 (before 9 (now (src .entry)))) ⌝ }
 {
-    let Taken::Value(len) = parse_value(src) else { return Parsed::Bad(10); };
+    let Taken::Value(len) = parse_value(src) else {
+        return Parsed::Bad(10);
+    };
     match parse_version(&src[..len]) {
         Spelled::Invalid => Parsed::Bad(11),
-        Spelled::Is(version) => Parsed::Versioned(Field { tag_0: b'V', tag_1: b'N', len }, version),
+        Spelled::Is(version) => Parsed::Versioned(
+            Field {
+                tag_0: b'V',
+                tag_1: b'N',
+                len,
+            },
+            version,
+        ),
     }
 }
 
@@ -190,7 +208,14 @@ fn parse_length_value(src: &[u8]) -> Parsed
     match parse_length(src) {
         Length::Invalid => Parsed::Bad(12),
         Length::Zero => Parsed::Bad(13),
-        Length::Is(n, len) => Parsed::Sized(Field { tag_0: b'L', tag_1: b'N', len }, n),
+        Length::Is(n, len) => Parsed::Sized(
+            Field {
+                tag_0: b'L',
+                tag_1: b'N',
+                len,
+            },
+            n,
+        ),
     }
 }
 

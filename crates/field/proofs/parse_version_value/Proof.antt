@@ -1,50 +1,75 @@
+-- `field::parse_version_value` meets its contract: what was taken as a value is the bytes before the next tab, and is read as a version.
+use Prim.Native.Nat.{ℕ}
+use mathlib.Core.Path.{_≡_, sym, ap, _∙_}
+use native.Mathlib.Omega.{arith}
+use lib.ListN.{take}
+use lib.Seq.{length-take-le}
 use borrow.Author.Needs.{needs}
+use Rattle.format.specs.Version.{version}
+use Rattle.text.proofs.Lines.{upto-le}
+use Rattle.text.specs.Upto.{upto, before}
+use Rattle.field.specs.Parsed.{takenOf, spelledOf}
+use Rattle.field.specs.declared.Taken.the-variants.{Value}
+use Rattle.field.proofs.Before.{before-length}
+use Rattle.field.proofs.Judged.{versionBy, version-wrong, version-taken, a-value}
 use Rattle.field.proofs.parse_version_value.Statement.{statement}
 use Rattle.field.proofs.parse_version_value.Tie as tie
-use Rattle.field.proofs.parse_version_value.Reads as reads
-use Rattle.field.proofs.parse_version_value.Lts as lts
-use Rattle.field.proofs.parse_value.Reads as parse-value-reads
-use Rattle.field.proofs.parse_version.Reads as parse-version-reads
 
--- src/lib.rt:179:29
+-- ---- where a value was taken
+
+taken : (c : tie.After-len) → takenOf (before 9 (c .before .before .before .before .args .src .now)) ≡ Value (c .len .given .0 .0)
+taken c = sym (c .before .before .parse-value .ensures) ∙ c .len .given .1
+
+all-of-it : (c : tie.After-len) → c .len .given .0 .0 ≡ upto 9 (c .before .before .before .before .args .src .now)
+all-of-it c = a-value _ _ (taken c) .1 ∙ before-length 9 _
+
+spelt : (c : tie.After-parse-version)
+    → c .parse-version .result ≡ spelledOf (version (before 9 (c .before .before .before .before .before .before .before .args .src .now)))
+unfolding before
+spelt c =
+    let l = c .before .before .before in
+    c .parse-version .ensures ∙ ap (λ n. spelledOf (version (take n (l .before .before .before .before .args .src .now)))) (all-of-it l)
+
 parse-value-requires : tie.Need-parse-value-requires
 parse-value-requires c κs = search needs
 
--- src/lib.rt:179:22
 enum-known-len : tie.Need-enum-known-len
 enum-known-len c = search needs
 
--- src/lib.rt:179:53
 enum-told : tie.Need-enum-told
 enum-told c = search needs
 
--- src/lib.rt:179:53
 returns : tie.Need-returns
-returns c = ?
+returns c = sym (version-wrong 3 _ (sym (c .before .before .parse-value .ensures) ∙ c .enum-told .given .1))
 
--- src/lib.rt:180:25
 slice-aggregate-parse-version : tie.Need-slice-aggregate-parse-version
-slice-aggregate-parse-version c = ?
+slice-aggregate-parse-version c =
+    let l = c .before .before in
+    let s = l .before .before .before .before .args .src .now in
+    sym (length-take-le (l .len .given .0 .0) s (omega (arith, all-of-it l, upto-le 9 s)))
 
--- src/lib.rt:180:11
 parse-version-requires : tie.Need-parse-version-requires
 parse-version-requires c κs = search needs
 
--- src/lib.rt:181:29
 enum-told-2 : tie.Need-enum-told-2
 enum-told-2 c = search needs
 
--- src/lib.rt:182:21
 enum-known-version : tie.Need-enum-known-version
 enum-known-version c = search needs
 
--- src/lib.rt:176:1
 returns-2 : tie.Need-returns-2
-returns-2 c = ?
+unfolding versionBy
+returns-2 c =
+    let p = c .before .before in
+    let l = p .before .before .before in
+    ap (versionBy (l .len .given .0 .0)) (sym (c .enum-told2 .given .1) ∙ spelt p) ∙ sym (version-taken 3 _ _ (taken l))
 
--- src/lib.rt:176:1
 returns-3 : tie.Need-returns-3
-returns-3 c = ?
+unfolding versionBy
+returns-3 c =
+    let p = c .before .before .before in
+    let l = p .before .before .before in
+    ap (versionBy (l .len .given .0 .0)) (sym (c .before .version .given .1) ∙ spelt p) ∙ sym (version-taken 3 _ _ (taken l))
 
 pub parse-version-value-spec : {M : Type 1} → statement M
 parse-version-value-spec =
