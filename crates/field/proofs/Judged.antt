@@ -1,0 +1,152 @@
+-- What the readers of a value answer, as what is judged of its bytes.
+use Prim.Native.Nat.{ℕ, _^_}
+use mathlib.Core.Path.{_≡_, refl, sym, ap, _∙_}
+use mathlib.Core.Bool.{Bool, true, false, _&&_, not, cond}
+use mathlib.Core.List.{List, [], _∷_}
+use mathlib.Core.Option.{Option, none, some}
+use native.Mathlib.Omega.{arith}
+use lib.ListN.{length}
+use lib.Dec.{eqb, ltb}
+use Rattle.decimal.specs.Number.{counted, front}
+use Rattle.decimal.specs.declared.Number.the-variants as number
+use Rattle.format.specs.Bytes.{none?}
+use Rattle.format.specs.Decimal.{worth}
+use Rattle.format.specs.Fields.{isValue, Judged, good, bad, goodThen, plain, spelled, versionField, lengthField, valueField, span, tagged}
+use Rattle.format.specs.Fields as fields
+use Rattle.format.specs.Version.{version}
+use Rattle.format.specs.declared.Version.{Version}
+use Rattle.format.specs.declared.Kind.{Kind}
+use Rattle.format.specs.declared.Kind.the-variants.{Header, ReferenceSequence, ReadGroup, Program, Comment}
+use Rattle.field.specs.Parsed.{takenOf, spelledOf, lengthOf, parsedOf, valued, fieldOf, versionedBy}
+use Rattle.field.specs.declared.Taken.{Taken}
+use Rattle.field.specs.declared.Taken.the-variants.{Value, Wrong}
+use Rattle.field.specs.declared.Spelled.{Spelled}
+use Rattle.field.specs.declared.Spelled.the-variants as spelled′
+use Rattle.field.specs.declared.Length.{Length}
+use Rattle.field.specs.declared.Length.the-variants as length′
+use Rattle.field.specs.declared.Parsed.{Parsed}
+use Rattle.field.specs.declared.Parsed.the-variants.{Bad, Plain, Versioned, Sized}
+
+-- ---- a value kept as it stands
+
+unfoldable pub plainBy : ℕ → ℕ → Taken → Parsed
+plainBy a b Wrong = Bad 10
+plainBy a b (Value n) = Plain (record { tag_0 = a; tag_1 = b; len = n })
+
+pub plain-taken : (a b at : ℕ) (v : List ℕ) → parsedOf Program (plain a b at v) ≡ plainBy a b (takenOf v)
+unfolding parsedOf plain plainBy takenOf
+plain-taken a b at v = go (isValue v)
+  where
+    go : (t : Bool)
+        → parsedOf Program (cond t (good (record { tag₀ = a; tag₁ = b; value = record { at = at; bytes = v } })) (bad 10))
+        ≡ plainBy a b (cond t (Value (length v)) Wrong)
+    go true = refl
+    go false = refl
+
+-- ---- what taking a value tells
+
+pub a-value : (v : List ℕ) (n : ℕ) → takenOf v ≡ Value n → (isValue v ≡ true) × (n ≡ length v)
+unfolding takenOf
+a-value v n e = go (isValue v) refl e
+  where
+    go : (t : Bool) → isValue v ≡ t → cond t (Value (length v)) Wrong ≡ Value n → (isValue v ≡ true) × (n ≡ length v)
+    go true k e = (k, cc)
+    go false k e = absurd (let z : _≡_ {A = ℕ} 0 1 = cc in omega arith)
+
+pub no-value : (v : List ℕ) → takenOf v ≡ Wrong → isValue v ≡ false
+unfolding takenOf
+no-value v e = go (isValue v) refl e
+  where
+    go : (t : Bool) → isValue v ≡ t → cond t (Value (length v)) Wrong ≡ Wrong → isValue v ≡ false
+    go true k e = cc
+    go false k e = k
+
+-- ---- VN of HD
+
+unfoldable pub versionBy : ℕ → Spelled → Parsed
+versionBy n spelled′.Invalid = Bad 11
+versionBy n (spelled′.Is w) = Versioned (record { tag_0 = 86; tag_1 = 78; len = n }) w
+
+pub version-wrong : (at : ℕ) (v : List ℕ) → takenOf v ≡ Wrong → parsedOf Header (versionField at v) ≡ Bad 10
+unfolding parsedOf versionField
+version-wrong at v e = rw (no-value v e) refl
+
+pub version-taken : (at n : ℕ) (v : List ℕ) → takenOf v ≡ Value n → parsedOf Header (versionField at v) ≡ versionBy n (spelledOf (version v))
+unfolding parsedOf versionField versionBy spelledOf
+version-taken at n v e = rw (a-value v n e .0, a-value v n e .1) (go (version v) refl)
+  where
+    f : fields.Field
+    f = record { tag₀ = 86; tag₁ = 78; value = record { at = at; bytes = v } }
+
+    go : (o : Option Version) → version v ≡ o → parsedOf Header (spelled o (good f)) ≡ versionBy (length v) (spelledOf o)
+    go none k = refl
+    go (some w) k = rw k refl
+
+-- ---- LN of SQ
+
+unfoldable pub sizedBy : Length → Parsed
+sizedBy length′.Invalid = Bad 12
+sizedBy length′.Zero = Bad 13
+sizedBy (length′.Is n k) = Sized (record { tag_0 = 76; tag_1 = 78; len = k }) n
+
+pub length-sized : (at : ℕ) (ds rest : List ℕ) → parsedOf ReferenceSequence (lengthField at (ds, rest)) ≡ sizedBy (lengthOf (counted (2 ^ 64) ds))
+unfolding parsedOf lengthField sizedBy lengthOf counted
+length-sized at [] rest = refl
+length-sized at (b ∷ ds) rest = go (ltb (worth (b ∷ ds)) (2 ^ 64)) (eqb (worth (b ∷ ds)) 0) refl (none? rest)
+  where
+    f : fields.Field
+    f = record { tag₀ = 76; tag₁ = 78; value = record { at = at; bytes = b ∷ ds } }
+
+    n : ℕ
+    n = worth (b ∷ ds)
+
+    go : (t u : Bool) → eqb n 0 ≡ u → (w : Bool)
+        → parsedOf ReferenceSequence (cond (not t) (bad 12) (cond u (bad 13) (cond w (good f) (goodThen f 6))))
+        ≡ sizedBy (lengthOf (cond t (number.Is n (length (b ∷ ds))) number.TooLarge))
+    go true true k w = rw k refl
+    go true false k true = rw k refl
+    go true false k false = rw k refl
+    go false u k w = refl
+
+-- ---- by kind and tag
+
+pub value-version : (a b at : ℕ) (v : List ℕ) → (eqb a 86 && eqb b 78) ≡ true → valueField Header a b at v ≡ versionField at v
+unfolding valueField
+value-version a b at v e = rw e refl
+
+pub value-length : (a b at : ℕ) (v : List ℕ) → (eqb a 76 && eqb b 78) ≡ true → valueField ReferenceSequence a b at v ≡ lengthField at (span v)
+unfolding valueField
+value-length a b at v e = rw e refl
+
+-- VN of HD and LN of SQ
+unfoldable pub numeric : Kind → ℕ → ℕ → Bool
+numeric Header a b = eqb a 86 && eqb b 78
+numeric ReferenceSequence a b = eqb a 76 && eqb b 78
+numeric ReadGroup a b = false
+numeric Program a b = false
+numeric Comment a b = false
+
+-- any other value is plain, whatever the kind
+module _ (a b at : ℕ) (v : List ℕ) where
+  same-plain : (k : Kind) → numeric k a b ≡ false → parsedOf k (plain a b at v) ≡ parsedOf Program (plain a b at v)
+  unfolding plain parsedOf numeric
+  same-plain k e = go k e (isValue v)
+    where
+      j : Bool → Judged
+      j t = cond t (good (record { tag₀ = a; tag₁ = b; value = record { at = at; bytes = v } })) (bad 10)
+
+      go : (k : Kind) → numeric k a b ≡ false → (t : Bool) → parsedOf k (j t) ≡ parsedOf Program (j t)
+      go k e false = refl
+      go Header e true = rw e refl
+      go ReferenceSequence e true = rw e refl
+      go ReadGroup e true = refl
+      go Program e true = refl
+      go Comment e true = refl
+
+  pub value-plain : (k : Kind) → numeric k a b ≡ false → parsedOf k (valueField k a b at v) ≡ parsedOf Program (plain a b at v)
+  unfolding valueField numeric
+  value-plain Header e = rw e (same-plain Header e)
+  value-plain ReferenceSequence e = rw e (same-plain ReferenceSequence e)
+  value-plain ReadGroup e = same-plain ReadGroup e
+  value-plain Program e = refl
+  value-plain Comment e = same-plain Comment e

@@ -1,0 +1,266 @@
+// One field of a header line: tag, colon and value, and the numbers that VN of HD and LN of SQ spell.
+use decimal::Number;
+use format::Kind;
+use format::Version;
+ghost use mathlib.Core.Path.{_≡_};
+ghost use mathlib.Core.Bool.{_&&_};
+ghost use lib.Dec.{eqb};
+ghost use Rattle.format.specs.Bytes.{between, letter, digit};
+ghost use Rattle.format.specs.Decimal.{number};
+ghost use Rattle.format.specs.Fields.{isTag, field, valueField, versionField, lengthField, plain, span};
+ghost use Rattle.format.specs.Version.{version};
+ghost use Prim.Native.Nat.{_^_};
+ghost use Rattle.decimal.specs.Number.{front};
+ghost use Rattle.text.specs.Upto.{before};
+ghost use Rattle.field.specs.Parsed.{takenOf, partOf, spelledOf, lengthOf, parsedOf};
+
+pub enum Taken {
+    Value(usize),
+    Wrong,
+}
+
+pub enum Spelled {
+    Is(Version),
+    Invalid,
+}
+
+// One side of a version's dot.
+enum Part {
+    Is(u32),
+    Invalid,
+}
+
+pub enum Length {
+    Invalid,
+    Zero,
+    Is(u64, usize),
+}
+
+// A field's tag, and how many bytes its value has.
+pub struct Field {
+    pub tag_0: u8,
+    pub tag_1: u8,
+    pub len: usize,
+}
+
+pub enum Parsed {
+    Bad(u8),
+    Plain(Field),
+    Versioned(Field, Version),
+    Sized(Field, u64),
+}
+
+// ---- tags
+
+fn is_between(lo: u8, hi: u8, b: u8) -> bool
+    ensures { λ r. ⌜ r ≡ between lo hi b ⌝ }
+{
+    lo <= b && b <= hi
+}
+
+fn is_letter(b: u8) -> bool
+    ensures { λ r. ⌜ r ≡ letter b ⌝ }
+{
+    is_between(b'A', b'Z', b) || is_between(b'a', b'z', b)
+}
+
+fn is_digit(b: u8) -> bool
+    ensures { λ r. ⌜ r ≡ digit b ⌝ }
+{
+    is_between(b'0', b'9', b)
+}
+
+// A tag: one letter, then a letter or digit.
+pub fn is_tag(a: u8, b: u8) -> bool
+    ensures { λ r. ⌜ r ≡ isTag a b ⌝ }
+{
+    is_letter(a) && (is_letter(b) || is_digit(b))
+}
+
+// Whether the tag `a`, `b` is `x`, `y`.
+fn is_same_tag(a: u8, b: u8, x: u8, y: u8) -> bool
+    ensures { λ r. ⌜ r ≡ (eqb a x && eqb b y) ⌝ }
+{
+    a == x && b == y
+}
+
+// ---- values
+
+// The value at the front of `src`, up to the next tab or the end.
+pub fn parse_value(src: &[u8]) -> Taken
+    ensures { λ r. ⌜ r ≡ takenOf (before 9 (now (src .entry))) ⌝ }
+{
+    let mut i = 0;
+    while i < src.len() {
+        let b = src[i];
+        if b == b'\t' {
+            break;
+        }
+        if b < 32 {
+            return Taken::Wrong;
+        }
+        if 126 < b {
+            return Taken::Wrong;
+        }
+        i += 1;
+    }
+    if i == 0 {
+        return Taken::Wrong;
+    }
+    Taken::Value(i)
+}
+
+// ---- versions
+
+// The number below 2 ^ 32 that all of `src` spells.
+fn parse_part(src: &[u8]) -> Part
+    ensures { λ r. ⌜ r ≡ partOf (number (2 ^ 32) (now (src .entry))) ⌝ }
+{
+    match decimal::read_u32(src) {
+        Number::NoDigit => Part::Invalid,
+        Number::TooLarge => Part::Invalid,
+        Number::Is(n, k) => {
+            if k == src.len() {
+                Part::Is(n as u32)
+            } else {
+                Part::Invalid
+            }
+        }
+    }
+}
+
+// The version that all of `src` spells, split at its first dot.
+pub fn parse_version(src: &[u8]) -> Spelled
+    ensures { λ r. ⌜ r ≡ spelledOf (version (now (src .entry))) ⌝ }
+{
+    let dot = text::upto(src, b'.');
+    if dot == src.len() {
+        return Spelled::Invalid;
+    }
+    let Part::Is(major) = parse_part(&src[..dot]) else {
+        return Spelled::Invalid;
+    };
+    let Part::Is(minor) = parse_part(&src[dot + 1..]) else {
+        return Spelled::Invalid;
+    };
+    Spelled::Is(Version { major, minor })
+}
+
+// ---- lengths
+
+// The digits at the front of `src` as a length.
+pub fn parse_length(src: &[u8]) -> Length
+    ensures { λ r. ⌜ r ≡ lengthOf (front (2 ^ 64) (now (src .entry))) ⌝ }
+{
+    match decimal::read_u64(src) {
+        Number::NoDigit => Length::Invalid,
+        Number::TooLarge => Length::Invalid,
+        Number::Is(n, len) => {
+            if n == 0 {
+                Length::Zero
+            } else {
+                Length::Is(n, len)
+            }
+        }
+    }
+}
+
+// ---- fields
+
+// A value that is kept as it stands.
+fn parse_plain_value(a: u8, b: u8, src: &[u8]) -> Parsed
+    ensures { λ r. ⌜ r ≡ parsedOf Kind.Program (plain a b 3 (before 9 (now (src .entry)))) ⌝ }
+{
+    match parse_value(src) {
+        Taken::Wrong => Parsed::Bad(10),
+        Taken::Value(len) => Parsed::Plain(Field {
+            tag_0: a,
+            tag_1: b,
+            len,
+        }),
+    }
+}
+
+// VN of HD.
+fn parse_version_value(src: &[u8]) -> Parsed
+    ensures { λ r. ⌜ r ≡ parsedOf Kind.Header (versionField 3 (before 9 (now (src .entry)))) ⌝ }
+{
+    let Taken::Value(len) = parse_value(src) else {
+        return Parsed::Bad(10);
+    };
+    match parse_version(&src[..len]) {
+        Spelled::Invalid => Parsed::Bad(11),
+        Spelled::Is(version) => Parsed::Versioned(
+            Field {
+                tag_0: b'V',
+                tag_1: b'N',
+                len,
+            },
+            version,
+        ),
+    }
+}
+
+// LN of SQ: not a value, so what follows its digits is not judged here.
+fn parse_length_value(src: &[u8]) -> Parsed
+    ensures { λ r. ⌜ r ≡ parsedOf Kind.ReferenceSequence (lengthField 3 (span (before 9 (now (src .entry))))) ⌝ }
+{
+    match parse_length(src) {
+        Length::Invalid => Parsed::Bad(12),
+        Length::Zero => Parsed::Bad(13),
+        Length::Is(n, len) => Parsed::Sized(
+            Field {
+                tag_0: b'L',
+                tag_1: b'N',
+                len,
+            },
+            n,
+        ),
+    }
+}
+
+// What follows the colon of the tag `a`, `b`.
+fn parse_field_value(kind: Kind, a: u8, b: u8, src: &[u8]) -> Parsed
+    ensures { λ r. ⌜ r ≡ parsedOf kind (valueField kind a b 3 (before 9 (now (src .entry)))) ⌝ }
+{
+    match kind {
+        Kind::Header => {
+            if is_same_tag(a, b, b'V', b'N') {
+                parse_version_value(src)
+            } else {
+                parse_plain_value(a, b, src)
+            }
+        }
+        Kind::ReferenceSequence => {
+            if is_same_tag(a, b, b'L', b'N') {
+                parse_length_value(src)
+            } else {
+                parse_plain_value(a, b, src)
+            }
+        }
+        Kind::ReadGroup => parse_plain_value(a, b, src),
+        Kind::Program => parse_plain_value(a, b, src),
+        Kind::Comment => parse_plain_value(a, b, src),
+    }
+}
+
+// The field at the front of `src`, which starts after its tab and goes up to the next tab or the end.
+pub fn parse_field(kind: Kind, src: &[u8]) -> Parsed
+    ensures { λ r. ⌜ r ≡ parsedOf kind (field kind 0 (before 9 (now (src .entry)))) ⌝ }
+{
+    if src.len() < 2 {
+        return Parsed::Bad(8);
+    }
+    let a = src[0];
+    let b = src[1];
+    if !is_tag(a, b) {
+        return Parsed::Bad(8);
+    }
+    if src.len() == 2 {
+        return Parsed::Bad(9);
+    }
+    if src[2] != b':' {
+        return Parsed::Bad(9);
+    }
+    parse_field_value(kind, a, b, &src[3..])
+}

@@ -1,0 +1,21 @@
+-- What reading the front of a line answers: the byte that is due there, and the kind.
+use Prim.Native.Nat.{ℕ}
+use mathlib.Core.Bool.{Bool, false}
+use mathlib.Core.List.{List, [], _∷_}
+use mathlib.Core.Option.{Option, none, some}
+use lib.Dec.{eqb}
+use Rattle.format.specs.declared.Kind.{Kind}
+use Rattle.format.specs.Records.{kindOf}
+use Rattle.kind.specs.declared.ParsedKind.{ParsedKind}
+use Rattle.kind.specs.declared.ParsedKind.the-variants.{Empty, Invalid, Is}
+
+unfoldable pub known : Option Kind → ParsedKind
+known none = Invalid
+known (some k) = Is k
+
+-- after the `@`: no byte is refusal 4 (`Empty`), one byte or an unknown kind 5 (`Invalid`)
+unfoldable pub kindAt : List ℕ → ParsedKind
+unfolding known kindOf
+kindAt [] = Empty
+kindAt (a ∷ []) = Invalid
+kindAt (a ∷ b ∷ s) = known (kindOf a b)
