@@ -9,7 +9,7 @@ use lib.Seq.{length-take-le, take-all}
 use lib.Dec.{eqb}
 use borrow.Author.Tests.{eqb-true}
 use Rattle.format.specs.Bytes.{digit}
-use Rattle.format.specs.Fields.{span}
+use Rattle.format.specs.Decimal.{span}
 use Rattle.decimal.proofs.Front.{digit-low, span-digit, span-stop}
 use Rattle.text.proofs.Lines.{upto-le}
 use Rattle.text.specs.Upto.{upto, before}

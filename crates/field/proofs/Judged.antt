@@ -11,7 +11,8 @@ use Rattle.decimal.specs.Number.{counted, front}
 use Rattle.decimal.specs.declared.Number.the-variants as number
 use Rattle.format.specs.Bytes.{none?}
 use Rattle.format.specs.Decimal.{worth}
-use Rattle.format.specs.Fields.{isValue, Judged, good, bad, goodThen, plain, spelled, versionField, lengthField, valueField, span, tagged}
+use Rattle.format.specs.Fields.{isValue, Judged, good, bad, goodThen, plain, spelled, versionField, lengthField, valueField, tagged}
+use Rattle.format.specs.Decimal.{span}
 use Rattle.format.specs.Fields as fields
 use Rattle.format.specs.Version.{version}
 use Rattle.format.specs.declared.Version.{Version}
@@ -25,13 +26,14 @@ use Rattle.field.specs.declared.Spelled.the-variants as spelled′
 use Rattle.field.specs.declared.Length.{Length}
 use Rattle.field.specs.declared.Length.the-variants as length′
 use Rattle.field.specs.declared.Parsed.{Parsed}
-use Rattle.field.specs.declared.Parsed.the-variants.{Bad, Plain, Versioned, Sized}
+use Rattle.field.specs.declared.Parsed.the-variants.{Bad, Good}
+use Rattle.field.specs.declared.Says.the-variants as says
 
 -- ---- a value kept as it stands
 
 unfoldable pub plainBy : ℕ → ℕ → Taken → Parsed
 plainBy a b Wrong = Bad 10
-plainBy a b (Value n) = Plain (record { tag_0 = a; tag_1 = b; len = n })
+plainBy a b (Value n) = Good (record { tag_0 = a; tag_1 = b; len = n; says = says.Bytes })
 
 pub plain-taken : (a b at : ℕ) (v : List ℕ) → parsedOf Program (plain a b at v) ≡ plainBy a b (takenOf v)
 unfolding parsedOf plain plainBy takenOf
@@ -65,7 +67,7 @@ no-value v e = go (isValue v) refl e
 
 unfoldable pub versionBy : ℕ → Spelled → Parsed
 versionBy n spelled′.Invalid = Bad 11
-versionBy n (spelled′.Is w) = Versioned (record { tag_0 = 86; tag_1 = 78; len = n }) w
+versionBy n (spelled′.Is w) = Good (record { tag_0 = 86; tag_1 = 78; len = n; says = says.Version w })
 
 pub version-wrong : (at : ℕ) (v : List ℕ) → takenOf v ≡ Wrong → parsedOf Header (versionField at v) ≡ Bad 10
 unfolding parsedOf versionField
@@ -87,7 +89,7 @@ version-taken at n v e = rw (a-value v n e .0, a-value v n e .1) (go (version v)
 unfoldable pub sizedBy : Length → Parsed
 sizedBy length′.Invalid = Bad 12
 sizedBy length′.Zero = Bad 13
-sizedBy (length′.Is n k) = Sized (record { tag_0 = 76; tag_1 = 78; len = k }) n
+sizedBy (length′.Is n k) = Good (record { tag_0 = 76; tag_1 = 78; len = k; says = says.Length n })
 
 pub length-sized : (at : ℕ) (ds rest : List ℕ) → parsedOf ReferenceSequence (lengthField at (ds, rest)) ≡ sizedBy (lengthOf (counted (2 ^ 64) ds))
 unfolding parsedOf lengthField sizedBy lengthOf counted

@@ -22,9 +22,11 @@ use Rattle.field.specs.declared.Spelled.{Spelled}
 use Rattle.field.specs.declared.Spelled.the-variants as spelled
 use Rattle.field.specs.declared.Length.{Length}
 use Rattle.field.specs.declared.Length.the-variants as length′
+use Rattle.field.specs.declared.Says.{Says}
+use Rattle.field.specs.declared.Says.the-variants as says
 use Rattle.field.specs.declared.Field.{Field}
 use Rattle.field.specs.declared.Parsed.{Parsed}
-use Rattle.field.specs.declared.Parsed.the-variants.{Bad, Plain, Versioned, Sized}
+use Rattle.field.specs.declared.Parsed.the-variants.{Bad, Good}
 
 -- the bytes before the next tab: a value and its length, or refusal 10 (`Wrong`)
 unfoldable pub takenOf : List ℕ → Taken
@@ -49,23 +51,25 @@ lengthOf (number.Is n k) = cond (eqb n 0) length′.Zero (length′.Is n k)
 
 -- ---- a field
 
--- its tag, and how long its value is
-unfoldable pub fieldOf : fields.Field → Field
-fieldOf f = record { tag_0 = f .tag₀; tag_1 = f .tag₁; len = length (f .value .bytes) }
+-- its tag, how long its value is, and what it says
+unfoldable pub fieldOf : Says → fields.Field → Field
+fieldOf s f = record { tag_0 = f .tag₀; tag_1 = f .tag₁; len = length (f .value .bytes); says = s }
 
 -- VN of HD with its version
-unfoldable pub versionedBy : Field → Option Version → Parsed
+unfoldable pub versionedBy : fields.Field → Option Version → Parsed
+unfolding fieldOf
 versionedBy f none = Bad 11
-versionedBy f (some v) = Versioned f v
+versionedBy f (some v) = Good (fieldOf (says.Version v) f)
 
 -- a field of a record of kind `k`: VN of HD carries its version, LN of SQ its number
 unfoldable pub valued : Kind → fields.Field → Parsed
 unfolding fieldOf versionedBy tagged version worth
-valued Header f = cond (tagged 86 78 f) (versionedBy (fieldOf f) (version (f .value .bytes))) (Plain (fieldOf f))
-valued ReferenceSequence f = cond (tagged 76 78 f) (Sized (fieldOf f) (worth (f .value .bytes))) (Plain (fieldOf f))
-valued ReadGroup f = Plain (fieldOf f)
-valued Program f = Plain (fieldOf f)
-valued Comment f = Plain (fieldOf f)
+valued Header f = cond (tagged 86 78 f) (versionedBy f (version (f .value .bytes))) (Good (fieldOf says.Bytes f))
+valued ReferenceSequence f =
+    cond (tagged 76 78 f) (Good (fieldOf (says.Length (worth (f .value .bytes))) f)) (Good (fieldOf says.Bytes f))
+valued ReadGroup f = Good (fieldOf says.Bytes f)
+valued Program f = Good (fieldOf says.Bytes f)
+valued Comment f = Good (fieldOf says.Bytes f)
 
 -- the refusal, or the field; what may follow its value is the next field's affair
 unfoldable pub parsedOf : Kind → Judged → Parsed

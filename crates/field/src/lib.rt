@@ -6,8 +6,8 @@ ghost use mathlib.Core.Path.{_≡_};
 ghost use mathlib.Core.Bool.{_&&_};
 ghost use lib.Dec.{eqb};
 ghost use Rattle.format.specs.Bytes.{between, letter, digit};
-ghost use Rattle.format.specs.Decimal.{number};
-ghost use Rattle.format.specs.Fields.{isTag, field, valueField, versionField, lengthField, plain, span};
+ghost use Rattle.format.specs.Decimal.{number, span};
+ghost use Rattle.format.specs.Fields.{isTag, field, valueField, versionField, lengthField, plain};
 ghost use Rattle.format.specs.Version.{version};
 ghost use Prim.Native.Nat.{_^_};
 ghost use Rattle.decimal.specs.Number.{front};
@@ -36,18 +36,24 @@ pub enum Length {
     Is(u64, usize),
 }
 
-// A field's tag, and how many bytes its value has.
+// What a field's value says: its bytes alone, VN of HD its version, LN of SQ its number.
+pub enum Says {
+    Bytes,
+    Version(Version),
+    Length(u64),
+}
+
+// A field's tag, how many bytes its value has, and what it says.
 pub struct Field {
     pub tag_0: u8,
     pub tag_1: u8,
     pub len: usize,
+    pub says: Says,
 }
 
 pub enum Parsed {
     Bad(u8),
-    Plain(Field),
-    Versioned(Field, Version),
-    Sized(Field, u64),
+    Good(Field),
 }
 
 // ---- tags
@@ -173,10 +179,11 @@ fn parse_plain_value(a: u8, b: u8, src: &[u8]) -> Parsed
 {
     match parse_value(src) {
         Taken::Wrong => Parsed::Bad(10),
-        Taken::Value(len) => Parsed::Plain(Field {
+        Taken::Value(len) => Parsed::Good(Field {
             tag_0: a,
             tag_1: b,
             len,
+            says: Says::Bytes,
         }),
     }
 }
@@ -190,14 +197,12 @@ fn parse_version_value(src: &[u8]) -> Parsed
     };
     match parse_version(&src[..len]) {
         Spelled::Invalid => Parsed::Bad(11),
-        Spelled::Is(version) => Parsed::Versioned(
-            Field {
-                tag_0: b'V',
-                tag_1: b'N',
-                len,
-            },
-            version,
-        ),
+        Spelled::Is(version) => Parsed::Good(Field {
+            tag_0: b'V',
+            tag_1: b'N',
+            len,
+            says: Says::Version(version),
+        }),
     }
 }
 
@@ -208,14 +213,12 @@ fn parse_length_value(src: &[u8]) -> Parsed
     match parse_length(src) {
         Length::Invalid => Parsed::Bad(12),
         Length::Zero => Parsed::Bad(13),
-        Length::Is(n, len) => Parsed::Sized(
-            Field {
-                tag_0: b'L',
-                tag_1: b'N',
-                len,
-            },
-            n,
-        ),
+        Length::Is(n, len) => Parsed::Good(Field {
+            tag_0: b'L',
+            tag_1: b'N',
+            len,
+            says: Says::Length(n),
+        }),
     }
 }
 

@@ -1,6 +1,9 @@
 // One line of a header: the record that it is, or the refusal that it gets.
-use field::{Field, Parsed, Says};
-use format::{Kind, Version};
+use field::Field;
+use field::Parsed;
+use field::Says;
+use format::Kind;
+use format::Version;
 use kind::ParsedKind;
 ghost use mathlib.Core.Path.{_≡_};
 ghost use mathlib.Core.Bool.{_&&_, _||_};
@@ -105,8 +108,7 @@ fn stands_again(src: &[u8], a: u8, b: u8, seen: bool) -> bool
 }
 
 impl Keys {
-    pub fn new() -> Self
-    {
+    pub fn new() -> Self {
         Keys {
             key: KeyPlace::Missing,
             version: KeyVersion::Missing,
@@ -126,17 +128,42 @@ impl Keys {
         let others = self.others;
         let says = f.says;
         match says {
-            Says::Version(v) => Keys { key, version: KeyVersion::Is(v), length, others },
-            Says::Length(n) => Keys { key, version, length: KeyLength::Is(n), others },
+            Says::Version(v) => Keys {
+                key,
+                version: KeyVersion::Is(v),
+                length,
+                others,
+            },
+            Says::Length(n) => Keys {
+                key,
+                version,
+                length: KeyLength::Is(n),
+                others,
+            },
             Says::Bytes => {
                 if is_key(kind, f.tag_0, f.tag_1) {
                     let place = Place { at, len: f.len };
-                    return Keys { key: KeyPlace::At(place), version, length, others };
+                    return Keys {
+                        key: KeyPlace::At(place),
+                        version,
+                        length,
+                        others,
+                    };
                 }
                 if again {
-                    return Keys { key, version, length, others };
+                    return Keys {
+                        key,
+                        version,
+                        length,
+                        others,
+                    };
                 }
-                Keys { key, version, length, others: others + 1 }
+                Keys {
+                    key,
+                    version,
+                    length,
+                    others: others + 1,
+                }
             }
         }
     }
@@ -148,24 +175,34 @@ impl Keys {
         let others = self.others;
         if let Kind::Header = kind {
             let version = self.version;
-            let KeyVersion::Is(v) = version else { return Head::Refused(15); };
+            let KeyVersion::Is(v) = version else {
+                return Head::Refused(15);
+            };
             return Head::Header(v, others);
         }
         let key = self.key;
         match kind {
             Kind::Header => Head::Refused(15),
             Kind::ReferenceSequence => {
-                let KeyPlace::At(p) = key else { return Head::Refused(15); };
+                let KeyPlace::At(p) = key else {
+                    return Head::Refused(15);
+                };
                 let length = self.length;
-                let KeyLength::Is(n) = length else { return Head::Refused(16); };
+                let KeyLength::Is(n) = length else {
+                    return Head::Refused(16);
+                };
                 Head::ReferenceSequence(p, n, others)
             }
             Kind::ReadGroup => {
-                let KeyPlace::At(p) = key else { return Head::Refused(15); };
+                let KeyPlace::At(p) = key else {
+                    return Head::Refused(15);
+                };
                 Head::ReadGroup(p, others)
             }
             Kind::Program => {
-                let KeyPlace::At(p) = key else { return Head::Refused(15); };
+                let KeyPlace::At(p) = key else {
+                    return Head::Refused(15);
+                };
                 Head::Program(p, others)
             }
             Kind::Comment => Head::Refused(15),

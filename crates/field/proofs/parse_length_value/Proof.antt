@@ -4,7 +4,8 @@ use mathlib.Core.Path.{_≡_, sym, ap, _∙_}
 use mathlib.Core.List.{List}
 use borrow.Author.Needs.{needs}
 use Rattle.decimal.specs.Number.{counted, front}
-use Rattle.format.specs.Fields.{lengthField, span}
+use Rattle.format.specs.Decimal.{span}
+use Rattle.format.specs.Fields.{lengthField}
 use Rattle.format.specs.declared.Kind.the-variants.{ReferenceSequence}
 use Rattle.text.specs.Upto.{before}
 use Rattle.field.specs.Parsed.{lengthOf, parsedOf}
