@@ -84,7 +84,7 @@ pub fn is_tag(a: u8, b: u8) -> bool
 }
 
 // Whether the tag `a`, `b` is `x`, `y`.
-fn is_same_tag(a: u8, b: u8, x: u8, y: u8) -> bool
+pub fn is_same_tag(a: u8, b: u8, x: u8, y: u8) -> bool
     ensures { λ r. ⌜ r ≡ (eqb a x && eqb b y) ⌝ }
 {
     a == x && b == y

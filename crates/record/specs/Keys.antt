@@ -79,18 +79,21 @@ unfolding keyOf versionOf lengthOf unkeyed settled
 keysOf k fs =
     record { key = keyOf k fs; version = versionOf k fs; length = lengthOf k fs; others = length (settled (unkeyed k fs)) }
 
--- one field more, whose value stands at the offset `at`; `again` says that its tag was there before
+-- a field whose value says `s` and stands at the offset `at`; `again` says that its tag was there before
+unfoldable pub saying : Kind → field.Field → ℕ → Bool → Keys → Says → Keys
+saying k f at again keys (says.Version v) =
+    record { key = keys .key; version = version′.Is v; length = keys .length; others = keys .others }
+saying k f at again keys (says.Length n) =
+    record { key = keys .key; version = keys .version; length = length′.Is n; others = keys .others }
+saying k f at again keys says.Bytes =
+    cond (isKey k (f .«tag_0») (f .«tag_1»))
+    (record { key = place.At (record { at = at; len = f .len }); version = keys .version; length = keys .length; others = keys .others })
+    (record { key = keys .key; version = keys .version; length = keys .length; others = cond again (keys .others) (suc (keys .others)) })
+
+-- one field more
 unfoldable pub withField : Kind → field.Field → ℕ → Bool → Keys → Keys
-unfolding isKey
-withField k f at again keys = saying (f .says)
-  where
-    saying : Says → Keys
-    saying (says.Version v) = record { key = keys .key; version = version′.Is v; length = keys .length; others = keys .others }
-    saying (says.Length n) = record { key = keys .key; version = keys .version; length = length′.Is n; others = keys .others }
-    saying says.Bytes =
-        cond (isKey k (f .«tag_0») (f .«tag_1»))
-        (record { key = place.At (record { at = at; len = f .len }); version = keys .version; length = keys .length; others = keys .others })
-        (record { key = keys .key; version = keys .version; length = keys .length; others = cond again (keys .others) (suc (keys .others)) })
+unfolding saying
+withField k f at again keys = saying k f at again keys (f .says)
 
 unfoldable pub versionHead : ℕ → KeyVersion → Head
 versionHead n version′.Missing = head.Refused 15

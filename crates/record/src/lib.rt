@@ -82,10 +82,15 @@ pub fn is_key(kind: Kind, a: u8, b: u8) -> bool
     ensures { λ r. ⌜ r ≡ isKey kind a b ⌝ }
 {
     match kind {
-        Kind::Header => a == b'V' && b == b'N',
-        Kind::ReferenceSequence => (a == b'S' && b == b'N') || (a == b'L' && b == b'N'),
-        Kind::ReadGroup => a == b'I' && b == b'D',
-        Kind::Program => a == b'I' && b == b'D',
+        Kind::Header => field::is_same_tag(a, b, b'V', b'N'),
+        Kind::ReferenceSequence => {
+            if field::is_same_tag(a, b, b'S', b'N') {
+                return true;
+            }
+            field::is_same_tag(a, b, b'L', b'N')
+        }
+        Kind::ReadGroup => field::is_same_tag(a, b, b'I', b'D'),
+        Kind::Program => field::is_same_tag(a, b, b'I', b'D'),
         Kind::Comment => false,
     }
 }
@@ -172,22 +177,21 @@ impl Keys {
     fn head(self, kind: Kind) -> Head
         ensures { λ r. ⌜ r ≡ headFrom kind self ⌝ }
     {
-        let others = self.others;
-        if let Kind::Header = kind {
-            let version = self.version;
-            let KeyVersion::Is(v) = version else {
-                return Head::Refused(15);
-            };
-            return Head::Header(v, others);
-        }
         let key = self.key;
+        let version = self.version;
+        let length = self.length;
+        let others = self.others;
         match kind {
-            Kind::Header => Head::Refused(15),
+            Kind::Header => {
+                let KeyVersion::Is(v) = version else {
+                    return Head::Refused(15);
+                };
+                Head::Header(v, others)
+            }
             Kind::ReferenceSequence => {
                 let KeyPlace::At(p) = key else {
                     return Head::Refused(15);
                 };
-                let length = self.length;
                 let KeyLength::Is(n) = length else {
                     return Head::Refused(16);
                 };
