@@ -86,7 +86,7 @@ map-put f fs (g ∷ gs) h =
 
 module _ (k : Kind) (a b : ℕ) (n : isKey k a b ≡ false) where
   -- a tag that is no key is no key's tag
-  not-key : (f : Field) → isKey k (f .tag₀) (f .tag₁) ≡ true → tagged a b f ≡ false
+  pub not-key : (f : Field) → isKey k (f .tag₀) (f .tag₁) ≡ true → tagged a b f ≡ false
   unfolding tagged
   not-key f h = split (tagged a b f) (λ t. absurd (apart t)) (λ t. t)
     where

@@ -3,3 +3,4 @@ pub mod Tags
 pub mod Firsts
 pub mod Turn
 pub mod Region
+pub mod Made
