@@ -5,3 +5,4 @@ pub mod Judged
 pub mod Place
 pub mod Anywhere
 pub mod Next
+pub mod Answer
