@@ -15,7 +15,7 @@ use Rattle.format.specs.declared.Version.{Version}
 use Rattle.format.specs.declared.Kind.{Kind}
 use Rattle.format.specs.declared.Kind.the-variants.{Header, ReferenceSequence, ReadGroup, Program, Comment}
 use Rattle.text.specs.Upto.{before}
-use Rattle.field.specs.Parsed.{parsedOf, valued, fieldOf}
+use Rattle.field.specs.Parsed.{parsedOf, valued}
 use Rattle.field.specs.declared.Parsed.the-variants.{Bad}
 use Rattle.field.proofs.Judged.{numeric, valued-plain, value-kept, value-version, value-length}
 use Rattle.field.proofs.Next.{then-onward}
@@ -32,6 +32,7 @@ plain-sound k a b at v h = go (isValue v)
   where
     f : Field
     f = record { tag₀ = a; tag₁ = b; value = record { at = at; bytes = v } }
+
     go : (t : Bool) → Sound k (cond t (good f) (bad 10))
     go true = λ n e. let z : _≡_ {A = ℕ} 0 1 = cc (valued-plain k f h) in omega arith
     go false = tt
@@ -42,6 +43,7 @@ version-sound at v = go (isValue v) (version v) refl
   where
     f : Field
     f = record { tag₀ = 86; tag₁ = 78; value = record { at = at; bytes = v } }
+
     go : (t : Bool) (o : Option Version) → version v ≡ o → Sound Header (cond t (spelled o (cond t (good f) (bad 10))) (bad 10))
     go true none k = tt
     go true (some w) k = λ n e. let e′ = rw k at e in let z : _≡_ {A = ℕ} 0 1 = cc in omega arith
@@ -53,8 +55,10 @@ length-sound at ds more = go (none? ds || not (ltb (worth ds) 184467440737095516
   where
     f : Field
     f = record { tag₀ = 76; tag₁ = 78; value = record { at = at; bytes = ds } }
+
     sized : (n : ℕ) → valued ReferenceSequence f ≡ Bad n → ⊥
     sized n e = let z : _≡_ {A = ℕ} 0 1 = cc in omega arith
+
     go : (t u w : Bool) → Sound ReferenceSequence (cond t (bad 12) (cond u (bad 13) (cond w (good f) (goodThen f 6))))
     go true u w = tt
     go false true w = tt

@@ -4,7 +4,7 @@ use mathlib.Core.Path.{_≡_, refl, sym, ap, _∙_}
 use mathlib.Core.Bool.{Bool, true, false, cond}
 use mathlib.Core.List.{List, [], _∷_}
 use lib.Dec.{eqb}
-use Rattle.format.specs.Fields.{bad, field, valueField, versionField, lengthField, span, isTag}
+use Rattle.format.specs.Fields.{bad, field, valueField, versionField, span, isTag}
 use Rattle.format.specs.declared.Kind.{Kind}
 use Rattle.format.specs.declared.Kind.the-variants.{Header, ReferenceSequence, ReadGroup, Program, Comment}
 use Rattle.field.specs.Parsed.{takenOf, parsedOf}
@@ -35,6 +35,7 @@ module _ (a b at to : ℕ) (v : List ℕ) where
       number ReadGroup e = cc
       number Program e = cc
       number Comment e = cc
+
       go : (t : Bool) → numeric k a b ≡ t → parsedOf k (valueField k a b at v) ≡ parsedOf k (valueField k a b to v)
       go true e = number k e
       go false e =

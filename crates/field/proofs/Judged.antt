@@ -1,23 +1,23 @@
 -- What the readers of a value answer, as what is judged of its bytes.
 use Prim.Native.Nat.{ℕ, _^_}
-use mathlib.Core.Path.{_≡_, refl, sym, ap, _∙_}
+use mathlib.Core.Path.{_≡_, refl, ap, _∙_}
 use mathlib.Core.Bool.{Bool, true, false, _&&_, not, cond}
 use mathlib.Core.List.{List, [], _∷_}
 use mathlib.Core.Option.{Option, none, some}
 use native.Mathlib.Omega.{arith}
 use lib.ListN.{length}
 use lib.Dec.{eqb, ltb}
-use Rattle.decimal.specs.Number.{counted, front}
+use Rattle.decimal.specs.Number.{counted}
 use Rattle.decimal.specs.declared.Number.the-variants as number
 use Rattle.format.specs.Bytes.{none?}
 use Rattle.format.specs.Decimal.{worth}
-use Rattle.format.specs.Fields.{isValue, Judged, good, bad, goodThen, plain, spelled, versionField, lengthField, valueField, span, tagged}
+use Rattle.format.specs.Fields.{isValue, good, bad, goodThen, plain, spelled, versionField, lengthField, valueField, span}
 use Rattle.format.specs.Fields as fields
 use Rattle.format.specs.Version.{version}
 use Rattle.format.specs.declared.Version.{Version}
 use Rattle.format.specs.declared.Kind.{Kind}
 use Rattle.format.specs.declared.Kind.the-variants.{Header, ReferenceSequence, ReadGroup, Program, Comment}
-use Rattle.field.specs.Parsed.{takenOf, spelledOf, lengthOf, parsedOf, valued, fieldOf, versionedBy}
+use Rattle.field.specs.Parsed.{takenOf, spelledOf, lengthOf, parsedOf, valued, fieldOf}
 use Rattle.field.specs.declared.Taken.{Taken}
 use Rattle.field.specs.declared.Taken.the-variants.{Value, Wrong}
 use Rattle.field.specs.declared.Spelled.{Spelled}
@@ -150,6 +150,7 @@ module _ (a b at : ℕ) (v : List ℕ) where
     where
       f : fields.Field
       f = record { tag₀ = a; tag₁ = b; value = record { at = at; bytes = v } }
+
       go : (t : Bool) → parsedOf k (cond t (good f) (bad 10)) ≡ parsedOf Program (cond t (good f) (bad 10))
       go true = valued-plain k f e
       go false = refl

@@ -1,5 +1,5 @@
 -- What an accepted field says of the bytes that it was read from, and of the byte after it.
-use Prim.Native.Nat.{ℕ, suc, _+_, _≤_, _<_}
+use Prim.Native.Nat.{ℕ, _+_, _≤_, _<_}
 use mathlib.Core.Path.{_≡_, refl, sym, ap, subst, _∙_}
 use mathlib.Core.Bool.{Bool, true, false, _&&_, _||_, not, cond, and-eq-true-iff}
 use mathlib.Core.List.{List, [], _∷_, _++_}
@@ -71,8 +71,10 @@ length-used at ds more = go (none? ds || not (ltb (worth ds) 1844674407370955161
   where
     f : Field
     f = record { tag₀ = 76; tag₁ = 78; value = record { at = at; bytes = ds } }
+
     kept : (l : List ℕ) → Kept 76 78 at (ds ++ l) f
     kept l = record { first = refl; second = refl; starts = refl; bytes = sym (take-append-seam ds l) }
+
     go : (t u : Bool) (l : List ℕ) → Used 76 78 at (ds ++ l) (cond t (bad 12) (cond u (bad 13) (cond (none? l) (good f) (goodThen f 6))))
     go true u l = tt
     go false true l = tt

@@ -8,7 +8,7 @@ use lib.ListN.{length, getD, take, drop, drop-of-length-le}
 use lib.Seq.{drop-cons}
 use lib.Dec.{eqb}
 use borrow.Author.Tests.{eq-eqb, ne-eqb, eqb-true}
-use Rattle.format.specs.Bytes.{letter, digit}
+use Rattle.format.specs.Bytes.{letter}
 use Rattle.format.specs.Fields.{Judged, bad, field, valueField, isTag}
 use Rattle.format.specs.declared.Kind.{Kind}
 use Rattle.text.specs.Upto.{upto, before}
