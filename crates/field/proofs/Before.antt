@@ -1,13 +1,13 @@
 -- The bytes before the next tab, one byte at a time.
-use Prim.Native.Nat.{ℕ, _-_}
+use Prim.Native.Nat.{ℕ, zero, suc, _-_, _<_}
 use mathlib.Core.Path.{_≡_, refl, sym, ap, _∙_}
-use mathlib.Core.Bool.{Bool, true, false}
+use mathlib.Core.Bool.{Bool, true, false, cond}
 use mathlib.Core.List.{List, [], _∷_}
 use native.Mathlib.Omega.{arith}
-use lib.ListN.{length, take, drop, length-drop}
+use lib.ListN.{length, take, drop, getD, length-drop}
 use lib.Seq.{length-take-le, take-all}
 use lib.Dec.{eqb}
-use borrow.Author.Tests.{eqb-true}
+use borrow.Author.Tests.{eqb-true, eqb-false}
 use Rattle.format.specs.Bytes.{digit}
 use Rattle.format.specs.Decimal.{span}
 use Rattle.decimal.proofs.Front.{digit-low, span-digit, span-stop}
@@ -29,6 +29,18 @@ before-pass d b s e = rw e
 pub before-length : (d : ℕ) (s : List ℕ) → length (before d s) ≡ upto d s
 unfolding before
 before-length d s = length-take-le (upto d s) s (upto-le d s)
+
+-- no byte before the first `d` is one
+pub upto-not : (d : ℕ) (s : List ℕ) (i : ℕ) → i < upto d s → getD s i 0 ≡ d → ⊥
+unfolding upto
+upto-not d [] i h = absurd (omega arith)
+upto-not d (b ∷ s) i h = go (eqb b d) refl (upto-not d s) i h
+  where
+    go : (t : Bool) → eqb b d ≡ t → ((j : ℕ) → j < upto d s → getD s j 0 ≡ d → ⊥)
+        → (j : ℕ) → j < cond t 0 (suc (upto d s)) → getD (b ∷ s) j 0 ≡ d → ⊥
+    go true e ih j k = absurd (omega arith)
+    go false e ih zero k = eqb-false b d e
+    go false e ih (suc j) k = ih j (omega arith)
 
 -- a tab is no digit: the digits at the front are the same
 pub span-before : (s : List ℕ) → span (before 9 s) .0 ≡ span s .0

@@ -1,24 +1,24 @@
 -- What the readers of a value answer, as what is judged of its bytes.
 use Prim.Native.Nat.{ℕ, _^_}
-use mathlib.Core.Path.{_≡_, refl, sym, ap, _∙_}
+use mathlib.Core.Path.{_≡_, refl, ap, _∙_}
 use mathlib.Core.Bool.{Bool, true, false, _&&_, not, cond}
 use mathlib.Core.List.{List, [], _∷_}
 use mathlib.Core.Option.{Option, none, some}
 use native.Mathlib.Omega.{arith}
 use lib.ListN.{length}
 use lib.Dec.{eqb, ltb}
-use Rattle.decimal.specs.Number.{counted, front}
+use Rattle.decimal.specs.Number.{counted}
 use Rattle.decimal.specs.declared.Number.the-variants as number
 use Rattle.format.specs.Bytes.{none?}
 use Rattle.format.specs.Decimal.{worth}
-use Rattle.format.specs.Fields.{isValue, Judged, good, bad, goodThen, plain, spelled, versionField, lengthField, valueField, tagged}
 use Rattle.format.specs.Decimal.{span}
+use Rattle.format.specs.Fields.{isValue, good, bad, goodThen, plain, spelled, versionField, lengthField, valueField, tagged}
 use Rattle.format.specs.Fields as fields
 use Rattle.format.specs.Version.{version}
 use Rattle.format.specs.declared.Version.{Version}
 use Rattle.format.specs.declared.Kind.{Kind}
 use Rattle.format.specs.declared.Kind.the-variants.{Header, ReferenceSequence, ReadGroup, Program, Comment}
-use Rattle.field.specs.Parsed.{takenOf, spelledOf, lengthOf, parsedOf, valued, fieldOf, versionedBy}
+use Rattle.field.specs.Parsed.{takenOf, spelledOf, lengthOf, parsedOf, valued, fieldOf}
 use Rattle.field.specs.declared.Taken.{Taken}
 use Rattle.field.specs.declared.Taken.the-variants.{Value, Wrong}
 use Rattle.field.specs.declared.Spelled.{Spelled}
@@ -128,27 +128,31 @@ numeric ReadGroup a b = false
 numeric Program a b = false
 numeric Comment a b = false
 
--- any other value is plain, whatever the kind
-module _ (a b at : ℕ) (v : List ℕ) where
-  same-plain : (k : Kind) → numeric k a b ≡ false → parsedOf k (plain a b at v) ≡ parsedOf Program (plain a b at v)
-  unfolding plain parsedOf numeric
-  same-plain k e = go k e (isValue v)
-    where
-      j : Bool → Judged
-      j t = cond t (good (record { tag₀ = a; tag₁ = b; value = record { at = at; bytes = v } })) (bad 10)
+-- any other field is plain, whatever the kind
+pub valued-plain : (k : Kind) (f : fields.Field) → numeric k (f .tag₀) (f .tag₁) ≡ false → valued k f ≡ Good (fieldOf says.Bytes f)
+unfolding valued numeric
+valued-plain Header f e = rw e refl
+valued-plain ReferenceSequence f e = rw e refl
+valued-plain ReadGroup f e = refl
+valued-plain Program f e = refl
+valued-plain Comment f e = refl
 
-      go : (k : Kind) → numeric k a b ≡ false → (t : Bool) → parsedOf k (j t) ≡ parsedOf Program (j t)
-      go k e false = refl
-      go Header e true = rw e refl
-      go ReferenceSequence e true = rw e refl
-      go ReadGroup e true = refl
-      go Program e true = refl
-      go Comment e true = refl
+module _ (a b at : ℕ) (v : List ℕ) where
+  pub value-kept : (k : Kind) → numeric k a b ≡ false → valueField k a b at v ≡ plain a b at v
+  unfolding valueField numeric
+  value-kept Header e = rw e refl
+  value-kept ReferenceSequence e = rw e refl
+  value-kept ReadGroup e = refl
+  value-kept Program e = refl
+  value-kept Comment e = refl
 
   pub value-plain : (k : Kind) → numeric k a b ≡ false → parsedOf k (valueField k a b at v) ≡ parsedOf Program (plain a b at v)
-  unfolding valueField numeric
-  value-plain Header e = rw e (same-plain Header e)
-  value-plain ReferenceSequence e = rw e (same-plain ReferenceSequence e)
-  value-plain ReadGroup e = same-plain ReadGroup e
-  value-plain Program e = refl
-  value-plain Comment e = same-plain Comment e
+  unfolding parsedOf plain
+  value-plain k e = ap (parsedOf k) (value-kept k e) ∙ go (isValue v)
+    where
+      f : fields.Field
+      f = record { tag₀ = a; tag₁ = b; value = record { at = at; bytes = v } }
+
+      go : (t : Bool) → parsedOf k (cond t (good f) (bad 10)) ≡ parsedOf Program (cond t (good f) (bad 10))
+      go true = valued-plain k f e
+      go false = refl

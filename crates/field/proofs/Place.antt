@@ -1,5 +1,5 @@
 -- A field judged in place: a tab is no letter, no digit and no colon, so the bytes after the piece change nothing.
-use Prim.Native.Nat.{ℕ, _+_, _≤_, _<_}
+use Prim.Native.Nat.{ℕ, suc, _+_, _≤_, _<_}
 use mathlib.Core.Path.{_≡_, refl, sym, ap, _∙_}
 use mathlib.Core.Bool.{Bool, true, false, cond, and-false}
 use mathlib.Core.List.{List, [], _∷_}
@@ -8,7 +8,7 @@ use lib.ListN.{length, getD, take, drop, drop-of-length-le}
 use lib.Seq.{drop-cons}
 use lib.Dec.{eqb}
 use borrow.Author.Tests.{eq-eqb, ne-eqb, eqb-true}
-use Rattle.format.specs.Bytes.{letter, digit}
+use Rattle.format.specs.Bytes.{letter}
 use Rattle.format.specs.Fields.{Judged, bad, field, valueField, isTag}
 use Rattle.format.specs.declared.Kind.{Kind}
 use Rattle.text.specs.Upto.{upto, before}
@@ -32,6 +32,18 @@ tab-first a b e = rw (eqb-true a 9 e) refl
 tab-second : (a b : ℕ) → eqb b 9 ≡ true → isTag a b ≡ false
 unfolding isTag
 tab-second a b e = rw (eqb-true b 9 e) (and-false (letter a))
+
+-- so no tab stands before the value
+pub upto-value : (a b c : ℕ) (v : List ℕ) → isTag a b ≡ true → eqb c 58 ≡ true → upto 9 (a ∷ b ∷ c ∷ v) ≡ 3 + upto 9 v
+unfolding upto
+upto-value a b c v t e = go (eqb a 9) refl (eqb b 9) refl (eqb c 9) refl
+  where
+    go : (x : Bool) → eqb a 9 ≡ x → (y : Bool) → eqb b 9 ≡ y → (z : Bool) → eqb c 9 ≡ z
+        → cond x 0 (suc (cond y 0 (suc (cond z 0 (suc (upto 9 v)))))) ≡ 3 + upto 9 v
+    go true p y q z r = cc (tab-first a b p)
+    go false p true q z r = cc (tab-second a b q)
+    go false p false q true r = absurd (omega (arith, eqb-true c 9 r, eqb-true c 58 e))
+    go false p false q false r = omega arith
 
 after-tag : (k : Kind) (at a b : ℕ) (w : List ℕ) → field k at (a ∷ b ∷ before 9 w) ≡ inPlace k at (a ∷ b ∷ w)
 unfolding field inPlace before

@@ -1,7 +1,7 @@
 -- The laws of taking a value byte by byte: what is left to do at a place.
-use Prim.Native.Nat.{ℕ, zero, suc, _+_, _≤_, _<_}
-use mathlib.Core.Path.{_≡_, refl, sym, ap, _∙_}
-use mathlib.Core.Bool.{Bool, true, false, cond}
+use Prim.Native.Nat.{ℕ, suc, _+_, _≤_, _<_}
+use mathlib.Core.Path.{_≡_, refl}
+use mathlib.Core.Bool.{true, false, cond}
 use mathlib.Core.List.{List, [], _∷_}
 use native.Mathlib.Omega.{arith}
 use native.Mathlib.Numerals.{add-one}
@@ -9,10 +9,10 @@ use native.Mathlib.Nat.{zero-add, add-zero}
 use lib.ListN.{length, getD, drop, drop-of-length-le}
 use lib.Seq.{drop-cons}
 use lib.Dec.{eqb}
-use borrow.Author.Tests.{le-leb, lt-leb, eq-eqb, ne-eqb}
-use Rattle.format.specs.Bytes.{printable, all, none?}
+use borrow.Author.Tests.{eq-eqb, ne-eqb}
+use Rattle.format.specs.Bytes.{printable, all}
 use Rattle.format.specs.Fields.{isValue}
-use Rattle.text.specs.Upto.{upto, before}
+use Rattle.text.specs.Upto.{before}
 use Rattle.field.specs.Parsed.{takenOf}
 use Rattle.field.specs.declared.Taken.{Taken}
 use Rattle.field.specs.declared.Taken.the-variants.{Value, Wrong}

@@ -14,11 +14,13 @@ ghost use Rattle.decimal.specs.Number.{front};
 ghost use Rattle.text.specs.Upto.{before};
 ghost use Rattle.field.specs.Parsed.{takenOf, partOf, spelledOf, lengthOf, parsedOf};
 
+// How many bytes a value has.
 pub enum Taken {
     Value(usize),
     Wrong,
 }
 
+// The version that a value spells.
 pub enum Spelled {
     Is(Version),
     Invalid,
@@ -30,6 +32,7 @@ enum Part {
     Invalid,
 }
 
+// A length, and how many digits spell it.
 pub enum Length {
     Invalid,
     Zero,
@@ -51,6 +54,7 @@ pub struct Field {
     pub says: Says,
 }
 
+// A refusal, or a field: VN of HD with its version, LN of SQ with its length.
 pub enum Parsed {
     Bad(u8),
     Good(Field),
@@ -149,7 +153,7 @@ pub fn parse_version(src: &[u8]) -> Spelled
     let Part::Is(minor) = parse_part(&src[dot + 1..]) else {
         return Spelled::Invalid;
     };
-    Spelled::Is(Version { major, minor })
+    Spelled::Is(Version::new(major, minor))
 }
 
 // ---- lengths
@@ -173,7 +177,7 @@ pub fn parse_length(src: &[u8]) -> Length
 
 // ---- fields
 
-// A value that is kept as it stands.
+// A value that is kept byte for byte, as every value of a PG is.
 fn parse_plain_value(a: u8, b: u8, src: &[u8]) -> Parsed
     ensures { λ r. ⌜ r ≡ parsedOf Kind.Program (plain a b 3 (before 9 (now (src .entry)))) ⌝ }
 {

@@ -1,9 +1,7 @@
 -- What reading the front of a line answers: the byte that is due there, and the kind.
 use Prim.Native.Nat.{ℕ}
-use mathlib.Core.Bool.{Bool, false}
 use mathlib.Core.List.{List, [], _∷_}
 use mathlib.Core.Option.{Option, none, some}
-use lib.Dec.{eqb}
 use Rattle.format.specs.declared.Kind.{Kind}
 use Rattle.format.specs.Records.{kindOf}
 use Rattle.kind.specs.declared.ParsedKind.{ParsedKind}

@@ -1,5 +1,4 @@
 -- `field::is_between` meets its contract: where the first test fails, it is the answer; else the second is.
-use mathlib.Core.Path.{sym}
 use borrow.Author.Tests.{le-leb, lt-leb}
 use Rattle.format.specs.Bytes.{between}
 use Rattle.field.proofs.is_between.Statement.{statement}

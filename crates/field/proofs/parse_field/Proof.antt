@@ -1,24 +1,20 @@
 -- `field::parse_field` meets its contract: the bytes are judged in place, one after the other.
-use Prim.Native.Nat.{ℕ, _+_}
-use mathlib.Core.Path.{_≡_, refl, sym, ap, _∙_}
-use mathlib.Core.Bool.{true, false}
-use mathlib.Core.List.{List, [], _∷_}
+use Prim.Native.Nat.{ℕ, _-_}
+use mathlib.Core.Path.{_≡_, sym, ap, _∙_}
 use native.Mathlib.Omega.{arith}
-use lib.ListN.{getD, drop, drop-of-length-le}
-use lib.Seq.{drop-cons}
+use mathlib.Core.List.{List}
+use lib.ListN.{length, getD, take, drop}
 use borrow.Author.Needs.{needs}
-use borrow.Author.Tests.{not-true, not-false, eq-eqb, ne-eqb}
+use borrow.Author.Tests.{not-true, not-false}
 use Rattle.format.specs.Fields.{field, valueField}
+use Rattle.format.specs.declared.Kind.{Kind}
 use Rattle.text.specs.Upto.{before}
 use Rattle.field.specs.Parsed.{parsedOf}
+use Rattle.field.specs.declared.Parsed.{Parsed}
 use Rattle.field.proofs.Before.{rest}
 use Rattle.field.proofs.Place.{colonAt, field-in-place, place-short, place-tag, place-colon, colon-none, colon-other, colon-value}
 use Rattle.field.proofs.parse_field.Statement.{statement}
 use Rattle.field.proofs.parse_field.Tie as tie
-use Rattle.field.proofs.parse_field.Reads as reads
-use Rattle.field.proofs.parse_field.Lts as lts
-use Rattle.field.proofs.is_tag.Reads as is-tag-reads
-use Rattle.field.proofs.parse_field_value.Reads as parse-field-value-reads
 
 -- where the tag was found: what is due is the colon
 tagged : (c : tie.Else2)
@@ -96,18 +92,24 @@ part-parse-field-value-end c = search needs
 parse-field-value-requires : tie.Need-parse-field-value-requires
 parse-field-value-requires c κs = search needs
 
+-- what is read from the rest of the slice is read from the piece
+at-value : (k : Kind) (s : List ℕ) (r : Parsed)
+    → field k 0 (before 9 s) ≡ valueField k (getD s 0 0) (getD s 1 0) 3 (before 9 (drop 3 s))
+    → r ≡ parsedOf k (valueField k (getD s 0 0) (getD s 1 0) 3 (before 9 (take (length s - 3) (drop 3 s))))
+    → r ≡ parsedOf k (field k 0 (before 9 s))
+at-value k s r e h = rw (e, ← rest 3 s) h
+
 returns-5 : tie.Need-returns-5
 returns-5 c =
     let d = c .before .before in
     let t = d .before .before .before in
     let i = t .before .before .before .before .before .before .args in
-    let s = i .src .now in
-    c .parse-field-value .ensures
-    ∙ ap (λ w. parsedOf (i .kind) (valueField (i .kind) (getD s 0 0) (getD s 1 0) 3 (before 9 w))) (rest 3 s)
-    ∙ sym
-    (ap
-    (parsedOf (i .kind))
-    (tagged t ∙ colon-value (i .kind) _ _ 3 s (omega arith) (d .if4 .left)))
+    at-value
+    (i .kind)
+    (i .src .now)
+    _
+    (tagged t ∙ colon-value (i .kind) _ _ 3 (i .src .now) (omega arith) (d .if4 .left))
+    (c .parse-field-value .ensures)
 
 pub parse-field-spec : {M : Type 1} → statement M
 parse-field-spec =

@@ -5,9 +5,6 @@ use borrow.Author.Tests.{eq-eqb, ne-eqb}
 use Rattle.field.specs.Parsed.{lengthOf}
 use Rattle.field.proofs.parse_length.Statement.{statement}
 use Rattle.field.proofs.parse_length.Tie as tie
-use Rattle.field.proofs.parse_length.Reads as reads
-use Rattle.field.proofs.parse_length.Lts as lts
-use Rattle.decimal.proofs.read_u64.Reads as read-u64-reads
 
 read-u64-requires : tie.Need-read-u64-requires
 read-u64-requires c κs = search needs

@@ -4,16 +4,12 @@ use native.Mathlib.Omega.{arith}
 use lib.ListN.{length}
 use borrow.Author.Needs.{needs}
 use borrow.Author.Tests.{eq-eqb, ne-eqb}
-use Rattle.decimal.specs.Number.{front}
 use Rattle.decimal.specs.declared.Number.{Number}
 use Rattle.decimal.proofs.Whole.{whole, number-front, front-within}
 use Rattle.format.specs.Decimal.{number}
 use Rattle.field.specs.Parsed.{partOf}
 use Rattle.field.proofs.parse_part.Statement.{statement}
 use Rattle.field.proofs.parse_part.Tie as tie
-use Rattle.field.proofs.parse_part.Reads as reads
-use Rattle.field.proofs.parse_part.Lts as lts
-use Rattle.decimal.proofs.read_u32.Reads as read-u32-reads
 
 -- what the call answered, said of the whole slice
 part : (c : tie.After-read-u32) (n : Number) → c .read-u32 .result ≡ n

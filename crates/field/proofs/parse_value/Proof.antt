@@ -1,6 +1,6 @@
 -- `field::parse_value` meets its contract: what the whole asks is what is left to do at the place `i`.
 use Prim.Native.Nat.{ℕ, _-_, _≤_, _<_}
-use mathlib.Core.Path.{_≡_, refl, sym, ap, _∙_}
+use mathlib.Core.Path.{_≡_, sym, _∙_}
 use mathlib.Core.Bool.{true, false}
 use mathlib.Core.Logic.{⊎-elim}
 use native.Mathlib.Omega.{arith}
@@ -12,8 +12,6 @@ use Rattle.field.specs.Parsed.{takenOf}
 use Rattle.field.proofs.Value.{done, left, taken-start, at-end, at-tab, at-wrong, at-next}
 use Rattle.field.proofs.parse_value.Statement.{statement}
 use Rattle.field.proofs.parse_value.Tie as tie
-use Rattle.field.proofs.parse_value.Reads as reads
-use Rattle.field.proofs.parse_value.Lts as lts
 
 low : (b : ℕ) → b < 32 → printable b ≡ false
 unfolding printable
@@ -48,7 +46,7 @@ returns c =
 returns-2 : tie.Need-returns-2 Inv-loop μ-loop
 returns-2 c =
     let l = c .before .before .before .before .before .loop in
-    sym (l .inv .1 ∙ at-wrong _ (l .i) (omega arith) (c .before .before .if1 .left) (high _ (c .if3 .taken)))
+    sym (l .inv .1 ∙ at-wrong _ (l .i) (omega arith) (c .before .before .if1 .left) (high _ (omega arith)))
 
 add-i : tie.Need-add-i Inv-loop μ-loop
 add-i c = omega arith

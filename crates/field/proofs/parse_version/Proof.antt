@@ -1,7 +1,6 @@
 -- `field::parse_version` meets its contract: a version is what its two sides are.
-use Prim.Native.Nat.{_+_, _-_, _<_, _^_}
-use mathlib.Core.Path.{_≡_, refl, sym, ap, ap₂, _∙_}
-use mathlib.Core.Option.{none, some}
+use Prim.Native.Nat.{_+_, _<_, _^_}
+use mathlib.Core.Path.{_≡_, sym, ap, _∙_}
 use native.Mathlib.Omega.{arith}
 use lib.ListN.{length, take, drop}
 use lib.Seq.{length-take-le}
@@ -10,14 +9,11 @@ use Rattle.format.specs.Decimal.{number}
 use Rattle.format.specs.Version.{version, both}
 use Rattle.text.proofs.Lines.{upto-le}
 use Rattle.field.specs.Parsed.{spelledOf, partOf}
+use Rattle.field.specs.declared.Spelled.the-variants.{Is}
 use Rattle.field.proofs.Before.{rest}
 use Rattle.field.proofs.Sides.{version-none, version-sides, no-major, no-minor, major-minor}
 use Rattle.field.proofs.parse_version.Statement.{statement}
 use Rattle.field.proofs.parse_version.Tie as tie
-use Rattle.field.proofs.parse_version.Reads as reads
-use Rattle.field.proofs.parse_version.Lts as lts
-use Rattle.field.proofs.parse_part.Reads as parse-part-reads
-use Rattle.text.proofs.upto.Reads as upto-reads
 
 -- ---- where a dot was found
 
@@ -94,14 +90,19 @@ returns-3 c =
     let p = q .before .before .before .before .before in
     sym (ap spelledOf (split (p .before .before)) ∙ no-minor _ _ (sym (c .enum-told2 .given .1) ∙ minor q))
 
+new-requires : tie.Need-new-requires
+new-requires c κs = search needs
+
 returns-4 : tie.Need-returns-4
 returns-4 c =
-    let q = c .before .before .before in
+    let d = c .before in
+    let q = d .before .before .before in
     let m = q .before .before in
     let p = m .before .before .before in
-    sym
+    ap Is (c .new .ensures)
+    ∙ sym
     (ap spelledOf (split (p .before .before))
-    ∙ major-minor _ _ _ _ (sym (m .before .major .given .1) ∙ p .parse-part .ensures) (sym (c .before .minor .given .1) ∙ minor q))
+    ∙ major-minor _ _ _ _ (sym (m .before .major .given .1) ∙ p .parse-part .ensures) (sym (d .before .minor .given .1) ∙ minor q))
 
 pub parse-version-spec : {M : Type 1} → statement M
 parse-version-spec =
@@ -122,4 +123,5 @@ parse-version-spec =
     enum-known-minor
     enum-told-2
     returns-3
+    new-requires
     returns-4)

@@ -1,5 +1,4 @@
 -- `field::parse_version_value` meets its contract: what was taken as a value is the bytes before the next tab, and is read as a version.
-use Prim.Native.Nat.{ℕ}
 use mathlib.Core.Path.{_≡_, sym, ap, _∙_}
 use native.Mathlib.Omega.{arith}
 use lib.ListN.{take}
