@@ -32,11 +32,12 @@ use Rattle.record.specs.declared.KeyLength.{KeyLength}
 use Rattle.record.specs.declared.KeyLength.the-variants as length′
 use Rattle.record.specs.declared.Head.the-variants as head
 use Rattle.record.specs.Head.{placeOf, headOf}
-use Rattle.record.specs.Others.{isKey, unkeyed}
+use Rattle.accepted.specs.Sound.{isKey}
+use Rattle.tags.specs.Others.{unkeyed}
 use Rattle.record.specs.Keys.{placed, spelt, versioned, sized, keyOf, versionOf, lengthOf, keysOf, saying, withField, headFrom, versionHead, sizedHead, keyedHead}
-use Rattle.record.proofs.Bools.{or-true, or-false, any-append, any-snoc, split, and-left, and-right}
-use Rattle.record.proofs.Tags.{lastOf-snoc, settled-snoc, any-settled, length-put}
-use Rattle.record.proofs.Firsts.{not-key}
+use Rattle.accepted.proofs.Bools.{or-true, or-false, any-append, any-snoc, split, and-left, and-right}
+use Rattle.accepted.proofs.Tags.{lastOf-snoc, settled-snoc, any-settled, length-put}
+use Rattle.tags.proofs.Firsts.{not-key}
 
 -- ---- one field more
 

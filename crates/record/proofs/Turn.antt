@@ -21,7 +21,7 @@ use Rattle.text.specs.Upto.{upto, before}
 use Rattle.text.proofs.Before.{upto-at, upto-cases}
 use Rattle.text.proofs.Lines.{upto-le}
 use Rattle.text.proofs.Pieces.{placed-last, placed-more}
-use Rattle.record.proofs.Tags.{repeats-snoc, repeats-more}
+use Rattle.accepted.proofs.Tags.{repeats-snoc, repeats-more}
 
 -- the fields from a place on, where the line ends or a tab is due
 unfoldable pub tailScan : Kind → ℕ → List ℕ → Scan

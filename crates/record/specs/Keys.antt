@@ -25,7 +25,8 @@ use Rattle.record.specs.declared.KeyLength.the-variants as length′
 use Rattle.record.specs.declared.Head.{Head}
 use Rattle.record.specs.declared.Head.the-variants as head
 use Rattle.record.specs.Head.{placeOf}
-use Rattle.record.specs.Others.{isKey, unkeyed}
+use Rattle.accepted.specs.Sound.{isKey}
+use Rattle.tags.specs.Others.{unkeyed}
 
 unfoldable pub placed : Option Piece → KeyPlace
 unfolding placeOf

@@ -1,4 +1,3 @@
 pub mod Head
-pub mod Others
-pub mod Occurs
 pub mod Keys
+pub mod Slot

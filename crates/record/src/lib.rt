@@ -14,8 +14,8 @@ ghost use Rattle.format.specs.Bytes.{any};
 ghost use Rattle.format.specs.Records.{line, prefixed, fielded, remark, breaks};
 ghost use Rattle.record.specs.Head.{headOf};
 ghost use Rattle.record.specs.Keys.{keysOf, withField, headFrom};
-ghost use Rattle.record.specs.Others.{isKey};
-ghost use Rattle.record.specs.Occurs.{occurs, slotOf};
+ghost use Rattle.tags.specs.Occurs.{occurs};
+ghost use Rattle.record.specs.Slot.{slotOf};
 
 // Where a piece of the text stands.
 pub struct Place {
@@ -56,45 +56,6 @@ pub struct Keys {
     pub others: usize,
 }
 
-// Whether a field with the tag `a`, `b` stands among the fields `src`: looked for from the end, so that a tag that comes again and again is found near.
-fn occurs(src: &[u8], a: u8, b: u8) -> bool
-    ensures { λ r. ⌜ r ≡ occurs a b (now (src .entry)) ⌝ }
-{
-    if src.len() < 3 {
-        return false;
-    }
-    let mut i = src.len() - 2;
-    while 0 < i {
-        i -= 1;
-        if src[i] == b'\t' {
-            if src[i + 1] == a {
-                if src[i + 2] == b {
-                    return true;
-                }
-            }
-        }
-    }
-    false
-}
-
-// VN of HD, SN and LN of SQ, ID of RG and PG.
-pub fn is_key(kind: Kind, a: u8, b: u8) -> bool
-    ensures { λ r. ⌜ r ≡ isKey kind a b ⌝ }
-{
-    match kind {
-        Kind::Header => field::is_same_tag(a, b, b'V', b'N'),
-        Kind::ReferenceSequence => {
-            if field::is_same_tag(a, b, b'S', b'N') {
-                return true;
-            }
-            field::is_same_tag(a, b, b'L', b'N')
-        }
-        Kind::ReadGroup => field::is_same_tag(a, b, b'I', b'D'),
-        Kind::Program => field::is_same_tag(a, b, b'I', b'D'),
-        Kind::Comment => false,
-    }
-}
-
 // The place of a tag among 64: tags of the specification that stand in one record have different ones.
 fn slot(a: u8, b: u8) -> usize
     ensures { λ r. ⌜ r ≡ slotOf a b ⌝ }
@@ -107,7 +68,7 @@ fn stands_again(src: &[u8], a: u8, b: u8, seen: bool) -> bool
     ensures { λ r. ⌜ r ≡ (seen && occurs a b (now (src .entry))) ⌝ }
 {
     if seen {
-        return occurs(src, a, b);
+        return tags::occurs(src, a, b);
     }
     false
 }
@@ -146,7 +107,7 @@ impl Keys {
                 others,
             },
             Says::Bytes => {
-                if is_key(kind, f.tag_0, f.tag_1) {
+                if tags::is_key(kind, f.tag_0, f.tag_1) {
                     let place = Place { at, len: f.len };
                     return Keys {
                         key: KeyPlace::At(place),

@@ -1,17 +1,15 @@
 -- The laws of `firstLine`: what it is by the place of the first LF, its bounds, and a text as its first line and the lines that follow.
 use Prim.Native.Nat.{ℕ, zero, suc, _+_, _-_, _≤_, _<_}
-use mathlib.Core.Path.{_≡_, refl, sym, ap, _∙_}
+use mathlib.Core.Path.{_≡_, refl, ap, _∙_}
 use mathlib.Core.Bool.{Bool, true, false, cond}
 use mathlib.Core.Logic.{⊎-elim}
 use mathlib.Core.List.{List, [], _∷_}
 use native.Mathlib.Omega.{arith}
-use native.Mathlib.Numerals.{add-one}
 use lib.ListN.{length, take, drop, getD, length-take}
 use lib.Seq.{length-take-le, take-all, take-take, take-length, drop-length}
 use lib.Dec.{eqb}
 use borrow.Author.Tests.{eq-eqb}
-use Rattle.format.specs.Lines.{Piece, chomp, linesFrom}
-use Rattle.text.specs.declared.Cut.{Cut}
+use Rattle.format.specs.Lines.{chomp, linesFrom}
 use Rattle.text.specs.Upto.{upto}
 use Rattle.text.specs.First.{firstLine}
 use Rattle.text.proofs.Lines.{lines-none, lines-more, lines-last}

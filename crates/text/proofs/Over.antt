@@ -1,12 +1,12 @@
 -- The laws of `over`: its length, its parts, a run of stores, and two writes in a row or at one place. Assumes nothing.
-use Prim.Native.Nat.{ℕ, suc, _+_, _-_, _≤_}
+use Prim.Native.Nat.{ℕ, _+_, _-_, _≤_}
 use mathlib.Core.Path.{_≡_, refl, sym, ap, _∙_}
 use mathlib.Core.List.{List, [], _∷_, _++_, append-assoc, append-nil}
 use native.Mathlib.Omega.{arith}
 use native.Mathlib.Numerals.{add-one, add-two, add-three}
 use native.Mathlib.Nat.{add-assoc, add-zero}
 use lib.ListN.{length, take, drop, set, length-append, length-drop, take-append-drop}
-use lib.Seq.{sets, sets-eq, length-take-le, take-at, drop-at, take-append-seam, drop-append-add, drop-drop}
+use lib.Seq.{sets-eq, length-take-le, take-at, drop-at, take-append-seam, drop-append-add, drop-drop}
 use Rattle.text.specs.Over.{over}
 
 pub over-length : (out : List ℕ) (at : ℕ) (xs : List ℕ) → at + length xs ≤ length out → length (over out at xs) ≡ length out

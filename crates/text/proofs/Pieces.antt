@@ -1,12 +1,12 @@
 -- The laws of `cut` and `placed`: a text is the piece before the first `d`, and then the pieces of what follows that `d`.
-use Prim.Native.Nat.{ℕ, zero, suc, _+_, _≤_, _<_}
-use mathlib.Core.Path.{_≡_, refl, sym, ap, _∙_}
+use Prim.Native.Nat.{ℕ, suc, _+_, _<_}
+use mathlib.Core.Path.{_≡_, refl, ap}
 use mathlib.Core.Bool.{Bool, true, false, cond}
 use mathlib.Core.List.{List, [], _∷_}
 use native.Mathlib.Omega.{arith}
 use lib.ListN.{length, take, drop}
 use lib.Dec.{eqb}
-use Rattle.format.specs.Lines.{Piece, onto, cut, placed}
+use Rattle.format.specs.Lines.{onto, cut, placed}
 use Rattle.text.specs.Upto.{upto, before}
 use Rattle.text.proofs.Before.{before-length}
 

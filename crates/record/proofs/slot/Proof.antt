@@ -1,7 +1,7 @@
 -- `record::slot` meets its contract. Assumes nothing.
 use mathlib.Core.Path.{refl}
 use borrow.Author.Needs.{needs}
-use Rattle.record.specs.Occurs.{slotOf}
+use Rattle.record.specs.Slot.{slotOf}
 use Rattle.record.proofs.slot.Statement.{statement}
 use Rattle.record.proofs.slot.Tie as tie
 

@@ -2,7 +2,7 @@
 use mathlib.Core.Path.{_≡_, sym, ap, _∙_}
 use mathlib.Core.Bool.{_&&_}
 use borrow.Author.Needs.{needs}
-use Rattle.record.specs.Occurs.{occurs}
+use Rattle.tags.specs.Occurs.{occurs}
 use Rattle.record.proofs.stands_again.Statement.{statement}
 use Rattle.record.proofs.stands_again.Tie as tie
 

@@ -1,5 +1,5 @@
 -- `text::first_line` meets its contract: each return is a case of where the first LF stands, and of the byte before it.
-use Prim.Native.Nat.{ℕ, zero, suc, _+_, _-_, _≤_, _<_}
+use Prim.Native.Nat.{ℕ, suc, _+_, _-_, _<_}
 use mathlib.Core.Path.{_≡_, refl, sym, ap, _∙_}
 use mathlib.Core.List.{List}
 use native.Mathlib.Omega.{arith}
@@ -11,7 +11,6 @@ use lib.Seq.{length-take-le}
 use Rattle.format.specs.Lines.{chomp}
 use Rattle.text.specs.Upto.{upto}
 use Rattle.text.specs.First.{firstLine}
-use Rattle.text.specs.declared.Cut.{Cut}
 use Rattle.text.proofs.Lines.{upto-le}
 use Rattle.text.proofs.Before.{upto-at}
 use Rattle.text.proofs.First.{chomp-one, chomp-at, first-whole, first-more}

@@ -1,5 +1,5 @@
 -- `text::get_u64` meets its contract: the low half, and the high half behind it.
-use mathlib.Core.Path.{_≡_, refl, sym, _∙_}
+use mathlib.Core.Path.{refl, sym, _∙_}
 use native.Mathlib.Omega.{arith}
 use borrow.Author.Needs.{needs}
 use Rattle.text.proofs.Little.{of-parts}

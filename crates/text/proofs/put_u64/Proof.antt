@@ -1,6 +1,6 @@
 -- `text::put_u64` meets its contract: what the first call left is what the second one found.
 use Prim.Native.Nat.{_+_, _/_, _%_}
-use mathlib.Core.Path.{_≡_, ap, _∙_}
+use mathlib.Core.Path.{ap, _∙_}
 use native.Mathlib.Omega.{arith}
 use borrow.Author.Needs.{needs}
 use Rattle.format.specs.Catalogue.{little}

@@ -8,7 +8,7 @@ use Rattle.field.specs.declared.Field.{Field}
 use Rattle.field.specs.declared.Says.the-variants.{Bytes}
 use Rattle.record.specs.declared.Keys.{Keys}
 use Rattle.record.specs.declared.KeyPlace.the-variants.{At}
-use Rattle.record.specs.Others.{isKey}
+use Rattle.accepted.specs.Sound.{isKey}
 use Rattle.record.specs.Keys.{withField, saying}
 use borrow.Author.Needs.{needs}
 use Rattle.record.proofs.Keys.with.Statement.{statement}

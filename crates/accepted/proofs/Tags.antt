@@ -1,7 +1,7 @@
 -- Lists of fields by their tags: one field more at the end, for every definition that a line's fields go through.
 use Prim.Native.Nat.{ℕ, suc, _+_}
 use mathlib.Core.Path.{_≡_, refl, sym, ap, _∙_}
-use mathlib.Core.Bool.{Bool, true, false, not, _&&_, _||_, cond}
+use mathlib.Core.Bool.{Bool, true, false, _||_, cond}
 use mathlib.Core.List.{List, [], _∷_, _++_}
 use mathlib.Core.Option.{Option, none, some}
 use lib.ListN.{length}
@@ -10,7 +10,7 @@ use borrow.Author.Tests.{eqb-true}
 use Rattle.format.specs.Bytes.{any}
 use Rattle.format.specs.Lines.{Piece}
 use Rattle.format.specs.Fields.{Field, tagged, repeats, later, lastOf, without, put, settledOn, settled}
-use Rattle.record.proofs.Bools.{or-assoc, or-comm, or-true, or-false, eqb-sym, any-append, any-snoc, and-left, and-right, or-left, or-right}
+use Rattle.accepted.proofs.Bools.{never, or-assoc, or-true, or-false, eqb-sym, any-append, any-snoc, and-left, and-right, or-left, or-right}
 
 -- the tags of two fields are equal, seen from either
 pub tagged-sym : (f g : Field) → tagged (f .tag₀) (f .tag₁) g ≡ tagged (g .tag₀) (g .tag₁) f
@@ -62,7 +62,7 @@ repeats-snoc (g ∷ fs) f =
 -- once a tag stands twice, it stands twice whatever follows
 pub repeats-more : (fs gs : List Field) → repeats fs ≡ true → repeats (fs ++ gs) ≡ true
 unfolding repeats any
-repeats-more [] gs h = absurd (let z : _≡_ {A = ℕ} 0 1 = cc in omega native.Mathlib.Omega.arith)
+repeats-more [] gs h = absurd (never (cc))
 repeats-more (f ∷ fs) gs h =
     ap (λ x. x || repeats (fs ++ gs)) (any-append (tagged (f .tag₀) (f .tag₁)) fs gs) ∙ go (any (tagged (f .tag₀) (f .tag₁)) fs) (repeats-more fs gs) h
   where

@@ -14,8 +14,8 @@ use Rattle.format.specs.Fields.{Field, tagged}
 use Rattle.format.specs.Tidy.{fieldText, fieldsText}
 use Rattle.text.specs.Upto.{upto}
 use Rattle.text.specs.Stands.{Each}
-use Rattle.record.specs.Occurs.{occurs}
-use Rattle.record.proofs.Bools.{or-true, or-false, eqb-sym}
+use Rattle.tags.specs.Occurs.{occurs}
+use Rattle.accepted.proofs.Bools.{or-true, or-false, eqb-sym}
 
 pub occurs-short : (a b : ℕ) (s : List ℕ) → length s ≤ 2 → occurs a b s ≡ false
 unfolding occurs

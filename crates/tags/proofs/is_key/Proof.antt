@@ -2,10 +2,10 @@
 use mathlib.Core.Path.{_≡_, sym, ap, _∙_}
 use mathlib.Core.Bool.{_&&_, _||_}
 use lib.Dec.{eqb}
-use Rattle.record.specs.Others.{isKey}
+use Rattle.accepted.specs.Sound.{isKey}
 use borrow.Author.Needs.{needs}
-use Rattle.record.proofs.is_key.Statement.{statement}
-use Rattle.record.proofs.is_key.Tie as tie
+use Rattle.tags.proofs.is_key.Statement.{statement}
+use Rattle.tags.proofs.is_key.Tie as tie
 
 enum-told : tie.Need-enum-told
 enum-told c = search needs

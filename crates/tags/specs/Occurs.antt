@@ -1,5 +1,5 @@
 -- Whether a field with a tag stands in a run of fields, by its bytes.
-use Prim.Native.Nat.{ℕ, _+_, _*_, _%_}
+use Prim.Native.Nat.{ℕ}
 use mathlib.Core.Bool.{Bool, false, _&&_, _||_}
 use mathlib.Core.List.{List, [], _∷_}
 use lib.Dec.{eqb}
@@ -10,7 +10,3 @@ unfoldable pub occurs : ℕ → ℕ → List ℕ → Bool
 unfolding starts
 occurs a b [] = false
 occurs a b (c ∷ s) = (eqb c 9 && starts (a ∷ b ∷ []) s) || occurs a b s
-
--- the place of a tag among 64
-unfoldable pub slotOf : ℕ → ℕ → ℕ
-slotOf a b = (a * 4 + b) % 64

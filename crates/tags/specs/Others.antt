@@ -8,15 +8,7 @@ use Rattle.format.specs.Bytes.{any}
 use Rattle.format.specs.Lines.{Piece}
 use Rattle.format.specs.Fields.{Field, tagged, lastOf}
 use Rattle.format.specs.declared.Kind.{Kind}
-use Rattle.format.specs.declared.Kind.the-variants.{Header, ReferenceSequence, ReadGroup, Program, Comment}
-
--- VN of HD, SN and LN of SQ, ID of RG and PG
-unfoldable pub isKey : Kind → ℕ → ℕ → Bool
-isKey Header a b = eqb a 86 && eqb b 78
-isKey ReferenceSequence a b = (eqb a 83 && eqb b 78) || (eqb a 76 && eqb b 78)
-isKey ReadGroup a b = eqb a 73 && eqb b 68
-isKey Program a b = eqb a 73 && eqb b 68
-isKey Comment a b = false
+use Rattle.accepted.specs.Sound.{isKey}
 
 -- the fields that are no key
 unfoldable pub unkeyed : Kind → List Field → List Field

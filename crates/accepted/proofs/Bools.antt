@@ -1,11 +1,16 @@
 -- Laws of tests that every later law uses.
 use Prim.Native.Nat.{ℕ}
 use mathlib.Core.Path.{_≡_, refl, sym, ap, _∙_}
-use mathlib.Core.Bool.{Bool, true, false, not, _&&_, _||_, cond}
+use mathlib.Core.Bool.{Bool, true, false, _&&_, _||_}
 use mathlib.Core.List.{List, [], _∷_, _++_}
+use native.Mathlib.Omega.{arith}
 use lib.Dec.{eqb}
 use borrow.Author.Tests.{eqb-true, eqb-false, eq-eqb, ne-eqb}
 use Rattle.format.specs.Bytes.{any}
+
+-- what every refuted case comes to
+pub never : _≡_ {A = ℕ} 0 1 → ⊥
+never h = omega arith
 
 pub or-assoc : (a b c : Bool) → (a || b) || c ≡ a || (b || c)
 or-assoc true b c = refl
@@ -31,7 +36,7 @@ or-left true b h = h
 or-left false b h = refl
 
 pub or-right : (a b : Bool) → a || b ≡ false → b ≡ false
-or-right true b h = absurd (let z : _≡_ {A = ℕ} 0 1 = cc in omega native.Mathlib.Omega.arith)
+or-right true b h = absurd (never (cc))
 or-right false b h = h
 
 pub and-left : (a b : Bool) → a && b ≡ true → a ≡ true
@@ -40,12 +45,17 @@ and-left false b h = h
 
 pub and-right : (a b : Bool) → a && b ≡ true → b ≡ true
 and-right true b h = h
-and-right false b h = absurd (let z : _≡_ {A = ℕ} 0 1 = cc in omega native.Mathlib.Omega.arith)
+and-right false b h = absurd (never (cc))
 
 -- a test either holds or does not
 pub split : {C : Type 0} (t : Bool) → (t ≡ true → C) → (t ≡ false → C) → C
 split true f g = f refl
 split false f g = g refl
+
+-- one half of a test that holds, holds
+pub or-split : {C : Type 0} (a b : Bool) → a || b ≡ true → (a ≡ true → C) → (b ≡ true → C) → C
+or-split true b h f g = f refl
+or-split false b h f g = g h
 
 pub eqb-sym : (a b : ℕ) → eqb a b ≡ eqb b a
 eqb-sym a b = split (eqb a b) (λ h. h ∙ sym (eq-eqb b a (sym (eqb-true a b h)))) (λ h. h ∙ sym (ne-eqb b a (λ e. eqb-false a b h (sym e))))

@@ -7,12 +7,12 @@ use native.Mathlib.Omega.{arith}
 use lib.ListN.{length, drop, getD, length-drop}
 use lib.Dec.{eqb}
 use borrow.Author.Tests.{eq-eqb, ne-eqb}
-use Rattle.record.specs.Occurs.{occurs}
-use Rattle.record.proofs.Region.{occurs-short, occurs-at, occurs-drop}
-use Rattle.record.proofs.occurs.Statement.{statement}
-use Rattle.record.proofs.occurs.Tie as tie
-use Rattle.record.proofs.occurs.Reads as reads
-use Rattle.record.proofs.occurs.Lts as lts
+use Rattle.tags.specs.Occurs.{occurs}
+use Rattle.tags.proofs.Region.{occurs-short, occurs-at, occurs-drop}
+use Rattle.tags.proofs.occurs.Statement.{statement}
+use Rattle.tags.proofs.occurs.Tie as tie
+use Rattle.tags.proofs.occurs.Reads as reads
+use Rattle.tags.proofs.occurs.Lts as lts
 
 -- a turn at the place before `i`
 module _ (a b : ℕ) (s : List ℕ) (i : ℕ) (h : i + 2 ≤ length s) (p : 0 < i) (n : occurs a b (drop i s) ≡ false) where

@@ -1,0 +1,14 @@
+pub mod Bools
+pub mod Tags
+pub mod Pairs
+pub mod Good
+pub mod Spelled
+pub mod Clean
+pub mod Fields
+pub mod Stands
+pub mod Sound
+pub mod Admits
+pub mod OfKind
+pub mod Apart
+pub mod Text
+pub mod Onward

@@ -1,0 +1,5 @@
+pub mod Pieces
+pub mod Sound
+pub mod Spelled
+pub mod Clean
+pub mod Admits

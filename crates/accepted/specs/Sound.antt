@@ -1,0 +1,53 @@
+-- What every record of an accepted line is: its numbers fit, its values are values, and its other fields are no keys.
+use Prim.Native.Nat.{ℕ, _^_, _≤_, _<_}
+use mathlib.Core.Path.{_≡_}
+use mathlib.Core.Bool.{Bool, true, false, _&&_, _||_}
+use mathlib.Core.Option.{Option, none, some}
+use lib.Dec.{eqb}
+use Rattle.format.specs.Lines.{Piece}
+use Rattle.format.specs.Fields.{Field, isValue, isTag, repeats}
+use Rattle.format.specs.Records.{Record, header, reference, group, program, comment, key, others}
+use Rattle.format.specs.declared.Kind.{Kind}
+use Rattle.format.specs.declared.Kind.the-variants.{Header, ReferenceSequence, ReadGroup, Program, Comment}
+use Rattle.text.specs.Stands.{Each}
+
+-- VN of HD, SN and LN of SQ, ID of RG and PG
+unfoldable pub isKey : Kind → ℕ → ℕ → Bool
+isKey Header a b = eqb a 86 && eqb b 78
+isKey ReferenceSequence a b = (eqb a 83 && eqb b 78) || (eqb a 76 && eqb b 78)
+isKey ReadGroup a b = eqb a 73 && eqb b 68
+isKey Program a b = eqb a 73 && eqb b 68
+isKey Comment a b = false
+
+unfoldable pub kind : Record → Kind
+kind (header v fs) = Header
+kind (reference p n fs) = ReferenceSequence
+kind (group p fs) = ReadGroup
+kind (program p fs) = Program
+kind (comment p) = Comment
+
+-- a version's two numbers, and a length
+unfoldable pub Fits : Record → Type 0
+Fits (header v fs) = (v .major < 2 ^ 32) × (v .minor < 2 ^ 32)
+Fits (reference p n fs) = (1 ≤ n) × (n < 2 ^ 64)
+Fits (group p fs) = Unit
+Fits (program p fs) = Unit
+Fits (comment p) = Unit
+
+-- a key, where there is one, is a value
+unfoldable pub Named : Option Piece → Type 0
+unfolding isValue
+Named none = Unit
+Named (some p) = isValue (p .bytes) ≡ true
+
+-- a field beside the keys of a record of kind `k`
+pub record Other (k : Kind) (f : Field) : Type 0 where
+  pub tag : isTag (f .tag₀) (f .tag₁) ≡ true
+  pub no-key : isKey k (f .tag₀) (f .tag₁) ≡ false
+  pub value : isValue (f .value .bytes) ≡ true
+
+pub record Sound (r : Record) : Type 0 where
+  pub fits : Fits r
+  pub named : Named (key r)
+  pub other : Each (Other (kind r)) (others r)
+  pub once : repeats (others r) ≡ false

@@ -1,0 +1,9 @@
+pub mod Arrays
+pub mod Bools
+pub mod Bound
+pub mod Leaf
+pub mod Pairs
+pub mod Paths
+pub mod Swaps
+pub mod Times
+pub mod Walks

@@ -1,0 +1,35 @@
+-- The parent of each program as a number, and what the graph's functions answer.
+use Prim.Native.Nat.{ℕ, suc, _-_}
+use mathlib.Core.Bool.{Bool, _||_, cond}
+use mathlib.Core.List.{List, [], _∷_, _++_, map}
+use lib.ListN.{length, replicate}
+use lib.Dec.{eqb, ltb}
+use Rattle.format.specs.Bytes.{all}
+use Rattle.format.specs.Programs.{Link, root, child}
+
+-- the parent of a program without PP
+unfoldable pub nobody : ℕ
+nobody = 4294967295
+
+unfoldable pub linkOf : ℕ → Link
+unfolding nobody
+linkOf p = cond (eqb p nobody) root (child p)
+
+-- the links that a list of parents says
+unfoldable pub linksOf : List ℕ → List Link
+unfolding linkOf
+linksOf ps = map linkOf ps
+
+-- each parent is nobody, or one of the `n` programs
+unfoldable pub within : ℕ → List ℕ → Bool
+unfolding nobody all
+within n ps = all (λ p. eqb p nobody || ltb p n) ps
+
+-- a list of ordinals in an array of 1,024: zeros after it
+unfoldable pub inArray : List ℕ → List ℕ
+inArray xs = xs ++ replicate (1024 - length xs) 0
+
+-- the place of `x` in a list, or the list's length where it is not there
+unfoldable pub placeOf : ℕ → List ℕ → ℕ
+placeOf x [] = 0
+placeOf x (y ∷ ys) = cond (eqb x y) 0 (suc (placeOf x ys))
