@@ -69,7 +69,7 @@ has-colon k at s h n = split (isTag (getD s 0 0) (getD s 1 0)) tag (λ t. absurd
         split (eqb (getD s 2 0) 58) (eqb-true (getD s 2 0) 58)
         (λ e. absurd (n 9 (field-in-place k at s ∙ place-colon k at s (omega arith) t ∙ colon-other k (getD s 0 0) (getD s 1 0) (at + 3) s (omega arith) (eqb-false (getD s 2 0) 58 e))))
 
-upto-drop : (d : ℕ) (s : List ℕ) (n : ℕ) → n ≤ upto d s → upto d (drop n s) ≡ upto d s - n
+pub upto-drop : (d : ℕ) (s : List ℕ) (n : ℕ) → n ≤ upto d s → upto d (drop n s) ≡ upto d s - n
 unfolding upto
 upto-drop d s zero h = omega arith
 upto-drop d [] (suc n) h = absurd (omega arith)
@@ -161,7 +161,7 @@ shown-by f g t e =
     let d : fieldOf t f ≡ g = cc in
     record { first = sym (ap (λ x. x .«tag_0») d); second = sym (ap (λ x. x .«tag_1») d); len = sym (ap (λ x. x .len) d) }
 
-shown : (k : Kind) (f : Field) (g : code.Field) → valued k f ≡ Good g → Shown f g
+pub shown : (k : Kind) (f : Field) (g : code.Field) → valued k f ≡ Good g → Shown f g
 unfolding valued versionedBy
 shown Header f g e = go (tagged 86 78 f) (version (f .value .bytes)) e
   where

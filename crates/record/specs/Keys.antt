@@ -74,6 +74,10 @@ lengthOf ReadGroup fs = length′.Missing
 lengthOf Program fs = length′.Missing
 lengthOf Comment fs = length′.Missing
 
+-- before the first field
+unfoldable pub noKeys : Keys
+noKeys = record { key = place.Missing; version = version′.Missing; length = length′.Missing; others = 0 }
+
 -- of the fields read so far: a repeated tag counts once
 unfoldable pub keysOf : Kind → List Field → Keys
 unfolding keyOf versionOf lengthOf unkeyed settled

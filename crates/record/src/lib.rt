@@ -13,7 +13,7 @@ ghost use lib.Dec.{eqb};
 ghost use Rattle.format.specs.Bytes.{any};
 ghost use Rattle.format.specs.Records.{line, prefixed, fielded, remark, breaks};
 ghost use Rattle.record.specs.Head.{headOf};
-ghost use Rattle.record.specs.Keys.{keysOf, withField, headFrom};
+ghost use Rattle.record.specs.Keys.{noKeys, withField, headFrom};
 ghost use Rattle.tags.specs.Occurs.{occurs};
 ghost use Rattle.record.specs.Slot.{slotOf};
 
@@ -74,7 +74,9 @@ fn stands_again(src: &[u8], a: u8, b: u8, seen: bool) -> bool
 }
 
 impl Keys {
-    pub fn new() -> Self {
+    pub fn new() -> Self
+        ensures { λ r. ⌜ r ≡ noKeys ⌝ }
+    {
         Keys {
             key: KeyPlace::Missing,
             version: KeyVersion::Missing,
