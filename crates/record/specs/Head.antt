@@ -32,3 +32,12 @@ unfoldable pub headOf : Line → Head
 unfolding recordHead
 headOf (refused n) = head.Refused n
 headOf (read r) = recordHead r
+
+-- is it a record of fields?
+unfoldable pub hasFields : Head → Bool
+hasFields (head.Refused n) = false
+hasFields (head.Header v n) = true
+hasFields (head.ReferenceSequence p l n) = true
+hasFields (head.ReadGroup p n) = true
+hasFields (head.Program p n) = true
+hasFields (head.Comment p) = false
