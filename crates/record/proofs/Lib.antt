@@ -1,0 +1,5 @@
+pub mod Turn
+pub mod Made
+pub mod Walked
+pub mod Step
+pub mod Dispatch

@@ -1,0 +1,301 @@
+-- One turn of the field loop: a field more, a refusal, or a tag that stands twice.
+use Prim.Native.Nat.{ℕ, zero, suc, _+_, _-_, _≤_, _<_}
+use mathlib.Core.Path.{_≡_, refl, sym, ap, _∙_}
+use mathlib.Core.Bool.{Bool, true, false, _&&_, _||_, cond}
+use mathlib.Core.List.{List, [], _∷_, _++_, append-nil, append-assoc}
+use native.Mathlib.Omega.{arith}
+use native.Mathlib.Numerals.{add-one}
+use lib.ListN.{length, take, drop, getD, set, replicate, length-drop, length-set, drop-of-length-le}
+use lib.Seq.{drop-cons, drop-drop, take-add, getD-set-same, getD-set-other, getD-drop, take-length}
+use lib.Dec.{eqb}
+use borrow.Author.Tests.{eqb-true, eqb-false, ne-eqb}
+use Rattle.format.specs.Bytes.{any}
+use Rattle.format.specs.Lines.{cut, placed}
+use Rattle.format.specs.Fields.{Field, tagged, repeats, Scan, scan}
+use Rattle.format.specs.Records.{refused, judged, fielded, made}
+use Rattle.format.specs.Tidy.{fieldText, fieldsText}
+use Rattle.format.specs.declared.Kind.{Kind}
+use Rattle.format.specs.declared.Kind.the-variants.{Header, ReferenceSequence, ReadGroup, Program, Comment}
+use Rattle.text.specs.Upto.{upto}
+use Rattle.text.specs.Stands.{Each}
+use Rattle.text.proofs.Lines.{upto-le}
+use Rattle.text.proofs.Before.{upto-take}
+use Rattle.field.specs.declared.Field as code
+use Rattle.field.specs.declared.Says.{Says}
+use Rattle.field.specs.declared.Says.the-variants as says
+use Rattle.accepted.specs.Sound.{isKey}
+use Rattle.accepted.proofs.Bools.{any-snoc, split, or-true, or-false, and-left, and-right}
+use Rattle.accepted.proofs.Tags.{repeats-snoc}
+use Rattle.tags.specs.Occurs.{occurs}
+use Rattle.tags.proofs.Region.{Clean, occurs-fields}
+use Rattle.record.specs.declared.Keys.{Keys}
+use Rattle.record.specs.declared.KeyPlace.the-variants as place
+use Rattle.record.specs.Head.{headOf}
+use Rattle.record.specs.Keys.{keysOf, noKeys, saying, withField, headFrom}
+use Rattle.record.specs.Slot.{slotOf}
+use Rattle.record.proofs.Turn.{tailScan, prepend, fielded-tail, judged-stop, judged-twice, judged-end, prepend-prepend, upto-not}
+use Rattle.record.proofs.Made.{Spelled, keys-snoc, spelled-none, spelled-snoc, head-made}
+use Rattle.record.proofs.Walked.{Walked, Shown, shown, Turned, upto-drop}
+
+-- one field more at the end of a run
+fields-snoc : (fs : List Field) (f : Field) → fieldsText (fs ++ (f ∷ [])) ≡ fieldsText fs ++ fieldText (f .tag₀) (f .tag₁) (f .value .bytes)
+unfolding fieldsText
+fields-snoc [] f = append-nil (fieldText (f .tag₀) (f .tag₁) (f .value .bytes))
+fields-snoc (g ∷ fs) f =
+    ap (λ l. fieldText (g .tag₀) (g .tag₁) (g .value .bytes) ++ l) (fields-snoc fs f)
+    ∙ sym (append-assoc (fieldText (g .tag₀) (g .tag₁) (g .value .bytes)) (fieldsText fs) (fieldText (f .tag₀) (f .tag₁) (f .value .bytes)))
+
+each-snoc : (P : Field → Type 0) (fs : List Field) (f : Field) → Each P fs → P f → Each P (fs ++ (f ∷ []))
+unfolding Each
+each-snoc P [] f e p = (p, tt)
+each-snoc P (g ∷ fs) f e p = (e .0, each-snoc P fs f (e .1) p)
+
+-- three bytes at the front
+three : (s : List ℕ) (n : ℕ) → 3 ≤ length s → take (3 + n) s ≡ getD s 0 0 ∷ getD s 1 0 ∷ getD s 2 0 ∷ take n (drop 3 s)
+three [] n h = absurd (omega arith)
+three (a ∷ []) n h = absurd (omega arith)
+three (a ∷ b ∷ []) n h = absurd (omega arith)
+three (a ∷ b ∷ c ∷ s) n h = ap (λ k. take k (a ∷ b ∷ c ∷ s)) (let e : 3 + n ≡ suc (suc (suc n)) = omega arith in e)
+
+module _ (kind : Kind) (at : ℕ) (s : List ℕ) (g : code.Field) (t : Turned kind at s g) where
+  f : Field
+  f = t .field
+
+  size : ℕ
+  size = length (t .field .value .bytes)
+
+  long : 3 + length (t .field .value .bytes) ≤ length s
+  long = omega (arith, t .within, upto-le 9 s)
+
+  pub clean-field : Clean (t .field)
+  clean-field =
+      record {
+        first = λ e. upto-not 9 s 0 (omega (arith, t .within)) (sym (t .kept .first) ∙ e);
+        second = λ e. upto-not 9 s 1 (omega (arith, t .within)) (sym (t .kept .second) ∙ e);
+        value =
+            ap (upto 9) (t .kept .bytes)
+            ∙ upto-take 9 (drop 3 s) (length (t .field .value .bytes)) (omega (arith, t .within, upto-drop 9 s 3 (omega (arith, t .within))));
+      }
+
+  pub spelled-text : 9 ∷ take (3 + length (t .field .value .bytes)) s ≡ fieldText (t .field .tag₀) (t .field .tag₁) (t .field .value .bytes)
+  unfolding fieldText
+  spelled-text =
+      ap (λ l. 9 ∷ l) (three s (length (t .field .value .bytes)) (omega (arith, long)))
+      ∙ rw (t .colon, ← t .kept .first, ← t .kept .second, ← t .kept .bytes) refl
+
+pub slot-below : (a b : ℕ) → slotOf a b < 64
+unfolding slotOf
+slot-below a b = omega arith
+
+same-slot : (f : Field) (a b : ℕ) → tagged a b f ≡ true → slotOf a b ≡ slotOf (f .tag₀) (f .tag₁)
+unfolding tagged
+same-slot f a b h =
+    let x : Bool = eqb (f .tag₀) a in
+    let y : Bool = eqb (f .tag₁) b in
+    let e : f .tag₀ ≡ a = eqb-true (f .tag₀) a (and-left x y h) in
+    let d : f .tag₁ ≡ b = eqb-true (f .tag₁) b (and-right x y h) in
+    rw (e, d) refl
+
+-- one field more is at most one other field more
+pub with-few : (k : Kind) (g : code.Field) (at : ℕ) (again : Bool) (keys : Keys) → withField k g at again keys .others ≤ suc (keys .others)
+unfolding withField saying
+with-few k g at again keys = go (g .says)
+  where
+    go : (s : Says) → saying k g at again keys s .others ≤ suc (keys .others)
+    go (says.Version v) = omega arith
+    go (says.Length n) = omega arith
+    go says.Bytes = by (isKey k (g .«tag_0») (g .«tag_1»)) again
+      where
+        by : (t u : Bool)
+            → cond {A = Keys} t (record { key = place.At (record { at = at; len = g .len }); version = keys .version; length = keys .length; others = keys .others })
+            (record { key = keys .key; version = keys .version; length = keys .length; others = cond u (keys .others) (suc (keys .others)) }) .others
+            ≤ suc (keys .others)
+        by true u = omega arith
+        by false true = omega arith
+        by false false = omega arith
+
+-- ---- where the loop starts, and where it ends
+
+no-keys : (k : Kind) → keysOf k [] ≡ noKeys
+unfolding keysOf noKeys
+no-keys Header = refl
+no-keys ReferenceSequence = refl
+no-keys ReadGroup = refl
+no-keys Program = refl
+no-keys Comment = refl
+
+pub walked-start : (kind : Kind) (src : List ℕ) (at : ℕ) (strict : Bool) (keys : Keys) → 3 ≤ length src → keys ≡ noKeys
+    → Walked kind src at strict (replicate 64 false) keys 3
+unfolding fieldsText Each prepend repeats any noKeys
+walked-start kind src at strict keys h e =
+    record {
+      fields = [];
+      low = omega arith;
+      high = h;
+      region = refl;
+      clean = tt;
+      left = fielded-tail strict kind (at + 3) (drop 3 src);
+      once = never strict;
+      told = e ∙ sym (no-keys kind);
+      spelled = spelled-none kind;
+      marks = λ a b y. absurd (let z : _≡_ {A = ℕ} 0 1 = cc in omega arith);
+      size = refl;
+      few = rw e (omega arith);
+    }
+  where
+    never : (t : Bool) → t && false ≡ false
+    never true = refl
+    never false = refl
+
+module _ (kind : Kind) (src : List ℕ) (at : ℕ) (strict : Bool) (seen : List Bool) (keys : Keys) (pos : ℕ) (w : Walked kind src at strict seen keys pos) where
+  -- a byte that is no tab stands where one is due
+  pub turn-six : pos < length src → (getD src pos 0 ≡ 9 → ⊥) → fielded strict kind (at + 3) (drop 3 src) ≡ refused 6
+  unfolding tailScan
+  turn-six h n =
+      w .left
+      ∙ ap (λ l. judged strict kind (prepend (w .fields) (tailScan kind (at + pos) l))) (drop-cons src pos 0 h)
+      ∙ ap (λ t. judged strict kind (prepend (w .fields) (cond t (scan kind (placed (at + pos + 1) (cut 9 (drop (suc pos) src)))) (record { fields = []; stop = 6 })))) (ne-eqb _ _ n)
+      ∙ judged-stop kind (w .fields) strict 6 (w .once) (λ e. omega arith)
+
+  -- the line ends
+  pub turn-end : length src ≤ pos → headFrom kind keys ≡ headOf (fielded strict kind (at + 3) (drop 3 src))
+  unfolding tailScan
+  turn-end h =
+      ap (headFrom kind) (w .told)
+      ∙ head-made kind (w .fields) (w .spelled)
+      ∙ sym
+      (ap headOf
+      (w .left
+      ∙ ap (λ l. judged strict kind (prepend (w .fields) (tailScan kind (at + pos) l))) (drop-of-length-le src h)
+      ∙ judged-end kind (w .fields) strict (w .once)))
+
+-- ---- a turn at a tab
+
+module _ (kind : Kind) (src : List ℕ) (at : ℕ) (strict : Bool) (seen : List Bool) (keys : Keys) (pos : ℕ)
+    (w : Walked kind src at strict seen keys pos) (h : pos < length src) (tab : getD src pos 0 ≡ 9) where
+  open-tail : drop pos src ≡ 9 ∷ drop (pos + 1) src
+  open-tail = drop-cons src pos 0 h ∙ rw (tab, add-one pos) refl
+
+  -- a field is refused: nothing stood twice before it
+  pub turn-refused : (n : ℕ) → tailScan kind (at + pos) (9 ∷ drop (pos + 1) src) ≡ record { fields = []; stop = n } → (n ≡ 0 → ⊥)
+      → fielded strict kind (at + 3) (drop 3 src) ≡ refused n
+  turn-refused n e m =
+      w .left
+      ∙ ap (λ l. judged strict kind (prepend (w .fields) (tailScan kind (at + pos) l))) open-tail
+      ∙ ap (λ l. judged strict kind (prepend (w .fields) l)) e
+      ∙ judged-stop kind (w .fields) strict n (w .once) m
+
+  module _ (g : code.Field) (t : Turned kind (at + pos) (drop (pos + 1) src) g) where
+    more : List Field
+    more = w .fields ++ (t .field ∷ [])
+
+    len : g .len ≡ length (t .field .value .bytes)
+    len = shown kind (t .field) g (t .answer) .len
+
+    rest : length (drop (pos + 1) src) ≡ length src - (pos + 1)
+    rest = length-drop (pos + 1) src
+
+    pub next-within : pos + 4 + g .len ≤ length src
+    next-within = omega (arith, len, long kind (at + pos) (drop (pos + 1) src) g t, rest)
+
+    -- what the loop is told of the tag: exactly whether it stood before
+    pub told-again : (getD seen (slotOf (g .«tag_0») (g .«tag_1»)) false && occurs (g .«tag_0») (g .«tag_1») (take (pos - 3) (drop 3 src)))
+        ≡ any (tagged (t .field .tag₀) (t .field .tag₁)) (w .fields)
+    told-again =
+        let s = shown kind (t .field) g (t .answer) in
+        rw (s .first, s .second, w .region, occurs-fields (t .field .tag₀) (t .field .tag₁) (w .fields) (w .clean))
+        (split (any (tagged (t .field .tag₀) (t .field .tag₁)) (w .fields))
+        (λ y. rw (w .marks (t .field .tag₀) (t .field .tag₁) y, y) refl)
+        (λ n. rw n (never (getD seen (slotOf (t .field .tag₀) (t .field .tag₁)) false))))
+      where
+        never : (t : Bool) → t && false ≡ false
+        never true = refl
+        never false = refl
+
+    left : fielded strict kind (at + 3) (drop 3 src)
+        ≡ judged strict kind (prepend (w .fields ++ (t .field ∷ [])) (tailScan kind (at + (pos + 4 + g .len)) (drop (pos + 4 + g .len) src)))
+    left =
+        let n = length (t .field .value .bytes) in
+        let a : at + pos + 1 + (3 + n) ≡ at + (pos + 4 + g .len) = omega (arith, len) in
+        let b : pos + 1 + (3 + n) ≡ pos + 4 + g .len = omega (arith, len) in
+        w .left
+        ∙ ap (λ l. judged strict kind (prepend (w .fields) (tailScan kind (at + pos) l))) open-tail
+        ∙ ap (λ l. judged strict kind (prepend (w .fields) l)) (t .onward)
+        ∙ ap (judged strict kind) (prepend-prepend (w .fields) (t .field ∷ []) (tailScan kind (at + pos + 1 + (3 + n)) (drop (3 + n) (drop (pos + 1) src))))
+        ∙ ap (λ l. judged strict kind (prepend (w .fields ++ (t .field ∷ [])) (tailScan kind (at + pos + 1 + (3 + n)) l))) (drop-drop (3 + n) (pos + 1) src)
+        ∙ rw (a, b) refl
+
+    -- a tag stands twice where that is forbidden
+    pub turn-twice : strict ≡ true → any (tagged (t .field .tag₀) (t .field .tag₁)) (w .fields) ≡ true → fielded strict kind (at + 3) (drop 3 src) ≡ refused 14
+    turn-twice s y =
+        let m : Scan = tailScan kind (at + (pos + 4 + g .len)) (drop (pos + 4 + g .len) src) in
+        left
+        ∙ ap (λ u. judged u kind (prepend (w .fields ++ (t .field ∷ [])) m)) s
+        ∙ judged-twice kind (w .fields ++ (t .field ∷ [])) (m .fields) (m .stop) (repeats-snoc (w .fields) (t .field) ∙ ap (λ u. u || repeats (w .fields)) y)
+
+    region : take (pos + 4 + g .len - 3) (drop 3 src) ≡ fieldsText (w .fields ++ (t .field ∷ []))
+    region =
+        let n = length (t .field .value .bytes) in
+        let a : pos + 4 + g .len - 3 ≡ (pos - 3) + suc (3 + n) = omega (arith, len, w .low) in
+        let b : 3 + (pos - 3) ≡ pos = omega (arith, w .low) in
+        ap (λ k. take k (drop 3 src)) a
+        ∙ take-add (pos - 3) (suc (3 + n)) (drop 3 src)
+        ∙ ap (λ l. take (pos - 3) (drop 3 src) ++ take (suc (3 + n)) l) (drop-drop (pos - 3) 3 src ∙ ap (λ k. drop k src) b ∙ open-tail)
+        ∙ ap (λ l. l ++ (9 ∷ take (3 + n) (drop (pos + 1) src))) (w .region)
+        ∙ ap (λ l. fieldsText (w .fields) ++ l) (spelled-text kind (at + pos) (drop (pos + 1) src) g t)
+        ∙ sym (fields-snoc (w .fields) (t .field))
+
+    once : strict && any (tagged (t .field .tag₀) (t .field .tag₁)) (w .fields) ≡ false → strict && repeats (w .fields ++ (t .field ∷ [])) ≡ false
+    once n = ap (λ u. strict && u) (repeats-snoc (w .fields) (t .field)) ∙ go strict n (w .once)
+      where
+        go : (s : Bool) → s && any (tagged (t .field .tag₀) (t .field .tag₁)) (w .fields) ≡ false → s && repeats (w .fields) ≡ false
+            → s && (any (tagged (t .field .tag₀) (t .field .tag₁)) (w .fields) || repeats (w .fields)) ≡ false
+        go true n o = ap (λ u. u || repeats (w .fields)) n ∙ o
+        go false n o = refl
+
+    slot : ℕ
+    slot = slotOf (g .«tag_0») (g .«tag_1»)
+
+    marks : (a b : ℕ) → any (tagged a b) (w .fields ++ (t .field ∷ [])) ≡ true → getD (set seen (slotOf (g .«tag_0») (g .«tag_1»)) true) (slotOf a b) false ≡ true
+    marks a b y = split (tagged a b (t .field)) own old
+      where
+        place : slotOf (g .«tag_0») (g .«tag_1») < length seen
+        place = omega (arith, w .size, slot-below (g .«tag_0») (g .«tag_1»))
+
+        set-here : slotOf a b ≡ slotOf (g .«tag_0») (g .«tag_1») → getD (set seen (slotOf (g .«tag_0») (g .«tag_1»)) true) (slotOf a b) false ≡ true
+        set-here e = ap (λ i. getD (set seen (slotOf (g .«tag_0») (g .«tag_1»)) true) i false) e ∙ getD-set-same seen (slotOf (g .«tag_0») (g .«tag_1»)) true false place
+
+        own : tagged a b (t .field) ≡ true → getD (set seen (slotOf (g .«tag_0») (g .«tag_1»)) true) (slotOf a b) false ≡ true
+        own q = set-here (same-slot (t .field) a b q ∙ sym (ap (λ x. slotOf x (t .field .tag₁)) (shown kind (t .field) g (t .answer) .first)) ∙ sym (ap (λ y. slotOf (g .«tag_0») y) (shown kind (t .field) g (t .answer) .second)))
+
+        old : tagged a b (t .field) ≡ false → getD (set seen (slotOf (g .«tag_0») (g .«tag_1»)) true) (slotOf a b) false ≡ true
+        old q =
+            let m : getD seen (slotOf a b) false ≡ true =
+            w .marks a b (sym (or-false (any (tagged a b) (w .fields))) ∙ sym (ap (λ u. any (tagged a b) (w .fields) || u) q) ∙ sym (any-snoc (tagged a b) (w .fields) (t .field)) ∙ y) in
+            split (eqb (slotOf a b) (slotOf (g .«tag_0») (g .«tag_1»)))
+            (λ e. set-here (eqb-true _ _ e))
+            (λ n. getD-set-other seen (slotOf (g .«tag_0») (g .«tag_1»)) (slotOf a b) true false (eqb-false _ _ n) ∙ m)
+
+    -- a field more
+    pub walked : strict && any (tagged (t .field .tag₀) (t .field .tag₁)) (w .fields) ≡ false
+        → Walked kind src at strict (set seen (slotOf (g .«tag_0») (g .«tag_1»)) true)
+        (withField kind g (at + pos + 4) (any (tagged (t .field .tag₀) (t .field .tag₁)) (w .fields)) keys) (pos + 4 + g .len)
+    walked n =
+        let a : at + pos + 1 + 3 ≡ at + pos + 4 = omega arith in
+        record {
+          fields = w .fields ++ (t .field ∷ []);
+          low = omega (arith, w .low);
+          high = next-within;
+          region = region;
+          clean = each-snoc Clean (w .fields) (t .field) (w .clean) (clean-field kind (at + pos) (drop (pos + 1) src) g t);
+          left = left;
+          once = once n;
+          told =
+              ap (withField kind g (at + pos + 4) (any (tagged (t .field .tag₀) (t .field .tag₁)) (w .fields))) (w .told)
+              ∙ ap (λ p. withField kind g p (any (tagged (t .field .tag₀) (t .field .tag₁)) (w .fields)) (keysOf kind (w .fields))) (sym (t .kept .starts ∙ a))
+              ∙ sym (keys-snoc (w .fields) (t .field) g kind (t .answer));
+          spelled = spelled-snoc kind (w .fields) (t .field) g (t .answer) (w .spelled);
+          marks = marks;
+          size = length-set seen (slotOf (g .«tag_0») (g .«tag_1»)) true ∙ w .size;
+          few = omega (arith, w .few, with-few kind g (at + pos + 4) (any (tagged (t .field .tag₀) (t .field .tag₁)) (w .fields)) keys);
+        }
