@@ -1,8 +1,21 @@
 // The other fields of an accepted line, one after another: each tag at its first place, with its last value.
 use format::Kind;
 ghost use mathlib.Core.Path.{_≡_};
-ghost use Prim.Native.Nat.{_≤_, _+_};
-ghost use lib.ListN.{length, drop};
+ghost use mathlib.Core.Bool.{_&&_, _||_, not, false};
+ghost use Prim.Native.Nat.{_≤_, _<_, _+_, _-_};
+ghost use lib.ListN.{length, take, drop, getD};
+ghost use Rattle.format.specs.Fields.{lastOf};
+ghost use Rattle.text.specs.Upto.{upto};
+ghost use Rattle.accepted.specs.Sound.{isKey};
+ghost use Rattle.tags.specs.Occurs.{occurs};
+ghost use Rattle.walk.specs.Run.{AtField, fieldsTo, fieldsFrom};
+ghost use Rattle.walk.specs.Next.{orValue, nextIn};
+
+// Where a value stands in the text.
+pub struct Value {
+    pub at: usize,
+    pub len: usize,
+}
 
 // A field that is no key: its tag, where its value stands in the text, and the place in the line to go on from.
 pub struct Other {
@@ -16,4 +29,50 @@ pub struct Other {
 pub enum Next {
     End,
     Field(Other),
+}
+
+// Where the field ends that starts with the tab at `i`.
+fn field_end(line: &[u8], i: usize) -> usize
+    requires { ⌜ i < length (now line) ⌝ }
+    ensures { λ r. ⌜ r ≡ i + 1 + upto 9 (drop (i + 1) (now (line .entry))) ⌝ }
+{
+    i + 1 + text::upto(&line[i + 1..], b'\t')
+}
+
+// Whether the field at `i` is no key and its tag stands nowhere before: where repeats are forbidden, it never does.
+fn is_first(kind: Kind, line: &[u8], i: usize, strict: bool) -> bool
+    requires { ⌜ (3 ≤ i) × (i + 2 < length (now line)) ⌝ }
+    ensures { λ r. ⌜ r ≡ (not (isKey kind (getD (now (line .entry)) (i + 1) 0) (getD (now (line .entry)) (i + 2) 0))
+        && (strict || not (occurs (getD (now (line .entry)) (i + 1) 0) (getD (now (line .entry)) (i + 2) 0) (take (i - 3) (drop 3 (now (line .entry))))))) ⌝ }
+{
+    let a = line[i + 1];
+    let b = line[i + 2];
+    if tags::is_key(kind, a, b) {
+        return false;
+    }
+    if strict {
+        return true;
+    }
+    !tags::occurs(&line[3..i], a, b)
+}
+
+// The last value with the tag `a`, `b` from the place `from` on, or else `own`.
+fn last_value(line: &[u8], at: usize, from: usize, a: u8, b: u8, own: Value) -> Value
+    requires { ⌜ AtField false at (now line) from ⌝ }
+    requires { ⌜ at + length (now line) ≤ 4294967295 ⌝ }
+    ensures { λ r. ⌜ r ≡ orValue own (lastOf a b (fieldsFrom at (now (line .entry)) from)) ⌝ }
+{
+    let mut last = own;
+    let mut i = from;
+    while i < line.len() {
+        let end = field_end(line, i);
+        if field::is_same_tag(line[i + 1], line[i + 2], a, b) {
+            last = Value {
+                at: at + i + 4,
+                len: end - i - 4,
+            };
+        }
+        i = end;
+    }
+    last
 }

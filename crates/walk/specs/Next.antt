@@ -1,0 +1,37 @@
+-- The next field of a line that is no key and stands at its tag's first place, with its tag's last value.
+use Prim.Native.Nat.{ℕ, _+_}
+use mathlib.Core.Bool.{_||_, cond}
+use mathlib.Core.List.{List, [], _∷_, _++_}
+use mathlib.Core.Option.{Option, none, some}
+use lib.ListN.{length}
+use Rattle.format.specs.Bytes.{any}
+use Rattle.format.specs.Lines.{Piece}
+use Rattle.format.specs.Fields.{Field, tagged}
+use Rattle.format.specs.declared.Kind.{Kind}
+use Rattle.accepted.specs.Sound.{isKey}
+use Rattle.tags.specs.Others.{latest}
+use Rattle.walk.specs.declared.Value.{Value}
+use Rattle.walk.specs.declared.Other.{Other}
+use Rattle.walk.specs.declared.Next.{Next}
+use Rattle.walk.specs.declared.Next.the-variants as next
+
+-- where a piece stands, or else `v`
+unfoldable pub orValue : Value → Option Piece → Value
+orValue v none = v
+orValue v (some p) = record { at = p .at; len = length (p .bytes) }
+
+-- how many bytes a field has: a tab, two tag bytes, a colon, a value
+unfoldable pub fieldLength : Field → ℕ
+fieldLength f = 4 + length (f .value .bytes)
+
+unfoldable pub otherOf : Field → ℕ → Other
+otherOf f next = record { tag_0 = f .tag₀; tag_1 = f .tag₁; at = f .value .at; len = length (f .value .bytes); next = next }
+
+-- of the fields from the place `pos` on, which follow `done`: the first that is no key and whose tag is not in `done`
+unfoldable pub nextIn : Kind → List Field → List Field → ℕ → Next
+unfolding isKey any tagged latest fieldLength otherOf
+nextIn k done [] pos = next.End
+nextIn k done (f ∷ fs) pos =
+    cond (isKey k (f .tag₀) (f .tag₁) || any (tagged (f .tag₀) (f .tag₁)) done)
+    (nextIn k (done ++ (f ∷ [])) fs (pos + fieldLength f))
+    (next.Field (otherOf (latest fs f) (pos + fieldLength f)))
