@@ -1,19 +1,29 @@
 -- The next field of a line that is no key and stands at its tag's first place, with its tag's last value.
-use Prim.Native.Nat.{ℕ, _+_}
-use mathlib.Core.Bool.{_||_, cond}
+use Prim.Native.Nat.{ℕ, _+_, _-_}
+use mathlib.Core.Bool.{Bool, not, _&&_, _||_, cond}
 use mathlib.Core.List.{List, [], _∷_, _++_}
 use mathlib.Core.Option.{Option, none, some}
-use lib.ListN.{length}
+use lib.ListN.{length, take, drop, getD}
 use Rattle.format.specs.Bytes.{any}
 use Rattle.format.specs.Lines.{Piece}
 use Rattle.format.specs.Fields.{Field, tagged}
+use Rattle.format.specs.Tidy.{fieldText}
 use Rattle.format.specs.declared.Kind.{Kind}
 use Rattle.accepted.specs.Sound.{isKey}
+use Rattle.tags.specs.Occurs.{occurs}
 use Rattle.tags.specs.Others.{latest}
 use Rattle.walk.specs.declared.Value.{Value}
 use Rattle.walk.specs.declared.Other.{Other}
 use Rattle.walk.specs.declared.Next.{Next}
 use Rattle.walk.specs.declared.Next.the-variants as next
+
+-- is the field at the place `i` no key, and its tag none before it? Where `strict` forbids repeats, it is none
+unfoldable pub isFirst : Kind → Bool → List ℕ → ℕ → Bool
+unfolding isKey occurs
+isFirst k strict line i =
+    let a : ℕ = getD line (i + 1) 0 in
+    let b : ℕ = getD line (i + 2) 0 in
+    not (isKey k a b) && (strict || not (occurs a b (take (i - 3) (drop 3 line))))
 
 -- where a piece stands, or else `v`
 unfoldable pub orValue : Value → Option Piece → Value
@@ -22,7 +32,8 @@ orValue v (some p) = record { at = p .at; len = length (p .bytes) }
 
 -- how many bytes a field has: a tab, two tag bytes, a colon, a value
 unfoldable pub fieldLength : Field → ℕ
-fieldLength f = 4 + length (f .value .bytes)
+unfolding fieldText
+fieldLength f = length (fieldText (f .tag₀) (f .tag₁) (f .value .bytes))
 
 unfoldable pub otherOf : Field → ℕ → Other
 otherOf f next = record { tag_0 = f .tag₀; tag_1 = f .tag₁; at = f .value .at; len = length (f .value .bytes); next = next }

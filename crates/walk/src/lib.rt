@@ -1,15 +1,13 @@
 // The other fields of an accepted line, one after another: each tag at its first place, with its last value.
 use format::Kind;
 ghost use mathlib.Core.Path.{_≡_};
-ghost use mathlib.Core.Bool.{_&&_, _||_, not, false};
-ghost use Prim.Native.Nat.{_≤_, _<_, _+_, _-_};
-ghost use lib.ListN.{length, take, drop, getD};
+ghost use mathlib.Core.Bool.{false};
+ghost use Prim.Native.Nat.{_≤_, _<_, _+_};
+ghost use lib.ListN.{length, drop};
 ghost use Rattle.format.specs.Fields.{lastOf};
 ghost use Rattle.text.specs.Upto.{upto};
-ghost use Rattle.accepted.specs.Sound.{isKey};
-ghost use Rattle.tags.specs.Occurs.{occurs};
 ghost use Rattle.walk.specs.Run.{AtField, fieldsTo, fieldsFrom};
-ghost use Rattle.walk.specs.Next.{orValue, nextIn};
+ghost use Rattle.walk.specs.Next.{isFirst, orValue, nextIn};
 
 // Where a value stands in the text.
 pub struct Value {
@@ -42,8 +40,7 @@ fn field_end(line: &[u8], i: usize) -> usize
 // Whether the field at `i` is no key and its tag stands nowhere before: where repeats are forbidden, it never does.
 fn is_first(kind: Kind, line: &[u8], i: usize, strict: bool) -> bool
     requires { ⌜ (3 ≤ i) × (i + 2 < length (now line)) ⌝ }
-    ensures { λ r. ⌜ r ≡ (not (isKey kind (getD (now (line .entry)) (i + 1) 0) (getD (now (line .entry)) (i + 2) 0))
-        && (strict || not (occurs (getD (now (line .entry)) (i + 1) 0) (getD (now (line .entry)) (i + 2) 0) (take (i - 3) (drop 3 (now (line .entry))))))) ⌝ }
+    ensures { λ r. ⌜ r ≡ isFirst kind strict (now (line .entry)) i ⌝ }
 {
     let a = line[i + 1];
     let b = line[i + 2];
