@@ -43,6 +43,9 @@ cut-past (c ∷ w) s h = go (eqb c 9) h (cut-past w s)
 
 -- ---- the first field
 
+abbrev pub bytesOf : Field → List ℕ
+bytesOf f = fieldText (f .tag₀) (f .tag₁) (f .value .bytes)
+
 -- what stands between a field's tab and the next
 abbrev pub piece : Field → List ℕ
 piece f = f .tag₀ ∷ f .tag₁ ∷ 58 ∷ f .value .bytes
@@ -85,13 +88,13 @@ runs-none at = record { spells = refl; clean = tt; places = refl }
 
 -- a field in front
 pub runs-more : (at : ℕ) (f : Field) (s : List ℕ) (fs : List Field) → Clean f → f .value .at ≡ at + 4 → Runs (at + fieldLength f) s fs
-    → Runs at (fieldText (f .tag₀) (f .tag₁) (f .value .bytes) ++ s) (f ∷ fs)
+    → Runs at (bytesOf f ++ s) (f ∷ fs)
 unfolding Each fieldsText
 runs-more at f s fs k p r = record {
-  spells = ap (λ l. fieldText (f .tag₀) (f .tag₁) (f .value .bytes) ++ l) (r .spells);
+  spells = ap (λ l. bytesOf f ++ l) (r .spells);
   clean = (k, r .clean);
   places =
-      ap (λ l. fieldsOf at (fieldText (f .tag₀) (f .tag₁) (f .value .bytes) ++ l)) (r .spells)
+      ap (λ l. fieldsOf at (bytesOf f ++ l)) (r .spells)
       ∙ fields-more at f fs k
       ∙ ap (λ l. seated at f ∷ fieldsOf (at + fieldLength f) l) (sym (r .spells))
       ∙ ap (λ l. seated at f ∷ l) (r .places)
@@ -115,9 +118,8 @@ unfolding Each fieldsText fieldText fieldLength
 runs-stand at s [] r = tt
 runs-stand at s (f ∷ fs) r =
     let o : Opened at f fs = runs-open at s f fs r in
-    let own : List ℕ = fieldText (f .tag₀) (f .tag₁) (f .value .bytes) in
-    let d : drop (fieldLength f) s ≡ fieldsText fs = ap (drop (fieldLength f)) (r .spells) ∙ drop-append-seam own (fieldsText fs) in
-    let l : length s ≡ fieldLength f + length (fieldsText fs) = ap length (r .spells) ∙ length-append own (fieldsText fs) in
+    let d : drop (fieldLength f) s ≡ fieldsText fs = ap (drop (fieldLength f)) (r .spells) ∙ drop-append-seam (bytesOf f) (fieldsText fs) in
+    let l : length s ≡ fieldLength f + length (fieldsText fs) = ap length (r .spells) ∙ length-append (bytesOf f) (fieldsText fs) in
     let e : f .value .at - at ≡ 4 = omega (arith, o .place) in
     (
       record {
