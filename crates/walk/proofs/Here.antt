@@ -130,6 +130,6 @@ module _ (strict : Bool) (at : ℕ) (line : List ℕ) (pos : ℕ) (h : AtField s
   unfolding fieldsOf
   ended l = ap (fieldsOf (at + pos)) (drop-of-length-le line l)
 
-  -- repeats are allowed, if none are there
+  -- where no tag stands twice, repeats may as well be allowed
   pub laxly : AtField false at line pos
   laxly = record { from = h .from; within = h .within; done = h .done; rest = h .rest; once = refl }

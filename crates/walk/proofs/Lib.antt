@@ -1,2 +1,4 @@
 pub mod Runs
 pub mod Here
+pub mod Turn
+pub mod Place

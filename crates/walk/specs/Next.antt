@@ -6,12 +6,13 @@ use mathlib.Core.Option.{Option, none, some}
 use lib.ListN.{length, take, drop, getD}
 use Rattle.format.specs.Bytes.{any}
 use Rattle.format.specs.Lines.{Piece}
-use Rattle.format.specs.Fields.{Field, tagged}
+use Rattle.format.specs.Fields.{Field, tagged, lastOf}
 use Rattle.format.specs.Tidy.{fieldText}
 use Rattle.format.specs.declared.Kind.{Kind}
 use Rattle.accepted.specs.Sound.{isKey}
 use Rattle.tags.specs.Occurs.{occurs}
 use Rattle.tags.specs.Others.{latest}
+use Rattle.walk.specs.Run.{fieldsOf, fieldsFrom}
 use Rattle.walk.specs.declared.Value.{Value}
 use Rattle.walk.specs.declared.Other.{Other}
 use Rattle.walk.specs.declared.Next.{Next}
@@ -25,10 +26,23 @@ isFirst k strict line i =
     let b : ℕ = getD line (i + 2) 0 in
     not (isKey k a b) && (strict || not (occurs a b (take (i - 3) (drop 3 line))))
 
--- where a piece stands, or else `v`
+-- where a piece stands
+abbrev pub standing : Piece → Value
+standing p = record { at = p .at; len = length (p .bytes) }
+
+-- or else `v`
 unfoldable pub orValue : Value → Option Piece → Value
 orValue v none = v
-orValue v (some p) = record { at = p .at; len = length (p .bytes) }
+orValue v (some p) = standing p
+
+-- the value of the field from the tab at `i` up to `end`
+abbrev pub valueAt : ℕ → ℕ → ℕ → Value
+valueAt at i end = record { at = at + i + 4; len = end - (i + 4) }
+
+-- the last value that its tag has from there on
+unfoldable pub keptAt : ℕ → List ℕ → ℕ → ℕ → Value
+unfolding orValue lastOf fieldsOf
+keptAt at line i end = orValue (valueAt at i end) (lastOf (getD line (i + 1) 0) (getD line (i + 2) 0) (fieldsFrom at line end))
 
 -- how many bytes a field has: a tab, two tag bytes, a colon, a value
 unfoldable pub fieldLength : Field → ℕ

@@ -1,41 +1,47 @@
+-- `walk::field_end` meets its contract: the part that is lent is the rest of the line, and the tab stands in it or it ends.
+use Prim.Native.Nat.{ℕ, _+_, _-_}
+use mathlib.Core.Path.{_≡_, ap, _∙_}
+use native.Mathlib.Omega.{arith}
+use lib.ListN.{length, drop, length-drop}
 use borrow.Author.Needs.{needs}
+use Rattle.text.specs.Upto.{upto}
+use Rattle.text.proofs.Lines.{upto-le}
+use Rattle.field.proofs.Before.{rest}
 use Rattle.walk.proofs.field_end.Statement.{statement}
 use Rattle.walk.proofs.field_end.Tie as tie
-use Rattle.walk.proofs.field_end.Reads as reads
-use Rattle.walk.proofs.field_end.Lts as lts
-use Rattle.text.proofs.upto.Reads as upto-reads
 
--- src/lib.rt:37:5
+-- what the call gives, of the line itself
+told : (c : tie.After-upto) → c .upto .result ≡ upto 9 (drop (c .before .before .before .args .i + 1) (c .before .before .before .args .line .now))
+told c =
+    let a = c .before .before .before .args in
+    c .upto .ensures ∙ ap (upto 9) (rest (a .i + 1) (a .line .now))
+
 add-result : tie.Need-add-result
 add-result c = search needs
 
--- src/lib.rt:37:30
 add-upto : tie.Need-add-upto
 add-upto c = search needs
 
--- src/lib.rt:37:24
 sub-upto : tie.Need-sub-upto
 sub-upto c = search needs
 
--- src/lib.rt:37:24
 part-upto-start : tie.Need-part-upto-start
 part-upto-start c = search needs
 
--- src/lib.rt:37:24
 part-upto-end : tie.Need-part-upto-end
 part-upto-end c = search needs
 
--- src/lib.rt:37:13
 upto-requires : tie.Need-upto-requires
 upto-requires c κs = search needs
 
--- src/lib.rt:37:5
 add-result-2 : tie.Need-add-result-2
-add-result-2 c = ?
+add-result-2 c =
+    let a = c .before .before .before .args in
+    let n : ℕ = a .i + 1 in
+    omega (arith, told c, upto-le 9 (drop n (a .line .now)), length-drop n (a .line .now), c .before .before .before)
 
--- src/lib.rt:33:1
 returns : tie.Need-returns
-returns c = ?
+returns c = ap (λ n. c .before .before .before .args .i + 1 + n) (told c)
 
 pub field-end-spec : {M : Type 1} → statement M
 field-end-spec =

@@ -1,77 +1,71 @@
+-- `walk::last_value` meets its contract: what is the last value so far, or else from the place on, stays.
+use Prim.Native.Nat.{ℕ, _+_, _-_, _≤_, _<_}
+use mathlib.Core.Path.{_≡_, refl, sym, ap, _∙_}
+use mathlib.Core.Bool.{true, false}
+use native.Mathlib.Omega.{arith}
+use lib.ListN.{length}
+use Rattle.format.specs.Fields.{lastOf}
+use Rattle.walk.specs.Run.{fieldsFrom, AtField}
+use Rattle.walk.specs.Next.{orValue}
+use Rattle.walk.proofs.Here.{ended}
+use Rattle.walk.proofs.Place.{next-at, bounds, same-at, other-at}
 use Rattle.walk.proofs.last_value.Statement.{statement}
 use Rattle.walk.proofs.last_value.Tie as tie
 use Rattle.walk.proofs.last_value.Reads as reads
 use Rattle.walk.proofs.last_value.Lts as lts
 use Rattle.field.proofs.is_same_tag.Reads as is-same-tag-reads
 use Rattle.walk.proofs.field_end.Reads as field-end-reads
+use Rattle.walk.proofs.value_at.Reads as value-at-reads
 
 abbrev Inv-loop : tie.InvT-loop
-Inv-loop line at from a b last₀ i₀ last i = ?
+Inv-loop line at from a b last₀ i₀ last i = AtField false at line i × (orValue last₀ (lastOf a b (fieldsFrom at line from)) ≡ orValue last (lastOf a b (fieldsFrom at line i)))
 
 abbrev μ-loop : tie.MeasureT-loop
-μ-loop line at from a b last₀ i₀ last i = ?
+μ-loop line at from a b last₀ i₀ last i = length line - i
 
--- src/lib.rt:64:5
+-- the field of a turn ends in the line
+reach : (c : tie.After-field-end Inv-loop μ-loop) → (c .before .before .loop .i + 4 ≤ c .field-end .result) × (c .field-end .result ≤ length (c .before .before .before .before .args .line .now))
+reach c =
+    let l = c .before .before in
+    let a = l .before .before .args in
+    bounds false (a .at) (a .line .now) (l .loop .i) (l .loop .inv .0) (omega arith) (c .field-end .result) (c .field-end .ensures)
+
 loop-holds : tie.Need-loop-holds Inv-loop μ-loop
-loop-holds c = ?
+loop-holds c = (c .before .pre .0, refl)
 
--- src/lib.rt:65:13
 field-end-requires : tie.Need-field-end-requires Inv-loop μ-loop
-field-end-requires c κs = ?
+field-end-requires c κs = omega arith
 
--- src/lib.rt:66:36
 add-is-same-tag : tie.Need-add-is-same-tag Inv-loop μ-loop
-add-is-same-tag c = ?
+add-is-same-tag c = omega (arith, reach c)
 
--- src/lib.rt:66:31
 shared-slice-read-is-same-tag : tie.Need-shared-slice-read-is-same-tag Inv-loop μ-loop
-shared-slice-read-is-same-tag c = ?
+shared-slice-read-is-same-tag c = omega (arith, reach (c .before))
 
--- src/lib.rt:66:49
 add-is-same-tag-2 : tie.Need-add-is-same-tag-2 Inv-loop μ-loop
-add-is-same-tag-2 c = ?
+add-is-same-tag-2 c = omega (arith, reach (c .before))
 
--- src/lib.rt:66:44
 shared-slice-read-is-same-tag-2 : tie.Need-shared-slice-read-is-same-tag-2 Inv-loop μ-loop
-shared-slice-read-is-same-tag-2 c = ?
+shared-slice-read-is-same-tag-2 c = omega (arith, reach (c .before .before))
 
--- src/lib.rt:66:12
 is-same-tag-requires : tie.Need-is-same-tag-requires Inv-loop μ-loop
-is-same-tag-requires c κs = ?
+is-same-tag-requires c κs = tt
 
--- src/lib.rt:68:21
-add-t18 : tie.Need-add-t18 Inv-loop μ-loop
-add-t18 c = ?
+value-at-requires : tie.Need-value-at-requires Inv-loop μ-loop
+value-at-requires c κs = ?
 
--- src/lib.rt:68:21
-add-t19 : tie.Need-add-t19 Inv-loop μ-loop
-add-t19 c = ?
-
--- src/lib.rt:69:22
-sub-t20 : tie.Need-sub-t20 Inv-loop μ-loop
-sub-t20 c = ?
-
--- src/lib.rt:69:22
-sub-t21 : tie.Need-sub-t21 Inv-loop μ-loop
-sub-t21 c = ?
-
--- src/lib.rt:64:5
 loop-less : tie.Need-loop-less Inv-loop μ-loop
 loop-less c = ?
 
--- src/lib.rt:64:5
 loop-again : tie.Need-loop-again Inv-loop μ-loop
 loop-again c = ?
 
--- src/lib.rt:64:5
 loop-less-2 : tie.Need-loop-less-2 Inv-loop μ-loop
 loop-less-2 c = ?
 
--- src/lib.rt:64:5
 loop-again-2 : tie.Need-loop-again-2 Inv-loop μ-loop
 loop-again-2 c = ?
 
--- src/lib.rt:57:1
 returns : tie.Need-returns Inv-loop μ-loop
 returns c = ?
 
@@ -88,10 +82,7 @@ last-value-spec =
     add-is-same-tag-2
     shared-slice-read-is-same-tag-2
     is-same-tag-requires
-    add-t18
-    add-t19
-    sub-t20
-    sub-t21
+    value-at-requires
     loop-less
     loop-again
     loop-less-2
