@@ -46,28 +46,49 @@ is-first-requires : tie.Need-is-first-requires Inv-loop μ-loop
 is-first-requires c κs = let r = reach c in (c .before .before .loop .inv .0 .from, omega arith)
 
 kept-value-requires : tie.Need-kept-value-requires Inv-loop μ-loop
-kept-value-requires c κs = ?
+kept-value-requires c κs =
+    let f = c .before .before in
+    let l = f .before .before in
+    (l .loop .inv .0, ((omega arith, f .field-end .ensures), l .before .before .pre .1))
 
 add-t12 : tie.Need-add-t12 Inv-loop μ-loop
-add-t12 c = ?
+add-t12 c = omega (arith, reach (c .before .before .before))
 
 shared-slice-read-t14 : tie.Need-shared-slice-read-t14 Inv-loop μ-loop
-shared-slice-read-t14 c = ?
+shared-slice-read-t14 c = omega (arith, reach (c .before .before .before .before))
 
 add-t15 : tie.Need-add-t15 Inv-loop μ-loop
-add-t15 c = ?
+add-t15 c = omega (arith, reach (c .before .before .before .before))
 
 shared-slice-read-t17 : tie.Need-shared-slice-read-t17 Inv-loop μ-loop
-shared-slice-read-t17 c = ?
+shared-slice-read-t17 c = omega (arith, reach (c .before .before .before .before .before))
 
 returns : tie.Need-returns Inv-loop μ-loop
-returns c = ?
+returns c =
+    let v = c .before .before in
+    let t = v .before in
+    let f = t .before .before in
+    let l = f .before .before in
+    let a = l .before .before .args in
+    sym
+    (l .loop .inv .1
+    ∙ stop-at (a .strict) (a .at) (a .line .now) (l .loop .i) (l .loop .inv .0) (omega arith) (f .field-end .result) (f .field-end .ensures)
+    (a .kind) (v .kept-value .result) (sym (t .before .is-first .ensures) ∙ t .if1 .taken) (v .kept-value .ensures))
 
 loop-less : tie.Need-loop-less Inv-loop μ-loop
-loop-less c = ?
+loop-less c = omega (arith, reach (c .before .before))
 
 loop-again : tie.Need-loop-again Inv-loop μ-loop
-loop-again c = ?
+loop-again c =
+    let f = c .before .before in
+    let l = f .before .before in
+    let a = l .before .before .args in
+    (
+      next-at (a .strict) (a .at) (a .line .now) (l .loop .i) (l .loop .inv .0) (omega arith) (f .field-end .result) (f .field-end .ensures),
+      l .loop .inv .1
+      ∙ pass-at (a .strict) (a .at) (a .line .now) (l .loop .i) (l .loop .inv .0) (omega arith) (f .field-end .result) (f .field-end .ensures)
+      (a .kind) (sym (c .before .is-first .ensures) ∙ c .if1 .left),
+    )
 
 returns-2 : tie.Need-returns-2 Inv-loop μ-loop
 returns-2 c =
