@@ -1,6 +1,6 @@
 -- A turn of a walk over a line, as its bytes say it: from the tab at `i` to the end of the field there.
 use Prim.Native.Nat.{ℕ, _+_, _≤_, _<_}
-use mathlib.Core.Path.{_≡_, refl, sym, ap, subst, _∙_}
+use mathlib.Core.Path.{_≡_, refl, sym, ap, _∙_}
 use mathlib.Core.Bool.{Bool, true, false, _&&_}
 use mathlib.Core.List.{List}
 use native.Mathlib.Omega.{arith}
@@ -12,9 +12,8 @@ use Rattle.text.specs.Upto.{upto}
 use Rattle.walk.specs.Run.{fieldsTo, fieldsFrom, AtField}
 use Rattle.walk.specs.Next.{isFirst, orValue, valueAt, keptAt, fieldLength, nextIn}
 use Rattle.walk.specs.declared.Value.{Value}
-use Rattle.walk.specs.declared.Other.{Other}
 use Rattle.walk.specs.declared.Next.the-variants as next
-use Rattle.walk.proofs.Here.{Here, Found, found}
+use Rattle.walk.proofs.Here.{Found, found}
 use Rattle.walk.proofs.Turn.{pass, stop, last-same, last-other, kept-own, kept-other}
 
 module _ (strict : Bool) (at : ℕ) (line : List ℕ) (i : ℕ) (h : AtField strict at line i) (l : i < length line) (end : ℕ) (q : end ≡ i + 1 + upto 9 (drop (i + 1) line)) where

@@ -1,19 +1,19 @@
 -- Runs of fields: the first field of a run, a field put in front of one, and one run after another.
-use Prim.Native.Nat.{ℕ, zero, suc, _+_, _-_, _≤_, _<_}
+use Prim.Native.Nat.{ℕ, suc, _+_, _-_}
 use mathlib.Core.Path.{_≡_, refl, sym, ap, subst, _∙_}
 use mathlib.Core.Bool.{Bool, true, false, cond}
-use mathlib.Core.List.{List, [], _∷_, _++_, map, append-assoc, append-nil}
+use mathlib.Core.List.{List, [], _∷_, _++_, append-assoc}
 use native.Mathlib.Omega.{arith}
-use lib.ListN.{length, take, drop, getD, length-append}
+use lib.ListN.{length, drop, length-append}
 use lib.Seq.{drop-append-seam, take-append-seam}
 use lib.Dec.{eqb}
 use borrow.Author.Tests.{ne-eqb}
-use Rattle.format.specs.Lines.{Piece, onto, cut, placed}
+use Rattle.format.specs.Lines.{onto, cut, placed}
 use Rattle.format.specs.Fields.{Field}
 use Rattle.format.specs.Tidy.{fieldText, fieldsText}
 use Rattle.text.specs.Upto.{upto}
 use Rattle.text.specs.Stands.{Stands, Each}
-use Rattle.text.proofs.Stands.{each-map, stands-front, stands-onward}
+use Rattle.text.proofs.Stands.{each-map, stands-onward}
 use Rattle.tags.proofs.Region.{Clean}
 use Rattle.walk.specs.Run.{fieldOf, fieldsOf, Runs}
 use Rattle.walk.specs.Next.{fieldLength}
@@ -120,8 +120,7 @@ runs-stand at s (f ∷ fs) r =
     let o : Opened at f fs = runs-open at s f fs r in
     let d : drop (fieldLength f) s ≡ fieldsText fs = ap (drop (fieldLength f)) (r .spells) ∙ drop-append-seam (bytesOf f) (fieldsText fs) in
     let l : length s ≡ fieldLength f + length (fieldsText fs) = ap length (r .spells) ∙ length-append (bytesOf f) (fieldsText fs) in
-    let e : f .value .at - at ≡ 4 = omega (arith, o .place) in
-    (
+    let e : f .value .at - at ≡ 4 = omega (arith, o .place) in (
       record {
         from = omega (arith, o .place);
         within = omega (arith, o .place);

@@ -1,10 +1,10 @@
 -- The walk over an accepted line starts after its kind bytes, and gives the other fields of its record.
-use Prim.Native.Nat.{ℕ, zero, suc, _+_, _-_, _≤_}
-use mathlib.Core.Path.{_≡_, refl, sym, ap, subst, _∙_}
+use Prim.Native.Nat.{ℕ, suc, _+_, _-_}
+use mathlib.Core.Path.{_≡_, refl, sym, ap, _∙_}
 use mathlib.Core.Bool.{Bool, true, false, _&&_, _||_, cond}
 use mathlib.Core.List.{List, [], _∷_, _++_, map}
 use native.Mathlib.Omega.{arith}
-use lib.ListN.{length, take, drop, getD}
+use lib.ListN.{length, drop, getD}
 use lib.Dec.{eqb}
 use borrow.Author.Tests.{eqb-true, eqb-false}
 use Rattle.format.specs.Lines.{Piece, onto, cut, placed}
@@ -12,14 +12,13 @@ use Rattle.format.specs.Fields.{Field, tagged, repeats, settled, without}
 use Rattle.format.specs.Records.{Record, others}
 use Rattle.format.specs.Tidy.{fieldText, fieldsText}
 use Rattle.format.specs.declared.Kind.{Kind}
-use Rattle.format.specs.declared.Kind.the-variants.{Header, ReferenceSequence, ReadGroup, Program, Comment}
+use Rattle.format.specs.declared.Kind.the-variants.{Header, ReferenceSequence, ReadGroup, Program}
 use Rattle.text.specs.Upto.{upto}
-use Rattle.text.specs.Stands.{Each}
 use Rattle.text.proofs.Stands.{pieces-free}
 use Rattle.accepted.specs.Pieces.{Pairs}
 use Rattle.accepted.specs.Sound.{isKey, kind}
 use Rattle.accepted.specs.Spelled as sp
-use Rattle.accepted.specs.Spelled.{Good, Made, kind₀, kind₁, Spelled}
+use Rattle.accepted.specs.Spelled.{Good, Made, Spelled}
 use Rattle.accepted.proofs.Bools.{never}
 use Rattle.accepted.proofs.Pairs.{pairs-right}
 use Rattle.accepted.proofs.Sound.{made-kind}
@@ -129,6 +128,11 @@ module _ (strict : Bool) (at : ℕ) (s : List ℕ) (r : Record) (a : Spelled str
     rest = rw (fields .places) fields;
     once = ap (λ l. strict && repeats l) (fields .places) ∙ a .once;
   }
+
+  -- no field stands before
+  pub start-none : fieldsTo at s 3 ≡ []
+  unfolding fieldsOf
+  start-none = refl
 
   -- from there on, the walk gives the record's other fields
   pub accepted-others : firsts (kind r) [] (fieldsFrom at s 3) ≡ others r

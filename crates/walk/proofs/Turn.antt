@@ -1,6 +1,6 @@
 -- One field further: what the walk answers at a place, by the field there.
-use Prim.Native.Nat.{ℕ, _+_, _-_, _≤_, _<_}
-use mathlib.Core.Path.{_≡_, refl, sym, ap, subst, _∙_}
+use Prim.Native.Nat.{ℕ, _+_, _-_}
+use mathlib.Core.Path.{_≡_, refl, sym, ap, _∙_}
 use mathlib.Core.Bool.{Bool, true, false, not, _&&_, _||_, cond}
 use mathlib.Core.List.{List, [], _∷_, _++_}
 use mathlib.Core.Option.{Option, none, some}
@@ -12,16 +12,14 @@ use Rattle.format.specs.Lines.{Piece}
 use Rattle.format.specs.Fields.{Field, tagged, repeats, later, lastOf}
 use Rattle.format.specs.declared.Kind.{Kind}
 use Rattle.accepted.specs.Sound.{isKey}
-use Rattle.accepted.proofs.Bools.{or-left, or-right, or-false, any-append}
+use Rattle.accepted.proofs.Bools.{or-left, or-right, any-append}
 use Rattle.accepted.proofs.Tags.{tagged-sym}
 use Rattle.tags.specs.Occurs.{occurs}
 use Rattle.tags.specs.Others.{orLast, latest}
 use Rattle.tags.proofs.Region.{occurs-fields}
-use Rattle.walk.specs.Run.{fieldsOf, fieldsTo, fieldsFrom, AtField}
+use Rattle.walk.specs.Run.{fieldsTo, fieldsFrom, AtField}
 use Rattle.walk.specs.Next.{isFirst, standing, orValue, valueAt, keptAt, fieldLength, otherOf, nextIn}
 use Rattle.walk.specs.declared.Value.{Value}
-use Rattle.walk.specs.declared.Other.{Other}
-use Rattle.walk.specs.declared.Next.{Next}
 use Rattle.walk.specs.declared.Next.the-variants as next
 use Rattle.walk.proofs.Here.{Here}
 
@@ -35,7 +33,7 @@ apart [] f fs h = (refl, or-left (any (tagged (f .tag₀) (f .tag₁)) fs) (repe
 apart (g ∷ d) f fs h =
     let s : Bool = any (tagged (g .tag₀) (g .tag₁)) (d ++ (f ∷ fs)) in
     let l : any (tagged (g .tag₀) (g .tag₁)) d || any (tagged (g .tag₀) (g .tag₁)) (f ∷ fs) ≡ false =
-        sym (any-append (tagged (g .tag₀) (g .tag₁)) d (f ∷ fs)) ∙ or-left s (repeats (d ++ (f ∷ fs))) h in
+    sym (any-append (tagged (g .tag₀) (g .tag₁)) d (f ∷ fs)) ∙ or-left s (repeats (d ++ (f ∷ fs))) h in
     let k : tagged (g .tag₀) (g .tag₁) f ≡ false = or-left (tagged (g .tag₀) (g .tag₁) f) (any (tagged (g .tag₀) (g .tag₁)) fs) (or-right (any (tagged (g .tag₀) (g .tag₁)) d) (any (tagged (g .tag₀) (g .tag₁)) (f ∷ fs)) l) in
     let ih = apart d f fs (or-right s (repeats (d ++ (f ∷ fs))) h) in
     (ap (λ t. t || any (tagged (f .tag₀) (f .tag₁)) d) (tagged-sym f g ∙ k) ∙ ih .0, ih .1)
@@ -78,7 +76,7 @@ module _ (strict : Bool) (at : ℕ) (line : List ℕ) (pos : ℕ) (h : AtField s
   unfolding isFirst
   first-here k =
       let o : occurs (f .tag₀) (f .tag₁) (take (pos - 3) (drop 3 line)) ≡ any (tagged (f .tag₀) (f .tag₁)) (fieldsTo at line pos) =
-          ap (occurs (f .tag₀) (f .tag₁)) (h .done .spells) ∙ occurs-fields (f .tag₀) (f .tag₁) (fieldsTo at line pos) (h .done .clean) in
+      ap (occurs (f .tag₀) (f .tag₁)) (h .done .spells) ∙ occurs-fields (f .tag₀) (f .tag₁) (fieldsTo at line pos) (h .done .clean) in
       rw (e .tag-0, e .tag-1, o) (go (isKey k (f .tag₀) (f .tag₁)) strict (any (tagged (f .tag₀) (f .tag₁)) (fieldsTo at line pos)) (λ s. alone s .0))
     where
       go : (t s u : Bool) → (s ≡ true → u ≡ false) → not t && (s || not u) ≡ not (t || u)
@@ -95,9 +93,9 @@ module _ (strict : Bool) (at : ℕ) (line : List ℕ) (pos : ℕ) (h : AtField s
       ap (λ l. nextIn k (fieldsTo at line pos) l pos) (e .rest)
       ∙ ap
       (λ d.
-        cond (isKey k (f .tag₀) (f .tag₁) || any (tagged (f .tag₀) (f .tag₁)) (fieldsTo at line pos))
-        (nextIn k d (fieldsFrom at line (pos + fieldLength f)) (pos + fieldLength f))
-        (next.Field (otherOf (latest (fieldsFrom at line (pos + fieldLength f)) f) (pos + fieldLength f))))
+      cond (isKey k (f .tag₀) (f .tag₁) || any (tagged (f .tag₀) (f .tag₁)) (fieldsTo at line pos))
+      (nextIn k d (fieldsFrom at line (pos + fieldLength f)) (pos + fieldLength f))
+      (next.Field (otherOf (latest (fieldsFrom at line (pos + fieldLength f)) f) (pos + fieldLength f))))
       (sym (e .done))
 
   -- a field that is not taken is passed
@@ -147,5 +145,5 @@ module _ (strict : Bool) (at : ℕ) (line : List ℕ) (pos : ℕ) (h : AtField s
   unfolding keptAt otherOf latest
   kept-other v q =
       let l : v ≡ standing (orLast (f .value) (lastOf (f .tag₀) (f .tag₁) (fieldsFrom at line (pos + fieldLength f)))) =
-          q ∙ rw (e .tag-0, e .tag-1, own) (or-latest (f .value) (lastOf (f .tag₀) (f .tag₁) (fieldsFrom at line (pos + fieldLength f)))) in
+      q ∙ rw (e .tag-0, e .tag-1, own) (or-latest (f .value) (lastOf (f .tag₀) (f .tag₁) (fieldsFrom at line (pos + fieldLength f)))) in
       rw (l, e .tag-0, e .tag-1) refl

@@ -1,7 +1,7 @@
 -- A walk gives the other fields of a line one by one: what an answer of the walk says of the fields that are still to come.
 use Prim.Native.Nat.{ℕ, _+_, _-_, _≤_, _<_}
 use mathlib.Core.Path.{_≡_, refl, sym, ap, subst, _∙_}
-use mathlib.Core.Bool.{Bool, true, false, not, _||_, cond}
+use mathlib.Core.Bool.{Bool, true, false, _||_, cond}
 use mathlib.Core.List.{List, [], _∷_, _++_}
 use mathlib.Core.Option.{Option, none, some}
 use native.Mathlib.Omega.{arith}
@@ -20,7 +20,6 @@ use Rattle.tags.specs.Others.{orLast, latest, firsts}
 use Rattle.walk.specs.Run.{fieldsTo, fieldsFrom, AtField}
 use Rattle.walk.specs.Next.{isFirst, fieldLength, otherOf, nextIn}
 use Rattle.walk.specs.declared.Other.{Other}
-use Rattle.walk.specs.declared.Next.{Next}
 use Rattle.walk.specs.declared.Next.the-variants as next
 use Rattle.walk.proofs.Runs.{runs-stand}
 use Rattle.walk.proofs.Here.{Here, here}
@@ -82,9 +81,9 @@ module _ (strict : Bool) (at : ℕ) (line : List ℕ) (k : Kind) where
         ap (firsts k (fieldsTo at line pos)) (e .rest)
         ∙ ap
         (λ d.
-          cond (isKey k (f .tag₀) (f .tag₁) || any (tagged (f .tag₀) (f .tag₁)) (fieldsTo at line pos))
-          (firsts k d (fieldsFrom at line (pos + fieldLength f)))
-          (latest (fieldsFrom at line (pos + fieldLength f)) f ∷ firsts k d (fieldsFrom at line (pos + fieldLength f))))
+        cond (isKey k (f .tag₀) (f .tag₁) || any (tagged (f .tag₀) (f .tag₁)) (fieldsTo at line pos))
+        (firsts k d (fieldsFrom at line (pos + fieldLength f)))
+        (latest (fieldsFrom at line (pos + fieldLength f)) f ∷ firsts k d (fieldsFrom at line (pos + fieldLength f))))
         (sym (e .done))
 
     -- the field itself is answered, with its tag's last value
@@ -135,8 +134,8 @@ module _ (strict : Bool) (at : ℕ) (line : List ℕ) (k : Kind) where
       let r : f ∷ fieldsFrom at line (pos + fieldLength f) ≡ f ∷ fs = sym (w .rest) ∙ e in
       split (isFirst k strict line pos)
       (λ n.
-        let z : next.Field (otherOf (latest (fieldsFrom at line (pos + fieldLength f)) f) (pos + fieldLength f)) ≡ next.Field o = sym (stop strict at line pos h f w k n) ∙ q in
-        subst (Gone strict at line k pos) (cc) (own pos h f w n))
+      let z : next.Field (otherOf (latest (fieldsFrom at line (pos + fieldLength f)) f) (pos + fieldLength f)) ≡ next.Field o = sym (stop strict at line pos h f w k n) ∙ q in
+      subst (Gone strict at line k pos) (cc) (own pos h f w n))
       (λ n. passed pos h f w o n (field-in fs (pos + fieldLength f) o (w .next) (cc) (sym (pass strict at line pos h f w k n) ∙ q)))
 
   pub next-field : (pos : ℕ) (o : Other) → AtField strict at line pos

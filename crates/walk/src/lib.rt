@@ -10,9 +10,9 @@ ghost use Rattle.walk.specs.Run.{AtField, fieldsTo, fieldsFrom};
 ghost use Rattle.walk.specs.Next.{isFirst, valueAt, orValue, keptAt, nextIn};
 
 // Where a value stands in the text.
-pub struct Value {
-    pub at: usize,
-    pub len: usize,
+struct Value {
+    at: usize,
+    len: usize,
 }
 
 // A field that is no key: its tag, where its value stands in the text, and the place in the line to go on from.

@@ -2,7 +2,7 @@
 use Prim.Native.Nat.{ℕ, _+_, _-_}
 use mathlib.Core.Path.{_≡_, ap, _∙_}
 use native.Mathlib.Omega.{arith}
-use lib.ListN.{length, drop, length-drop}
+use lib.ListN.{drop, length-drop}
 use borrow.Author.Needs.{needs}
 use Rattle.text.specs.Upto.{upto}
 use Rattle.text.proofs.Lines.{upto-le}

@@ -1,7 +1,7 @@
 -- `walk::is_first` meets its contract: a key is not, and of the others the bytes before tell, where repeats are allowed.
 use Prim.Native.Nat.{ℕ, _+_, _-_}
 use mathlib.Core.Path.{_≡_, refl, sym, ap, _∙_}
-use mathlib.Core.Bool.{Bool, true, false, not, _&&_, _||_}
+use mathlib.Core.Bool.{Bool, true, false, not}
 use mathlib.Core.List.{List}
 use lib.ListN.{take, drop, getD}
 use borrow.Author.Needs.{needs}

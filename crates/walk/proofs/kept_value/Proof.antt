@@ -1,12 +1,11 @@
 -- `walk::kept_value` meets its contract: where repeats are forbidden no tag comes again, else the rest of the line tells.
-use Prim.Native.Nat.{ℕ, _+_, _≤_}
-use mathlib.Core.Path.{_≡_, sym, ap, _∙_}
-use mathlib.Core.Bool.{false}
+use Prim.Native.Nat.{_+_, _≤_}
+use mathlib.Core.Path.{sym, ap, _∙_}
 use native.Mathlib.Omega.{arith}
 use lib.ListN.{length, getD}
 use borrow.Author.Needs.{needs}
 use Rattle.format.specs.Fields.{lastOf}
-use Rattle.walk.specs.Run.{fieldsFrom, AtField}
+use Rattle.walk.specs.Run.{fieldsFrom}
 use Rattle.walk.specs.Next.{orValue, keptAt}
 use Rattle.walk.proofs.Here.{laxly}
 use Rattle.walk.proofs.Place.{next-at, bounds, own-at}

@@ -1,7 +1,7 @@
 -- `walk::last_value` meets its contract: what is the last value so far, or else from the place on, stays.
-use Prim.Native.Nat.{ℕ, _+_, _-_, _≤_, _<_}
+use Prim.Native.Nat.{ℕ, _+_, _-_, _≤_}
 use mathlib.Core.Path.{_≡_, refl, sym, ap, _∙_}
-use mathlib.Core.Bool.{true, false}
+use mathlib.Core.Bool.{false}
 use mathlib.Core.List.{List, []}
 use native.Mathlib.Omega.{arith}
 use lib.ListN.{length}
@@ -13,11 +13,6 @@ use Rattle.walk.proofs.Here.{ended}
 use Rattle.walk.proofs.Place.{next-at, bounds, same-at, other-at}
 use Rattle.walk.proofs.last_value.Statement.{statement}
 use Rattle.walk.proofs.last_value.Tie as tie
-use Rattle.walk.proofs.last_value.Reads as reads
-use Rattle.walk.proofs.last_value.Lts as lts
-use Rattle.field.proofs.is_same_tag.Reads as is-same-tag-reads
-use Rattle.walk.proofs.field_end.Reads as field-end-reads
-use Rattle.walk.proofs.value_at.Reads as value-at-reads
 
 none-left : (a b : ℕ) (v : Value) (fs : List Field) → fs ≡ [] → orValue v (lastOf a b fs) ≡ v
 unfolding orValue lastOf
@@ -75,12 +70,11 @@ loop-again c =
     let t = c .before .before in
     let f = t .before .before .before in
     let l = f .before .before in
-    let a = l .before .before .args in
-    (
+    let a = l .before .before .args in (
       onward f,
       l .loop .inv .1
-      ∙ same-at false (a .at) (a .line .now) (l .loop .i) (l .loop .inv .0) (omega arith) (f .field-end .result) (f .field-end .ensures) (a .a) (a .b) (l .loop .last) (sym (t .is-same-tag .ensures) ∙ c .before .if1 .taken)
-      ∙ ap (λ v. orValue v (lastOf (a .a) (a .b) (fieldsFrom (a .at) (a .line .now) (f .field-end .result)))) (sym (c .value-at .ensures)),
+          ∙ same-at false (a .at) (a .line .now) (l .loop .i) (l .loop .inv .0) (omega arith) (f .field-end .result) (f .field-end .ensures) (a .a) (a .b) (l .loop .last) (sym (t .is-same-tag .ensures) ∙ c .before .if1 .taken)
+          ∙ ap (λ v. orValue v (lastOf (a .a) (a .b) (fieldsFrom (a .at) (a .line .now) (f .field-end .result)))) (sym (c .value-at .ensures)),
     )
 
 loop-less-2 : tie.Need-loop-less-2 Inv-loop μ-loop
@@ -91,11 +85,10 @@ loop-again-2 c =
     let t = c .before in
     let f = t .before .before .before in
     let l = f .before .before in
-    let a = l .before .before .args in
-    (
+    let a = l .before .before .args in (
       onward f,
       l .loop .inv .1
-      ∙ other-at false (a .at) (a .line .now) (l .loop .i) (l .loop .inv .0) (omega arith) (f .field-end .result) (f .field-end .ensures) (a .a) (a .b) (l .loop .last) (sym (t .is-same-tag .ensures) ∙ c .if1 .left),
+          ∙ other-at false (a .at) (a .line .now) (l .loop .i) (l .loop .inv .0) (omega arith) (f .field-end .result) (f .field-end .ensures) (a .a) (a .b) (l .loop .last) (sym (t .is-same-tag .ensures) ∙ c .if1 .left),
     )
 
 returns : tie.Need-returns Inv-loop μ-loop

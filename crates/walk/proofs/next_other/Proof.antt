@@ -1,6 +1,6 @@
 -- `walk::next_other` meets its contract: what it answers from the place on is what is still asked.
-use Prim.Native.Nat.{ℕ, _+_, _-_, _≤_, _<_}
-use mathlib.Core.Path.{_≡_, refl, sym, ap, _∙_}
+use Prim.Native.Nat.{ℕ, _+_, _-_, _≤_}
+use mathlib.Core.Path.{_≡_, refl, sym, _∙_}
 use mathlib.Core.List.{List, []}
 use native.Mathlib.Omega.{arith}
 use lib.ListN.{length}
@@ -13,11 +13,6 @@ use Rattle.walk.proofs.Here.{ended}
 use Rattle.walk.proofs.Place.{next-at, bounds, pass-at, stop-at}
 use Rattle.walk.proofs.next_other.Statement.{statement}
 use Rattle.walk.proofs.next_other.Tie as tie
-use Rattle.walk.proofs.next_other.Reads as reads
-use Rattle.walk.proofs.next_other.Lts as lts
-use Rattle.walk.proofs.field_end.Reads as field-end-reads
-use Rattle.walk.proofs.is_first.Reads as is-first-reads
-use Rattle.walk.proofs.kept_value.Reads as kept-value-reads
 
 none-left : (k : Kind) (done rest : List Field) (pos : ℕ) → rest ≡ [] → nextIn k done rest pos ≡ next.End
 unfolding nextIn
@@ -82,12 +77,11 @@ loop-again : tie.Need-loop-again Inv-loop μ-loop
 loop-again c =
     let f = c .before .before in
     let l = f .before .before in
-    let a = l .before .before .args in
-    (
+    let a = l .before .before .args in (
       next-at (a .strict) (a .at) (a .line .now) (l .loop .i) (l .loop .inv .0) (omega arith) (f .field-end .result) (f .field-end .ensures),
       l .loop .inv .1
-      ∙ pass-at (a .strict) (a .at) (a .line .now) (l .loop .i) (l .loop .inv .0) (omega arith) (f .field-end .result) (f .field-end .ensures)
-      (a .kind) (sym (c .before .is-first .ensures) ∙ c .if1 .left),
+          ∙ pass-at (a .strict) (a .at) (a .line .now) (l .loop .i) (l .loop .inv .0) (omega arith) (f .field-end .result) (f .field-end .ensures)
+          (a .kind) (sym (c .before .is-first .ensures) ∙ c .if1 .left),
     )
 
 returns-2 : tie.Need-returns-2 Inv-loop μ-loop
