@@ -1,11 +1,10 @@
 -- `rules::announced` meets its contract: after `@HD` and a tab the pieces decide, and else nothing is announced.
-use mathlib.Core.Path.{_≡_, refl, sym, ap, _∙_}
+use mathlib.Core.Path.{refl, sym, _∙_}
 use mathlib.Core.List.{[], _∷_}
 use Prim.Native.Nat.{_≤_}
 use borrow.Author.Needs.{needs}
 use lib.ListN.{length}
-use Rattle.format.specs.Lines.{cut}
-use Rattle.format.specs.Reading.{firstVersion, announced}
+use Rattle.format.specs.Reading.{announced}
 use Rattle.field.specs.Parsed.{spelledOf}
 use Rattle.field.proofs.Before.{rest}
 use Rattle.rules.proofs.First.{starts-long}
