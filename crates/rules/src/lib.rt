@@ -1,0 +1,55 @@
+// The rule for repeated tags: a header that announces a version below 1.6 may repeat a tag in a line, and any other header may not.
+use field::Spelled;
+use format::Version;
+ghost use mathlib.Core.Path.{_≡_};
+ghost use mathlib.Core.List.{[], _∷_};
+ghost use Rattle.format.specs.Bytes.{starts};
+ghost use Rattle.format.specs.Lines.{lines, cut};
+ghost use Rattle.format.specs.Reading.{firstVersion, announced, isStrict};
+ghost use Rattle.field.specs.Parsed.{spelledOf};
+
+// Whether a piece starts `VN:`.
+fn is_version(piece: &[u8]) -> bool
+    ensures { λ r. ⌜ r ≡ starts (86 ∷ 78 ∷ 58 ∷ []) (now (piece .entry)) ⌝ }
+{
+    text::starts(b"VN:", piece)
+}
+
+// The version of the first tab-parted piece of `src` that starts `VN:`: the search stops there, also where it can't be read.
+fn first_version(src: &[u8]) -> Spelled
+    ensures { λ r. ⌜ r ≡ spelledOf (firstVersion (cut 9 (now (src .entry)))) ⌝ }
+{
+    let mut at: usize = 0;
+    loop {
+        let end = at + text::upto(&src[at..], b'\t');
+        if is_version(&src[at..end]) {
+            return field::parse_version(&src[at + 3..end]);
+        }
+        if end == src.len() {
+            return Spelled::Invalid;
+        }
+        at = end + 1;
+    }
+}
+
+// The version that line 0, without its ending, announces.
+fn announced(line: &[u8]) -> Spelled
+    ensures { λ r. ⌜ r ≡ spelledOf (announced (record { at = 0; bytes = now (line .entry) } ∷ [])) ⌝ }
+{
+    if text::starts(b"@HD\t", line) {
+        return first_version(&line[4..]);
+    }
+    Spelled::Invalid
+}
+
+// Whether a tag that comes twice in a line is refused: also where no version is announced.
+pub fn is_strict(text: &[u8]) -> bool
+    ensures { λ r. ⌜ r ≡ isStrict (announced (lines (now (text .entry)))) ⌝ }
+{
+    let line = text::first_line(text);
+    let len = line.len;
+    match announced(&text[..len]) {
+        Spelled::Invalid => true,
+        Spelled::Is(version) => !version.is_below(Version::default()),
+    }
+}
