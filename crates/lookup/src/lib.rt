@@ -1,0 +1,98 @@
+// What is found by a catalogue: keys, lengths, fields, and the parents of programs. No line of the text is parsed again.
+use entries::Entry;
+use entries::Place;
+use format::ProgramNo;
+ghost use mathlib.Core.Path.{_≡_};
+ghost use Prim.Native.Nat.{_≤_, _+_};
+ghost use lib.ListN.{length, drop};
+ghost use Rattle.text.specs.Stands.{Each};
+ghost use Rattle.chains.specs.Parents.{inArray};
+ghost use Rattle.entries.specs.Entries.{entriesIn, counted};
+ghost use Rattle.lookup.specs.Lookup.{keyOf, lengthOf, valueIn, keyIn, lengthIn, fieldIn};
+ghost use Rattle.lookup.specs.Parents.{Inside, Within, bytesAt, ordinalIn, namedOf, parentOf, parentsIn, strays};
+
+// A place of the text, if there is one.
+pub enum Found {
+    Nothing,
+    At(Place),
+}
+
+// A length, if there is one.
+pub enum Sized {
+    Nothing,
+    Is(u64),
+}
+
+// A program, if there is one.
+pub enum Named {
+    Nobody,
+    Is(ProgramNo),
+}
+
+// The key that an entry says: SN of SQ, ID of RG and PG.
+fn key_of(e: Entry) -> Found
+    ensures { λ r. ⌜ r ≡ keyOf e ⌝ }
+{
+    match e {
+        Entry::ReferenceSequence(p, _) => Found::At(p),
+        Entry::ReadGroup(p) => Found::At(p),
+        Entry::Program(p) => Found::At(p),
+        _ => Found::Nothing,
+    }
+}
+
+// The LN that an entry says.
+fn length_of(e: Entry) -> Sized
+    ensures { λ r. ⌜ r ≡ lengthOf e ⌝ }
+{
+    match e {
+        Entry::ReferenceSequence(_, n) => Sized::Is(n),
+        _ => Sized::Nothing,
+    }
+}
+
+// The key of the record of a kind with an ordinal among its kind: SQ, RG and PG have one.
+pub fn find_key(catalogue: &[u8], kind: u8, ordinal: u32) -> Found
+    ensures { λ r. ⌜ r ≡ keyIn kind ordinal (entriesIn (now (catalogue .entry))) ⌝ }
+{
+    let at = entries::find_record(catalogue, kind, ordinal as usize);
+    key_of(entries::entry_at(catalogue, at))
+}
+
+// The LN of the SQ with an ordinal.
+pub fn find_length(catalogue: &[u8], ordinal: u32) -> Sized
+    ensures { λ r. ⌜ r ≡ lengthIn ordinal (entriesIn (now (catalogue .entry))) ⌝ }
+{
+    let at = entries::find_record(catalogue, 2, ordinal as usize);
+    length_of(entries::entry_at(catalogue, at))
+}
+
+// The value of the field entry with a tag among those from `from` on, up to the next record's entry.
+fn field_from(catalogue: &[u8], from: usize, a: u8, b: u8) -> Found
+    ensures { λ r. ⌜ r ≡ valueIn a b (entriesIn (drop from (now (catalogue .entry)))) ⌝ }
+{
+    let mut at: usize = from;
+    loop {
+        match entries::entry_at(catalogue, at) {
+            Entry::Field(x, y, p) => {
+                if x == a && y == b {
+                    return Found::At(p);
+                }
+                at += 11;
+            }
+            _ => return Found::Nothing,
+        }
+    }
+}
+
+// The value of a field of the record of a kind, 1 to 5, with an ordinal among its kind.
+pub fn find_field(catalogue: &[u8], kind: u8, ordinal: u32, a: u8, b: u8) -> Found
+    ensures { λ r. ⌜ r ≡ fieldIn kind ordinal a b (entriesIn (now (catalogue .entry))) ⌝ }
+{
+    if 5 < kind {
+        return Found::Nothing;
+    }
+    let at = entries::find_record(catalogue, kind, ordinal as usize);
+    let len = entries::size(entries::entry_at(catalogue, at));
+    field_from(catalogue, at + len, a, b)
+}
