@@ -96,3 +96,44 @@ pub fn find_field(catalogue: &[u8], kind: u8, ordinal: u32, a: u8, b: u8) -> Fou
     let len = entries::size(entries::entry_at(catalogue, at));
     field_from(catalogue, at + len, a, b)
 }
+
+// The parent of a program whose PP equals no ID: no ordinal, and not nobody.
+pub const STRANGER: u32 = 4294967294;
+
+// The program whose ID is `id`: the search stops at the first.
+pub fn find_program(text: &[u8], catalogue: &[u8], id: &[u8]) -> Named
+    requires { ⌜ Each (Within (length (now text))) (entriesIn (now catalogue)) ⌝ }
+    requires { ⌜ counted 4 (entriesIn (now catalogue)) ≤ 1024 ⌝ }
+    ensures { λ r. ⌜ r ≡ namedOf (ordinalIn (now (text .entry)) (now (id .entry)) 0 (entriesIn (now (catalogue .entry)))) ⌝ }
+{
+    let mut at: usize = 0;
+    let mut k: u32 = 0;
+    let found = 'search: loop {
+        let e = entries::entry_at(catalogue, at);
+        let len = entries::size(e);
+        if len == 0 {
+            break 'search Named::Nobody;
+        }
+        match e {
+            Entry::Program(p) => {
+                if p.len as usize == id.len() {
+                    let start = p.at as usize;
+                    let mut i: usize = 0;
+                    loop {
+                        if i == id.len() {
+                            break 'search Named::Is(ProgramNo(k));
+                        }
+                        if text[start + i] != id[i] {
+                            break;
+                        }
+                        i += 1;
+                    }
+                }
+                k += 1;
+            }
+            _ => {}
+        }
+        at += len;
+    };
+    found
+}
