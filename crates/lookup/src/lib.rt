@@ -137,3 +137,61 @@ pub fn find_program(text: &[u8], catalogue: &[u8], id: &[u8]) -> Named
     };
     found
 }
+
+// The parent of the program whose fields stand from `from` on: nobody without PP, a stranger where PP equals no ID.
+fn parent_at(text: &[u8], catalogue: &[u8], from: usize) -> u32
+    requires { ⌜ Each (Within (length (now text))) (entriesIn (now catalogue)) ⌝ }
+    requires { ⌜ Each (Within (length (now text))) (entriesIn (drop from (now catalogue))) ⌝ }
+    requires { ⌜ counted 4 (entriesIn (now catalogue)) ≤ 1024 ⌝ }
+    ensures { λ r. ⌜ r ≡ parentOf (now (text .entry)) (entriesIn (now (catalogue .entry))) (valueIn 80 80 (entriesIn (drop from (now (catalogue .entry))))) ⌝ }
+{
+    match field_from(catalogue, from, b'P', b'P') {
+        Found::Nothing => chains::NOBODY,
+        Found::At(p) => {
+            let start = p.at as usize;
+            let end = start + p.len as usize;
+            match find_program(text, catalogue, &text[start..end]) {
+                Named::Nobody => STRANGER,
+                Named::Is(k) => k.0,
+            }
+        }
+    }
+}
+
+// The parent of each program in order, how many there are, and whether some PP equals no ID.
+pub struct Parents {
+    pub list: [u32; 1024],
+    pub count: usize,
+    pub dangling: bool,
+}
+
+pub fn find_parents(text: &[u8], catalogue: &[u8]) -> Parents
+    requires { ⌜ Each (Within (length (now text))) (entriesIn (now catalogue)) ⌝ }
+    requires { ⌜ counted 4 (entriesIn (now catalogue)) ≤ 1024 ⌝ }
+    ensures { λ r. ⌜ (r .list ≡ inArray (parentsIn (now (text .entry)) (entriesIn (now (catalogue .entry))))) × (r .count ≡ length (parentsIn (now (text .entry)) (entriesIn (now (catalogue .entry))))) × (r .dangling ≡ strays (parentsIn (now (text .entry)) (entriesIn (now (catalogue .entry))))) ⌝ }
+{
+    let mut list: [u32; 1024] = [0; 1024];
+    let mut count: usize = 0;
+    let mut dangling = false;
+    let mut at: usize = 0;
+    loop {
+        let e = entries::entry_at(catalogue, at);
+        let len = entries::size(e);
+        if len == 0 {
+            return Parents {
+                list,
+                count,
+                dangling,
+            };
+        }
+        at += len;
+        if entries::kind_of(e) == 4 {
+            let p = parent_at(text, catalogue, at);
+            if p == STRANGER {
+                dangling = true;
+            }
+            list[count] = p;
+            count += 1;
+        }
+    }
+}
