@@ -18,10 +18,6 @@ use Rattle.lookup.specs.Parents.{stranger, namedOf, orStranger, bytesAt,
 use Rattle.lookup.proofs.Turns.{value-inside}
 use Rattle.lookup.proofs.parent_at.Statement.{statement}
 use Rattle.lookup.proofs.parent_at.Tie as tie
-use Rattle.lookup.proofs.parent_at.Reads as reads
-use Rattle.lookup.proofs.parent_at.Lts as lts
-use Rattle.lookup.proofs.field_from.Reads as field-from-reads
-use Rattle.lookup.proofs.find_program.Reads as find-program-reads
 
 -- a program that is found, as a parent's number
 number : Named → ℕ
