@@ -1,3 +1,4 @@
 pub mod Walks
 pub mod Search
 pub mod Turns
+pub mod Kept
