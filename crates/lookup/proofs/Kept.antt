@@ -60,8 +60,8 @@ module _ (P : Piece → Type 0) (Q : Entry → Type 0)
   each-entries (r ∷ rs) h p = (
     own r (h .0 .fits) (p .0),
     each-append Q (map fieldEntry (others r)) (entriesOf rs)
-    (each-fields (sound.kind r) (others r) (h .0 .other) (record-values P r (p .0)))
-    (each-entries rs (h .1) (p .1)),
+        (each-fields (sound.kind r) (others r) (h .0 .other) (record-values P r (p .0)))
+        (each-entries rs (h .1) (p .1)),
   )
 
 -- ---- numbers that fit

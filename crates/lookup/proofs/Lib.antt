@@ -2,3 +2,4 @@ pub mod Walks
 pub mod Search
 pub mod Turns
 pub mod Kept
+pub mod Answers
