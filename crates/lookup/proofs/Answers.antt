@@ -213,8 +213,8 @@ module _ (t : List ℕ) (rs : List Record) (h : readText t ≡ accept rs) where
   pub text-key : (k i : ℕ) → keyIn k i (entriesIn (catalogue rs)) ≡ foundOf (keyed (getElem? (ofKind k rs) i))
   text-key k i = rw (text-entries t rs h) (key-records k i rs)
 
-  pub text-length : (i : ℕ) → lengthIn i (entriesIn (catalogue rs)) ≡ sizedOf (sized (getElem? (ofKind 2 rs) i))
-  text-length i = rw (text-entries t rs h) (length-records i rs)
+  pub text-ln : (i : ℕ) → lengthIn i (entriesIn (catalogue rs)) ≡ sizedOf (sized (getElem? (ofKind 2 rs) i))
+  text-ln i = rw (text-entries t rs h) (length-records i rs)
 
   pub text-field : (k i a b : ℕ) → fieldIn k i a b (entriesIn (catalogue rs)) ≡ foundOf (valued a b (getElem? (ofKind k rs) i))
   text-field k i a b = rw (text-entries t rs h) (field-records k i a b rs (text-sound t rs h))

@@ -117,8 +117,8 @@ module _ (t : List ℕ) (rs : List Record) (h : readText t ≡ accept rs) where
   text-entries = entries-catalogue rs text-fit
 
   -- what the search for parents asks of a text and its catalogue
-  pub text-within : Each (Within (length t)) (entriesIn (catalogue rs))
-  text-within = rw text-entries (each-entries (Stands t 0) (Within (length t)) (own-within t) (field-within t) rs (text-sound t rs h) (text-stand t rs h))
+  pub text-inside : Each (Within (length t)) (entriesIn (catalogue rs))
+  text-inside = rw text-entries (each-entries (Stands t 0) (Within (length t)) (own-within t) (field-within t) rs (text-sound t rs h) (text-stand t rs h))
 
   pub text-few : counted 4 (entriesIn (catalogue rs)) ≤ 1024
   text-few = rw (text-entries, counted-records 4 (omega arith) rs) (text-programs t rs h)

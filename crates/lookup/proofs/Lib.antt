@@ -3,3 +3,5 @@ pub mod Search
 pub mod Turns
 pub mod Kept
 pub mod Answers
+pub mod Links
+pub mod Numbers
