@@ -1,13 +1,13 @@
 -- What is found in the catalogue of an accepted text is what the records say.
 use Prim.Native.Nat.{ℕ, zero, suc, _≤_, _<_}
 use mathlib.Core.Path.{_≡_, refl, sym, ap, ap₂, _∙_}
-use mathlib.Core.Bool.{Bool, true, false, _&&_, cond}
+use mathlib.Core.Bool.{Bool, true, false, cond}
 use mathlib.Core.List.{List, [], _∷_, _++_, map}
 use mathlib.Core.Option.{Option, none, some}
 use native.Mathlib.Omega.{arith}
-use lib.ListN.{length, drop, getElem?}
+use lib.ListN.{drop, getElem?}
 use lib.Dec.{eqb, ltb}
-use borrow.Author.Tests.{lt-ltb, le-ltb, ltb-true, ltb-false, ne-eqb, eqb-true}
+use borrow.Author.Tests.{ltb-true, ltb-false, ne-eqb, eqb-true}
 use Rattle.format.specs.Bytes.{any}
 use Rattle.format.specs.Lines.{Piece}
 use Rattle.format.specs.Fields.{Field, tagged, repeats, later, lastOf}
@@ -26,7 +26,6 @@ use Rattle.entries.specs.declared.Entry.the-variants as entry
 use Rattle.entries.specs.Entries.{kindOf, pieceAt, headEntry, fieldEntry, entriesOf, entriesIn}
 use Rattle.entries.proofs.Records.{head-kind}
 use Rattle.entries.proofs.Found.{recordsFrom, first-record}
-use Rattle.lookup.specs.declared.Found.{Found}
 use Rattle.lookup.specs.declared.Found.the-variants.{Nothing, At}
 use Rattle.lookup.specs.Lookup.{foundOf, sizedOf, entriesFrom, front, keyOf, lengthOf, valueIn, keyIn, lengthIn, fieldIn}
 use Rattle.lookup.proofs.Kept.{text-entries}

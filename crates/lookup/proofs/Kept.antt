@@ -1,26 +1,31 @@
 -- What holds of the entries of an accepted text: their numbers fit, their places are within the text, and no more than 1,024 are programs.
-use Prim.Native.Nat.{ℕ, _+_, _^_, _≤_, _<_}
-use mathlib.Core.Path.{_≡_, refl, ap, _∙_}
+use Prim.Native.Nat.{ℕ, zero, suc, _+_, _-_, _≤_, _<_}
+use mathlib.Core.Path.{_≡_, refl, sym, ap, subst, _∙_}
 use mathlib.Core.List.{List, [], _∷_, _++_, map}
+use mathlib.Core.Option.{Option, none, some}
 use native.Mathlib.Omega.{arith}
-use lib.ListN.{length}
+use lib.ListN.{length, take, drop, getElem?}
 use Rattle.format.specs.Lines.{Piece}
-use Rattle.format.specs.Fields.{Field}
-use Rattle.format.specs.Records.{Record, header, reference, group, program, comment, others}
+use Rattle.format.specs.Fields.{Field, lastOf}
+use Rattle.format.specs.Records.{Record, header, reference, group, program, comment, key, others}
 use Rattle.format.specs.Reading.{readText, accept, ofKind}
 use Rattle.format.specs.Catalogue.{catalogue}
+use Rattle.format.specs.Calls.{keyed, valued}
 use Rattle.format.specs.declared.Kind.{Kind}
 use Rattle.text.specs.Stands.{Each, Stands}
 use Rattle.accepted.specs.Pieces.{values, pieces}
 use Rattle.accepted.specs.Sound as sound
 use Rattle.accepted.specs.Sound.{Sound, Other}
+use Rattle.accepted.proofs.Bools.{never}
+use Rattle.accepted.proofs.OfKind.{each-ofKind}
+use Rattle.accepted.proofs.Fields.{Of, lastOf-of}
 use Rattle.accepted.proofs.Clean.{tag-bounds}
 use Rattle.accepted.proofs.Text.{text-stand, text-small, text-sound, text-programs}
 use Rattle.entries.specs.declared.Entry.{Entry}
 use Rattle.entries.specs.Entries.{pieceAt, headEntry, fieldEntry, entriesOf, entriesIn, counted, FitsPlace, Fits}
 use Rattle.entries.proofs.Records.{counted-records}
 use Rattle.entries.proofs.Found.{entries-catalogue}
-use Rattle.lookup.specs.Parents.{Inside, Within}
+use Rattle.lookup.specs.Parents.{Inside, Within, bytesAt}
 
 -- ---- from records to entries
 
@@ -45,6 +50,25 @@ field-values P (f ∷ fs) h = (h .0, field-values P fs (h .1))
 
 pub record-values : (P : Piece → Type 0) (r : Record) → Each P (pieces r) → Each (λ f. P (f .value)) (others r)
 record-values P r h = field-values P (others r) (piece-values P r h)
+
+-- and of its key
+key-stands : (P : Piece → Type 0) (r : Record) (p : Piece) → Each P (pieces r) → key r ≡ some p → P p
+unfolding Each pieces key
+key-stands P (header v fs) p h e = absurd (never (cc))
+key-stands P (reference q n fs) p h e = let z : q ≡ p = cc in subst P z (h .0)
+key-stands P (group q fs) p h e = let z : q ≡ p = cc in subst P z (h .0)
+key-stands P (program q fs) p h e = let z : q ≡ p = cc in subst P z (h .0)
+key-stands P (comment q) p h e = absurd (never (cc))
+
+each-get : {A : Type 0} (P : A → Type 0) (xs : List A) (i : ℕ) (x : A) → Each P xs → getElem? xs i ≡ some x → P x
+unfolding Each
+each-get P [] i x h e = absurd (never (cc))
+each-get P (y ∷ xs) zero x h e = let z : y ≡ x = cc in subst P z (h .0)
+each-get P (y ∷ xs) (suc i) x h e = each-get P xs i x (h .1) e
+
+-- the last with a tag is one of them
+pub last-value : (P : Piece → Type 0) (a b : ℕ) (fs : List Field) (p : Piece) → Each (λ f. P (f .value)) fs → lastOf a b fs ≡ some p → P p
+last-value P a b fs p h e = let o : Of (λ f. P (f .value)) a b p = lastOf-of (λ f. P (f .value)) a b fs p h e in subst P (o .value) (o .holds)
 
 module _ (P : Piece → Type 0) (Q : Entry → Type 0)
     (own : (r : Record) → sound.Fits r → Each P (pieces r) → Q (headEntry r))
@@ -90,9 +114,14 @@ field-fits k f o s =
 -- ---- places within the text
 
 module _ (t : List ℕ) where
-  stands-inside : (p : Piece) → Stands t 0 p → Inside (length t) (pieceAt p)
+  pub stands-inside : (p : Piece) → Stands t 0 p → Inside (length t) (pieceAt p)
   unfolding pieceAt
   stands-inside p s = omega (arith, s .within)
+
+  -- and the bytes there are the piece's
+  pub stands-bytes : (p : Piece) → Stands t 0 p → bytesAt t (pieceAt p) ≡ p .bytes
+  unfolding bytesAt pieceAt
+  stands-bytes p s = let z : p .at - 0 ≡ p .at = omega arith in sym (s .bytes ∙ ap (λ n. take (length (p .bytes)) (drop n t)) z)
 
   own-within : (r : Record) → sound.Fits r → Each (Stands t 0) (pieces r) → Within (length t) (headEntry r)
   unfolding Each pieces Within headEntry
@@ -120,5 +149,30 @@ module _ (t : List ℕ) (rs : List Record) (h : readText t ≡ accept rs) where
   pub text-inside : Each (Within (length t)) (entriesIn (catalogue rs))
   text-inside = rw text-entries (each-entries (Stands t 0) (Within (length t)) (own-within t) (field-within t) rs (text-sound t rs h) (text-stand t rs h))
 
+  pub text-counted : (k : ℕ) → k < 6 → counted k (entriesIn (catalogue rs)) ≡ length (ofKind k rs)
+  text-counted k l = rw (text-entries, counted-records k l rs) refl
+
   pub text-few : counted 4 (entriesIn (catalogue rs)) ≤ 1024
-  text-few = rw (text-entries, counted-records 4 (omega arith) rs) (text-programs t rs h)
+  text-few = omega (arith, text-counted 4 (omega arith), text-programs t rs h)
+
+  -- ---- a record's key and values are bytes of the text
+
+  module _ (k i : ℕ) where
+    one-stands : (r : Record) → getElem? (ofKind k rs) i ≡ some r → Each (Stands t 0) (pieces r)
+    one-stands r e = each-get (λ r. Each (Stands t 0) (pieces r)) (ofKind k rs) i r (each-ofKind (λ r. Each (Stands t 0) (pieces r)) k rs (text-stand t rs h)) e
+
+    pub text-keyed : (p : Piece) → keyed (getElem? (ofKind k rs) i) ≡ some p → Stands t 0 p
+    unfolding keyed
+    text-keyed p e = go (getElem? (ofKind k rs) i) refl e
+      where
+        go : (o : Option Record) → getElem? (ofKind k rs) i ≡ o → keyed o ≡ some p → Stands t 0 p
+        go none q e = absurd (never (cc))
+        go (some r) q e = key-stands (Stands t 0) r p (one-stands r q) e
+
+    pub text-valued : (a b : ℕ) (p : Piece) → valued a b (getElem? (ofKind k rs) i) ≡ some p → Stands t 0 p
+    unfolding valued
+    text-valued a b p e = go (getElem? (ofKind k rs) i) refl e
+      where
+        go : (o : Option Record) → getElem? (ofKind k rs) i ≡ o → valued a b o ≡ some p → Stands t 0 p
+        go none q e = absurd (never (cc))
+        go (some r) q e = last-value (Stands t 0) a b (others r) p (record-values (Stands t 0) r (one-stands r q)) e

@@ -1,11 +1,9 @@
 -- The parents by the entries of an accepted text are the links of its programs, as numbers.
-use Prim.Native.Nat.{ℕ, _+_, _-_}
-use mathlib.Core.Path.{_≡_, refl, sym, ap, ap₂, subst, _∙_}
+use Prim.Native.Nat.{ℕ, _+_}
+use mathlib.Core.Path.{_≡_, refl, ap, ap₂, _∙_}
 use mathlib.Core.Bool.{false, cond}
 use mathlib.Core.List.{List, [], _∷_, _++_, map}
 use mathlib.Core.Option.{Option, none, some}
-use native.Mathlib.Omega.{arith}
-use lib.ListN.{length, take, drop}
 use Rattle.format.specs.Bytes.{same}
 use Rattle.format.specs.Lines.{Piece}
 use Rattle.format.specs.Fields.{Field, repeats, lastOf}
@@ -16,21 +14,15 @@ use Rattle.format.specs.Programs.{programs, programOf, bytesOf, ordinalFrom, fo
 use Rattle.text.specs.Stands.{Each, Stands}
 use Rattle.accepted.specs.Pieces.{pieces}
 use Rattle.accepted.specs.Sound.{Sound}
-use Rattle.accepted.proofs.Fields.{Of, lastOf-of}
 use Rattle.accepted.proofs.Text.{text-sound, text-stand}
 use Rattle.entries.specs.declared.Entry.{Entry}
-use Rattle.entries.specs.Entries.{kindOf, pieceAt, headEntry, fieldEntry, entriesOf, entriesIn}
+use Rattle.entries.specs.Entries.{kindOf, headEntry, fieldEntry, entriesOf, entriesIn}
 use Rattle.lookup.specs.Lookup.{foundOf, valueIn}
-use Rattle.lookup.specs.Parents.{bytesAt, ordinalIn, numberOf, orStranger, parentOf, parentsFrom, parentsIn}
-use Rattle.lookup.proofs.Kept.{record-values, text-entries}
+use Rattle.lookup.specs.Parents.{ordinalIn, numberOf, orStranger, parentOf, parentsFrom, parentsIn}
+use Rattle.lookup.proofs.Kept.{record-values, last-value, stands-bytes, text-entries}
 use Rattle.lookup.proofs.Answers.{value-fields}
 
 -- ---- bytes and ordinals
-
--- a piece stands where its place says
-stands-bytes : (t : List ℕ) (p : Piece) → Stands t 0 p → bytesAt t (pieceAt p) ≡ p .bytes
-unfolding bytesAt pieceAt
-stands-bytes t p s = let z : p .at - 0 ≡ p .at = omega arith in sym (s .bytes ∙ ap (λ n. take (length (p .bytes)) (drop n t)) z)
 
 -- the entries of fields are passed
 ordinal-fields : (t id : List ℕ) (k : ℕ) (fs : List Field) (es : List Entry) → ordinalIn t id k (map fieldEntry fs ++ es) ≡ ordinalIn t id k es
@@ -71,7 +63,7 @@ module _ (t : List ℕ) (all : List Record) (stand : Each (λ r. Each (Stands t 
       → parentOf t (entriesOf all) (valueIn 80 80 (map fieldEntry fs ++ entriesOf rs)) ≡ numberOf (link (programs all) (lastOf 80 80 fs))
   parent-record fs rs once h =
       ap (parentOf t (entriesOf all)) (value-fields 80 80 fs rs once)
-      ∙ parent-link (lastOf 80 80 fs) (λ p e. let o : Of (λ f. Stands t 0 (f .value)) 80 80 p = lastOf-of (λ f. Stands t 0 (f .value)) 80 80 fs p h e in subst (Stands t 0) (o .value) (o .holds))
+      ∙ parent-link (lastOf 80 80 fs) (λ p e. last-value (Stands t 0) 80 80 fs p h e)
 
   -- the entries of fields are passed
   parents-fields : (fs : List Field) (es : List Entry) → parentsFrom t (entriesOf all) (map fieldEntry fs ++ es) ≡ parentsFrom t (entriesOf all) es

@@ -1,14 +1,14 @@
 -- What the parents of an accepted text's programs say to the calls over chains: the same links, roots and dangling PP.
 use Prim.Native.Nat.{ℕ, _+_, _-_, _≤_, _<_}
-use mathlib.Core.Path.{_≡_, refl, sym, ap, ap₂, _∙_}
-use mathlib.Core.Bool.{Bool, true, false, _||_, cond}
+use mathlib.Core.Path.{_≡_, refl, ap, ap₂, _∙_}
+use mathlib.Core.Bool.{Bool, true, false, cond}
 use mathlib.Core.List.{List, [], _∷_, map}
 use mathlib.Core.Option.{Option, none, some}
 use native.Mathlib.Omega.{arith}
 use lib.ListN.{length, take, replicate, length-map}
 use lib.Seq.{take-at}
-use lib.Dec.{eqb, ltb}
-use borrow.Author.Tests.{eq-eqb, ne-eqb, lt-ltb}
+use lib.Dec.{eqb}
+use borrow.Author.Tests.{ne-eqb, lt-ltb}
 use Rattle.format.specs.Bytes.{same, any, all}
 use Rattle.format.specs.Lines.{Piece}
 use Rattle.format.specs.Records.{Record}
@@ -18,7 +18,7 @@ use Rattle.format.specs.Programs.{Program, Link, root, dangling, child, program
 use Rattle.text.specs.Stands.{Each}
 use Rattle.accepted.proofs.Bools.{never, or-true}
 use Rattle.accepted.proofs.Text.{text-programs}
-use Rattle.chains.specs.Parents.{nobody, linkOf, linksOf, within, inArray}
+use Rattle.chains.specs.Parents.{nobody, linksOf, within, inArray}
 use Rattle.chains.proofs.Walks.{link-none, link-some}
 use Rattle.entries.specs.Entries.{entriesIn}
 use Rattle.lookup.specs.Parents.{stranger, numberOf, parentsIn, strays}

@@ -24,7 +24,7 @@ use Rattle.lookup.specs.Lookup.{valueIn}
 use Rattle.lookup.specs.Parents.{Inside, Within, stranger, parentOf, parentsFrom, parentsIn, strays}
 
 -- a place that is found is within
-unfoldable pub Held : ℕ → Found → Type 0
+unfoldable Held : ℕ → Found → Type 0
 Held n Nothing = Unit
 Held n (At p) = Inside n p
 

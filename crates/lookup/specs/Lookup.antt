@@ -6,7 +6,6 @@ use mathlib.Core.Option.{Option, none, some}
 use lib.ListN.{drop}
 use lib.Dec.{eqb, ltb}
 use Rattle.format.specs.Lines.{Piece}
-use Rattle.entries.specs.declared.Place.{Place}
 use Rattle.entries.specs.declared.Entry.{Entry}
 use Rattle.entries.specs.declared.Entry.the-variants.{End, Header, ReferenceSequence, ReadGroup, Program, Comment, Field}
 use Rattle.entries.specs.Entries.{kindOf, pieceAt}

@@ -165,6 +165,7 @@ pub struct Parents {
     pub dangling: bool,
 }
 
+// The parents of all programs: one search for each PP.
 pub fn find_parents(text: &[u8], catalogue: &[u8]) -> Parents
     requires { ⌜ Each (Within (length (now text))) (entriesIn (now catalogue)) ⌝ }
     requires { ⌜ counted 4 (entriesIn (now catalogue)) ≤ 1024 ⌝ }
