@@ -37,6 +37,7 @@ pub record Here (strict : Bool) (at : ℕ) (line : List ℕ) (pos : ℕ) (f : Fi
   pub done : fieldsTo at line (pos + fieldLength f) ≡ fieldsTo at line pos ++ (f ∷ [])
   pub next : AtField strict at line (pos + fieldLength f)
 
+-- there is a field at a place
 pub record Found (strict : Bool) (at : ℕ) (line : List ℕ) (pos : ℕ) : Type 0 where
   pub field : Field
   pub here : Here strict at line pos field

@@ -107,6 +107,11 @@ made-others fs k r (sp.of-program p e) = ap settled (unkeyed-one Program 73 68 (
 
 -- ---- an accepted line of fields
 
+-- no field stands before the first
+pub start-none : (at : ℕ) (s : List ℕ) → fieldsTo at s 3 ≡ []
+unfolding fieldsOf
+start-none at s = refl
+
 module _ (strict : Bool) (at : ℕ) (s : List ℕ) (r : Record) (a : Spelled strict at s r) where
   fields : Runs (at + 3) (drop 3 s) (a .fields)
   unfolding fieldsOf
@@ -119,6 +124,7 @@ module _ (strict : Bool) (at : ℕ) (s : List ℕ) (r : Record) (a : Spelled str
         places = rw q (pieces-fields (a .kind) (placed (at + 4) (cut 9 (a .rest))) (a .fields) (a .each));
       })
 
+  -- the walk may start after the kind bytes
   pub accepted-start : AtField strict at s 3
   unfolding fieldsOf
   accepted-start = record {
@@ -128,11 +134,6 @@ module _ (strict : Bool) (at : ℕ) (s : List ℕ) (r : Record) (a : Spelled str
     rest = rw (fields .places) fields;
     once = ap (λ l. strict && repeats l) (fields .places) ∙ a .once;
   }
-
-  -- no field stands before
-  pub start-none : fieldsTo at s 3 ≡ []
-  unfolding fieldsOf
-  start-none = refl
 
   -- from there on, the walk gives the record's other fields
   pub accepted-others : firsts (kind r) [] (fieldsFrom at s 3) ≡ others r

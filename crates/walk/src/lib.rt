@@ -71,13 +71,13 @@ fn last_value(line: &[u8], at: usize, from: usize, a: u8, b: u8, own: Value) -> 
     ensures { λ r. ⌜ r ≡ orValue own (lastOf a b (fieldsFrom at (now (line .entry)) from)) ⌝ }
 {
     let mut last = own;
-    let mut i = from;
-    while i < line.len() {
-        let end = field_end(line, i);
-        if field::is_same_tag(line[i + 1], line[i + 2], a, b) {
-            last = value_at(at, i, end);
+    let mut j = from;
+    while j < line.len() {
+        let end = field_end(line, j);
+        if field::is_same_tag(line[j + 1], line[j + 2], a, b) {
+            last = value_at(at, j, end);
         }
-        i = end;
+        j = end;
     }
     last
 }

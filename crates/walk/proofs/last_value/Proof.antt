@@ -19,24 +19,24 @@ unfolding orValue lastOf
 none-left a b v fs e = rw e refl
 
 abbrev Inv-loop : tie.InvT-loop
-Inv-loop line at from a b last₀ i₀ last i = AtField false at line i × (orValue last₀ (lastOf a b (fieldsFrom at line from)) ≡ orValue last (lastOf a b (fieldsFrom at line i)))
+Inv-loop line at from a b last₀ j₀ last j = AtField false at line j × (orValue last₀ (lastOf a b (fieldsFrom at line from)) ≡ orValue last (lastOf a b (fieldsFrom at line j)))
 
 abbrev μ-loop : tie.MeasureT-loop
-μ-loop line at from a b last₀ i₀ last i = length line - i
+μ-loop line at from a b last₀ j₀ last j = length line - j
 
 -- the field of a turn ends in the line
-reach : (c : tie.After-field-end Inv-loop μ-loop) → (c .before .before .loop .i + 4 ≤ c .field-end .result) × (c .field-end .result ≤ length (c .before .before .before .before .args .line .now))
+reach : (c : tie.After-field-end Inv-loop μ-loop) → (c .before .before .loop .j + 4 ≤ c .field-end .result) × (c .field-end .result ≤ length (c .before .before .before .before .args .line .now))
 reach c =
     let l = c .before .before in
     let a = l .before .before .args in
-    bounds false (a .at) (a .line .now) (l .loop .i) (l .loop .inv .0) (omega arith) (c .field-end .result) (c .field-end .ensures)
+    bounds false (a .at) (a .line .now) (l .loop .j) (l .loop .inv .0) (omega arith) (c .field-end .result) (c .field-end .ensures)
 
 -- and the walk goes on from there
 onward : (c : tie.After-field-end Inv-loop μ-loop) → AtField false (c .before .before .before .before .args .at) (c .before .before .before .before .args .line .now) (c .field-end .result)
 onward c =
     let l = c .before .before in
     let a = l .before .before .args in
-    next-at false (a .at) (a .line .now) (l .loop .i) (l .loop .inv .0) (omega arith) (c .field-end .result) (c .field-end .ensures)
+    next-at false (a .at) (a .line .now) (l .loop .j) (l .loop .inv .0) (omega arith) (c .field-end .result) (c .field-end .ensures)
 
 loop-holds : tie.Need-loop-holds Inv-loop μ-loop
 loop-holds c = (c .before .pre .0, refl)
@@ -73,7 +73,7 @@ loop-again c =
     let a = l .before .before .args in (
       onward f,
       l .loop .inv .1
-          ∙ same-at false (a .at) (a .line .now) (l .loop .i) (l .loop .inv .0) (omega arith) (f .field-end .result) (f .field-end .ensures) (a .a) (a .b) (l .loop .last) (sym (t .is-same-tag .ensures) ∙ c .before .if1 .taken)
+          ∙ same-at false (a .at) (a .line .now) (l .loop .j) (l .loop .inv .0) (omega arith) (f .field-end .result) (f .field-end .ensures) (a .a) (a .b) (l .loop .last) (sym (t .is-same-tag .ensures) ∙ c .before .if1 .taken)
           ∙ ap (λ v. orValue v (lastOf (a .a) (a .b) (fieldsFrom (a .at) (a .line .now) (f .field-end .result)))) (sym (c .value-at .ensures)),
     )
 
@@ -88,14 +88,14 @@ loop-again-2 c =
     let a = l .before .before .args in (
       onward f,
       l .loop .inv .1
-          ∙ other-at false (a .at) (a .line .now) (l .loop .i) (l .loop .inv .0) (omega arith) (f .field-end .result) (f .field-end .ensures) (a .a) (a .b) (l .loop .last) (sym (t .is-same-tag .ensures) ∙ c .if1 .left),
+          ∙ other-at false (a .at) (a .line .now) (l .loop .j) (l .loop .inv .0) (omega arith) (f .field-end .result) (f .field-end .ensures) (a .a) (a .b) (l .loop .last) (sym (t .is-same-tag .ensures) ∙ c .if1 .left),
     )
 
 returns : tie.Need-returns Inv-loop μ-loop
 returns c =
     let l = c .before in
     let a = l .before .before .args in
-    sym (l .loop .inv .1 ∙ none-left (a .a) (a .b) (l .loop .last) _ (ended false (a .at) (a .line .now) (l .loop .i) (l .loop .inv .0) (c .loop-test .left)))
+    sym (l .loop .inv .1 ∙ none-left (a .a) (a .b) (l .loop .last) _ (ended false (a .at) (a .line .now) (l .loop .j) (l .loop .inv .0) (c .loop-test .left)))
 
 pub last-value-spec : {M : Type 1} → statement M
 last-value-spec =
