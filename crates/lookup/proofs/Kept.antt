@@ -1,0 +1,178 @@
+-- What holds of the entries of an accepted text: their numbers fit, their places are within the text, and no more than 1,024 are programs.
+use Prim.Native.Nat.{ℕ, zero, suc, _+_, _-_, _≤_, _<_}
+use mathlib.Core.Path.{_≡_, refl, sym, ap, subst, _∙_}
+use mathlib.Core.List.{List, [], _∷_, _++_, map}
+use mathlib.Core.Option.{Option, none, some}
+use native.Mathlib.Omega.{arith}
+use lib.ListN.{length, take, drop, getElem?}
+use Rattle.format.specs.Lines.{Piece}
+use Rattle.format.specs.Fields.{Field, lastOf}
+use Rattle.format.specs.Records.{Record, header, reference, group, program, comment, key, others}
+use Rattle.format.specs.Reading.{readText, accept, ofKind}
+use Rattle.format.specs.Catalogue.{catalogue}
+use Rattle.format.specs.Calls.{keyed, valued}
+use Rattle.format.specs.declared.Kind.{Kind}
+use Rattle.text.specs.Stands.{Each, Stands}
+use Rattle.accepted.specs.Pieces.{values, pieces}
+use Rattle.accepted.specs.Sound as sound
+use Rattle.accepted.specs.Sound.{Sound, Other}
+use Rattle.accepted.proofs.Bools.{never}
+use Rattle.accepted.proofs.OfKind.{each-ofKind}
+use Rattle.accepted.proofs.Fields.{Of, lastOf-of}
+use Rattle.accepted.proofs.Clean.{tag-bounds}
+use Rattle.accepted.proofs.Text.{text-stand, text-small, text-sound, text-programs}
+use Rattle.entries.specs.declared.Entry.{Entry}
+use Rattle.entries.specs.Entries.{pieceAt, headEntry, fieldEntry, entriesOf, entriesIn, counted, FitsPlace, Fits}
+use Rattle.entries.proofs.Records.{counted-records}
+use Rattle.entries.proofs.Found.{entries-catalogue}
+use Rattle.lookup.specs.Parents.{Inside, Within, bytesAt}
+
+-- ---- from records to entries
+
+each-append : {A : Type 0} (P : A → Type 0) (xs ys : List A) → Each P xs → Each P ys → Each P (xs ++ ys)
+unfolding Each
+each-append P [] ys h k = k
+each-append P (x ∷ xs) ys h k = (h .0, each-append P xs ys (h .1) k)
+
+-- what holds of a record's pieces holds of its fields' values
+piece-values : (P : Piece → Type 0) (r : Record) → Each P (pieces r) → Each P (values (others r))
+unfolding Each pieces others values
+piece-values P (header v fs) h = h
+piece-values P (reference p n fs) h = h .1
+piece-values P (group p fs) h = h .1
+piece-values P (program p fs) h = h .1
+piece-values P (comment p) h = tt
+
+pub field-values : (P : Piece → Type 0) (fs : List Field) → Each P (values fs) → Each (λ f. P (f .value)) fs
+unfolding Each values
+field-values P [] h = tt
+field-values P (f ∷ fs) h = (h .0, field-values P fs (h .1))
+
+pub record-values : (P : Piece → Type 0) (r : Record) → Each P (pieces r) → Each (λ f. P (f .value)) (others r)
+record-values P r h = field-values P (others r) (piece-values P r h)
+
+-- and of its key
+key-stands : (P : Piece → Type 0) (r : Record) (p : Piece) → Each P (pieces r) → key r ≡ some p → P p
+unfolding Each pieces key
+key-stands P (header v fs) p h e = absurd (never (cc))
+key-stands P (reference q n fs) p h e = let z : q ≡ p = cc in subst P z (h .0)
+key-stands P (group q fs) p h e = let z : q ≡ p = cc in subst P z (h .0)
+key-stands P (program q fs) p h e = let z : q ≡ p = cc in subst P z (h .0)
+key-stands P (comment q) p h e = absurd (never (cc))
+
+each-get : {A : Type 0} (P : A → Type 0) (xs : List A) (i : ℕ) (x : A) → Each P xs → getElem? xs i ≡ some x → P x
+unfolding Each
+each-get P [] i x h e = absurd (never (cc))
+each-get P (y ∷ xs) zero x h e = let z : y ≡ x = cc in subst P z (h .0)
+each-get P (y ∷ xs) (suc i) x h e = each-get P xs i x (h .1) e
+
+-- the last with a tag is one of them
+pub last-value : (P : Piece → Type 0) (a b : ℕ) (fs : List Field) (p : Piece) → Each (λ f. P (f .value)) fs → lastOf a b fs ≡ some p → P p
+last-value P a b fs p h e = let o : Of (λ f. P (f .value)) a b p = lastOf-of (λ f. P (f .value)) a b fs p h e in subst P (o .value) (o .holds)
+
+module _ (P : Piece → Type 0) (Q : Entry → Type 0)
+    (own : (r : Record) → sound.Fits r → Each P (pieces r) → Q (headEntry r))
+    (field : (k : Kind) (f : Field) → Other k f → P (f .value) → Q (fieldEntry f)) where
+  each-fields : (k : Kind) (fs : List Field) → Each (Other k) fs → Each (λ f. P (f .value)) fs → Each Q (map fieldEntry fs)
+  unfolding Each
+  each-fields k [] h p = tt
+  each-fields k (f ∷ fs) h p = (field k f (h .0) (p .0), each-fields k fs (h .1) (p .1))
+
+  pub each-entries : (rs : List Record) → Each Sound rs → Each (λ r. Each P (pieces r)) rs → Each Q (entriesOf rs)
+  unfolding Each entriesOf
+  each-entries [] h p = tt
+  each-entries (r ∷ rs) h p = (
+    own r (h .0 .fits) (p .0),
+    each-append Q (map fieldEntry (others r)) (entriesOf rs)
+        (each-fields (sound.kind r) (others r) (h .0 .other) (record-values P r (p .0)))
+        (each-entries rs (h .1) (p .1)),
+  )
+
+-- ---- numbers that fit
+
+abbrev Small : Piece → Type 0
+Small p = p .at + length (p .bytes) ≤ 16777216
+
+small-fits : (p : Piece) → Small p → FitsPlace (pieceAt p)
+unfolding pieceAt
+small-fits p h = (omega arith, omega arith)
+
+own-fits : (r : Record) → sound.Fits r → Each Small (pieces r) → Fits (headEntry r)
+unfolding sound.Fits Each pieces Fits headEntry
+own-fits (header v fs) h p = h
+own-fits (reference q n fs) h p = (small-fits q (p .0), h .1)
+own-fits (group q fs) h p = small-fits q (p .0)
+own-fits (program q fs) h p = small-fits q (p .0)
+own-fits (comment q) h p = small-fits q (p .0)
+
+field-fits : (k : Kind) (f : Field) → Other k f → Small (f .value) → Fits (fieldEntry f)
+unfolding Fits fieldEntry
+field-fits k f o s =
+    let t = tag-bounds (f .tag₀) (f .tag₁) (o .tag) in
+    (omega (arith, t .0 .1), omega (arith, t .1 .1), small-fits (f .value) s)
+
+-- ---- places within the text
+
+module _ (t : List ℕ) where
+  pub stands-inside : (p : Piece) → Stands t 0 p → Inside (length t) (pieceAt p)
+  unfolding pieceAt
+  stands-inside p s = omega (arith, s .within)
+
+  -- and the bytes there are the piece's
+  pub stands-bytes : (p : Piece) → Stands t 0 p → bytesAt t (pieceAt p) ≡ p .bytes
+  unfolding bytesAt pieceAt
+  stands-bytes p s = let z : p .at - 0 ≡ p .at = omega arith in sym (s .bytes ∙ ap (λ n. take (length (p .bytes)) (drop n t)) z)
+
+  own-within : (r : Record) → sound.Fits r → Each (Stands t 0) (pieces r) → Within (length t) (headEntry r)
+  unfolding Each pieces Within headEntry
+  own-within (header v fs) h p = tt
+  own-within (reference q n fs) h p = stands-inside q (p .0)
+  own-within (group q fs) h p = stands-inside q (p .0)
+  own-within (program q fs) h p = stands-inside q (p .0)
+  own-within (comment q) h p = stands-inside q (p .0)
+
+  field-within : (k : Kind) (f : Field) → Other k f → Stands t 0 (f .value) → Within (length t) (fieldEntry f)
+  unfolding Within fieldEntry
+  field-within k f o s = stands-inside (f .value) s
+
+-- ---- an accepted text
+
+module _ (t : List ℕ) (rs : List Record) (h : readText t ≡ accept rs) where
+  pub text-fit : Each Fits (entriesOf rs)
+  text-fit = each-entries Small Fits own-fits field-fits rs (text-sound t rs h) (text-small t rs h)
+
+  -- its catalogue is read back
+  pub text-entries : entriesIn (catalogue rs) ≡ entriesOf rs
+  text-entries = entries-catalogue rs text-fit
+
+  -- what the search for parents asks of a text and its catalogue
+  pub text-inside : Each (Within (length t)) (entriesIn (catalogue rs))
+  text-inside = rw text-entries (each-entries (Stands t 0) (Within (length t)) (own-within t) (field-within t) rs (text-sound t rs h) (text-stand t rs h))
+
+  pub text-counted : (k : ℕ) → k < 6 → counted k (entriesIn (catalogue rs)) ≡ length (ofKind k rs)
+  text-counted k l = rw (text-entries, counted-records k l rs) refl
+
+  pub text-few : counted 4 (entriesIn (catalogue rs)) ≤ 1024
+  text-few = omega (arith, text-counted 4 (omega arith), text-programs t rs h)
+
+  -- ---- a record's key and values are bytes of the text
+
+  module _ (k i : ℕ) where
+    one-stands : (r : Record) → getElem? (ofKind k rs) i ≡ some r → Each (Stands t 0) (pieces r)
+    one-stands r e = each-get (λ r. Each (Stands t 0) (pieces r)) (ofKind k rs) i r (each-ofKind (λ r. Each (Stands t 0) (pieces r)) k rs (text-stand t rs h)) e
+
+    pub text-keyed : (p : Piece) → keyed (getElem? (ofKind k rs) i) ≡ some p → Stands t 0 p
+    unfolding keyed
+    text-keyed p e = go (getElem? (ofKind k rs) i) refl e
+      where
+        go : (o : Option Record) → getElem? (ofKind k rs) i ≡ o → keyed o ≡ some p → Stands t 0 p
+        go none q e = absurd (never (cc))
+        go (some r) q e = key-stands (Stands t 0) r p (one-stands r q) e
+
+    pub text-valued : (a b : ℕ) (p : Piece) → valued a b (getElem? (ofKind k rs) i) ≡ some p → Stands t 0 p
+    unfolding valued
+    text-valued a b p e = go (getElem? (ofKind k rs) i) refl e
+      where
+        go : (o : Option Record) → getElem? (ofKind k rs) i ≡ o → valued a b o ≡ some p → Stands t 0 p
+        go none q e = absurd (never (cc))
+        go (some r) q e = last-value (Stands t 0) a b (others r) p (record-values (Stands t 0) r (one-stands r q)) e

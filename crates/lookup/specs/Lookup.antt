@@ -1,0 +1,88 @@
+-- What is found in the entries of a catalogue: a record's key, the LN of an SQ, the value of a field.
+use Prim.Native.Nat.{ℕ, zero, suc}
+use mathlib.Core.Bool.{_&&_, cond}
+use mathlib.Core.List.{List, [], _∷_}
+use mathlib.Core.Option.{Option, none, some}
+use lib.ListN.{drop}
+use lib.Dec.{eqb, ltb}
+use Rattle.format.specs.Lines.{Piece}
+use Rattle.entries.specs.declared.Entry.{Entry}
+use Rattle.entries.specs.declared.Entry.the-variants.{End, Header, ReferenceSequence, ReadGroup, Program, Comment, Field}
+use Rattle.entries.specs.Entries.{kindOf, pieceAt}
+use Rattle.lookup.specs.declared.Found.{Found}
+use Rattle.lookup.specs.declared.Found.the-variants.{Nothing, At}
+use Rattle.lookup.specs.declared.Sized.{Sized}
+use Rattle.lookup.specs.declared.Sized.the-variants as sized
+
+-- ---- answers
+
+-- where a piece stands, if there is one
+unfoldable pub foundOf : Option Piece → Found
+unfolding pieceAt
+foundOf none = Nothing
+foundOf (some p) = At (pieceAt p)
+
+-- a length, if there is one
+unfoldable pub sizedOf : Option ℕ → Sized
+sizedOf none = sized.Nothing
+sizedOf (some n) = sized.Is n
+
+-- ---- entries
+
+-- the entries from that of kind `k` on that has `i` of that kind before it; none where there is none
+unfoldable pub entriesFrom : ℕ → ℕ → List Entry → List Entry
+unfolding kindOf
+entriesFrom k i [] = []
+entriesFrom k zero (e ∷ es) = cond (eqb (kindOf e) k) (e ∷ es) (entriesFrom k zero es)
+entriesFrom k (suc i) (e ∷ es) = cond (eqb (kindOf e) k) (entriesFrom k i es) (entriesFrom k (suc i) es)
+
+-- the first of them
+unfoldable pub front : List Entry → Entry
+front [] = End
+front (e ∷ es) = e
+
+-- the key that an entry says: SN of SQ, ID of RG and PG
+unfoldable pub keyOf : Entry → Found
+keyOf End = Nothing
+keyOf (Header v) = Nothing
+keyOf (ReferenceSequence p n) = At p
+keyOf (ReadGroup p) = At p
+keyOf (Program p) = At p
+keyOf (Comment p) = Nothing
+keyOf (Field a b p) = Nothing
+
+-- the LN that an entry says
+unfoldable pub lengthOf : Entry → Sized
+lengthOf End = sized.Nothing
+lengthOf (Header v) = sized.Nothing
+lengthOf (ReferenceSequence p n) = sized.Is n
+lengthOf (ReadGroup p) = sized.Nothing
+lengthOf (Program p) = sized.Nothing
+lengthOf (Comment p) = sized.Nothing
+lengthOf (Field a b p) = sized.Nothing
+
+-- the value of the field entry with the tag `a`, `b`, before the next record's entry
+unfoldable pub valueIn : ℕ → ℕ → List Entry → Found
+valueIn a b [] = Nothing
+valueIn a b (End ∷ es) = Nothing
+valueIn a b (Header v ∷ es) = Nothing
+valueIn a b (ReferenceSequence p n ∷ es) = Nothing
+valueIn a b (ReadGroup p ∷ es) = Nothing
+valueIn a b (Program p ∷ es) = Nothing
+valueIn a b (Comment p ∷ es) = Nothing
+valueIn a b (Field x y p ∷ es) = cond (eqb x a && eqb y b) (At p) (valueIn a b es)
+
+-- ---- the record of kind `k` with `i` of that kind before it
+
+unfoldable pub keyIn : ℕ → ℕ → List Entry → Found
+unfolding keyOf front entriesFrom
+keyIn k i es = keyOf (front (entriesFrom k i es))
+
+unfoldable pub lengthIn : ℕ → List Entry → Sized
+unfolding lengthOf front entriesFrom
+lengthIn i es = lengthOf (front (entriesFrom 2 i es))
+
+-- a field entry belongs to the record before it; a field is no record
+unfoldable pub fieldIn : ℕ → ℕ → ℕ → ℕ → List Entry → Found
+unfolding valueIn entriesFrom
+fieldIn k i a b es = cond (ltb 5 k) Nothing (valueIn a b (drop 1 (entriesFrom k i es)))
