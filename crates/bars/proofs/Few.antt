@@ -11,7 +11,7 @@ use Rattle.format.specs.Fields.{Field, tagged, without, put, settledOn, settled
 use Rattle.format.specs.Records.{Record, others, read, line}
 use Rattle.format.specs.declared.Kind.{Kind}
 use Rattle.accepted.specs.Spelled as sp
-use Rattle.accepted.specs.Spelled.{Good, Made, Spelled, Accepted}
+use Rattle.accepted.specs.Spelled.{Good, Made, Accepted}
 use Rattle.accepted.proofs.Pairs.{pairs-length}
 use Rattle.accepted.proofs.Spelled.{line-accepted}
 
