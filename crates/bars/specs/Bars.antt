@@ -1,8 +1,8 @@
 -- Why a line may not follow the lines before it: what is judged of its head.
-use Prim.Native.Nat.{ℕ}
+use Prim.Native.Nat.{ℕ, _+_, _≤_}
 use mathlib.Core.Bool.{Bool, true, false, cond}
 use mathlib.Core.List.{List}
-use lib.ListN.{length, take, drop}
+use lib.ListN.{take, drop}
 use lib.Dec.{eqb, leb}
 use Rattle.format.specs.Records.{Line, refused, read}
 use Rattle.record.specs.declared.Place.{Place}
@@ -40,7 +40,7 @@ barring strict count programs text (head.Comment p) = 0
 unfoldable pub Within : ℕ → Head → Type 0
 Within size (head.Refused n) = Unit
 Within size (head.Header v n) = Unit
-Within size (head.ReferenceSequence p l n) = Prim.Native.Nat._≤_ (Prim.Native.Nat._+_ (p .at) (p .len)) size
-Within size (head.ReadGroup p n) = Prim.Native.Nat._≤_ (Prim.Native.Nat._+_ (p .at) (p .len)) size
-Within size (head.Program p n) = Prim.Native.Nat._≤_ (Prim.Native.Nat._+_ (p .at) (p .len)) size
+Within size (head.ReferenceSequence p l n) = p .at + p .len ≤ size
+Within size (head.ReadGroup p n) = p .at + p .len ≤ size
+Within size (head.Program p n) = p .at + p .len ≤ size
 Within size (head.Comment p) = Unit

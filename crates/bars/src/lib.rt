@@ -1,6 +1,7 @@
 // What a line may be after the lines before it: 17, 18 and 19.
 use keys::Found;
-use record::{Head, Place};
+use record::Head;
+use record::Place;
 ghost use mathlib.Core.Path.{_≡_};
 ghost use Prim.Native.Nat.{_≤_, _+_};
 ghost use lib.ListN.{length};
