@@ -1,0 +1,13 @@
+-- What comparing a catalogue with expected bytes answers.
+use Prim.Native.Nat.{ℕ, _+_}
+use mathlib.Core.Bool.{cond}
+use mathlib.Core.List.{List}
+use lib.ListN.{length}
+use Rattle.format.specs.Bytes.{starts}
+use Rattle.catalogue.specs.declared.Matched.{Matched}
+use Rattle.catalogue.specs.declared.Matched.the-variants.{Differs, Upto}
+
+-- `c` is the catalogue from the place `o` on: where it starts with `xs`, the place after them
+unfoldable pub matched : ℕ → List ℕ → List ℕ → Matched
+unfolding starts
+matched o c xs = cond (starts xs c) (Upto (o + length xs)) Differs
