@@ -1,0 +1,6 @@
+pub mod Records
+pub mod Compared
+pub mod Reached
+pub mod Fitting
+pub mod Told
+pub mod Turned

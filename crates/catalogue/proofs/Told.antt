@@ -1,0 +1,78 @@
+-- What the head of an accepted line says of the line's entries: its own comes first, then those that a walk over the other fields gives.
+use Prim.Native.Nat.{ℕ, _+_, _≤_}
+use mathlib.Core.Path.{_≡_, refl, sym, ap, _∙_}
+use mathlib.Core.Bool.{Bool, true, false}
+use mathlib.Core.List.{List, [], _∷_, _++_, append-nil}
+use native.Mathlib.Omega.{arith}
+use lib.ListN.{length}
+use Rattle.format.specs.Fields.{Field}
+use Rattle.format.specs.Records.{Record, header, reference, group, program, comment, others, Line, refused, read, line}
+use Rattle.format.specs.Catalogue.{head, tails}
+use Rattle.accepted.specs.Sound.{kind}
+use Rattle.accepted.specs.Spelled as sp
+use Rattle.accepted.specs.Spelled.{Accepted}
+use Rattle.accepted.proofs.Bools.{never}
+use Rattle.accepted.proofs.Spelled.{line-accepted}
+use Rattle.record.specs.declared.Head.{Head}
+use Rattle.record.specs.Head.{recordHead, headOf}
+use Rattle.tags.specs.Others.{firsts}
+use Rattle.walk.specs.Run.{fieldsOf, fieldsFrom, AtField}
+use Rattle.walk.proofs.Start.{accepted-start, start-none, accepted-others}
+use Rattle.entries.specs.Entries.{entryBytes, Fits, headEntry}
+use Rattle.catalogue.specs.Line.{recordBytes, isRead}
+use Rattle.catalogue.specs.Parts.{ownEntry, othersOf, kindOfHead, fieldBytes}
+use Rattle.catalogue.proofs.Records.{own-entry, own-bytes, own-others}
+use Rattle.catalogue.proofs.Fitting.{head-fits}
+
+pub record Told (strict : Bool) (at : ℕ) (s : List ℕ) (h : Head) : Type 0 where
+  pub fits : Fits (ownEntry h)
+  pub alone : othersOf h ≡ 0 → recordBytes (line strict (record { at = at; bytes = s })) ≡ entryBytes (ownEntry h)
+  pub start : (othersOf h ≡ 0 → ⊥) → AtField strict at s 3
+  pub more : (othersOf h ≡ 0 → ⊥) → recordBytes (line strict (record { at = at; bytes = s })) ≡ entryBytes (ownEntry h) ++ fieldBytes (kindOfHead h) at s 3
+
+own-kind : (r : Record) → kindOfHead (recordHead r) ≡ kind r
+unfolding kindOfHead recordHead kind
+own-kind (header v fs) = refl
+own-kind (reference p n fs) = refl
+own-kind (group p fs) = refl
+own-kind (program p fs) = refl
+own-kind (comment p) = refl
+
+-- a record with other fields is no comment, so that its line can be walked
+walkable : (strict : Bool) (at : ℕ) (s : List ℕ) (r : Record) → (length (others r) ≡ 0 → ⊥) → Accepted strict at s r → AtField strict at s 3 × (fieldBytes (kind r) at s 3 ≡ tails (others r))
+unfolding others fieldBytes fieldsOf
+walkable strict at s r n (sp.of-remark t) = absurd (n refl)
+walkable strict at s r n (sp.of-fields a) = (accepted-start strict at s r a, ap tails (accepted-others strict at s r a))
+
+no-tails : (fs : List Field) → length fs ≡ 0 → tails fs ≡ []
+unfolding tails
+no-tails [] e = refl
+no-tails (f ∷ fs) e = absurd (omega arith)
+
+module _ (strict : Bool) (at : ℕ) (s : List ℕ) (h : Head) (fit : at + length s ≤ 16777216) where
+  module _ (r : Record) (e : line strict (record { at = at; bytes = s }) ≡ read r) (q : h ≡ recordHead r) where
+    bytes : recordBytes (line strict (record { at = at; bytes = s })) ≡ entryBytes (ownEntry h) ++ tails (others r)
+    unfolding recordBytes
+    bytes = ap recordBytes e ∙ ap (λ l. l ++ tails (others r)) (sym (own-bytes r)) ∙ ap (λ k. entryBytes (ownEntry k) ++ tails (others r)) (sym q)
+
+    counted : othersOf h ≡ length (others r)
+    counted = ap othersOf q ∙ own-others r
+
+    walk : (othersOf h ≡ 0 → ⊥) → AtField strict at s 3 × (fieldBytes (kind r) at s 3 ≡ tails (others r))
+    walk n = walkable strict at s r (λ z. n (counted ∙ z)) (line-accepted strict (record { at = at; bytes = s }) r e)
+
+    of-record : Told strict at s h
+    of-record = record {
+      fits = rw (q, own-entry r) (head-fits strict (record { at = at; bytes = s }) r e fit);
+      alone = λ z. bytes ∙ ap (λ l. entryBytes (ownEntry h) ++ l) (no-tails (others r) (sym counted ∙ z)) ∙ append-nil (entryBytes (ownEntry h));
+      start = λ n. walk n .0;
+      more = λ n. bytes ∙ ap (λ l. entryBytes (ownEntry h) ++ l) (sym (walk n .1) ∙ ap (λ k. fieldBytes k at s 3) (sym (own-kind r) ∙ ap kindOfHead (sym q)));
+    }
+
+  pub told : isRead (line strict (record { at = at; bytes = s })) ≡ true → h ≡ headOf (line strict (record { at = at; bytes = s })) → Told strict at s h
+  unfolding isRead headOf
+  told t q = go (line strict (record { at = at; bytes = s })) refl t q
+    where
+      go : (l : Line) → line strict (record { at = at; bytes = s }) ≡ l → isRead l ≡ true → h ≡ headOf l → Told strict at s h
+      go (refused n) e t q = absurd (never (cc))
+      go (read r) e t q = of-record r e q
