@@ -2,7 +2,7 @@
 use Prim.Native.Nat.{ℕ, _+_, _≤_}
 use mathlib.Core.Path.{_≡_, refl, sym, ap, _∙_}
 use mathlib.Core.Bool.{Bool, true, false}
-use mathlib.Core.List.{List, [], _∷_, _++_, append-nil}
+use mathlib.Core.List.{List, [], _∷_, _++_}
 use native.Mathlib.Omega.{arith}
 use lib.ListN.{length}
 use Rattle.format.specs.Fields.{Field}
@@ -26,9 +26,11 @@ use Rattle.catalogue.proofs.Fitting.{head-fits}
 
 pub record Told (strict : Bool) (at : ℕ) (s : List ℕ) (h : Head) : Type 0 where
   pub fits : Fits (ownEntry h)
-  pub alone : othersOf h ≡ 0 → recordBytes (line strict (record { at = at; bytes = s })) ≡ entryBytes (ownEntry h)
+  pub rest : List ℕ
+  pub bytes : recordBytes (line strict (record { at = at; bytes = s })) ≡ entryBytes (ownEntry h) ++ rest
+  pub alone : othersOf h ≡ 0 → rest ≡ []
   pub start : (othersOf h ≡ 0 → ⊥) → AtField strict at s 3
-  pub more : (othersOf h ≡ 0 → ⊥) → recordBytes (line strict (record { at = at; bytes = s })) ≡ entryBytes (ownEntry h) ++ fieldBytes (kindOfHead h) at s 3
+  pub more : (othersOf h ≡ 0 → ⊥) → rest ≡ fieldBytes (kindOfHead h) at s 3
 
 own-kind : (r : Record) → kindOfHead (recordHead r) ≡ kind r
 unfolding kindOfHead recordHead kind
@@ -64,9 +66,11 @@ module _ (strict : Bool) (at : ℕ) (s : List ℕ) (h : Head) (fit : at + length
     of-record : Told strict at s h
     of-record = record {
       fits = rw (q, own-entry r) (head-fits strict (record { at = at; bytes = s }) r e fit);
-      alone = λ z. bytes ∙ ap (λ l. entryBytes (ownEntry h) ++ l) (no-tails (others r) (sym counted ∙ z)) ∙ append-nil (entryBytes (ownEntry h));
+      rest = tails (others r);
+      bytes = bytes;
+      alone = λ z. no-tails (others r) (sym counted ∙ z);
       start = λ n. walk n .0;
-      more = λ n. bytes ∙ ap (λ l. entryBytes (ownEntry h) ++ l) (sym (walk n .1) ∙ ap (λ k. fieldBytes k at s 3) (sym (own-kind r) ∙ ap kindOfHead (sym q)));
+      more = λ n. sym (walk n .1) ∙ ap (λ k. fieldBytes k at s 3) (sym (own-kind r) ∙ ap kindOfHead (sym q));
     }
 
   pub told : isRead (line strict (record { at = at; bytes = s })) ≡ true → h ≡ headOf (line strict (record { at = at; bytes = s })) → Told strict at s h

@@ -1,3 +1,17 @@
+-- `catalogue::same_entry` meets its contract: the front of the array has the entry's bytes.
+use Prim.Native.Nat.{ℕ, _+_, _-_, _≤_}
+use mathlib.Core.Path.{_≡_, refl, sym, ap, _∙_}
+use mathlib.Core.List.{List}
+use native.Mathlib.Omega.{arith}
+use lib.ListN.{length, take, drop, length-drop}
+use lib.Seq.{take-all, length-take-le}
+use Rattle.format.specs.Bytes.{starts}
+use Rattle.text.specs.Over.{over}
+use Rattle.text.proofs.Over.{over-length, over-take}
+use Rattle.entries.specs.declared.Entry.{Entry}
+use Rattle.entries.specs.Entries.{sizeOf, entryBytes}
+use Rattle.entries.proofs.Written.{entry-length}
+use Rattle.catalogue.proofs.Entries.{size-most}
 use borrow.Author.Needs.{needs}
 use Rattle.catalogue.proofs.same_entry.Statement.{statement}
 use Rattle.catalogue.proofs.same_entry.Tie as tie
@@ -7,20 +21,31 @@ use Rattle.entries_out.proofs.put_entry.Reads as put-entry-reads
 use Rattle.text.proofs.starts.Reads as starts-reads
 
 -- src/lib.rt:160:38
+-- an array of 17 bytes with the entry `e` at its front, up to `n`
+front : (out last : List ℕ) (e : Entry) (n : ℕ) → length out ≡ 17 → n ≡ 0 + sizeOf e → last ≡ over out 0 (entryBytes e) → (n ≤ length last) × (take n last ≡ entryBytes e)
+front out last e n h p w =
+    let l : 0 + length (entryBytes e) ≡ n = omega (arith, entry-length e) in (
+      omega (arith, ap length w, over-length out 0 (entryBytes e) (omega (arith, size-most e)), size-most e),
+      ap (take n) w ∙ ap (λ m. take m (over out 0 (entryBytes e))) (sym l) ∙ over-take out 0 (entryBytes e) (omega arith),
+    )
+
+fronted : (c : tie.After-put-entry) → (c .put-entry .result ≤ length (c .put-entry .last .0)) × (take (c .put-entry .result) (c .put-entry .last .0) ≡ entryBytes (c .before .before .before .args .e))
+fronted c = front _ (c .put-entry .last .0) (c .before .before .before .args .e) (c .put-entry .result) refl (c .put-entry .ensures .0) (c .put-entry .ensures .1)
+
 slice-aggregate-put-entry : tie.Need-slice-aggregate-put-entry
 slice-aggregate-put-entry c = search needs
 
 -- src/lib.rt:160:9
 put-entry-requires : tie.Need-put-entry-requires
-put-entry-requires c κs = ?
+put-entry-requires c κs = omega (arith, size-most (c .before .before .args .e))
 
 -- src/lib.rt:161:18
 array-share-prefix-bytes : tie.Need-array-share-prefix-bytes
-array-share-prefix-bytes c = ?
+array-share-prefix-bytes c = fronted (c .before) .0
 
 -- src/lib.rt:161:18
 slice-aggregate-starts : tie.Need-slice-aggregate-starts
-slice-aggregate-starts c = ?
+slice-aggregate-starts c = sym (length-take-le _ _ (fronted (c .before .before) .0))
 
 -- src/lib.rt:161:33
 sub-starts : tie.Need-sub-starts
