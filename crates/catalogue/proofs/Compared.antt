@@ -4,13 +4,13 @@ use mathlib.Core.Path.{_≡_, refl, sym, ap, _∙_}
 use mathlib.Core.Bool.{Bool, true, false, _&&_, cond}
 use mathlib.Core.List.{List, [], _∷_, _++_}
 use native.Mathlib.Omega.{arith}
-use native.Mathlib.Nat.{add-assoc, add-zero}
+use native.Mathlib.Nat.{add-zero}
 use lib.ListN.{length, drop, length-append, length-drop}
 use lib.Seq.{drop-drop}
 use lib.Dec.{eqb}
 use borrow.Author.Tests.{eq-eqb, ne-eqb}
 use Rattle.format.specs.Bytes.{same, starts}
-use Rattle.accepted.proofs.Bools.{never, and-left, and-right, eqb-sym}
+use Rattle.accepted.proofs.Bools.{never, and-right, eqb-sym}
 use Rattle.catalogue.specs.Matched.{matched}
 use Rattle.catalogue.specs.declared.Matched.the-variants.{Differs, Upto}
 

@@ -1,8 +1,8 @@
 -- The numbers of an accepted line's entries fit: where the text is at most 16,777,216 bytes, offsets and lengths are below 2 ^ 32.
-use Prim.Native.Nat.{ℕ, _+_, _-_, _^_, _≤_, _<_}
-use mathlib.Core.Path.{_≡_, refl}
-use mathlib.Core.Bool.{Bool, true, false, _&&_, _||_}
-use mathlib.Core.List.{List, [], _∷_, _++_}
+use Prim.Native.Nat.{ℕ, _+_, _-_, _≤_, _<_}
+use mathlib.Core.Path.{_≡_}
+use mathlib.Core.Bool.{Bool, true, _||_}
+use mathlib.Core.List.{List, [], _∷_}
 use native.Mathlib.Omega.{arith}
 use lib.ListN.{length}
 use lib.Dec.{leb}
@@ -15,7 +15,7 @@ use Rattle.text.specs.Stands.{Stands, Each}
 use Rattle.text.proofs.Stands.{each-map}
 use Rattle.accepted.specs.Pieces.{values, pieces}
 use Rattle.accepted.specs.Sound as sound
-use Rattle.accepted.specs.Sound.{kind, Other, Sound}
+use Rattle.accepted.specs.Sound.{kind, Other}
 use Rattle.accepted.proofs.Bools.{and-left, and-right, or-split}
 use Rattle.accepted.proofs.Pairs.{each-both}
 use Rattle.accepted.proofs.Stands.{line-stand}

@@ -1,13 +1,14 @@
 -- What the head of an accepted line says of the line's entries: its own comes first, then those that a walk over the other fields gives.
 use Prim.Native.Nat.{ℕ, _+_, _≤_}
 use mathlib.Core.Path.{_≡_, refl, sym, ap, _∙_}
-use mathlib.Core.Bool.{Bool, true, false}
+use mathlib.Core.Bool.{Bool, true}
 use mathlib.Core.List.{List, [], _∷_, _++_}
 use native.Mathlib.Omega.{arith}
 use lib.ListN.{length}
 use Rattle.format.specs.Fields.{Field}
 use Rattle.format.specs.Records.{Record, header, reference, group, program, comment, others, Line, refused, read, line}
-use Rattle.format.specs.Catalogue.{head, tails}
+use Rattle.format.specs.Catalogue.{tails}
+use Rattle.format.specs.declared.Kind.{Kind}
 use Rattle.accepted.specs.Sound.{kind}
 use Rattle.accepted.specs.Spelled as sp
 use Rattle.accepted.specs.Spelled.{Accepted}
@@ -15,10 +16,10 @@ use Rattle.accepted.proofs.Bools.{never}
 use Rattle.accepted.proofs.Spelled.{line-accepted}
 use Rattle.record.specs.declared.Head.{Head}
 use Rattle.record.specs.Head.{recordHead, headOf}
-use Rattle.tags.specs.Others.{firsts}
-use Rattle.walk.specs.Run.{fieldsOf, fieldsFrom, AtField}
-use Rattle.walk.proofs.Start.{accepted-start, start-none, accepted-others}
-use Rattle.entries.specs.Entries.{entryBytes, Fits, headEntry}
+use Rattle.walk.specs.Run.{fieldsOf, AtField}
+use Rattle.walk.proofs.Start.{accepted-start, accepted-others}
+use Rattle.entries.specs.declared.Entry.{Entry}
+use Rattle.entries.specs.Entries.{entryBytes, Fits}
 use Rattle.catalogue.specs.Line.{recordBytes, isRead}
 use Rattle.catalogue.specs.Parts.{ownEntry, othersOf, kindOfHead, fieldBytes}
 use Rattle.catalogue.proofs.Records.{own-entry, own-bytes, own-others}
@@ -27,10 +28,9 @@ use Rattle.catalogue.proofs.Fitting.{head-fits}
 pub record Told (strict : Bool) (at : ℕ) (s : List ℕ) (h : Head) : Type 0 where
   pub fits : Fits (ownEntry h)
   pub rest : List ℕ
-  pub bytes : recordBytes (line strict (record { at = at; bytes = s })) ≡ entryBytes (ownEntry h) ++ rest
-  pub alone : othersOf h ≡ 0 → rest ≡ []
-  pub start : (othersOf h ≡ 0 → ⊥) → AtField strict at s 3
-  pub more : (othersOf h ≡ 0 → ⊥) → rest ≡ fieldBytes (kindOfHead h) at s 3
+  pub bytes : (e : Entry) → e ≡ ownEntry h → recordBytes (line strict (record { at = at; bytes = s })) ≡ entryBytes e ++ rest
+  pub alone : (n : ℕ) → n ≡ othersOf h → n ≡ 0 → rest ≡ []
+  pub more : (n : ℕ) (k : Kind) → n ≡ othersOf h → (n ≡ 0 → ⊥) → k ≡ kindOfHead h → AtField strict at s 3 × (rest ≡ fieldBytes k at s 3)
 
 own-kind : (r : Record) → kindOfHead (recordHead r) ≡ kind r
 unfolding kindOfHead recordHead kind
@@ -53,24 +53,25 @@ no-tails (f ∷ fs) e = absurd (omega arith)
 
 module _ (strict : Bool) (at : ℕ) (s : List ℕ) (h : Head) (fit : at + length s ≤ 16777216) where
   module _ (r : Record) (e : line strict (record { at = at; bytes = s }) ≡ read r) (q : h ≡ recordHead r) where
-    bytes : recordBytes (line strict (record { at = at; bytes = s })) ≡ entryBytes (ownEntry h) ++ tails (others r)
+    bytes : (d : Entry) → d ≡ ownEntry h → recordBytes (line strict (record { at = at; bytes = s })) ≡ entryBytes d ++ tails (others r)
     unfolding recordBytes
-    bytes = ap recordBytes e ∙ ap (λ l. l ++ tails (others r)) (sym (own-bytes r)) ∙ ap (λ k. entryBytes (ownEntry k) ++ tails (others r)) (sym q)
+    bytes d m = ap recordBytes e ∙ ap (λ l. l ++ tails (others r)) (sym (own-bytes r) ∙ ap entryBytes (sym (m ∙ ap ownEntry q)))
 
     counted : othersOf h ≡ length (others r)
     counted = ap othersOf q ∙ own-others r
 
-    walk : (othersOf h ≡ 0 → ⊥) → AtField strict at s 3 × (fieldBytes (kind r) at s 3 ≡ tails (others r))
-    walk n = walkable strict at s r (λ z. n (counted ∙ z)) (line-accepted strict (record { at = at; bytes = s }) r e)
+    walk : (n : ℕ) (k : Kind) → n ≡ othersOf h → (n ≡ 0 → ⊥) → k ≡ kindOfHead h → AtField strict at s 3 × (tails (others r) ≡ fieldBytes k at s 3)
+    walk n k m z l =
+        let w = walkable strict at s r (λ y. z (m ∙ counted ∙ y)) (line-accepted strict (record { at = at; bytes = s }) r e) in
+        (w .0, sym (w .1) ∙ ap (λ k. fieldBytes k at s 3) (sym (l ∙ ap kindOfHead q ∙ own-kind r)))
 
     of-record : Told strict at s h
     of-record = record {
       fits = rw (q, own-entry r) (head-fits strict (record { at = at; bytes = s }) r e fit);
       rest = tails (others r);
       bytes = bytes;
-      alone = λ z. no-tails (others r) (sym counted ∙ z);
-      start = λ n. walk n .0;
-      more = λ n. sym (walk n .1) ∙ ap (λ k. fieldBytes k at s 3) (sym (own-kind r) ∙ ap kindOfHead (sym q));
+      alone = λ n m z. no-tails (others r) (sym (m ∙ counted) ∙ z);
+      more = walk;
     }
 
   pub told : isRead (line strict (record { at = at; bytes = s })) ≡ true → h ≡ headOf (line strict (record { at = at; bytes = s })) → Told strict at s h

@@ -2,7 +2,7 @@
 use Prim.Native.Nat.{ℕ, _+_, _-_, _^_, _≤_, _<_}
 use mathlib.Core.Path.{_≡_, refl, sym, ap, _∙_}
 use mathlib.Core.Bool.{Bool}
-use mathlib.Core.List.{List, [], _∷_, _++_}
+use mathlib.Core.List.{List, [], _++_}
 use native.Mathlib.Omega.{arith}
 use lib.ListN.{length}
 use Rattle.format.specs.Fields as fields
@@ -14,13 +14,14 @@ use Rattle.walk.specs.Next.{nextIn}
 use Rattle.walk.specs.declared.Other.{Other}
 use Rattle.walk.specs.declared.Next.the-variants as next
 use Rattle.walk.proofs.Walked.{Gone, next-end, next-field}
-use Rattle.entries.specs.Entries.{FitsPlace, entryBytes, pieceAt, fieldEntry}
+use Rattle.entries.specs.declared.Entry.{Entry}
+use Rattle.entries.specs.Entries.{entryBytes, pieceAt, fieldEntry}
 use Rattle.catalogue.specs.Parts.{otherEntry, fieldBytes}
 use Rattle.catalogue.proofs.Records.{tails-more}
 
 pub record Turned (strict : Bool) (at : ℕ) (line : List ℕ) (k : Kind) (pos : ℕ) (o : Other) : Type 0 where
   pub fits : (o .at < 2 ^ 32) × (o .len < 2 ^ 32)
-  pub bytes : fieldBytes k at line pos ≡ entryBytes (otherEntry o) ++ fieldBytes k at line (o .next)
+  pub bytes : (e : Entry) → e ≡ otherEntry o → fieldBytes k at line pos ≡ entryBytes e ++ fieldBytes k at line (o .next)
   pub after : pos < o .next
   pub next : AtField strict at line (o .next)
 
@@ -37,10 +38,10 @@ module _ (strict : Bool) (at : ℕ) (line : List ℕ) (k : Kind) (pos : ℕ) whe
       let g : Gone strict at line k pos o = next-field strict at line k pos o h (sym q) in
       record {
         fits = (omega (arith, g .place, g .stands .from, g .stands .within), omega (arith, g .size, g .stands .from, g .stands .within));
-        bytes =
+        bytes = λ e m.
             ap tails (g .first)
             ∙ tails-more (g .field) (firsts k (fieldsTo at line (o .next)) (fieldsFrom at line (o .next)))
-            ∙ ap (λ e. entryBytes e ++ tails (firsts k (fieldsTo at line (o .next)) (fieldsFrom at line (o .next)))) (same-entry (g .field) o (g .tag-0) (g .tag-1) (g .place) (g .size));
+            ∙ ap (λ e. entryBytes e ++ tails (firsts k (fieldsTo at line (o .next)) (fieldsFrom at line (o .next)))) (same-entry (g .field) o (g .tag-0) (g .tag-1) (g .place) (g .size) ∙ sym m);
         after = g .after;
         next = g .next;
       }

@@ -2,7 +2,6 @@
 use entries::Entry;
 use entries::Place;
 use format::Kind;
-use format::Version;
 use record::Head;
 use walk::Next;
 use walk::Other;
@@ -14,9 +13,9 @@ ghost use Rattle.format.specs.Bytes.{starts};
 ghost use Rattle.format.specs.Records.{line};
 ghost use Rattle.text.specs.Over.{over};
 ghost use Rattle.walk.specs.Run.{AtField};
-ghost use Rattle.entries.specs.Entries.{sizeOf, entryBytes, FitsPlace, Fits};
+ghost use Rattle.entries.specs.Entries.{sizeOf, entryBytes, Fits};
 ghost use Rattle.catalogue.specs.Line.{recordBytes, isRead};
-ghost use Rattle.catalogue.specs.Parts.{placed, ownEntry, othersOf, kindOfHead, sizeOfHead, otherEntry, fieldBytes};
+ghost use Rattle.catalogue.specs.Parts.{ownEntry, othersOf, kindOfHead, sizeOfHead, otherEntry, fieldBytes};
 ghost use Rattle.catalogue.specs.Matched.{matched};
 
 // Whether a catalogue has the expected bytes at a place, and then the place after them.
@@ -162,7 +161,14 @@ fn same_entry(catalogue: &[u8], o: usize, e: Entry) -> bool
 }
 
 // Whether the catalogue has the entries of an accepted line's other fields at `o`.
-fn same_fields(catalogue: &[u8], o: usize, kind: Kind, src: &[u8], at: usize, strict: bool) -> Matched
+fn same_fields(
+    catalogue: &[u8],
+    o: usize,
+    kind: Kind,
+    src: &[u8],
+    at: usize,
+    strict: bool,
+) -> Matched
     requires { ⌜ AtField strict at (now src) 3 ⌝ }
     requires { ⌜ at + length (now src) ≤ 16777216 ⌝ }
     requires { ⌜ o ≤ length (now catalogue) ⌝ }

@@ -15,12 +15,7 @@ use Rattle.catalogue.proofs.Entries.{size-most}
 use borrow.Author.Needs.{needs}
 use Rattle.catalogue.proofs.same_entry.Statement.{statement}
 use Rattle.catalogue.proofs.same_entry.Tie as tie
-use Rattle.catalogue.proofs.same_entry.Reads as reads
-use Rattle.catalogue.proofs.same_entry.Lts as lts
-use Rattle.entries_out.proofs.put_entry.Reads as put-entry-reads
-use Rattle.text.proofs.starts.Reads as starts-reads
 
--- src/lib.rt:160:38
 -- an array of 17 bytes with the entry `e` at its front, up to `n`
 front : (out last : List ℕ) (e : Entry) (n : ℕ) → length out ≡ 17 → n ≡ 0 + sizeOf e → last ≡ over out 0 (entryBytes e) → (n ≤ length last) × (take n last ≡ entryBytes e)
 front out last e n h p w =
@@ -35,37 +30,34 @@ fronted c = front _ (c .put-entry .last .0) (c .before .before .before .args .e)
 slice-aggregate-put-entry : tie.Need-slice-aggregate-put-entry
 slice-aggregate-put-entry c = search needs
 
--- src/lib.rt:160:9
 put-entry-requires : tie.Need-put-entry-requires
 put-entry-requires c κs = omega (arith, size-most (c .before .before .args .e))
 
--- src/lib.rt:161:18
 array-share-prefix-bytes : tie.Need-array-share-prefix-bytes
 array-share-prefix-bytes c = fronted (c .before) .0
 
--- src/lib.rt:161:18
 slice-aggregate-starts : tie.Need-slice-aggregate-starts
 slice-aggregate-starts c = sym (length-take-le _ _ (fronted (c .before .before) .0))
 
--- src/lib.rt:161:33
 sub-starts : tie.Need-sub-starts
 sub-starts c = search needs
 
--- src/lib.rt:161:33
 part-starts-start : tie.Need-part-starts-start
 part-starts-start c = search needs
 
--- src/lib.rt:161:33
 part-starts-end : tie.Need-part-starts-end
 part-starts-end c = search needs
 
--- src/lib.rt:161:5
 starts-requires : tie.Need-starts-requires
 starts-requires c κs = search needs
 
--- src/lib.rt:155:1
 returns : tie.Need-returns
-returns c = ?
+returns c =
+    let p = c .before .before .before .before in
+    let a = p .before .before .before .args in
+    c .starts .ensures
+    ∙ ap (λ x. starts x (take (length (a .catalogue .now) - a .o) (drop (a .o) (a .catalogue .now)))) (fronted p .1)
+    ∙ ap (starts (entryBytes (a .e))) (take-all (length (a .catalogue .now) - a .o) (drop (a .o) (a .catalogue .now)) (omega (arith, length-drop (a .o) (a .catalogue .now))))
 
 pub same-entry-spec : {M : Type 1} → statement M
 same-entry-spec =

@@ -1,26 +1,18 @@
 -- `catalogue::same_fields` meets its contract: what was compared is there, so that what is left to compare decides.
-use Prim.Native.Nat.{ℕ, _+_, _-_, _≤_}
+use Prim.Native.Nat.{_+_, _-_, _≤_}
 use mathlib.Core.Path.{_≡_, refl, sym, ap, _∙_}
-use mathlib.Core.List.{List, [], _++_}
 use native.Mathlib.Omega.{arith}
 use lib.ListN.{length, drop}
 use borrow.Author.Needs.{needs}
 use borrow.Author.Tests.{not-true, not-false}
 use Rattle.walk.specs.Run.{AtField}
-use Rattle.entries.specs.Entries.{sizeOf, entryBytes}
-use Rattle.catalogue.specs.Parts.{otherEntry, fieldBytes}
+use Rattle.catalogue.specs.Parts.{fieldBytes}
 use Rattle.catalogue.specs.Matched.{matched}
 use Rattle.catalogue.proofs.Compared.{match-none}
 use Rattle.catalogue.proofs.Entries.{found, missed}
 use Rattle.catalogue.proofs.Turned.{Turned, turned, turned-end}
 use Rattle.catalogue.proofs.same_fields.Statement.{statement}
 use Rattle.catalogue.proofs.same_fields.Tie as tie
-use Rattle.catalogue.proofs.same_fields.Reads as reads
-use Rattle.catalogue.proofs.same_fields.Lts as lts
-use Rattle.catalogue.proofs.other_entry.Reads as other-entry-reads
-use Rattle.catalogue.proofs.same_entry.Reads as same-entry-reads
-use Rattle.entries.proofs.size.Reads as size-reads
-use Rattle.walk.proofs.next_other.Reads as next-other-reads
 
 abbrev Inv-loop : tie.InvT-loop
 Inv-loop catalogue o kind src at strict next₀ pos₀ next pos =
@@ -43,18 +35,6 @@ turn c =
     let a = s .args in
     turned (a .strict) (a .at) (a .src .now) (a .kind) (l .loop .pos) (c .f .given .0 .0) (l .loop .inv .0) (s .pre .1 .0) (sym (c .f .given .1) ∙ q .next-other .ensures)
 
--- its entry, as it was made
-entry : (c : tie.After-other-entry Inv-loop μ-loop)
-    → let f = c .before .before in
-    let l = f .before .before .before in
-    let a = l .before .before .before .args in
-    fieldBytes (a .kind) (a .at) (a .src .now) (l .loop .pos)
-    ≡ entryBytes (c .other-entry .result) ++ fieldBytes (a .kind) (a .at) (a .src .now) (f .f .given .0 .0 .next)
-entry c =
-    let f = c .before .before in
-    let a = f .before .before .before .before .before .before .args in
-    turn f .bytes ∙ ap (λ e. entryBytes e ++ fieldBytes (a .kind) (a .at) (a .src .now) (f .f .given .0 .0 .next)) (sym (c .other-entry .ensures))
-
 -- the catalogue has it
 here : (c : tie.After-size Inv-loop μ-loop)
     → let l = c .before .before .before .before .before .before .before .before in
@@ -68,45 +48,37 @@ here c =
     let f = e .before .before in
     let l = f .before .before .before in
     let a = l .before .before .before .args in
-    found (e .other-entry .result) (fieldBytes (a .kind) (a .at) (a .src .now) (l .loop .pos)) (fieldBytes (a .kind) (a .at) (a .src .now) (f .f .given .0 .0 .next)) (entry e)
+    found (e .other-entry .result) (fieldBytes (a .kind) (a .at) (a .src .now) (l .loop .pos)) (fieldBytes (a .kind) (a .at) (a .src .now) (f .f .given .0 .0 .next)) (turn f .bytes (e .other-entry .result) (e .other-entry .ensures))
     (a .catalogue .now) (l .loop .next) (c .size .result) (l .loop .inv .1) (c .size .ensures) (sym (t .same-entry .ensures) ∙ not-false (t .same-entry .result) (c .before .if1 .left))
 
--- src/lib.rt:173:5
 loop-holds : tie.Need-loop-holds Inv-loop μ-loop
 loop-holds c = (c .before .before .pre .0, c .before .before .pre .1 .1, refl)
 
--- src/lib.rt:174:15
 next-other-requires : tie.Need-next-other-requires Inv-loop μ-loop
 next-other-requires c κs = (c .loop .inv .0, omega arith)
 
--- src/lib.rt:176:17
 enum-told : tie.Need-enum-told Inv-loop μ-loop
 enum-told c = search needs
 
--- src/lib.rt:176:17
 returns : tie.Need-returns Inv-loop μ-loop
-returns c = 
+returns c =
     let q = c .before .before in
     let l = q .before in
     let a = l .before .before .before .args in
     let z = turned-end (a .strict) (a .at) (a .src .now) (a .kind) (l .loop .pos) (sym (c .enum-told .given .1) ∙ q .next-other .ensures) in
     sym (l .loop .inv .2 ∙ ap (matched (l .loop .next) (drop (l .loop .next) (a .catalogue .now))) z ∙ match-none (a .catalogue .now) (l .loop .next))
 
--- src/lib.rt:178:25
 enum-known-f : tie.Need-enum-known-f Inv-loop μ-loop
 enum-known-f c = search needs
 
--- src/lib.rt:179:21
 other-entry-requires : tie.Need-other-entry-requires Inv-loop μ-loop
 other-entry-requires c κs = turn (c .before) .fits
 
--- src/lib.rt:180:21
 same-entry-requires : tie.Need-same-entry-requires Inv-loop μ-loop
 same-entry-requires c κs = c .before .before .before .before .before .loop .inv .1
 
--- src/lib.rt:181:21
 returns-2 : tie.Need-returns-2 Inv-loop μ-loop
-returns-2 c = 
+returns-2 c =
     let t = c .before in
     let e = t .before in
     let f = e .before .before in
@@ -114,24 +86,20 @@ returns-2 c =
     let a = l .before .before .before .args in
     sym
     (l .loop .inv .2
-    ∙ missed (e .other-entry .result) (fieldBytes (a .kind) (a .at) (a .src .now) (l .loop .pos)) (fieldBytes (a .kind) (a .at) (a .src .now) (f .f .given .0 .0 .next)) (entry e)
+    ∙ missed (e .other-entry .result) (fieldBytes (a .kind) (a .at) (a .src .now) (l .loop .pos)) (fieldBytes (a .kind) (a .at) (a .src .now) (f .f .given .0 .0 .next)) (turn f .bytes (e .other-entry .result) (e .other-entry .ensures))
     (a .catalogue .now) (l .loop .next) (sym (t .same-entry .ensures) ∙ not-true (t .same-entry .result) (c .if1 .taken)))
 
--- src/lib.rt:183:25
 size-requires : tie.Need-size-requires Inv-loop μ-loop
 size-requires c κs = search needs
 
--- src/lib.rt:183:17
 add-next : tie.Need-add-next Inv-loop μ-loop
 add-next c = record { fits = omega (arith, here c .0) }
 
--- src/lib.rt:173:5
 loop-less : tie.Need-loop-less Inv-loop μ-loop
 loop-less c = let f = c .before .before .before .before .before in omega (arith, turn f .after, turn f .next .within)
 
--- src/lib.rt:173:5
 loop-again : tie.Need-loop-again Inv-loop μ-loop
-loop-again c = 
+loop-again c =
     let f = c .before .before .before .before .before in
     (turn f .next, here c .0, f .before .before .before .loop .inv .2 ∙ here c .1)
 
