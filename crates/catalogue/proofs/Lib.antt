@@ -1,0 +1,7 @@
+pub mod Records
+pub mod Compared
+pub mod Reached
+pub mod Fitting
+pub mod Entries
+pub mod Told
+pub mod Turned
