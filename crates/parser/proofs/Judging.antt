@@ -51,7 +51,7 @@ judging-start strict t =
       sized = refl;
       inside = omega arith;
       slow = omega arith;
-      small = omega arith
+      small = omega arith;
     }
 
 pairs-snoc : {A B : Type 0} (R : A → B → Type 0) (xs : List A) (ys : List B) (x : A) (y : B) → Pairs R xs ys → R x y → Pairs R (xs ++ (x ∷ [])) (ys ++ (y ∷ []))
@@ -107,7 +107,7 @@ module _ (strict : Bool) (t : List ℕ) (at n programs size : ℕ) (j : Judging 
         record {
           from = omega arith;
           within = omega (arith, len-is, len-within);
-          bytes = ap (λ k. take k (drop at t)) (sym len-is) ∙ ap (λ k. take (length (take (firstLine (drop at t) .len) (drop at t))) (drop k t)) (let z : at ≡ at - 0 = omega arith in z)
+          bytes = ap (λ k. take k (drop at t)) (sym len-is) ∙ ap (λ k. take (length (take (firstLine (drop at t) .len) (drop at t))) (drop k t)) (let z : at ≡ at - 0 = omega arith in z);
         }
 
     onward : readFrom strict 0 [] (lines t)
@@ -146,5 +146,5 @@ module _ (strict : Bool) (t : List ℕ) (at n programs size : ℕ) (j : Judging 
             sized = omega (arith, j .sized, long);
             inside = next-within;
             slow = omega (arith, j .slow, next-some);
-            small = omega (arith, j .small, bound)
+            small = omega (arith, j .small, bound);
           }
