@@ -37,7 +37,7 @@ walking-start strict t a =
       rest = recordsOf t;
       whole = refl;
       ahead = subst (λ s. Pairs (λ p r. records.line s p ≡ read r) (linesFrom 0 t) (recordsOf t)) (sym (a .rule)) (text-lines t (recordsOf t) (a .reads));
-      inside = omega arith
+      inside = omega arith;
     }
 
 module _ (strict : Bool) (t : List ℕ) (at : ℕ) (w : Walking strict t at) where
@@ -81,6 +81,7 @@ module _ (strict : Bool) (t : List ℕ) (at : ℕ) (w : Walking strict t at) whe
         opened =
             lines-first at (drop at t) some-left
             ∙ ap (λ l. record { at = at; bytes = take (firstLine (drop at t) .len) (drop at t) } ∷ linesFrom (at + firstLine (drop at t) .next) l) (drop-drop (firstLine (drop at t) .next) at t)
+
         go : (rs : List Record) → w .rest ≡ rs
             → Pairs (λ p r. records.line strict p ≡ read r) (record { at = at; bytes = take (firstLine (drop at t) .len) (drop at t) } ∷ linesFrom (at + firstLine (drop at t) .next) (drop (at + firstLine (drop at t) .next) t)) rs → Turn
         go [] e p = absurd p
@@ -93,7 +94,7 @@ module _ (strict : Bool) (t : List ℕ) (at : ℕ) (w : Walking strict t at) whe
               line-is = p .0;
               next = record { done = w .done ++ (r ∷ []); rest = rs; whole = all; ahead = p .1; inside = next-in };
               done-is = refl;
-              whole-is = all
+              whole-is = all;
             }
 
 -- what a callee is lent of a line is the line

@@ -116,8 +116,10 @@ same-record-requires c κs =
     let a = l .before .before .before .args in
     let n = length-take (l .loop .at + q .first-line .result .len - l .loop .at) (drop (l .loop .at) (a .text .now)) in (
       ap isRead (lent-is q),
-      (omega (arith, n, inside q .0, text-size (a .strict) (a .text .now) (l .before .before .before .pre)),
-      reached-within (a .kept .now) (l .loop .inv .0 .done) (l .loop .o) (l .loop .inv .1)),
+      (
+        omega (arith, n, inside q .0, text-size (a .strict) (a .text .now) (l .before .before .before .pre)),
+        reached-within (a .kept .now) (l .loop .inv .0 .done) (l .loop .o) (l .loop .inv .1),
+      ),
     )
 
 enum-known-next : tie.Need-enum-known-next Inv-loop μ-loop

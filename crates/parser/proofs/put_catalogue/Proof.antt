@@ -81,8 +81,7 @@ room c =
     let a = l .before .before .before .args in
     let w = l .loop .inv .0 in
     let done = w .done ++ (turn c .here ∷ []) in
-    omega
-    (
+    omega (
       arith,
       l .loop .inv .1,
       l .loop .inv .3,
@@ -129,8 +128,10 @@ put-record-requires c κs =
     let a = l .before .before .before .args in
     let n = length-take (l .loop .at + q .first-line .result .len - l .loop .at) (drop (l .loop .at) (a .text .now)) in (
       ap isRead (lent-is q),
-      (omega (arith, n, inside q .0, text-size (a .strict) (a .text .now) (l .before .before .before .pre .0)),
-      omega (arith, room q, ap (λ x. length (recordBytes x)) (lent-is q))),
+      (
+        omega (arith, n, inside q .0, text-size (a .strict) (a .text .now) (l .before .before .before .pre .0)),
+        omega (arith, room q, ap (λ x. length (recordBytes x)) (lent-is q)),
+      ),
     )
 
 add-at : tie.Need-add-at Inv-loop μ-loop
