@@ -26,6 +26,9 @@ front out last e n h p w =
       ap (take n) w ∙ ap (λ m. take m (over out 0 (entryBytes e))) (sym l) ∙ over-take out 0 (entryBytes e) (omega arith),
     )
 
+counted : (n : ℕ) (l : List ℕ) → n ≤ length l → n ≡ length (take n l)
+counted n l h = sym (length-take-le n l h)
+
 fronted : (c : tie.After-put-entry)
     → (c .put-entry .result ≤ 17) × (length (c .put-entry .last .0) ≡ 17) × (take (c .put-entry .result) (c .put-entry .last .0) ≡ entryBytes (c .before .before .before .args .e))
 fronted c = front _ (c .put-entry .last .0) (c .before .before .before .args .e) (c .put-entry .result) refl (c .put-entry .ensures .0) (c .put-entry .ensures .1)
@@ -40,7 +43,7 @@ array-share-prefix-bytes : tie.Need-array-share-prefix-bytes
 array-share-prefix-bytes c = let f = fronted (c .before) in omega (arith, f .0, f .1)
 
 slice-aggregate-starts : tie.Need-slice-aggregate-starts
-slice-aggregate-starts c = let f = fronted (c .before .before) in sym (length-take-le _ _ (omega (arith, f .0, f .1)))
+slice-aggregate-starts c = let p = c .before .before in let f = fronted p in counted _ (p .put-entry .last .0) (omega (arith, f .0, f .1))
 
 sub-starts : tie.Need-sub-starts
 sub-starts c = search needs
