@@ -72,15 +72,6 @@ module _ (c : List ℕ) (o : ℕ) where
     unfolding matched
     match-off ys q = rw (starts-append xs ys (drop o c), q) refl
 
-    -- one run alone
-    pub match-all : starts xs (drop o c) ≡ true → matched o (drop o c) xs ≡ Upto (o + length xs)
-    unfolding matched
-    match-all q = rw q refl
-
-    pub match-fails : starts xs (drop o c) ≡ false → matched o (drop o c) xs ≡ Differs
-    unfolding matched
-    match-fails q = rw q refl
-
   pub match-none : matched o (drop o c) [] ≡ Upto o
   unfolding matched starts
   match-none = ap Upto (add-zero o)

@@ -5,3 +5,4 @@ pub mod Fitting
 pub mod Entries
 pub mod Told
 pub mod Turned
+pub mod Length
