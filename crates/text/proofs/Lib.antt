@@ -6,3 +6,4 @@ pub mod First
 pub mod Pieces
 pub mod Stands
 pub mod Little
+pub mod Compared

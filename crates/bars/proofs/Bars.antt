@@ -1,0 +1,248 @@
+-- What is judged of a line's head is what the line's record may be after the records before it.
+use Prim.Native.Nat.{ℕ, zero, suc, _+_, _-_}
+use mathlib.Core.Path.{_≡_, refl, sym, ap, _∙_}
+use mathlib.Core.Bool.{Bool, true, false, not, _&&_, _||_, cond}
+use mathlib.Core.List.{List, [], _∷_, map}
+use mathlib.Core.Option.{Option, none, some}
+use native.Mathlib.Omega.{arith}
+use lib.ListN.{length, take, drop}
+use lib.Dec.{eqb, leb}
+use borrow.Author.Tests.{ne-eqb}
+use Rattle.format.specs.Bytes.{any, none?}
+use Rattle.format.specs.Lines.{Piece, lines, cut, placed}
+use Rattle.format.specs.Records as records
+use Rattle.format.specs.Records.{Record, header, reference, group, program, comment, code, key, Line, refused, read}
+use Rattle.format.specs.Records.{announcing, versioned, measured, keyed, made, stopped, judged, fielded, remark, body, kindOf, bodied, kinded, prefixed, breaks}
+use Rattle.format.specs.Fields.{Field, Scan, scan, repeats, lastOf, settled, without}
+use Rattle.format.specs.Version.{version}
+use Rattle.format.specs.declared.Version.{Version}
+use Rattle.format.specs.declared.Kind.{Kind}
+use Rattle.format.specs.declared.Kind.the-variants.{Header, ReferenceSequence, ReadGroup, Program, Comment}
+use Rattle.format.specs.Reading as reading
+use Rattle.format.specs.Reading.{sameKeys, clash, ofKind, unless, following, admitted}
+use Rattle.text.specs.Stands.{Stands, Each}
+use Rattle.text.proofs.Stands.{each-map}
+use Rattle.accepted.specs.Pieces.{pieces, Pairs}
+use Rattle.accepted.proofs.Bools.{never}
+use Rattle.accepted.proofs.Stands.{line-stand, stands-within}
+use Rattle.record.specs.Head.{headOf, recordHead, placeOf}
+use Rattle.keys.specs.Used.{isKeyed, hasKey, findIn, judgedLines}
+use Rattle.keys.specs.declared.Found.the-variants as found
+use Rattle.bars.specs.Bars.{refusalOf, isFound, isUsed, barring, Within}
+
+-- ---- a line's key stands in the text
+
+-- the pieces of a line that stands in the text stand there too
+stood : (strict : Bool) (t : List ℕ) (p : Piece) → Stands t 0 p → (r : Record) → records.line strict p ≡ read r → Each (Stands t 0) (pieces r)
+stood strict t p s r e = each-map (Stands (p .bytes) (p .at)) (Stands t 0) (λ x. stands-within t 0 p x s) (pieces r) (line-stand strict p r e)
+
+record-within : (t : List ℕ) (r : Record) → Each (Stands t 0) (pieces r) → Within (length t) (recordHead r)
+unfolding Within recordHead placeOf pieces Each
+record-within t (header v fs) s = tt
+record-within t (reference p n fs) s = omega (arith, s .0 .within)
+record-within t (group p fs) s = omega (arith, s .0 .within)
+record-within t (program p fs) s = omega (arith, s .0 .within)
+record-within t (comment p) s = tt
+
+pub head-within : (strict : Bool) (t : List ℕ) (p : Piece) → Stands t 0 p → Within (length t) (headOf (records.line strict p))
+unfolding headOf Within
+head-within strict t p s = go (records.line strict p) refl
+  where
+    go : (l : Line) → records.line strict p ≡ l → Within (length t) (headOf l)
+    go (refused n) e = tt
+    go (read r) e = record-within t r (stood strict t p s r e)
+
+-- ---- a key used before
+
+-- the search finds a key among lines that are read exactly where one of their records has it
+found-any : (strict : Bool) (k : ℕ) (id : List ℕ) (i : ℕ) (ps : List Piece) (rs : List Record) → Pairs (λ q r. records.line strict q ≡ read r) ps rs
+    → isFound (findIn k id i (map (records.line strict) ps)) ≡ any (λ r. hasKey k id (read r)) rs
+unfolding isFound findIn any Pairs
+found-any strict k id i [] [] h = refl
+found-any strict k id i [] (r ∷ rs) h = absurd h
+found-any strict k id i (p ∷ ps) [] h = absurd h
+found-any strict k id i (p ∷ ps) (r ∷ rs) h =
+    ap (λ l. isFound (cond (hasKey k id l) (found.At i) (findIn k id (i + 1) (map (records.line strict) ps)))) (h .0)
+    ∙ go (hasKey k id (read r)) (found-any strict k id (i + 1) ps rs (h .1))
+  where
+    go : (t : Bool) → isFound (findIn k id (i + 1) (map (records.line strict) ps)) ≡ any (λ r. hasKey k id (read r)) rs
+        → isFound (cond t (found.At i) (findIn k id (i + 1) (map (records.line strict) ps))) ≡ t || any (λ r. hasKey k id (read r)) rs
+    go true ih = refl
+    go false ih = ih
+
+any-same : (f g : Record → Bool) → ((q : Record) → f q ≡ g q) → (rs : List Record) → any f rs ≡ any g rs
+unfolding any
+any-same f g h [] = refl
+any-same f g h (r ∷ rs) = ap (λ t. t || any f rs) (h r) ∙ ap (λ t. g r || t) (any-same f g h rs)
+
+-- a record with a key clashes with those of its kind that have its bytes for their key
+keyed-clash : (r : Record) (k : ℕ) (p : Piece) → code r ≡ k → key r ≡ some p → (q : Record) → clash r q ≡ hasKey k (p .bytes) (read q)
+unfolding clash hasKey sameKeys isKeyed
+keyed-clash r k p c e q = ap (λ n. eqb n (code q) && sameKeys (key r) (key q)) c ∙ ap (λ o. eqb k (code q) && sameKeys o (key q)) e ∙ ap (λ t. eqb k (code q) && t) (go (key q))
+  where
+    go : (o : Option Piece) → sameKeys (some p) o ≡ isKeyed (p .bytes) o
+    go none = refl
+    go (some x) = refl
+
+-- one without a key clashes with none
+unkeyed-clash : (r : Record) → key r ≡ none → (rs : List Record) → any (clash r) rs ≡ false
+unfolding any clash sameKeys
+unkeyed-clash r e [] = refl
+unkeyed-clash r e (q ∷ rs) = ap (λ o. (eqb (code r) (code q) && sameKeys o (key q)) || any (clash r) rs) e ∙ go (eqb (code r) (code q)) (unkeyed-clash r e rs)
+  where
+    go : (t : Bool) → any (clash r) rs ≡ false → (t && false) || any (clash r) rs ≡ false
+    go true ih = ih
+    go false ih = ih
+
+-- ---- after the records before
+
+unless-refusal : (n : ℕ) (r : Record) → refusalOf (unless n r) ≡ n
+unfolding refusalOf unless
+unless-refusal zero r = refl
+unless-refusal (suc n) r = refl
+
+module _ (strict : Bool) (t : List ℕ) (passed : List Piece) (before : List Record) (h : Pairs (λ q r. records.line strict q ≡ read r) passed before) (first : take (length before) (lines t) ≡ passed) where
+  used-is : (r : Record) (k : ℕ) (p : Piece) → code r ≡ k → key r ≡ some p → Stands t 0 p → isUsed strict (length before) t k (placeOf p) ≡ any (clash r) before
+  unfolding isUsed judgedLines placeOf
+  used-is r k p c e s =
+      ap (λ b. isFound (findIn k b 0 (map (records.line strict) (take (length before) (lines t))))) (sym bytes)
+      ∙ ap (λ l. isFound (findIn k (p .bytes) 0 (map (records.line strict) l))) first
+      ∙ found-any strict k (p .bytes) 0 passed before h
+      ∙ any-same (λ q. hasKey k (p .bytes) (read q)) (clash r) (λ q. sym (keyed-clash r k p c e q)) before
+    where
+      bytes : p .bytes ≡ take (length (p .bytes)) (drop (p .at) t)
+      bytes = s .bytes ∙ ap (λ m. take (length (p .bytes)) (drop m t)) (let z : p .at - 0 ≡ p .at = omega arith in z)
+
+  record-barring : (r : Record) → Each (Stands t 0) (pieces r) → barring strict (length before) (length (ofKind 4 before)) t (recordHead r) ≡ reading.barred before r
+  unfolding barring recordHead reading.barred pieces Each code key any none?
+  record-barring (header v fs) s = go before
+    where
+      go : (rs : List Record) → _≡_ {A = ℕ} (cond (eqb (length rs) 0) 0 17) (cond (not (none? rs)) 17 (cond (any (clash (header v fs)) rs) 18 0))
+      go [] = refl
+      go (q ∷ rs) = ap (λ u. cond u 0 17) (ne-eqb (length (q ∷ rs)) 0 (λ e. omega arith))
+  record-barring (reference p n fs) s = ap (λ u. cond u 18 0) (used-is (reference p n fs) 2 p refl refl (s .0))
+  record-barring (group p fs) s = ap (λ u. cond u 18 0) (used-is (group p fs) 3 p refl refl (s .0))
+  record-barring (program p fs) s = ap (λ u. cond u 18 (cond (leb 1024 (length (ofKind 4 before))) 19 0)) (used-is (program p fs) 4 p refl refl (s .0))
+  record-barring (comment p) s = sym (ap (λ u. cond u 18 0) (unkeyed-clash (comment p) refl before))
+
+  pub barring-is : (p : Piece) → Stands t 0 p → barring strict (length before) (length (ofKind 4 before)) t (headOf (records.line strict p)) ≡ refusalOf (admitted strict before p)
+  unfolding admitted following headOf barring refusalOf
+  barring-is p s = go (records.line strict p) refl
+    where
+      go : (l : Line) → records.line strict p ≡ l → barring strict (length before) (length (ofKind 4 before)) t (headOf l) ≡ refusalOf (following before l)
+      go (refused n) e = refl
+      go (read r) e = record-barring r (stood strict t p s r e) ∙ sym (unless-refusal (reading.barred before r) r)
+
+-- ---- a refusal is never 0
+
+data Numbered : Line → Type 0 where
+  of-refused : (n : ℕ) → Numbered (refused (suc n))
+  of-read : (r : Record) → Numbered (read r)
+
+either : (t : Bool) {i j : Line} → Numbered i → Numbered j → Numbered (cond t i j)
+either true h k = h
+either false h k = k
+
+made-numbered : (k : Kind) (fs : List Field) → Numbered (made k fs)
+unfolding made versioned announcing measured keyed
+made-numbered Header fs = go (lastOf 86 78 fs)
+  where
+    last : (o : Option Version) → Numbered (announcing (settled (without 86 78 fs)) o)
+    last none = of-refused 10
+    last (some v) = of-read _
+
+    go : (o : Option Piece) → Numbered (versioned (settled (without 86 78 fs)) o)
+    go none = of-refused 14
+    go (some p) = last (version (p .bytes))
+made-numbered ReferenceSequence fs = go (lastOf 83 78 fs) (lastOf 76 78 fs)
+  where
+    go : (o i : Option Piece) → Numbered (measured (settled (without 83 78 (without 76 78 fs))) o i)
+    go none i = of-refused 14
+    go (some p) none = of-refused 15
+    go (some p) (some n) = of-read _
+made-numbered ReadGroup fs = go (lastOf 73 68 fs)
+  where
+    go : (o : Option Piece) → Numbered (keyed (λ p. group p (settled (without 73 68 fs))) o)
+    go none = of-refused 14
+    go (some p) = of-read _
+made-numbered Program fs = go (lastOf 73 68 fs)
+  where
+    go : (o : Option Piece) → Numbered (keyed (λ p. program p (settled (without 73 68 fs))) o)
+    go none = of-refused 14
+    go (some p) = of-read _
+made-numbered Comment fs = of-refused 14
+
+stopped-numbered : (k : Kind) (fs : List Field) (n : ℕ) → Numbered (stopped k fs n)
+unfolding stopped
+stopped-numbered k fs zero = made-numbered k fs
+stopped-numbered k fs (suc n) = of-refused n
+
+fielded-numbered : (strict : Bool) (k : Kind) (at : ℕ) (s : List ℕ) → Numbered (fielded strict k at s)
+unfolding fielded judged
+fielded-numbered strict k at [] = of-refused 14
+fielded-numbered strict k at (b ∷ s) = either (eqb b 9) (go (scan k (placed (at + 1) (cut 9 s)))) (of-refused 5)
+  where
+    go : (x : Scan) → Numbered (judged strict k x)
+    go x = either (strict && repeats (x .fields)) (of-refused 13) (stopped-numbered k (x .fields) (x .stop))
+
+remark-numbered : (at : ℕ) (s : List ℕ) → Numbered (remark at s)
+unfolding remark
+remark-numbered at [] = of-refused 6
+remark-numbered at (b ∷ s) = either (eqb b 9) (of-read _) (of-refused 5)
+
+bodied-numbered : (strict : Bool) (at : ℕ) (s : List ℕ) (o : Option Kind) → Numbered (bodied strict at s o)
+unfolding bodied body
+bodied-numbered strict at s none = of-refused 4
+bodied-numbered strict at s (some Header) = fielded-numbered strict Header at s
+bodied-numbered strict at s (some ReferenceSequence) = fielded-numbered strict ReferenceSequence at s
+bodied-numbered strict at s (some ReadGroup) = fielded-numbered strict ReadGroup at s
+bodied-numbered strict at s (some Program) = fielded-numbered strict Program at s
+bodied-numbered strict at s (some Comment) = remark-numbered at s
+
+kinded-numbered : (strict : Bool) (at : ℕ) (s : List ℕ) → Numbered (kinded strict at s)
+unfolding kinded
+kinded-numbered strict at [] = of-refused 3
+kinded-numbered strict at (a ∷ []) = of-refused 4
+kinded-numbered strict at (a ∷ b ∷ s) = bodied-numbered strict (at + 2) s (kindOf a b)
+
+prefixed-numbered : (strict : Bool) (at : ℕ) (s : List ℕ) → Numbered (prefixed strict at s)
+unfolding prefixed
+prefixed-numbered strict at [] = of-refused 2
+prefixed-numbered strict at (b ∷ s) = either (eqb b 64) (kinded-numbered strict (at + 1) s) (of-refused 2)
+
+line-numbered : (strict : Bool) (p : Piece) → Numbered (records.line strict p)
+unfolding records.line
+line-numbered strict p = either (any breaks (p .bytes)) (of-refused 1) (prefixed-numbered strict (p .at) (p .bytes))
+
+pub refused-some : (strict : Bool) (p : Piece) (n : ℕ) → records.line strict p ≡ refused n → n ≡ 0 → ⊥
+unfolding refusalOf
+refused-some strict p n e = go (line-numbered strict p) e
+  where
+    go : {l : Line} → Numbered l → l ≡ refused n → n ≡ 0 → ⊥
+    go (of-refused m) e z = let k : suc m ≡ n = ap refusalOf e in omega arith
+    go (of-read r) e z = never (cc)
+
+-- ---- what the number says
+
+-- 0: the line is read, and its record may follow
+pub refusal-none : (strict : Bool) (before : List Record) (p : Piece) → refusalOf (admitted strict before p) ≡ 0
+    → (r : Record) × (records.line strict p ≡ read r) × (admitted strict before p ≡ read r)
+unfolding admitted following refusalOf unless
+refusal-none strict before p h = go (records.line strict p) refl h
+  where
+    free : (n : ℕ) (r : Record) → refusalOf (unless n r) ≡ 0 → unless n r ≡ read r
+    free zero r e = refl
+    free (suc n) r e = absurd (omega arith)
+
+    go : (l : Line) → records.line strict p ≡ l → refusalOf (following before l) ≡ 0 → (r : Record) × (records.line strict p ≡ read r) × (following before (records.line strict p) ≡ read r)
+    go (refused n) e h = absurd (refused-some strict p n e h)
+    go (read r) e h = (r, e, ap (following before) e ∙ free (reading.barred before r) r h)
+
+-- another number: the line is refused with it
+pub refusal-some : (strict : Bool) (before : List Record) (p : Piece) (n : ℕ) → refusalOf (admitted strict before p) ≡ n → (n ≡ 0 → ⊥) → admitted strict before p ≡ refused n
+unfolding refusalOf
+refusal-some strict before p n h s = go (admitted strict before p) h
+  where
+    go : (l : Line) → refusalOf l ≡ n → l ≡ refused n
+    go (refused m) e = ap refused e
+    go (read r) e = absurd (s (sym e))

@@ -1,0 +1,8 @@
+pub mod Records
+pub mod Compared
+pub mod Reached
+pub mod Fitting
+pub mod Entries
+pub mod Told
+pub mod Turned
+pub mod Length

@@ -1,0 +1,17 @@
+-- The bytes of one line in the catalogue.
+use Prim.Native.Nat.{ℕ}
+use mathlib.Core.Bool.{Bool, true, false}
+use mathlib.Core.List.{List, [], _++_}
+use Rattle.format.specs.Records.{Line, refused, read, others}
+use Rattle.format.specs.Catalogue.{head, tails}
+
+-- a record's own entry and those of its other fields; nothing for a refusal
+unfoldable pub recordBytes : Line → List ℕ
+unfolding head tails others
+recordBytes (refused n) = []
+recordBytes (read r) = head r ++ tails (others r)
+
+-- is the line accepted?
+unfoldable pub isRead : Line → Bool
+isRead (refused n) = false
+isRead (read r) = true

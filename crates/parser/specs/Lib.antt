@@ -1,0 +1,3 @@
+pub mod Judged
+pub mod Answers
+pub mod Accepted

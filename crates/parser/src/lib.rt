@@ -1,0 +1,152 @@
+// The whole text: judged line by line, its catalogue written, and a catalogue compared with it.
+use catalogue::Matched;
+use format::LineNo;
+use record::Head;
+ghost use mathlib.Core.Path.{_≡_};
+ghost use mathlib.Core.Bool.{Bool, true, false};
+ghost use mathlib.Core.List.{[]};
+ghost use Prim.Native.Nat.{_≤_, _+_};
+ghost use lib.ListN.{length};
+ghost use Rattle.format.specs.Lines.{lines};
+ghost use Rattle.format.specs.Reading.{readFrom};
+ghost use Rattle.format.specs.Bytes.{same};
+ghost use Rattle.format.specs.Catalogue.{catalogue};
+ghost use Rattle.format.specs.Calls.{reading, fresh};
+ghost use Rattle.text.specs.Over.{over};
+ghost use Rattle.parser.specs.Accepted.{Accepted, recordsOf};
+ghost use Rattle.parser.specs.Judged.{judgedOf, programsOf};
+ghost use Rattle.parser.specs.Answers.{answerOf, outputOf, checkedOf};
+
+// The first refusal and its line, or how many bytes the catalogue has.
+pub enum Judged {
+    Refused(u8, LineNo),
+    Accepted(usize),
+}
+
+// A refusal and its line, or how many bytes or ordinals are written.
+pub enum Answer {
+    Refused(u8, LineNo),
+    Count(usize),
+}
+
+// A refusal and its line, or that the catalogue is this text's.
+pub enum Checked {
+    Refused(u8, LineNo),
+    Fresh,
+}
+
+fn programs_of(head: Head) -> usize
+    ensures { λ r. ⌜ r ≡ programsOf head ⌝ }
+{
+    match head {
+        Head::Refused(_) => 0,
+        Head::Header(_, _) => 0,
+        Head::ReferenceSequence(_, _, _) => 0,
+        Head::ReadGroup(_, _) => 0,
+        Head::Program(_, _) => 1,
+        Head::Comment(_) => 0,
+    }
+}
+
+// Line by line: each line's own refusal, then 17, 18 and 19.
+pub fn judge(text: &[u8], strict: bool) -> Judged
+    requires { ⌜ length (now text) ≤ 16777216 ⌝ }
+    ensures { λ r. ⌜ r ≡ judgedOf (readFrom strict 0 [] (lines (now (text .entry)))) ⌝ }
+{
+    let mut at: usize = 0;
+    let mut line: usize = 0;
+    let mut programs: usize = 0;
+    let mut size: usize = 0;
+    while at < text.len() {
+        let cut = text::first_line(&text[at..]);
+        let end = at + cut.len;
+        let head = record::parse_record(&text[at..end], at, strict);
+        let n = bars::barred(text, line, programs, head, strict);
+        if n != 0 {
+            return Judged::Refused(n, LineNo(line as u32));
+        }
+        programs += programs_of(head);
+        size += catalogue::record_size(head);
+        at += cut.next;
+        line += 1;
+    }
+    Judged::Accepted(size)
+}
+
+// Writes the catalogue of an accepted text to the front of `out`.
+fn put_catalogue(text: &[u8], strict: bool, out: &mut [u8])
+    requires { ⌜ Accepted strict (now text) ⌝ }
+    requires { ⌜ length (catalogue (recordsOf (now text))) ≤ length (now out) ⌝ }
+    ensures { λ _. ⌜ now (out .exit) ≡ over (now (out .entry)) 0 (catalogue (recordsOf (now (text .entry)))) ⌝ }
+{
+    let mut at: usize = 0;
+    let mut o: usize = 0;
+    while at < text.len() {
+        let cut = text::first_line(&text[at..]);
+        let end = at + cut.len;
+        o = catalogue::put_record(out, o, &text[at..end], at, strict);
+        at += cut.next;
+    }
+}
+
+// Whether `kept` is the catalogue of an accepted text: nothing is read out of it that has not been compared.
+fn is_catalogue(text: &[u8], strict: bool, kept: &[u8]) -> bool
+    requires { ⌜ Accepted strict (now text) ⌝ }
+    ensures { λ r. ⌜ r ≡ same (now (kept .entry)) (catalogue (recordsOf (now (text .entry)))) ⌝ }
+{
+    let mut at: usize = 0;
+    let mut o: usize = 0;
+    while at < text.len() {
+        let cut = text::first_line(&text[at..]);
+        let end = at + cut.len;
+        let Matched::Upto(next) = catalogue::same_record(kept, o, &text[at..end], at, strict) else {
+            return false;
+        };
+        o = next;
+        at += cut.next;
+    }
+    o == kept.len()
+}
+
+// Reads `text`: its catalogue at the front of `kept`, or the first refusal, which changes nothing.
+pub fn read(text: &[u8], kept: &mut [u8]) -> Answer
+    ensures answer { λ r. ⌜ r ≡ answerOf (reading (now (text .entry)) (length (now (kept .entry)))) ⌝ }
+    ensures wrote { λ _. ⌜ now (kept .exit) ≡ outputOf (reading (now (text .entry)) (length (now (kept .entry)))) (now (kept .entry)) ⌝ }
+{
+    if 16777216 < text.len() {
+        return Answer::Refused(1, LineNo(0));
+    }
+    let strict = rules::is_strict(text);
+    match judge(text, strict) {
+        Judged::Refused(n, line) => Answer::Refused(n, line),
+        Judged::Accepted(size) => {
+            if kept.len() < size {
+                return Answer::Refused(20, LineNo(0));
+            }
+            put_catalogue(text, strict, kept);
+            Answer::Count(size)
+        }
+    }
+}
+
+// Whether `kept` is the catalogue of `text`: reading's own refusal comes first, then 21.
+pub fn check(text: &[u8], kept: &[u8]) -> Checked
+    ensures { λ r. ⌜ r ≡ checkedOf (fresh (now (text .entry)) (now (kept .entry))) ⌝ }
+{
+    if 16777216 < text.len() {
+        return Checked::Refused(1, LineNo(0));
+    }
+    let strict = rules::is_strict(text);
+    match judge(text, strict) {
+        Judged::Refused(n, line) => Checked::Refused(n, line),
+        Judged::Accepted(size) => {
+            if size != kept.len() {
+                return Checked::Refused(21, LineNo(0));
+            }
+            if is_catalogue(text, strict, kept) {
+                return Checked::Fresh;
+            }
+            Checked::Refused(21, LineNo(0))
+        }
+    }
+}
