@@ -202,7 +202,7 @@ fn value(rng: &mut Rng) -> Vec<u8> {
         0 => (0..1 + rng.below(3)).map(|_| b' ' + rng.below(95) as u8).collect(),
         1 => (0..1 + rng.below(30)).map(|_| b' ' + rng.below(95) as u8).collect(),
         2 => rng.of(&["VN:1.5", "ID:a", "@SQ", "SN:a", ":", "::", " ", "~", "-", "1.6", "x-pg0", "0"]).as_bytes().to_vec(),
-        3 if rng.one_in(20) => (0..rng.below(3000)).map(|i| b' ' + ((i * 7) % 95) as u8).chain([b'v']).collect(),
+        3 if rng.one_in(300) => (0..rng.below(3000)).map(|i| b' ' + ((i * 7) % 95) as u8).chain([b'v']).collect(),
         _ => (0..1 + rng.below(4)).map(|_| *rng.of(b"abcxyz019")).collect(),
     }
 }

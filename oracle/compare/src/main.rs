@@ -133,8 +133,18 @@ impl Run {
                     self.text(&[b"@HD\tVN:1.5\n", &text[..]].concat());
                 }
             }
-            "tokens" => inputs::sequences(b"", &inputs::TOKENS, 4, &mut |t| self.text(t)),
-            "fields" => inputs::sequences(b"", &inputs::FIELDS, 5, &mut |t| self.text(t)),
+            "tokens" => {
+                inputs::sequences(b"", &inputs::TOKENS, 3, &mut |t| self.text(t));
+                for prefix in [&b"@"[..], b"@SQ\t", b"@HD\tVN:1.5\t", b"@PG\tID:a", b"@CO\t\n@"] {
+                    inputs::sequences(prefix, &inputs::TOKENS, 4, &mut |t| self.text(t));
+                }
+            }
+            "fields" => {
+                inputs::sequences(b"", &inputs::FIELDS, 5, &mut |t| self.text(t));
+                for prefix in [&b"@HD\tVN:1.5"[..], b"@SQ\tSN:a\tLN:8\n@SQ", b"@PG\tID:a\n@PG\tID:b"] {
+                    inputs::sequences(prefix, &inputs::FIELDS, 4, &mut |t| self.text(t));
+                }
+            }
             "bytes" => {
                 for (prefix, alphabet, most) in inputs::BYTES {
                     let tokens: Vec<&[u8]> = alphabet.chunks(1).collect();
@@ -150,14 +160,14 @@ impl Run {
                 }
             }
             "random" => {
-                for _ in 0..200_000 * scale {
+                for _ in 0..150_000 * scale {
                     let text = inputs::header(rng);
                     let add = Some(inputs::addition(rng, &text));
                     self.ask(&Case { text, add });
                 }
             }
             "damaged" => {
-                for _ in 0..200_000 * scale {
+                for _ in 0..150_000 * scale {
                     let text = if rng.one_in(4) { inputs::soup(rng) } else { inputs::header(rng) };
                     let text = if rng.one_in(8) { text } else { inputs::damaged(rng, &text) };
                     let add = rng.one_in(4).then(|| inputs::addition(rng, &text));
@@ -249,7 +259,8 @@ fn main() -> ExitCode {
         if let Some((n, smallest)) = run.known.get(&kind).cloned() {
             let found = run.checker.case(&smallest);
             let d = judged(&smallest, found).into_iter().find(|d| d.kind == Some(kind)).expect("the same answer again");
-            let small = run.reduced(&smallest, &d);
+            // Where it takes a long text, it is not made smaller.
+            let small = if smallest.len() < 2_000 { run.reduced(&smallest, &d) } else { smallest };
             println!("  {n} {kind:?}: {meaning}\n    {:?} {}", d.call, show(&small));
         } else {
             println!("  0 {kind:?}: {meaning}");
