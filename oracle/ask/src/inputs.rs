@@ -106,6 +106,35 @@ fn piece_in_domain(kind: &[u8], piece: &[u8]) -> bool {
     }
 }
 
+/// Whether the text has nothing on which document 01 is known to differ from the crate in reading and tidying: a CR inside a
+/// line, HD's VN with a sign, an LN that starts with another byte than a digit, or a limit passed.
+pub fn undisputed(text: &[u8]) -> bool {
+    let sign = |b: Option<&u8>| matches!(b, Some(b'+' | b'-'));
+    let disputed = |line: &[u8]| {
+        let end = line.len();
+        let mut at = 0;
+        line.contains(&b'\r')
+            || line.split(|&b| b == b'\t').any(|piece| {
+                at += piece.len() + 1;
+                match (line.get(..4), piece.get(..3)) {
+                    (Some(b"@HD\t"), Some(b"VN:")) => {
+                        let dot = piece.iter().position(|&b| b == b'.');
+                        sign(piece.get(3)) || dot.is_some_and(|i| sign(piece.get(i + 1)))
+                    }
+                    // `LN:` where the line ends is 12 on both sides.
+                    (Some(b"@SQ\t"), Some(b"LN:")) => match piece.get(3) {
+                        Some(b) => !b.is_ascii_digit(),
+                        None => at <= end,
+                    },
+                    _ => false,
+                }
+            })
+    };
+    text.len() < LONGEST
+        && spans(text).filter(|&(a, b)| text[a..b].starts_with(b"@PG")).count() <= PROGRAMS
+        && !spans(text).any(|(a, b)| disputed(&text[a..b]))
+}
+
 /// Document 01's cases, and others on the edge of a rule.
 pub fn corners() -> Vec<Vec<u8>> {
     let zeros = "0".repeat(40);

@@ -40,7 +40,7 @@ fn refusal(number: u32) -> Refusal {
 
 /// Runs a call with an output, at every length that matters: longer than the answer, exactly as long, one short, and empty.
 /// `want` is what it writes and what it returns, or its refusal. Says what is wrong, if anything.
-fn outputs<T: Element + std::fmt::Debug>(
+fn outputs<T: Element>(
     lent: &mut Lent<T>,
     want: Result<(&[T], u64), Refusal>,
     mut run: impl FnMut(&mut [T]) -> Answer,
@@ -64,8 +64,8 @@ fn outputs<T: Element + std::fmt::Debug>(
         if let (Ok((bytes, _)), Ok(_)) = (want, expected)
             && lent.front(n) != bytes
         {
-            let at = (0..n).find(|&i| lent.front(n)[i] != bytes[i]).unwrap_or(0);
-            return Some(format!("an output of {len}: other elements from {at} on: {:?}, wanted {:?}", lent.front(n), bytes));
+            let (got, want) = (T::show(lent.front(n)), T::show(bytes));
+            return Some(format!("an output of {len}: {got}, wanted {want}"));
         }
         if !lent.kept_from(written) {
             return Some(format!("an output of {len}: something past the {written} elements of the answer was changed"));
@@ -241,7 +241,7 @@ impl Checker {
             (Err(r), theirs) => {
                 let theirs = theirs.err();
                 if theirs.as_ref().is_some_and(|t| t.number == r.number && t.line == r.line as usize) {
-                    self.tally.agreed(Call::Read, r.number);
+                    self.tally.text(r.number);
                 } else {
                     let kind = known::reading(text, r, theirs.as_ref());
                     let theirs = theirs.map_or("accepted".into(), |t| format!("{} line {} {}", t.number, t.line, t.error));
@@ -269,16 +269,28 @@ impl Checker {
     // An answer that must be this one.
     fn same(&mut self, call: Call, got: Answer, want: Answer, what: &str) {
         if got == want {
-            self.tally.agreed(call, want.err().map_or(0, |r| r.number));
+            self.tally.call(call, want.err().map_or(0, |r| r.number));
         } else {
             self.differ(call, None, format!("{what}: {got:?}, wanted {want:?}"));
+        }
+    }
+
+    // As `same` and `said`, over a refused text.
+    fn still(&mut self, call: Call, got: Answer, r: Refusal) {
+        self.held(call, (got != Err(r)).then(|| format!("on a refused text: {got:?}, wanted {r:?}")));
+    }
+
+    fn held(&mut self, call: Call, said: Option<String>) {
+        match said {
+            None => self.tally.refused(call),
+            Some(what) => self.differ(call, None, what),
         }
     }
 
     // What `outputs` said.
     fn said(&mut self, call: Call, number: u32, said: Option<String>) {
         match said {
-            None => self.tally.agreed(call, number),
+            None => self.tally.call(call, number),
             Some(what) => self.differ(call, None, what),
         }
     }
@@ -287,18 +299,18 @@ impl Checker {
     fn refused(&mut self, case: &Case, r: Refusal) {
         let text = &case.text[..];
         let said = outputs(&mut self.bytes, Err(r), |o| library::read(text, o));
-        self.said(Call::Read, r.number, said);
+        self.held(Call::Read, said);
         let said = outputs(&mut self.bytes, Err(r), |o| library::tidy(text, o));
-        self.said(Call::Tidy, r.number, said);
+        self.held(Call::Tidy, said);
         for catalogue in [&b""[..], b"\x01\x01\x00\x00\x00\x06\x00\x00\x00"] {
-            self.same(Call::Check, library::check(text, catalogue), Err(r), "on a refused text");
+            self.still(Call::Check, library::check(text, catalogue), r);
             #[cfg(feature = "lookup")]
             {
-                self.same(Call::Count, library::count(text, catalogue, 1), Err(r), "on a refused text");
-                self.same(Call::Count, library::count(text, catalogue, 9), Err(r), "on a refused text");
-                self.same(Call::Key, library::key(text, catalogue, 2, 0), Err(r), "on a refused text");
+                self.still(Call::Count, library::count(text, catalogue, 1), r);
+                self.still(Call::Count, library::count(text, catalogue, 9), r);
+                self.still(Call::Key, library::key(text, catalogue, 2, 0), r);
                 let mut ln = 0x5a5a;
-                self.same(Call::Length, library::length(text, catalogue, 0, &mut ln), Err(r), "on a refused text");
+                self.still(Call::Length, library::length(text, catalogue, 0, &mut ln), r);
                 if ln != 0x5a5a {
                     self.differ(Call::Length, None, "a refusal changed the number".into());
                 }
@@ -306,15 +318,15 @@ impl Checker {
             #[cfg(feature = "graph")]
             {
                 let said = outputs(&mut self.words, Err(r), |o| library::roots(text, catalogue, o));
-                self.said(Call::Roots, r.number, said);
+                self.held(Call::Roots, said);
                 let said = outputs(&mut self.words, Err(r), |o| library::leaves(text, catalogue, o));
-                self.said(Call::Leaves, r.number, said);
+                self.held(Call::Leaves, said);
             }
             #[cfg(feature = "add")]
             {
                 let (p, f) = case.add.as_ref().map_or((&b"x"[..], &b""[..]), |(p, f)| (p, f));
                 let said = outputs(&mut self.bytes, Err(r), |o| library::add(text, catalogue, p, f, o));
-                self.said(Call::Add, r.number, said);
+                self.held(Call::Add, said);
             }
         }
     }
@@ -334,6 +346,7 @@ impl Checker {
         }
         let said = outputs(&mut self.bytes, Ok((&catalogue, n)), |o| library::read(text, o));
         self.said(Call::Read, 0, said);
+        self.tally.text(0);
 
         // The catalogue is this text's; a damaged one is not.
         self.same(Call::Check, library::check(text, &catalogue), Ok(0), "its own catalogue");
@@ -422,7 +435,7 @@ impl Checker {
                     _ => false,
                 };
                 if fits {
-                    self.tally.agreed(Call::Key, got.err().map_or(0, |r| r.number));
+                    self.tally.call(Call::Key, got.err().map_or(0, |r| r.number));
                 } else {
                     self.differ(Call::Key, None, format!("kind {kind} ordinal {i}: {got:?}, the crate: {key:?}"));
                 }
@@ -435,7 +448,7 @@ impl Checker {
                         None => got == Err(ABSENT) && ln == 0x5a5a_5a5a_5a5a,
                     };
                     if fits {
-                        self.tally.agreed(Call::Length, got.err().map_or(0, |r| r.number));
+                        self.tally.call(Call::Length, got.err().map_or(0, |r| r.number));
                     } else {
                         self.differ(Call::Length, None, format!("ordinal {i}: {got:?} and {ln}, the crate: {want:?}"));
                     }

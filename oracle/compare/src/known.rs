@@ -7,8 +7,9 @@ use oracle::{LENIENT, LONGEST, PROGRAMS, Refused, spans};
 #[derive(Clone, Copy, Debug, Eq, Ord, PartialEq, PartialOrd)]
 pub enum Kind {
     Size,
-    CarriageReturn,
-    LengthSign,
+    CommentReturn,
+    OtherReturn,
+    LengthPlus,
     LengthZero,
     VersionSign,
     RepeatSign,
@@ -20,11 +21,12 @@ pub enum Kind {
     Lenient,
 }
 
-pub const ALL: [(Kind, &str); 12] = [
+pub const ALL: [(Kind, &str); 13] = [
     (Kind::Size, "a text, or one to be written, over 16,777,216 bytes: 1; the crate has no limit"),
-    (Kind::CarriageReturn, "a CR inside a line: 2; the crate keeps it in a comment, and has another error elsewhere"),
-    (Kind::LengthSign, "LN with a sign: 12; the crate reads `+8` as 8 and has another error for other signs"),
-    (Kind::LengthZero, "LN without a digit, and more bytes on the line: 12; the crate says zero (13)"),
+    (Kind::CommentReturn, "a CR inside a comment: 2; the crate keeps it"),
+    (Kind::OtherReturn, "a CR inside another line: 2; the crate has another error for it"),
+    (Kind::LengthPlus, "LN with a plus sign: 12; the crate reads `+8` as 8"),
+    (Kind::LengthZero, "LN that starts with something else than a digit: 12; the crate says zero (13)"),
     (Kind::VersionSign, "HD's VN with a sign: 11; the crate reads `+1.6` as 1.6"),
     (Kind::RepeatSign, "a signed first VN gives the repeat rule no version: 14; the crate reads it there too"),
     (Kind::Programs, "a 1,025th program: 19; the crate has no limit"),
@@ -63,11 +65,13 @@ pub fn reading(text: &[u8], ours: Refusal, theirs: Option<&Refused>) -> Option<K
     }
     let here = theirs.filter(|t| t.line == at).map(|t| t.number);
     match ours.number {
-        2 => line.contains(&b'\r').then_some(Kind::CarriageReturn),
+        2 if !line.contains(&b'\r') => None,
+        2 if line.starts_with(b"@CO\t") => here.is_none().then_some(Kind::CommentReturn),
+        2 => here.is_some().then_some(Kind::OtherReturn),
         11 => (line.starts_with(b"@HD\t") && values(line, b"VN:").any(signed_version)).then_some(Kind::VersionSign),
         12 if line.starts_with(b"@SQ\t") => {
-            if values(line, b"LN:").any(|v| sign(v.first())) {
-                Some(Kind::LengthSign)
+            if values(line, b"LN:").any(|v| v.first() == Some(&b'+')) {
+                Some(Kind::LengthPlus)
             } else {
                 let bare = values(line, b"LN:").any(|v| !v.first().is_some_and(u8::is_ascii_digit));
                 (bare && here == Some(13)).then_some(Kind::LengthZero)

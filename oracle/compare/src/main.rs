@@ -1,10 +1,11 @@
 //! compare: asks this library and the crate about the same texts and compares every answer.
 //!
-//! compare [--seed N] [--scale N] [--only PHASE]    everything; N times as many random texts (default 1)
-//! compare case TEXT [PREFIX FIELDS]                one case, in hex, `-` for no bytes
+//! compare [--seed N] [--scale N] [--only PHASE] [--trace]    everything; --scale: N times as many random texts
+//! compare case TEXT [PREFIX FIELDS]                          one case, in hex, `-` for no bytes
 //!
 //! Prints the seed, the counts, each known kind of difference with the smallest input found, and each unlisted difference,
-//! reduced. Exit status 1 if there is an unlisted one.
+//! reduced. Exit status 1 if there is an unlisted one. With --trace each case is written to standard error before it is asked,
+//! for a library that crashes.
 
 mod check;
 mod known;
@@ -30,11 +31,12 @@ struct Run {
     known: BTreeMap<Kind, (u64, Case)>,
     unlisted: Vec<(Case, Difference)>,
     unlisted_count: u64,
+    trace: bool,
 }
 
 fn show(case: &Case) -> String {
     let plain = |b: &[u8]| {
-        if b.len() > 600 { format!("{}.. ({} bytes)", b[..300].escape_ascii(), b.len()) } else { b.escape_ascii().to_string() }
+        if b.len() > 600 { format!("{}.. ({} bytes)", b[..60].escape_ascii(), b.len()) } else { b.escape_ascii().to_string() }
     };
     let mut o = format!("\"{}\"", plain(&case.text));
     if let Some((p, f)) = &case.add {
@@ -65,6 +67,9 @@ fn judged(case: &Case, mut found: Vec<Difference>) -> Vec<Difference> {
 
 impl Run {
     fn ask(&mut self, case: &Case) {
+        if self.trace {
+            eprintln!("{}", replay(case));
+        }
         self.texts += 1;
         self.inside += u64::from(in_domain(&case.text));
         let found = self.checker.case(case);
@@ -215,7 +220,7 @@ fn one(text: &str, add: Option<(&str, &str)>) -> ExitCode {
 fn main() -> ExitCode {
     let args: Vec<String> = std::env::args().skip(1).collect();
     let mut args: &[&str] = &args.iter().map(String::as_str).collect::<Vec<_>>();
-    let (mut seed, mut scale, mut only) = (1, 1, None);
+    let (mut seed, mut scale, mut only, mut trace) = (1, 1, None, false);
     loop {
         match *args {
             [] => break,
@@ -223,6 +228,7 @@ fn main() -> ExitCode {
             ["case", t, p, f] => return one(t, Some((p, f))),
             ["--seed", n, ref rest @ ..] if n.parse::<u64>().is_ok() => (seed, args) = (n.parse().unwrap(), rest),
             ["--scale", n, ref rest @ ..] if n.parse::<usize>().is_ok() => (scale, args) = (n.parse().unwrap(), rest),
+            ["--trace", ref rest @ ..] => (trace, args) = (true, rest),
             ["--only", p, ref rest @ ..] if PHASES.contains(&p) => (only, args) = (Some(p), rest),
             _ => {
                 eprintln!("usage: see the top of oracle/compare/src/main.rs; phases: {}", PHASES.join(" "));
@@ -242,6 +248,7 @@ fn main() -> ExitCode {
         known: BTreeMap::new(),
         unlisted: Vec::new(),
         unlisted_count: 0,
+        trace,
     };
     let began = Instant::now();
     for (i, phase) in PHASES.into_iter().enumerate() {
@@ -252,7 +259,7 @@ fn main() -> ExitCode {
         run.phase(phase, &mut Rng::new(seed ^ (i as u64) << 56), scale);
         println!("{phase}: {} texts, {:.1} s", run.texts - before, at.elapsed().as_secs_f64());
     }
-    println!("\n{} texts, {} of them in the domain, {:.0} s. Answers that agree, by call and refusal:", run.texts, run.inside, began.elapsed().as_secs_f64());
+    println!("\n{} texts, {} of them in the domain, {:.0} s.", run.texts, run.inside, began.elapsed().as_secs_f64());
     print!("{}", run.checker.tally);
     println!("\nKnown kinds of difference, with the smallest input:");
     for (kind, meaning) in known::ALL {

@@ -140,17 +140,28 @@ pub fn add(text: &[u8], catalogue: &[u8], prefix: &[u8], fields: &[u8], out: &mu
 pub trait Element: Copy + Eq + Default {
     /// The pattern at a place. It changes from place to place, so that neither a constant nor a copy goes unseen.
     fn pattern(i: usize) -> Self;
+
+    /// Elements, for a reader.
+    fn show(all: &[Self]) -> String;
 }
 
 impl Element for u8 {
     fn pattern(i: usize) -> Self {
         (i.wrapping_mul(167) >> 1) as u8 ^ 0xa5
     }
+
+    fn show(all: &[Self]) -> String {
+        format!("\"{}\"", all.escape_ascii())
+    }
 }
 
 impl Element for u32 {
     fn pattern(i: usize) -> Self {
         (i as u32).wrapping_mul(0x9e37_79b9) ^ 0xdead_beef
+    }
+
+    fn show(all: &[Self]) -> String {
+        format!("{all:?}")
     }
 }
 
