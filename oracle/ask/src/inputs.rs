@@ -85,7 +85,7 @@ fn piece_in_domain(kind: &[u8], piece: &[u8]) -> bool {
             && s.iter().try_fold(0u128, |n, b| Some(10 * n + u128::from(b - b'0')).filter(|&n| n <= max)).is_some()
     };
     let (Some(tag), rest) = (piece.get(..2), piece.get(2..).unwrap_or(b"")) else {
-        return true; // no tag is there
+        return false; // a short tag
     };
     if !(tag[0].is_ascii_alphabetic() && tag[1].is_ascii_alphanumeric()) {
         return false;

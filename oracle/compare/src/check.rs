@@ -502,6 +502,13 @@ impl Checker {
         use oracle::Leaves;
         let Some((prefix, fields)) = &case.add else { return };
         let text = &case.text[..];
+        // The lenient build cannot say what is not in form.
+        if oracle::LENIENT {
+            let line = [b"@PG\tID:", &prefix[..], fields].concat();
+            if line.contains(&b'\n') || !oracle::inputs::in_domain(&line) {
+                return;
+            }
+        }
         let given = oracle::program_fields(fields).ok().filter(|_| oracle::is_id(prefix));
         let (mut kind, mut out) = (None, Vec::new());
         // The crate's answer; where it has none, or another by intent, a known kind.

@@ -67,7 +67,7 @@ pub fn reading(text: &[u8], ours: Refusal, theirs: Option<&Refused>) -> Option<K
     match ours.number {
         2 if !line.contains(&b'\r') => None,
         2 if line.starts_with(b"@CO\t") => here.is_none().then_some(Kind::CommentReturn),
-        2 => here.is_some().then_some(Kind::OtherReturn),
+        2 => (here.is_some() || LENIENT).then_some(Kind::OtherReturn),
         11 => (line.starts_with(b"@HD\t") && values(line, b"VN:").any(signed_version)).then_some(Kind::VersionSign),
         12 if line.starts_with(b"@SQ\t") => {
             if values(line, b"LN:").any(|v| v.first() == Some(&b'+')) {
