@@ -136,6 +136,7 @@ pub fn undisputed(text: &[u8]) -> bool {
 }
 
 /// Document 01's cases, and others on the edge of a rule.
+#[rustfmt::skip]
 pub fn corners() -> Vec<Vec<u8>> {
     let zeros = "0".repeat(40);
     let mut o: Vec<Vec<u8>> = [
@@ -202,12 +203,29 @@ pub fn sequences(prefix: &[u8], tokens: &[&[u8]], most: usize, f: &mut dyn FnMut
 
 /// Tokens from which short texts are made.
 pub const TOKENS: [&[u8]; 17] = [
-    b"@", b"HD", b"SQ", b"RG", b"PG", b"CO", b"\t", b"\n", b"\r", b"VN:1.6", b"VN:1.5", b"SN:a", b"LN:0", b"LN:8", b"ID:a", b"PP:a", b"x",
+    b"@", b"HD", b"SQ", b"RG", b"PG", b"CO", b"\t", b"\n", b"\r", b"VN:1.6", b"VN:1.5", b"SN:a", b"LN:0", b"LN:8", b"ID:a",
+    b"PP:a", b"x",
 ];
 
 /// Tokens from which short texts of whole fields are made.
 pub const FIELDS: [&[u8]; 17] = [
-    b"@HD", b"@SQ", b"@RG", b"@PG", b"@CO", b"\n", b"\r\n", b"\t", b"\tVN:1.6", b"\tVN:1.5", b"\tSN:a", b"\tSN:b", b"\tLN:8", b"\tID:a", b"\tID:b", b"\tPP:a", b"x",
+    b"@HD",
+    b"@SQ",
+    b"@RG",
+    b"@PG",
+    b"@CO",
+    b"\n",
+    b"\r\n",
+    b"\t",
+    b"\tVN:1.6",
+    b"\tVN:1.5",
+    b"\tSN:a",
+    b"\tSN:b",
+    b"\tLN:8",
+    b"\tID:a",
+    b"\tID:b",
+    b"\tPP:a",
+    b"x",
 ];
 
 /// Prefixes, each with the bytes of which all short strings are put after it, and how long these may be.
@@ -265,7 +283,20 @@ fn digits(rng: &mut Rng, n: impl std::fmt::Display) -> String {
 }
 
 fn version(rng: &mut Rng) -> Vec<u8> {
-    let (a, b) = *rng.of(&[(1, 6), (1, 5), (1, 6), (1, 5), (1, 4), (1, 0), (1, 7), (2, 0), (0, 9), (1, 10), (u32::MAX, u32::MAX), (0, u32::MAX)]);
+    let (a, b) = *rng.of(&[
+        (1, 6),
+        (1, 5),
+        (1, 6),
+        (1, 5),
+        (1, 4),
+        (1, 0),
+        (1, 7),
+        (2, 0),
+        (0, 9),
+        (1, 10),
+        (u32::MAX, u32::MAX),
+        (0, u32::MAX),
+    ]);
     let (a, b) = if rng.one_in(8) { (rng.next() as u32, rng.next() as u32) } else { (a, b) };
     format!("{}.{}", digits(rng, a), digits(rng, b)).into_bytes()
 }
@@ -503,7 +534,8 @@ pub fn graphs(n: usize, f: &mut dyn FnMut(&[u8])) {
 pub fn addition(rng: &mut Rng, text: &[u8]) -> (Vec<u8>, Vec<u8>) {
     // An ID that is there, or the front of one up to a `-`, so that used IDs are met early and late.
     let there = |rng: &mut Rng| -> Option<Vec<u8>> {
-        let ids: Vec<&[u8]> = text.split(|&b| matches!(b, b'\t' | b'\n' | b'\r')).filter_map(|p| p.strip_prefix(b"ID:")).collect();
+        let ids: Vec<&[u8]> =
+            text.split(|&b| matches!(b, b'\t' | b'\n' | b'\r')).filter_map(|p| p.strip_prefix(b"ID:")).collect();
         (!ids.is_empty()).then(|| rng.of(&ids).to_vec())
     };
     let prefix = match rng.below(12) {
@@ -667,7 +699,8 @@ pub fn boundaries(f: &mut dyn FnMut(&[u8])) {
     f(&comment(LONGEST, "\r\n"));
     f(&comment(LONGEST + 1, "\n"));
     f(&comment(LONGEST - 1, ""));
-    let mut lines = "@CO\tsome comment of some length, so that there are not too many of them\n".repeat(LONGEST / 73 + 1).into_bytes();
+    let mut lines =
+        "@CO\tsome comment of some length, so that there are not too many of them\n".repeat(LONGEST / 73 + 1).into_bytes();
     lines.truncate(LONGEST);
     f(&lines);
     // Short once it is tidied: zeros go.

@@ -78,7 +78,11 @@ fn number(line: &[u8], error: &str) -> u32 {
             ("InvalidKind", "Invalid", ..) => 5,
             // The crate has one error for both.
             ("InvalidValue", "InvalidComment", "InvalidDelimiter", _) => {
-                if line.len() == 3 { 7 } else { 6 }
+                if line.len() == 3 {
+                    7
+                } else {
+                    6
+                }
             }
             (_, _, "InvalidField", "MissingDelimiter" | "InvalidDelimiter") => 6,
             (_, _, "InvalidTag", _) => 8,

@@ -17,8 +17,11 @@ fn text(n: usize) -> String {
     for i in 0..n {
         let length = 1_000 + (i * 7_919) % 200_000;
         let (a, b) = (rng.next(), rng.next());
-        writeln!(t, "@SQ\tSN:chrUn_{i:05}\tLN:{length}\tM5:{a:016x}{b:016x}\tAS:assembly\tUR:http://example.org/ref/assembly.fa.gz")
-            .unwrap();
+        writeln!(
+            t,
+            "@SQ\tSN:chrUn_{i:05}\tLN:{length}\tM5:{a:016x}{b:016x}\tAS:assembly\tUR:http://example.org/ref/assembly.fa.gz"
+        )
+        .unwrap();
     }
     t
 }

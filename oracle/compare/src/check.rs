@@ -250,7 +250,11 @@ impl Checker {
                 self.refused(case, r);
             }
             (Ok(n), Err(t)) => {
-                self.differ(Call::Read, None, format!("accepted ({n} bytes); the crate: {} line {} {}", t.number, t.line, t.error));
+                self.differ(
+                    Call::Read,
+                    None,
+                    format!("accepted ({n} bytes); the crate: {} line {} {}", t.number, t.line, t.error),
+                );
             }
             (Ok(n), Ok(header)) => {
                 self.accepted(case, n, &header);

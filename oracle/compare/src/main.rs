@@ -18,8 +18,7 @@ use check::{Case, Checker, Difference};
 use known::Kind;
 use oracle::inputs::{self, Rng, in_domain};
 
-const PHASES: [&str; 9] =
-    ["corners", "tokens", "fields", "bytes", "graphs", "random", "damaged", "programs", "boundaries"];
+const PHASES: [&str; 9] = ["corners", "tokens", "fields", "bytes", "graphs", "random", "damaged", "programs", "boundaries"];
 
 /// Unlisted differences that are printed; the run ends at the last of them.
 const MOST: usize = 8;
@@ -129,7 +128,15 @@ impl Run {
             "corners" => {
                 for text in inputs::corners() {
                     self.text(&text);
-                    for (p, f) in [("x", ""), ("a", "\tPN:q"), ("pg0", ""), ("x", "\tPP:a"), ("x", "\tPP:pg1\tPN:q"), ("", ""), ("x", "\tID:b")] {
+                    for (p, f) in [
+                        ("x", ""),
+                        ("a", "\tPN:q"),
+                        ("pg0", ""),
+                        ("x", "\tPP:a"),
+                        ("x", "\tPP:pg1\tPN:q"),
+                        ("", ""),
+                        ("x", "\tID:b"),
+                    ] {
                         self.ask(&Case { text: text.clone(), add: Some((p.into(), f.into())) });
                     }
                     // Each with an LF and a line after it, and after a line.
@@ -236,11 +243,16 @@ fn main() -> ExitCode {
             }
         }
     }
-    let calls: Vec<&str> = [("lookup", cfg!(feature = "lookup")), ("graph", cfg!(feature = "graph")), ("add", cfg!(feature = "add"))]
-        .iter()
-        .filter_map(|&(name, there)| there.then_some(name))
-        .collect();
-    println!("seed {seed}, scale {scale}; calls: read check tidy {}{}", calls.join(" "), if oracle::LENIENT { "; lenient" } else { "" });
+    let calls: Vec<&str> =
+        [("lookup", cfg!(feature = "lookup")), ("graph", cfg!(feature = "graph")), ("add", cfg!(feature = "add"))]
+            .iter()
+            .filter_map(|&(name, there)| there.then_some(name))
+            .collect();
+    println!(
+        "seed {seed}, scale {scale}; calls: read check tidy {}{}",
+        calls.join(" "),
+        if oracle::LENIENT { "; lenient" } else { "" }
+    );
     let mut run = Run {
         checker: Checker::default(),
         texts: 0,
