@@ -1,6 +1,7 @@
 //! bench: the crate against this library, on the same bytes, from the same process.
 //!
-//! bench [ROUNDS]    each side ROUNDS times (default 20), one after the other; the best of each, and their ratio
+//! bench [ROUNDS]    each side ROUNDS times (default 20), one after the other; the best of each, and their ratio.
+//!                   A size that takes longer than a minute gets fewer rounds, but three at least; its line says how many
 //!
 //! Headers have an HD and 200, 2,000 or 20,000 SQ lines of five fields each. For reading: the crate's whole-text parser alone
 //! (dropping its header is not timed) against sam_header_read. For tidying: its parser and its writer, into a buffer that is
@@ -40,14 +41,16 @@ fn show(what: &str, theirs: u128, ours: u128) {
 
 fn main() {
     let rounds = std::env::args().nth(1).map_or(20, |s| s.parse::<usize>().expect("a number of rounds"));
-    println!("best of {rounds} each, one after the other; output buffers are reused and not cleared");
+    println!("best of {rounds} each, one after the other; the catalogue and tidy buffers are reused and not cleared");
     for n in [200, 2_000, 20_000] {
         let text = text(n);
         let mut catalogue = vec![0; 20 + n * 50];
         let (mut tidy, mut written) = (vec![0; text.len() + 1], Vec::with_capacity(text.len() + 1));
         let [mut parse, mut read, mut parse_write, mut tidied] = [u128::MAX; 4];
-        let mut answers = (0, 0);
-        for _ in 0..rounds {
+        let (mut answers, mut ran) = ((0, 0), 0);
+        let began = Instant::now();
+        while ran < rounds && (ran < 3 || began.elapsed().as_secs() < 60) {
+            ran += 1;
             let header: Header = timed(&mut parse, || black_box(&text[..]).parse().expect("accepted"));
             assert_eq!(header.reference_sequences().len(), n);
             drop(header);
@@ -62,7 +65,7 @@ fn main() {
             answers.1 = timed(&mut tidied, || library::tidy(black_box(text.as_bytes()), &mut tidy).expect("accepted"));
         }
         assert!(tidy[..answers.1 as usize] == written[..], "both wrote the same");
-        println!("{n} SQ lines, {} bytes, a catalogue of {}:", text.len(), answers.0);
+        println!("{n} SQ lines, {} bytes, a catalogue of {}, best of {ran}:", text.len(), answers.0);
         show("parse / read", parse, read);
         show("parse and write / tidy", parse_write, tidied);
     }
