@@ -162,7 +162,7 @@ pub fn corners() -> Vec<Vec<u8>> {
         "@SQ\tSN:a\tLN:2147483647", "@SQ\tSN:a\tLN:2147483648", "@SQ\tSN:a\tLN:4294967296", "@SQ\tSN:a\tLN:9223372036854775808",
         "@HD\tSO:unsorted\tVN:01.6\n@PG\tID:a\n@SQ\tLN:08\tSN:s1\n@CO\tx", "@PG\tID:pg0\n@PG\tID:pg1\tPP:pg0\n@PG\tID:pg2\tPP:pg1\n@PG\tID:pg3\n",
         "@PG\tID:c\tPP:a\n@PG\tID:a\tPP:b\n@PG\tID:b\tPP:a\n", "@PG\tID:a\tPP:a\n", "@PG\tID:a\tPP:z\n", "@PG\tID:a\tPP:b\n@PG\tID:b\tPP:a\n",
-        "@PG\tID:a\tPP:z\n@PG\tID:b\tPP:b\n", "@PG\tID:b\tPP:a\n@PG\tID:a\n", "@PG\tID:a\tPP:b\n", "@PG\tID:a\tpp:a\n", "@RG\tID:a\n@PG\tID:b\tPP:a\n",
+        "@PG\tID:a\tPP:z\n@PG\tID:b\tPP:b\n", "@PG\tID:b\tPP:b\n@PG\tID:a\tPP:z\n", "@PG\tID:c\tPP:b\n@PG\tID:b\tPP:b\n@PG\tID:a\tPP:z\n", "@PG\tID:b\tPP:a\n@PG\tID:a\n", "@PG\tID:a\tPP:b\n", "@PG\tID:a\tpp:a\n", "@RG\tID:a\n@PG\tID:b\tPP:a\n",
     ]
     .into_iter()
     .map(|s| s.as_bytes().to_vec())

@@ -1,11 +1,11 @@
 //! What is asked of the crate, and how its answers read in document 01's terms.
 //!
-//! Nothing here decides what a header means: every answer is the crate's. Where the crate would panic or never end, a guard
-//! says so beforehand, from the crate's own tables.
+//! Nothing here decides what a header means: every answer is the crate's. Where the crate would never end, a guard says so
+//! beforehand, from the crate's own tables.
 
 pub mod inputs;
 
-use std::{collections::HashMap, io};
+use std::{cell::Cell, collections::HashMap, io, panic};
 
 use bstr::BString;
 pub use noodles_sam::Header;
@@ -170,35 +170,46 @@ pub enum Leaves {
     List(Vec<usize>),
     /// It answers that there is a cycle.
     Cycle,
-    /// Not asked: a PP names no program, and the crate panics when it meets it.
-    Dangling,
-    /// Not asked: nothing dangles, and a walk never ends.
+    /// It panics: a walk comes to a PP that names no program.
+    Panics,
+    /// Not asked: a walk never ends.
     Endless,
 }
 
-/// Each program's parent; None if some PP names no program.
-pub fn parents(header: &Header) -> Option<Vec<Option<usize>>> {
-    let programs = header.programs().as_ref();
-    let place: HashMap<&BString, usize> = programs.keys().enumerate().map(|(i, id)| (id, i)).collect();
-    programs
-        .values()
-        .map(|map| match map.other_fields().get(&tag::PREVIOUS_PROGRAM_ID) {
-            None => Some(None),
-            Some(id) => place.get(id).map(|&i| Some(i)),
-        })
-        .collect()
+/// A program's parent.
+#[derive(Clone, Copy, Debug, Eq, PartialEq)]
+pub enum Parent {
+    /// It has no PP.
+    Absent,
+    /// Its PP is the ID of this one.
+    Program(usize),
+    /// Its PP is the ID of none.
+    Nobody,
 }
 
-// The crate walks up from each program in order until the program itself or a root. The first walk that meets neither never ends.
-fn walks_end(parents: &[Option<usize>]) -> bool {
+/// Each program's parent.
+pub fn parents(header: &Header) -> Vec<Parent> {
+    let programs = header.programs().as_ref();
+    let place: HashMap<&BString, usize> = programs.keys().enumerate().map(|(i, id)| (id, i)).collect();
+    let parent = |map: &Map<Program>| match map.other_fields().get(&tag::PREVIOUS_PROGRAM_ID) {
+        None => Parent::Absent,
+        Some(id) => place.get(id).map_or(Parent::Nobody, |&i| Parent::Program(i)),
+    };
+    programs.values().map(parent).collect()
+}
+
+// The crate walks up from each program in order until the program itself, where it answers, or a root. A walk that comes to
+// neither meets a PP that names no program, or never ends.
+fn walks_end(parents: &[Parent]) -> bool {
     for start in 0..parents.len() {
         let mut at = start;
         let mut steps = 0;
         loop {
             match parents[at] {
-                None => break,
-                Some(p) if p == start => return true, // a cycle is found here
-                Some(p) => at = p,
+                Parent::Absent => break,
+                Parent::Nobody => return true,
+                Parent::Program(p) if p == start => return true,
+                Parent::Program(p) => at = p,
             }
             steps += 1;
             if steps > parents.len() {
@@ -209,22 +220,45 @@ fn walks_end(parents: &[Option<usize>]) -> bool {
     true
 }
 
-/// The crate's leaves, if it ends and does not panic.
+/// The crate's leaves, if it ends. Its panics are caught; `quiet` keeps them from being printed.
 pub fn leaves(header: &Header) -> Leaves {
-    match parents(header) {
-        None => return Leaves::Dangling,
-        Some(p) if !walks_end(&p) => return Leaves::Endless,
-        Some(_) => {}
+    let parents = parents(header);
+    if !walks_end(&parents) {
+        return Leaves::Endless;
     }
     let programs = header.programs();
     let place = |id: &[u8]| programs.as_ref().get_index_of(id).expect("a program");
-    match programs.leaves() {
-        Ok(it) => Leaves::List(it.map(|(id, _)| place(id)).collect()),
+    if !parents.contains(&Parent::Nobody) {
+        return answered(programs.leaves().map(|it| it.map(|(id, _)| place(id)).collect()));
+    }
+    EXPECTED.set(true);
+    let answer = panic::catch_unwind(|| programs.leaves().map(|it| it.map(|(id, _)| place(id)).collect()));
+    EXPECTED.set(false);
+    answer.map_or(Leaves::Panics, answered)
+}
+
+fn answered(answer: io::Result<Vec<usize>>) -> Leaves {
+    match answer {
+        Ok(list) => Leaves::List(list),
         Err(e) => {
             assert_eq!(e.kind(), io::ErrorKind::InvalidData, "{e}");
             Leaves::Cycle
         }
     }
+}
+
+thread_local! {
+    static EXPECTED: Cell<bool> = const { Cell::new(false) };
+}
+
+/// From here on a panic of the crate that is caught is not printed.
+pub fn quiet() {
+    let usual = panic::take_hook();
+    panic::set_hook(Box::new(move |info| {
+        if !EXPECTED.get() {
+            usual(info);
+        }
+    }));
 }
 
 /// The crate's leaves with no guard: it may panic or never end.

@@ -13,7 +13,7 @@
 //!     HD MAJOR MINOR | SQ NAME LENGTH | RG ID | PG ID | CO TEXT    in the order of the crate's tables
 //!     F TAG VALUE                  a field of the record above
 //!     roots I I ..                 ordinals in the programs table
-//!     leaves I I ..                or: leaves cycle (the crate says so) | leaves dangling | leaves endless (not asked)
+//!     leaves I I ..                or: leaves cycle (the crate says so) | leaves panics | leaves endless (not asked)
 //!     tidy TEXT                    or: tidy error DEBUG
 use std::{
     fmt::Write as _,
@@ -69,7 +69,7 @@ fn show(o: &mut String, enc: Enc, header: &Header) {
     match oracle::leaves(header) {
         Leaves::List(l) => list(o, "leaves", &l),
         Leaves::Cycle => o.push_str("leaves cycle\n"),
-        Leaves::Dangling => o.push_str("leaves dangling\n"),
+        Leaves::Panics => o.push_str("leaves panics\n"),
         Leaves::Endless => o.push_str("leaves endless\n"),
     }
     match oracle::tidy(header) {
@@ -157,6 +157,7 @@ fn serve() -> io::Result<()> {
 }
 
 fn main() -> io::Result<()> {
+    oracle::quiet();
     let args: Vec<String> = std::env::args().skip(1).collect();
     let args: Vec<&str> = args.iter().map(String::as_str).collect();
     let mut o = String::new();

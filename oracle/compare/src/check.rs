@@ -477,20 +477,14 @@ impl Checker {
         let said = outputs(&mut self.words, Ok((&roots, roots.len() as u64)), |o| library::roots(text, catalogue, o));
         self.said(Call::Roots, 0, said);
 
-        let (list, number, kind) = match oracle::leaves(header) {
-            Leaves::List(l) => (ordinals(l), 0, None),
-            Leaves::Cycle => (Vec::new(), 23, None),
-            Leaves::Dangling => (Vec::new(), 22, Some(Kind::Dangling)),
-            Leaves::Endless => (Vec::new(), 23, Some(Kind::Endless)),
-        };
-        let want = if number == 0 {
-            Ok((&list[..], hops(&oracle::parents(header).expect("nothing dangles")) << 32 | list.len() as u64))
-        } else {
-            Err(refusal(number))
-        };
+        let parents = oracle::parents(header);
+        let leaves = oracle::leaves(header);
+        let (number, kind) = chained(&parents, &leaves);
+        let list = if let Leaves::List(l) = leaves { ordinals(l) } else { Vec::new() };
+        let want = if number == 0 { Ok((&list[..], hops(&parents) << 32 | list.len() as u64)) } else { Err(refusal(number)) };
         let said = outputs(&mut self.words, want, |o| library::leaves(text, catalogue, o));
         if let (Some(kind), None) = (kind, &said) {
-            self.differ(Call::Leaves, Some(kind), format!("refused {number}; the crate gives no answer"));
+            self.differ(Call::Leaves, Some(kind), format!("refused {number}"));
         }
         self.said(Call::Leaves, number, said);
 
@@ -503,7 +497,6 @@ impl Checker {
 
     #[cfg(feature = "add")]
     fn add(&mut self, case: &Case, catalogue: &[u8], damaged: &[Vec<u8>], header: &Header, rng: &mut Rng) {
-        use oracle::Leaves;
         let Some((prefix, fields)) = &case.add else { return };
         let text = &case.text[..];
         // The lenient build cannot say what is not in form.
@@ -516,22 +509,23 @@ impl Checker {
         let given = oracle::program_fields(fields).ok().filter(|_| oracle::is_id(prefix));
         let (mut kind, mut out) = (None, Vec::new());
         // The crate's answer; where it has none, or another by intent, a known kind.
-        let want = match (given, oracle::leaves(header)) {
-            (None, _) => Err(refusal(26)),
-            (_, Leaves::Dangling) => {
-                kind = Some(Kind::Dangling);
+        let leaves = oracle::leaves(header);
+        let (graph, odd) = chained(&oracle::parents(header), &leaves);
+        let want = match given {
+            None => Err(refusal(26)),
+            Some(_) if graph == 22 => {
+                kind = odd;
                 Err(refusal(22))
             }
-            (Some(map), _) if oracle::names_program(header, &map) == Some(false) => {
+            Some(map) if oracle::names_program(header, &map) == Some(false) => {
                 kind = Some(Kind::AddNobody);
                 Err(refusal(22))
             }
-            (_, Leaves::Endless) => {
-                kind = Some(Kind::Endless);
+            Some(_) if graph == 23 => {
+                kind = odd;
                 Err(refusal(23))
             }
-            (_, Leaves::Cycle) => Err(refusal(23)),
-            (Some(map), Leaves::List(_)) => match oracle::add(header, prefix, map) {
+            Some(map) => match oracle::add(header, prefix, map) {
                 None => Err(refusal(18)),
                 Some(more) if more.programs().as_ref().len() > oracle::PROGRAMS => {
                     kind = Some(Kind::AddPrograms);
@@ -563,12 +557,27 @@ impl Checker {
     }
 }
 
+/// The refusal that is due where leaves are looked for, 0 for none, and the kind of difference if the crate has no such answer.
+#[cfg(any(feature = "graph", feature = "add"))]
+fn chained(parents: &[oracle::Parent], leaves: &oracle::Leaves) -> (u32, Option<Kind>) {
+    use oracle::Leaves;
+    match (parents.contains(&oracle::Parent::Nobody), leaves) {
+        (false, Leaves::List(_)) => (0, None),
+        (false, Leaves::Cycle) => (23, None),
+        (false, Leaves::Endless) => (23, Some(Kind::Endless)),
+        (true, Leaves::Panics) => (22, Some(Kind::Dangling)),
+        (true, Leaves::Cycle) => (22, Some(Kind::CycleFirst)),
+        (true, Leaves::Endless) => (22, Some(Kind::Endless)),
+        (true, Leaves::List(_)) | (false, Leaves::Panics) => unreachable!("the crate looks up every PP"),
+    }
+}
+
 /// The parent links from every program to its root, summed. The crate has no such number: this one comes from its tables.
 #[cfg(feature = "graph")]
-fn hops(parents: &[Option<usize>]) -> u64 {
+fn hops(parents: &[oracle::Parent]) -> u64 {
     let depth = |mut i: usize| {
         let mut d = 0;
-        while let Some(p) = parents[i] {
+        while let oracle::Parent::Program(p) = parents[i] {
             (i, d) = (p, d + 1);
         }
         d

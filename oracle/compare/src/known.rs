@@ -15,13 +15,14 @@ pub enum Kind {
     RepeatSign,
     Programs,
     Dangling,
+    CycleFirst,
     Endless,
     AddNobody,
     AddPrograms,
     Lenient,
 }
 
-pub const ALL: [(Kind, &str); 13] = [
+pub const ALL: [(Kind, &str); 14] = [
     (Kind::Size, "a text, or one to be written, over 16,777,216 bytes: 1; the crate has no limit"),
     (Kind::CommentReturn, "a CR inside a comment: 2; the crate keeps it"),
     (Kind::OtherReturn, "a CR inside another line: 2; the crate has another error for it"),
@@ -30,8 +31,9 @@ pub const ALL: [(Kind, &str); 13] = [
     (Kind::VersionSign, "HD's VN with a sign: 11; the crate reads `+1.6` as 1.6"),
     (Kind::RepeatSign, "a signed first VN gives the repeat rule no version: 14; the crate reads it there too"),
     (Kind::Programs, "a 1,025th program: 19; the crate has no limit"),
-    (Kind::Dangling, "leaves or add where a PP names no program: 22; the crate panics when it meets one"),
-    (Kind::Endless, "leaves or add where a chain leads into a loop: 23; the crate never ends"),
+    (Kind::Dangling, "leaves or add where a PP names no program: 22; the crate panics"),
+    (Kind::CycleFirst, "leaves or add where a PP names no program, after a cycle: 22; the crate says that there is a cycle"),
+    (Kind::Endless, "leaves or add where a chain leads into a loop: 23, or 22 if a PP names no program; the crate never ends"),
     (Kind::AddNobody, "add with a PP that names no program: 22; the crate keeps it"),
     (Kind::AddPrograms, "add past 1,024 programs: 19; the crate has no limit"),
     (Kind::Lenient, "a tag or value outside document 01's form: 8 or 10; taken by the lenient build's stand-ins"),

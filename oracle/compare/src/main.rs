@@ -225,6 +225,7 @@ fn one(text: &str, add: Option<(&str, &str)>) -> ExitCode {
 }
 
 fn main() -> ExitCode {
+    oracle::quiet();
     let args: Vec<String> = std::env::args().skip(1).collect();
     let mut args: &[&str] = &args.iter().map(String::as_str).collect::<Vec<_>>();
     let (mut seed, mut scale, mut only, mut trace) = (1, 1, None, false);

@@ -8,13 +8,13 @@
 //!     TEXT accepted TIDY ROOTS LEAVES       the crate's written text
 //!     TEXT unwritable LINE ROOTS LEAVES     read, but its writer refuses a name: refusal 24 on that line
 //! ROOTS and LEAVES are program ordinals, two bytes each, the higher first; LEAVES is `cycle` where the crate says so.
-//! A text on which document 01 is known to differ from the crate, or for which the crate's leaves panics or never ends, is not
-//! in it.
+//! A text on which document 01 is known to differ from the crate, or where a PP names no program or a walk of the crate's leaves
+//! never ends, is not in it.
 
 use std::{collections::HashSet, fmt::Write, process::ExitCode};
 
 use oracle::{
-    Leaves,
+    Leaves, Parent,
     inputs::{self, Rng, hex, undisputed},
 };
 
@@ -30,10 +30,13 @@ fn answer(text: &[u8]) -> Option<(u32, String)> {
         Err(r) => return Some((r.number, format!("refused {} {}", r.number, r.line))),
         Ok(header) => header,
     };
+    if oracle::parents(&header).contains(&Parent::Nobody) {
+        return None;
+    }
     let leaves = match oracle::leaves(&header) {
         Leaves::List(l) => ordinals(&l),
         Leaves::Cycle => "cycle".into(),
-        Leaves::Dangling | Leaves::Endless => return None,
+        Leaves::Panics | Leaves::Endless => return None,
     };
     let graph = format!("{} {leaves}", ordinals(&oracle::roots(&header)));
     match oracle::tidy(&header) {
