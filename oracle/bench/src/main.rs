@@ -20,7 +20,7 @@ fn text(n: usize) -> String {
         let (a, b) = (rng.next(), rng.next());
         writeln!(
             t,
-            "@SQ\tSN:chrUn_{i:05}\tLN:{length}\tM5:{a:016x}{b:016x}\tAS:assembly\tUR:http://example.org/ref/assembly.fa.gz"
+            "@SQ\tSN:chrUn_{i:05}\tLN:{length}\tM5:{a:016x}{b:016x}\tAS:assembly\tUR:file:///ref/example/assembly.fa.gz"
         )
         .unwrap();
     }
