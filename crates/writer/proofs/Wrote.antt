@@ -1,0 +1,29 @@
+-- Writes one behind the other are one.
+use Prim.Native.Nat.{ℕ, _+_, _≤_, _<_}
+use mathlib.Core.Path.{_≡_, refl, sym, ap, _∙_}
+use mathlib.Core.List.{List, [], _∷_, _++_}
+use native.Mathlib.Omega.{arith}
+use native.Mathlib.Numerals.{add-one, add-two}
+use lib.ListN.{length, set, length-append}
+use lib.Seq.{sets-eq}
+use Rattle.text.specs.Over.{over}
+use Rattle.text.proofs.Over.{over-over}
+
+-- what a writer leaves of `out`, and the place that it answers: `xs` stands from `at` on
+abbrev pub Wrote : List ℕ → ℕ → List ℕ → ℕ → List ℕ → Type 0
+Wrote out at last next xs = (next ≡ at + length xs) × (last ≡ over out at xs)
+
+pub wrote-then : (out : List ℕ) (at : ℕ) (mid : List ℕ) (n : ℕ) (last : List ℕ) (m : ℕ) (xs ys : List ℕ)
+    → Wrote out at mid n xs → Wrote mid n last m ys → at + length xs + length ys ≤ length out → Wrote out at last m (xs ++ ys)
+wrote-then out at mid n last m xs ys (e, w) (f, v) h =
+    (omega (arith, length-append xs ys),
+    v ∙ ap (λ k. over mid k ys) e ∙ ap (λ l. over l (at + length xs) ys) w ∙ over-over out at xs ys h)
+
+-- one store, and three
+pub wrote-one : (out : List ℕ) (at a : ℕ) → at < length out → set out at a ≡ over out at (a ∷ [])
+unfolding over
+wrote-one out at a h = sets-eq (a ∷ []) out at (omega arith)
+
+pub wrote-three : (out : List ℕ) (at a b c : ℕ) → at + 3 ≤ length out → set (set (set out at a) (at + 1) b) (at + 2) c ≡ over out at (a ∷ b ∷ c ∷ [])
+unfolding over
+wrote-three out at a b c h = rw (add-one at, add-two at) (sets-eq (a ∷ b ∷ c ∷ []) out at h)

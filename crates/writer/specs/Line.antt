@@ -1,0 +1,23 @@
+-- What the tidy text has of one line: the record's text, and whether its name can be written.
+use Prim.Native.Nat.{ℕ}
+use mathlib.Core.Bool.{Bool, true, false}
+use mathlib.Core.List.{List, []}
+use Rattle.format.specs.Records.{Line, refused, read}
+use Rattle.format.specs.Tidy.{recordText, isWritable}
+
+-- is it accepted?
+unfoldable pub isRead : Line → Bool
+isRead (refused n) = false
+isRead (read r) = true
+
+-- the record's line, with its LF
+unfoldable pub lineText : Line → List ℕ
+unfolding recordText
+lineText (refused n) = []
+lineText (read r) = recordText r
+
+-- can it be written?
+unfoldable pub lineWritable : Line → Bool
+unfolding isWritable
+lineWritable (refused n) = true
+lineWritable (read r) = isWritable r

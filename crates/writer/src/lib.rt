@@ -1,0 +1,197 @@
+// One record of the tidy text: written from its accepted line, or measured.
+use format::Kind;
+use format::Version;
+use record::Head;
+use record::Place;
+use walk::Next;
+ghost use mathlib.Core.Path.{_≡_};
+ghost use mathlib.Core.Bool.{true};
+ghost use mathlib.Core.List.{[], _∷_, _++_};
+ghost use Prim.Native.Nat.{_≤_, _+_};
+ghost use lib.ListN.{length, take, drop};
+ghost use Rattle.format.specs.Decimal.{written};
+ghost use Rattle.format.specs.Records.{line};
+ghost use Rattle.format.specs.Tidy.{fieldText};
+ghost use Rattle.text.specs.Over.{over};
+ghost use Rattle.accepted.specs.Spelled.{kind₀, kind₁};
+ghost use Rattle.walk.specs.Run.{AtField};
+ghost use Rattle.writer.specs.Line.{isRead, lineText, lineWritable};
+ghost use Rattle.writer.specs.Parts.{prefixText, versionText, othersText};
+ghost use Rattle.writer.specs.Texts.{Inside, headerText, sequenceText, mapText, commentText};
+
+// The first byte of a kind.
+pub fn kind_first(kind: Kind) -> u8
+    ensures { λ r. ⌜ r ≡ kind₀ kind ⌝ }
+{
+    match kind {
+        Kind::Header => b'H',
+        Kind::ReferenceSequence => b'S',
+        Kind::ReadGroup => b'R',
+        Kind::Program => b'P',
+        Kind::Comment => b'C',
+    }
+}
+
+// The second.
+pub fn kind_second(kind: Kind) -> u8
+    ensures { λ r. ⌜ r ≡ kind₁ kind ⌝ }
+{
+    match kind {
+        Kind::Header => b'D',
+        Kind::ReferenceSequence => b'Q',
+        Kind::ReadGroup => b'G',
+        Kind::Program => b'G',
+        Kind::Comment => b'O',
+    }
+}
+
+// Writes the `@` and the two bytes of a kind.
+fn put_prefix(out: &mut [u8], o: usize, kind: Kind) -> usize
+    requires { ⌜ o + 3 ≤ length (now out) ⌝ }
+    ensures next { λ r. ⌜ r ≡ o + 3 ⌝ }
+    ensures wrote { λ _. ⌜ now (out .exit) ≡ over (now (out .entry)) o (prefixText kind) ⌝ }
+{
+    out[o] = b'@';
+    out[o + 1] = kind_first(kind);
+    out[o + 2] = kind_second(kind);
+    o + 3
+}
+
+// Writes what stands before a value: a tab, a tag, a colon.
+fn put_tag(out: &mut [u8], o: usize, a: u8, b: u8) -> usize
+    requires { ⌜ o + 4 ≤ length (now out) ⌝ }
+    ensures next { λ r. ⌜ r ≡ o + 4 ⌝ }
+    ensures wrote { λ _. ⌜ now (out .exit) ≡ over (now (out .entry)) o (9 ∷ a ∷ b ∷ 58 ∷ []) ⌝ }
+{
+    out[o] = b'\t';
+    out[o + 1] = a;
+    out[o + 2] = b;
+    out[o + 3] = b':';
+    o + 4
+}
+
+// Writes a field whose value is the `len` bytes of the line from `from` on.
+fn put_field(out: &mut [u8], o: usize, a: u8, b: u8, line: &[u8], from: usize, len: usize) -> usize
+    requires { ⌜ from + len ≤ length (now line) ⌝ }
+    requires { ⌜ o + 4 + len ≤ length (now out) ⌝ }
+    ensures next { λ r. ⌜ r ≡ o + length (fieldText a b (take len (drop from (now (line .entry))))) ⌝ }
+    ensures wrote { λ _. ⌜ now (out .exit) ≡ over (now (out .entry)) o (fieldText a b (take len (drop from (now (line .entry))))) ⌝ }
+{
+    let n = put_tag(out, o, a, b);
+    text::put_bytes(out, n, &line[from..from + len]);
+    n + len
+}
+
+// Writes the two numbers of a version, and the dot between.
+fn put_version(out: &mut [u8], o: usize, v: Version) -> usize
+    requires { ⌜ o + length (versionText v) ≤ length (now out) ⌝ }
+    ensures next { λ r. ⌜ r ≡ o + length (versionText v) ⌝ }
+    ensures wrote { λ _. ⌜ now (out .exit) ≡ over (now (out .entry)) o (versionText v) ⌝ }
+{
+    let major = v.major;
+    let minor = v.minor;
+    let n = decimal::write_u32(out, o, major);
+    out[n] = b'.';
+    decimal::write_u32(out, n + 1, minor)
+}
+
+// Writes the fields of an accepted line that are no keys, each tag at its first place with its last value.
+fn put_other_fields(out: &mut [u8], o: usize, kind: Kind, line: &[u8], at: usize, strict: bool) -> usize
+    requires { ⌜ AtField strict at (now line) 3 ⌝ }
+    requires { ⌜ at + length (now line) ≤ 16777216 ⌝ }
+    requires { ⌜ o + length (othersText kind at (now line)) ≤ length (now out) ⌝ }
+    ensures next { λ r. ⌜ r ≡ o + length (othersText kind at (now (line .entry))) ⌝ }
+    ensures wrote { λ _. ⌜ now (out .exit) ≡ over (now (out .entry)) o (othersText kind at (now (line .entry))) ⌝ }
+{
+    let mut n = o;
+    let mut pos: usize = 3;
+    loop {
+        let next = walk::next_other(kind, line, at, pos, strict);
+        match next {
+            Next::End => {
+                return n;
+            }
+            Next::Field(f) => {
+                n = put_field(out, n, f.tag_0, f.tag_1, line, f.at - at, f.len);
+                pos = f.next;
+            }
+        }
+    }
+}
+
+// Writes the other fields of an accepted line, and the LF that ends its record.
+fn put_rest(out: &mut [u8], o: usize, kind: Kind, line: &[u8], at: usize, strict: bool) -> usize
+    requires { ⌜ AtField strict at (now line) 3 ⌝ }
+    requires { ⌜ at + length (now line) ≤ 16777216 ⌝ }
+    requires { ⌜ o + length (othersText kind at (now line)) + 1 ≤ length (now out) ⌝ }
+    ensures next { λ r. ⌜ r ≡ o + length (othersText kind at (now (line .entry)) ++ (10 ∷ [])) ⌝ }
+    ensures wrote { λ _. ⌜ now (out .exit) ≡ over (now (out .entry)) o (othersText kind at (now (line .entry)) ++ (10 ∷ [])) ⌝ }
+{
+    let n = put_other_fields(out, o, kind, line, at, strict);
+    out[n] = b'\n';
+    n + 1
+}
+
+// Writes an HD: its version, then the other fields of its line.
+fn put_header(out: &mut [u8], o: usize, v: Version, line: &[u8], at: usize, strict: bool) -> usize
+    requires { ⌜ AtField strict at (now line) 3 ⌝ }
+    requires { ⌜ at + length (now line) ≤ 16777216 ⌝ }
+    requires { ⌜ o + length (headerText v at (now line)) ≤ length (now out) ⌝ }
+    ensures next { λ r. ⌜ r ≡ o + length (headerText v at (now (line .entry))) ⌝ }
+    ensures wrote { λ _. ⌜ now (out .exit) ≡ over (now (out .entry)) o (headerText v at (now (line .entry))) ⌝ }
+{
+    let n = put_prefix(out, o, Kind::Header);
+    let n = put_tag(out, n, b'V', b'N');
+    let n = put_version(out, n, v);
+    put_rest(out, n, Kind::Header, line, at, strict)
+}
+
+// Writes an SQ: the name that stands in its line, its length, then the other fields.
+fn put_reference_sequence(out: &mut [u8], o: usize, name: Place, ln: u64, line: &[u8], at: usize, strict: bool) -> usize
+    requires { ⌜ AtField strict at (now line) 3 ⌝ }
+    requires { ⌜ at + length (now line) ≤ 16777216 ⌝ }
+    requires { ⌜ Inside at (now line) name ⌝ }
+    requires { ⌜ o + length (sequenceText name ln at (now line)) ≤ length (now out) ⌝ }
+    ensures next { λ r. ⌜ r ≡ o + length (sequenceText name ln at (now (line .entry))) ⌝ }
+    ensures wrote { λ _. ⌜ now (out .exit) ≡ over (now (out .entry)) o (sequenceText name ln at (now (line .entry))) ⌝ }
+{
+    let from = name.at - at;
+    let len = name.len;
+    let n = put_prefix(out, o, Kind::ReferenceSequence);
+    let n = put_field(out, n, b'S', b'N', line, from, len);
+    let n = put_tag(out, n, b'L', b'N');
+    let n = decimal::write_u64(out, n, ln);
+    put_rest(out, n, Kind::ReferenceSequence, line, at, strict)
+}
+
+// Writes an RG or a PG: the ID that stands in its line, then the other fields.
+fn put_map(out: &mut [u8], o: usize, kind: Kind, id: Place, line: &[u8], at: usize, strict: bool) -> usize
+    requires { ⌜ AtField strict at (now line) 3 ⌝ }
+    requires { ⌜ at + length (now line) ≤ 16777216 ⌝ }
+    requires { ⌜ Inside at (now line) id ⌝ }
+    requires { ⌜ o + length (mapText kind id at (now line)) ≤ length (now out) ⌝ }
+    ensures next { λ r. ⌜ r ≡ o + length (mapText kind id at (now (line .entry))) ⌝ }
+    ensures wrote { λ _. ⌜ now (out .exit) ≡ over (now (out .entry)) o (mapText kind id at (now (line .entry))) ⌝ }
+{
+    let from = id.at - at;
+    let len = id.len;
+    let n = put_prefix(out, o, kind);
+    let n = put_field(out, n, b'I', b'D', line, from, len);
+    put_rest(out, n, kind, line, at, strict)
+}
+
+// Writes a CO: a tab, then the bytes that stand in its line.
+fn put_comment(out: &mut [u8], o: usize, comment: Place, line: &[u8], at: usize) -> usize
+    requires { ⌜ Inside at (now line) comment ⌝ }
+    requires { ⌜ o + length (commentText comment at (now line)) ≤ length (now out) ⌝ }
+    ensures next { λ r. ⌜ r ≡ o + length (commentText comment at (now (line .entry))) ⌝ }
+    ensures wrote { λ _. ⌜ now (out .exit) ≡ over (now (out .entry)) o (commentText comment at (now (line .entry))) ⌝ }
+{
+    let from = comment.at - at;
+    let len = comment.len;
+    let n = put_prefix(out, o, Kind::Comment);
+    out[n] = b'\t';
+    text::put_bytes(out, n + 1, &line[from..from + len]);
+    out[n + 1 + len] = b'\n';
+    n + 2 + len
+}
