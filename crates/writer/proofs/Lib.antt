@@ -1,3 +1,3 @@
 pub mod Wrote
 pub mod Others
-pub mod Parts
+pub mod Sizes

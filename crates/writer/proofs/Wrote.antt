@@ -14,10 +14,10 @@ abbrev pub Wrote : List ℕ → ℕ → List ℕ → ℕ → List ℕ → Type 0
 Wrote out at last next xs = (next ≡ at + length xs) × (last ≡ over out at xs)
 
 pub wrote-then : (out : List ℕ) (at : ℕ) (mid : List ℕ) (n : ℕ) (last : List ℕ) (m : ℕ) (xs ys : List ℕ)
-    → Wrote out at mid n xs → Wrote mid n last m ys → at + length xs + length ys ≤ length out → Wrote out at last m (xs ++ ys)
+    → Wrote out at mid n xs → Wrote mid n last m ys → at + length (xs ++ ys) ≤ length out → Wrote out at last m (xs ++ ys)
 wrote-then out at mid n last m xs ys (e, w) (f, v) h =
-    (omega (arith, length-append xs ys),
-    v ∙ ap (λ k. over mid k ys) e ∙ ap (λ l. over l (at + length xs) ys) w ∙ over-over out at xs ys h)
+    let l : length (xs ++ ys) ≡ length xs + length ys = length-append xs ys in
+    (omega arith, v ∙ ap (λ k. over mid k ys) e ∙ ap (λ l. over l (at + length xs) ys) w ∙ over-over out at xs ys (omega arith))
 
 -- one store, and three
 pub wrote-one : (out : List ℕ) (at a : ℕ) → at < length out → set out at a ≡ over out at (a ∷ [])

@@ -195,3 +195,99 @@ fn put_comment(out: &mut [u8], o: usize, comment: Place, line: &[u8], at: usize)
     out[n + 1 + len] = b'\n';
     n + 2 + len
 }
+
+// Writes the record of an accepted line, which stands at the offset `at` without its ending, and answers the place after it.
+pub fn put_record(out: &mut [u8], o: usize, src: &[u8], at: usize, strict: bool) -> usize
+    requires { ⌜ isRead (line strict (record { at = at; bytes = now src })) ≡ true ⌝ }
+    requires { ⌜ at + length (now src) ≤ 16777216 ⌝ }
+    requires { ⌜ o + length (lineText (line strict (record { at = at; bytes = now src }))) ≤ length (now out) ⌝ }
+    ensures next { λ r. ⌜ r ≡ o + length (lineText (line strict (record { at = at; bytes = now (src .entry) }))) ⌝ }
+    ensures wrote { λ _. ⌜ now (out .exit) ≡ over (now (out .entry)) o (lineText (line strict (record { at = at; bytes = now (src .entry) }))) ⌝ }
+{
+    let head = record::parse_record(src, at, strict);
+    match head {
+        Head::Refused(_) => o,
+        Head::Header(v, _) => put_header(out, o, v, src, at, strict),
+        Head::ReferenceSequence(p, n, _) => put_reference_sequence(out, o, p, n, src, at, strict),
+        Head::ReadGroup(p, _) => put_map(out, o, Kind::ReadGroup, p, src, at, strict),
+        Head::Program(p, _) => put_map(out, o, Kind::Program, p, src, at, strict),
+        Head::Comment(p) => put_comment(out, o, p, src, at),
+    }
+}
+
+// How many bytes the other fields of an accepted line have.
+fn other_fields_len(kind: Kind, line: &[u8], at: usize, strict: bool) -> usize
+    requires { ⌜ AtField strict at (now line) 3 ⌝ }
+    requires { ⌜ at + length (now line) ≤ 16777216 ⌝ }
+    ensures { λ r. ⌜ r ≡ length (othersText kind at (now (line .entry))) ⌝ }
+{
+    let mut n: usize = 0;
+    let mut pos: usize = 3;
+    loop {
+        let next = walk::next_other(kind, line, at, pos, strict);
+        match next {
+            Next::End => {
+                return n;
+            }
+            Next::Field(f) => {
+                n = n + 4 + f.len;
+                pos = f.next;
+            }
+        }
+    }
+}
+
+// How many bytes the two numbers of a version have, with the dot between.
+fn version_len(v: Version) -> usize
+    ensures { λ r. ⌜ r ≡ length (versionText v) ⌝ }
+{
+    let major = v.major;
+    let minor = v.minor;
+    decimal::len_u64(major as u64) + 1 + decimal::len_u64(minor as u64)
+}
+
+// How many bytes the record of an accepted line has: a prefix of three, four before each value, and the LF.
+pub fn record_len(src: &[u8], at: usize, strict: bool) -> usize
+    requires { ⌜ isRead (line strict (record { at = at; bytes = now src })) ≡ true ⌝ }
+    requires { ⌜ at + length (now src) ≤ 16777216 ⌝ }
+    ensures { λ r. ⌜ r ≡ length (lineText (line strict (record { at = at; bytes = now (src .entry) }))) ⌝ }
+{
+    let head = record::parse_record(src, at, strict);
+    match head {
+        Head::Refused(_) => 0,
+        Head::Header(v, _) => 8 + version_len(v) + other_fields_len(Kind::Header, src, at, strict),
+        Head::ReferenceSequence(p, n, _) => {
+            let name = p.len;
+            12 + name + decimal::len_u64(n) + other_fields_len(Kind::ReferenceSequence, src, at, strict)
+        }
+        Head::ReadGroup(p, _) => {
+            let id = p.len;
+            8 + id + other_fields_len(Kind::ReadGroup, src, at, strict)
+        }
+        Head::Program(p, _) => {
+            let id = p.len;
+            8 + id + other_fields_len(Kind::Program, src, at, strict)
+        }
+        Head::Comment(p) => {
+            let len = p.len;
+            5 + len
+        }
+    }
+}
+
+// Whether the record of an accepted line can be written: an SQ only if its name follows the specification's rule.
+pub fn is_writable(src: &[u8], at: usize, strict: bool) -> bool
+    requires { ⌜ isRead (line strict (record { at = at; bytes = now src })) ≡ true ⌝ }
+    requires { ⌜ at + length (now src) ≤ 16777216 ⌝ }
+    ensures { λ r. ⌜ r ≡ lineWritable (line strict (record { at = at; bytes = now (src .entry) })) ⌝ }
+{
+    let head = record::parse_record(src, at, strict);
+    match head {
+        Head::ReferenceSequence(p, _, _) => {
+            let from = p.at - at;
+            let len = p.len;
+            name::is_name(&src[from..from + len])
+        }
+        _ => true,
+    }
+}

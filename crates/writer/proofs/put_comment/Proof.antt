@@ -1,74 +1,105 @@
+-- `writer::put_comment` meets its contract: the prefix, a tab, the bytes of the line, an LF.
+use Prim.Native.Nat.{ℕ, _+_, _-_, _≤_}
+use mathlib.Core.Path.{_≡_, refl, ap, _∙_}
+use mathlib.Core.List.{List, [], _∷_, _++_}
+use native.Mathlib.Omega.{arith}
+use lib.ListN.{length, take, drop, set, length-set, length-append}
+use Rattle.format.specs.declared.Kind.the-variants.{Comment}
+use Rattle.text.specs.Over.{over}
+use Rattle.record.specs.declared.Place.{Place}
+use Rattle.writer.specs.Parts.{prefixText}
+use Rattle.writer.specs.Texts.{Inside, placeText, commentText}
+use Rattle.writer.proofs.Wrote.{wrote-then, wrote-one}
+use Rattle.writer.proofs.Sizes.{place-size, comment-size}
 use borrow.Author.Needs.{needs}
 use Rattle.writer.proofs.put_comment.Statement.{statement}
 use Rattle.writer.proofs.put_comment.Tie as tie
-use Rattle.writer.proofs.put_comment.Reads as reads
-use Rattle.writer.proofs.put_comment.Lts as lts
-use Rattle.text.proofs.put_bytes.Reads as put-bytes-reads
-use Rattle.writer.proofs.put_prefix.Reads as put-prefix-reads
 
--- src/lib.rt:190:16
+-- how long the whole is, and its bytes
+sizes : (s : tie.Start) → (let a = s .args in (length (placeText (a .at) (a .line .now) (a .comment)) ≡ a .comment .len)
+    × (length (commentText (a .comment) (a .at) (a .line .now)) ≡ 5 + a .comment .len))
+sizes s =
+    let a = s .args in
+    let i = s .pre .0 in
+    (place-size (a .at) (a .line .now) (a .comment) i, comment-size (a .at) (a .line .now) (a .comment) i)
+
+-- the part that is lent
+part : (at : ℕ) (line : List ℕ) (p : Place) → take (p .at - at + p .len - (p .at - at)) (drop (p .at - at) line) ≡ placeText at line p
+unfolding placeText
+part at line p = let e : p .at - at + p .len - (p .at - at) ≡ p .len = omega arith in ap (λ n. take n (drop (p .at - at) line)) e
+
+-- the output's length after the copy
+kept : (c : tie.After-put-bytes) → length (c .put-bytes .last .0) ≡ length (c .before .before .before .before .before .before .before .before .before .before .args .out .now)
+kept c = c .put-bytes .kept .0 ∙ simp length-set (c .before .before .before .before .before .put-prefix .kept .0)
+
 sub-from : tie.Need-sub-from
 sub-from c = search needs
 
--- src/lib.rt:192:9
 put-prefix-requires : tie.Need-put-prefix-requires
-put-prefix-requires c κs = ?
+put-prefix-requires c κs = let s = c .before .before .before .before in omega (arith, s .pre, sizes s)
 
--- src/lib.rt:193:5
 slice-write-out : tie.Need-slice-write-out
-slice-write-out c = ?
+slice-write-out c = let s = c .before .before .before .before .before .before .before in omega (arith, s .pre, sizes s)
 
--- src/lib.rt:194:26
 add-put-bytes : tie.Need-add-put-bytes
 add-put-bytes c = search needs
 
--- src/lib.rt:194:45
 add-put-bytes-2 : tie.Need-add-put-bytes-2
 add-put-bytes-2 c = search needs
 
--- src/lib.rt:194:33
 sub-put-bytes : tie.Need-sub-put-bytes
 sub-put-bytes c = search needs
 
--- src/lib.rt:194:33
 part-put-bytes-start : tie.Need-part-put-bytes-start
 part-put-bytes-start c = search needs
 
--- src/lib.rt:194:33
 part-put-bytes-end : tie.Need-part-put-bytes-end
 part-put-bytes-end c = search needs
 
--- src/lib.rt:194:5
 put-bytes-requires : tie.Need-put-bytes-requires
-put-bytes-requires c κs = ?
+put-bytes-requires c κs =
+    let s = c .before .before .before .before .before .before .before .before .before in
+    let a = s .args in
+    simp length-set (omega (arith, s .pre, sizes s, ap length (part (a .at) (a .line .now) (a .comment))))
 
--- src/lib.rt:195:9
 add-out : tie.Need-add-out
 add-out c = search needs
 
--- src/lib.rt:195:9
 add-out-2 : tie.Need-add-out-2
-add-out-2 c = ?
+add-out-2 c = let s = c .before .before .before .before .before .before .before .before .before .before .before .before in omega (arith, s .pre, sizes s)
 
--- src/lib.rt:195:5
 slice-write-out-2 : tie.Need-slice-write-out-2
-slice-write-out-2 c = ?
+slice-write-out-2 c =
+    let s = c .before .before .before .before .before .before .before .before .before .before .before .before in
+    let b = c .before .before in
+    omega (arith, s .pre, sizes s, kept b)
 
--- src/lib.rt:196:5
 add-result : tie.Need-add-result
 add-result c = search needs
 
--- src/lib.rt:196:5
 add-result-2 : tie.Need-add-result-2
-add-result-2 c = ?
+add-result-2 c = let s = c .before .before .before .before .before .before .before .before .before .before .before .before in omega (arith, s .pre, sizes s)
 
--- src/lib.rt:184:1
 same-length : tie.Need-same-length
-same-length c = ?
+same-length c = simp length-set (kept (c .before .before))
 
--- src/lib.rt:184:1
 returns : tie.Need-returns
-returns c = ?
+unfolding commentText prefixText
+returns c =
+    let bytes = c .before .before in
+    let prefix = bytes .before .before .before .before .before in
+    let s = prefix .before .before .before .before .before in
+    let a = s .args in
+    let len = a .comment .len in
+    let text = placeText (a .at) (a .line .now) (a .comment) in
+    let mid = prefix .put-prefix .last .0 in
+    let n = prefix .put-prefix .result in
+    let last = bytes .put-bytes .last .0 in
+    let written : last ≡ over (set mid n 9) (n + 1) text = bytes .put-bytes .ensures ∙ ap (over (set mid n 9) (n + 1)) (part (a .at) (a .line .now) (a .comment)) in
+    let tabbed = wrote-then (a .out .now) (a .o) mid n (set mid n 9) (n + 1) (prefixText Comment) (9 ∷ []) (prefix .put-prefix .ensures) (refl, wrote-one mid n 9 (omega (arith, s .pre, sizes s))) (omega (arith, s .pre, sizes s)) in
+    let told = wrote-then (a .out .now) (a .o) (set mid n 9) (n + 1) last (n + 1 + len) (prefixText Comment ++ (9 ∷ [])) text tabbed (omega (arith, sizes s), written) (omega (arith, s .pre, sizes s)) in
+    let whole = wrote-then (a .out .now) (a .o) last (n + 1 + len) (set last (n + 1 + len) 10) (n + 1 + len + 1) (prefixText Comment ++ (9 ∷ []) ++ text) (10 ∷ []) told (refl, wrote-one last (n + 1 + len) 10 (omega (arith, s .pre, sizes s, kept bytes))) (s .pre .1) in
+    (omega (arith, whole .0), whole .1)
 
 pub put-comment-spec : {M : Type 1} → statement M
 put-comment-spec =

@@ -1,29 +1,33 @@
+-- `writer::put_rest` meets its contract: the fields, and an LF behind them.
+use mathlib.Core.Path.{refl}
+use mathlib.Core.List.{[], _∷_}
+use native.Mathlib.Omega.{arith}
+use lib.ListN.{length-append}
+use Rattle.writer.specs.Parts.{othersText}
+use Rattle.writer.proofs.Wrote.{wrote-then, wrote-one}
 use borrow.Author.Needs.{needs}
 use Rattle.writer.proofs.put_rest.Statement.{statement}
 use Rattle.writer.proofs.put_rest.Tie as tie
-use Rattle.writer.proofs.put_rest.Reads as reads
-use Rattle.writer.proofs.put_rest.Lts as lts
-use Rattle.writer.proofs.put_other_fields.Reads as put-other-fields-reads
 
--- src/lib.rt:130:9
 put-other-fields-requires : tie.Need-put-other-fields-requires
 put-other-fields-requires c κs = search needs
 
--- src/lib.rt:131:5
 slice-write-out : tie.Need-slice-write-out
 slice-write-out c = search needs
 
--- src/lib.rt:132:5
 add-result : tie.Need-add-result
 add-result c = search needs
 
--- src/lib.rt:123:1
 same-length : tie.Need-same-length
 same-length c = search needs
 
--- src/lib.rt:123:1
 returns : tie.Need-returns
-returns c = ?
+returns c =
+    let first = c .before .before in
+    let a = first .before .before .before .before .args in
+    wrote-then (a .out .now) (a .o) _ _ _ _ (othersText (a .kind) (a .at) (a .line .now)) (10 ∷ []) (first .put-other-fields .ensures)
+    (refl, wrote-one (first .put-other-fields .last .0) (first .put-other-fields .result) 10 (omega arith))
+    (omega (arith, length-append (othersText (a .kind) (a .at) (a .line .now)) (10 ∷ [])))
 
 pub put-rest-spec : {M : Type 1} → statement M
 put-rest-spec =

@@ -1,14 +1,13 @@
 -- `writer::put_version` meets its contract: a number, a dot, a number.
-use Prim.Native.Nat.{ℕ, _+_}
-use mathlib.Core.Path.{_≡_, refl, sym, ap, subst, _∙_}
-use mathlib.Core.List.{List, [], _∷_, _++_, append-assoc}
+use Prim.Native.Nat.{_+_}
+use mathlib.Core.Path.{refl, _∙_}
+use mathlib.Core.List.{[], _∷_}
 use native.Mathlib.Omega.{arith}
-use lib.ListN.{length, set, length-set, length-append}
+use lib.ListN.{set, length-set}
 use Rattle.format.specs.Decimal.{written}
-use Rattle.format.specs.declared.Version.{Version}
 use Rattle.writer.specs.Parts.{versionText}
-use Rattle.writer.proofs.Wrote.{Wrote, wrote-then, wrote-one}
-use Rattle.writer.proofs.Parts.{version-size}
+use Rattle.writer.proofs.Wrote.{wrote-then, wrote-one}
+use Rattle.writer.proofs.Sizes.{version-size}
 use Rattle.writer.proofs.put_version.Statement.{statement}
 use Rattle.writer.proofs.put_version.Tie as tie
 
@@ -36,11 +35,8 @@ returns c =
     let size = version-size (a .v) in
     let mid = first .write-u32 .last .0 in
     let n = first .write-u32 .result in
-    let two : Wrote (a .out .now) (a .o) (set mid n 46) (n + 1) (written (a .v .major) ++ (46 ∷ [])) =
-    wrote-then (a .out .now) (a .o) mid n (set mid n 46) (n + 1) (written (a .v .major)) (46 ∷ []) (first .write-u32 .ensures) (refl, wrote-one mid n 46 (omega arith)) (omega arith) in
-    let three : Wrote (a .out .now) (a .o) (second .write-u322 .last .0) (second .write-u322 .result) ((written (a .v .major) ++ (46 ∷ [])) ++ written (a .v .minor)) =
-    wrote-then (a .out .now) (a .o) (set mid n 46) (n + 1) (second .write-u322 .last .0) (second .write-u322 .result) (written (a .v .major) ++ (46 ∷ [])) (written (a .v .minor)) two (second .write-u322 .ensures) (omega (arith, length-append (written (a .v .major)) (46 ∷ []))) in
-    subst (Wrote (a .out .now) (a .o) (second .write-u322 .last .0) (second .write-u322 .result)) (append-assoc (written (a .v .major)) (46 ∷ []) (written (a .v .minor))) three
+    let last = wrote-then mid n (set mid n 46) (n + 1) _ _ (46 ∷ []) (written (a .v .minor)) (refl, wrote-one mid n 46 (omega arith)) (second .write-u322 .ensures) (omega arith) in
+    wrote-then (a .out .now) (a .o) mid n _ _ (written (a .v .major)) (46 ∷ written (a .v .minor)) (first .write-u32 .ensures) last (first .before .before .before .pre)
 
 pub put-version-spec : {M : Type 1} → statement M
 put-version-spec =
