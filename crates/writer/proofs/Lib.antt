@@ -1,3 +1,4 @@
 pub mod Wrote
 pub mod Others
 pub mod Sizes
+pub mod Heads

@@ -96,7 +96,14 @@ fn put_version(out: &mut [u8], o: usize, v: Version) -> usize
 }
 
 // Writes the fields of an accepted line that are no keys, each tag at its first place with its last value.
-fn put_other_fields(out: &mut [u8], o: usize, kind: Kind, line: &[u8], at: usize, strict: bool) -> usize
+fn put_other_fields(
+    out: &mut [u8],
+    o: usize,
+    kind: Kind,
+    line: &[u8],
+    at: usize,
+    strict: bool,
+) -> usize
     requires { ⌜ AtField strict at (now line) 3 ⌝ }
     requires { ⌜ at + length (now line) ≤ 16777216 ⌝ }
     requires { ⌜ o + length (othersText kind at (now line)) ≤ length (now out) ⌝ }
@@ -147,7 +154,15 @@ fn put_header(out: &mut [u8], o: usize, v: Version, line: &[u8], at: usize, stri
 }
 
 // Writes an SQ: the name that stands in its line, its length, then the other fields.
-fn put_reference_sequence(out: &mut [u8], o: usize, name: Place, ln: u64, line: &[u8], at: usize, strict: bool) -> usize
+fn put_reference_sequence(
+    out: &mut [u8],
+    o: usize,
+    name: Place,
+    ln: u64,
+    line: &[u8],
+    at: usize,
+    strict: bool,
+) -> usize
     requires { ⌜ AtField strict at (now line) 3 ⌝ }
     requires { ⌜ at + length (now line) ≤ 16777216 ⌝ }
     requires { ⌜ Inside at (now line) name ⌝ }
@@ -165,7 +180,15 @@ fn put_reference_sequence(out: &mut [u8], o: usize, name: Place, ln: u64, line: 
 }
 
 // Writes an RG or a PG: the ID that stands in its line, then the other fields.
-fn put_map(out: &mut [u8], o: usize, kind: Kind, id: Place, line: &[u8], at: usize, strict: bool) -> usize
+fn put_map(
+    out: &mut [u8],
+    o: usize,
+    kind: Kind,
+    id: Place,
+    line: &[u8],
+    at: usize,
+    strict: bool,
+) -> usize
     requires { ⌜ AtField strict at (now line) 3 ⌝ }
     requires { ⌜ at + length (now line) ≤ 16777216 ⌝ }
     requires { ⌜ Inside at (now line) id ⌝ }
@@ -258,7 +281,10 @@ pub fn record_len(src: &[u8], at: usize, strict: bool) -> usize
         Head::Header(v, _) => 8 + version_len(v) + other_fields_len(Kind::Header, src, at, strict),
         Head::ReferenceSequence(p, n, _) => {
             let name = p.len;
-            12 + name + decimal::len_u64(n) + other_fields_len(Kind::ReferenceSequence, src, at, strict)
+            12
+                + name
+                + decimal::len_u64(n)
+                + other_fields_len(Kind::ReferenceSequence, src, at, strict)
         }
         Head::ReadGroup(p, _) => {
             let id = p.len;

@@ -75,9 +75,10 @@ put-field-requires : tie.Need-put-field-requires Inv-loop μ-loop
 put-field-requires c κs =
     let k = c .before .before .before in
     let l = k .before .before .before in
-    let a = l .before .before .before .args in
-    (value-inside (a .strict) (a .at) (a .line .now) (a .kind) (l .loop .pos) (k .next .given .0 .0) (gone k) .1,
-    omega (arith, l .before .before .before .pre, l .loop .inv, rest-size (a .strict) (a .at) (a .line .now) (a .kind) (l .loop .pos) (k .next .given .0 .0) (gone k)))
+    let a = l .before .before .before .args in (
+      value-inside (a .strict) (a .at) (a .line .now) (a .kind) (l .loop .pos) (k .next .given .0 .0) (gone k) .1,
+      omega (arith, l .before .before .before .pre, l .loop .inv, rest-size (a .strict) (a .at) (a .line .now) (a .kind) (l .loop .pos) (k .next .given .0 .0) (gone k)),
+    )
 
 loop-less : tie.Need-loop-less Inv-loop μ-loop
 loop-less c =

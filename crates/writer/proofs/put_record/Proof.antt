@@ -1,105 +1,157 @@
+-- `writer::put_record` meets its contract: the head of an accepted line says which record is to be written, and its text.
+use Prim.Native.Nat.{_+_, _≤_}
+use mathlib.Core.Path.{_≡_, sym, subst}
+use native.Mathlib.Omega.{arith}
+use lib.ListN.{length}
+use Rattle.record.specs.declared.Head.{Head}
+use Rattle.writer.specs.Heads.{headText, Holds}
+use Rattle.writer.proofs.Wrote.{Wrote}
+use Rattle.writer.proofs.Heads.{Told, told}
 use borrow.Author.Needs.{needs}
 use Rattle.writer.proofs.put_record.Statement.{statement}
 use Rattle.writer.proofs.put_record.Tie as tie
-use Rattle.writer.proofs.put_record.Reads as reads
-use Rattle.writer.proofs.put_record.Lts as lts
-use Rattle.record.proofs.parse_record.Reads as parse-record-reads
-use Rattle.writer.proofs.put_comment.Reads as put-comment-reads
-use Rattle.writer.proofs.put_header.Reads as put-header-reads
-use Rattle.writer.proofs.put_map.Reads as put-map-reads
-use Rattle.writer.proofs.put_reference_sequence.Reads as put-reference-sequence-reads
 
--- src/lib.rt:207:9
+-- the head is `d`
+shown : (c : tie.After-parse-record) (d : Head) → c .parse-record .result ≡ d → (let a = c .before .before .before .args in Told (a .strict) (a .at) (a .src .now) d)
+shown c d e =
+    let s = c .before .before .before in
+    let a = s .args in
+    told (a .strict) (a .at) (a .src .now) (s .pre .0) (c .parse-record .result) d (c .parse-record .ensures) e
+
+-- it has room
+room : (c : tie.After-parse-record) (d : Head) → c .parse-record .result ≡ d
+    → (let a = c .before .before .before .args in a .o + length (headText (a .at) (a .src .now) d) ≤ length (a .out .now))
+room c d e = let s = c .before .before .before in subst (λ l. s .args .o + length l ≤ length (s .args .out .now)) (shown c d e .text) (s .pre .1 .1)
+
 parse-record-requires : tie.Need-parse-record-requires
 parse-record-requires c κs = search needs
 
--- src/lib.rt:209:29
 enum-told : tie.Need-enum-told
 enum-told c = search needs
 
--- src/lib.rt:210:22
 enum-known-head : tie.Need-enum-known-head
 enum-known-head c = search needs
 
--- src/lib.rt:210:31
 put-header-requires : tie.Need-put-header-requires
-put-header-requires c κs = ?
+unfolding Holds headText
+put-header-requires c κs =
+    let k = c .before .before in
+    let p = k .before .before in
+    let s = p .before .before .before in
+    let holds = shown p _ (k .head .given .1) .holds in
+    (holds, (s .pre .1 .0, room p _ (k .head .given .1)))
 
--- src/lib.rt:211:33
 enum-known-head-2 : tie.Need-enum-known-head-2
 enum-known-head-2 c = search needs
 
--- src/lib.rt:211:45
 put-reference-sequence-requires : tie.Need-put-reference-sequence-requires
-put-reference-sequence-requires c κs = ?
+unfolding Holds headText
+put-reference-sequence-requires c κs =
+    let k = c .before .before in
+    let p = k .before .before in
+    let s = p .before .before .before in
+    let holds = shown p _ (k .head2 .given .1) .holds in
+    (holds .0, (s .pre .1 .0, (holds .1, room p _ (k .head2 .given .1))))
 
--- src/lib.rt:212:25
 enum-known-head-3 : tie.Need-enum-known-head-3
 enum-known-head-3 c = search needs
 
--- src/lib.rt:212:34
 put-map-requires : tie.Need-put-map-requires
-put-map-requires c κs = ?
+unfolding Holds headText
+put-map-requires c κs =
+    let k = c .before .before in
+    let p = k .before .before in
+    let s = p .before .before .before in
+    let holds = shown p _ (k .head3 .given .1) .holds in
+    (holds .0, (s .pre .1 .0, (holds .1, room p _ (k .head3 .given .1))))
 
--- src/lib.rt:213:23
 enum-known-head-4 : tie.Need-enum-known-head-4
 enum-known-head-4 c = search needs
 
--- src/lib.rt:213:32
 put-map-requires-2 : tie.Need-put-map-requires-2
-put-map-requires-2 c κs = ?
+unfolding Holds headText
+put-map-requires-2 c κs =
+    let k = c .before .before in
+    let p = k .before .before in
+    let s = p .before .before .before in
+    let holds = shown p _ (k .head4 .given .1) .holds in
+    (holds .0, (s .pre .1 .0, (holds .1, room p _ (k .head4 .given .1))))
 
--- src/lib.rt:214:23
 enum-known-head-5 : tie.Need-enum-known-head-5
 enum-known-head-5 c = search needs
 
--- src/lib.rt:214:29
 put-comment-requires : tie.Need-put-comment-requires
-put-comment-requires c κs = ?
+unfolding Holds headText
+put-comment-requires c κs =
+    let k = c .before .before in
+    let p = k .before .before in
+    let s = p .before .before .before in
+    let holds = shown p _ (k .head5 .given .1) .holds in
+    (holds, room p _ (k .head5 .given .1))
 
--- src/lib.rt:200:1
 returns : tie.Need-returns
-returns c = ?
+unfolding Holds
+returns c = absurd (shown (c .before .before) _ (c .enum-told .given .1) .holds)
 
--- src/lib.rt:200:1
 same-length : tie.Need-same-length
 same-length c = search needs
 
--- src/lib.rt:200:1
 returns-2 : tie.Need-returns-2
-returns-2 c = ?
+unfolding headText
+returns-2 c =
+    let w = c .before .before in
+    let k = w .before .before .before in
+    let p = k .before .before in
+    let a = p .before .before .before .args in
+    subst (Wrote (a .out .now) (a .o) (w .put-header .last .0) (w .put-header .result)) (sym (shown p _ (k .head .given .1) .text)) (w .put-header .ensures)
 
--- src/lib.rt:200:1
 same-length-2 : tie.Need-same-length-2
 same-length-2 c = search needs
 
--- src/lib.rt:200:1
 returns-3 : tie.Need-returns-3
-returns-3 c = ?
+unfolding headText
+returns-3 c =
+    let w = c .before .before in
+    let k = w .before .before .before in
+    let p = k .before .before in
+    let a = p .before .before .before .args in
+    subst (Wrote (a .out .now) (a .o) (w .put-reference-sequence .last .0) (w .put-reference-sequence .result)) (sym (shown p _ (k .head2 .given .1) .text)) (w .put-reference-sequence .ensures)
 
--- src/lib.rt:200:1
 same-length-3 : tie.Need-same-length-3
 same-length-3 c = search needs
 
--- src/lib.rt:200:1
 returns-4 : tie.Need-returns-4
-returns-4 c = ?
+unfolding headText
+returns-4 c =
+    let w = c .before .before in
+    let k = w .before .before .before in
+    let p = k .before .before in
+    let a = p .before .before .before .args in
+    subst (Wrote (a .out .now) (a .o) (w .put-map .last .0) (w .put-map .result)) (sym (shown p _ (k .head3 .given .1) .text)) (w .put-map .ensures)
 
--- src/lib.rt:200:1
 same-length-4 : tie.Need-same-length-4
 same-length-4 c = search needs
 
--- src/lib.rt:200:1
 returns-5 : tie.Need-returns-5
-returns-5 c = ?
+unfolding headText
+returns-5 c =
+    let w = c .before .before in
+    let k = w .before .before .before in
+    let p = k .before .before in
+    let a = p .before .before .before .args in
+    subst (Wrote (a .out .now) (a .o) (w .put-map2 .last .0) (w .put-map2 .result)) (sym (shown p _ (k .head4 .given .1) .text)) (w .put-map2 .ensures)
 
--- src/lib.rt:200:1
 same-length-5 : tie.Need-same-length-5
 same-length-5 c = search needs
 
--- src/lib.rt:200:1
 returns-6 : tie.Need-returns-6
-returns-6 c = ?
+unfolding headText
+returns-6 c =
+    let w = c .before .before in
+    let k = w .before .before .before in
+    let p = k .before .before in
+    let a = p .before .before .before .args in
+    subst (Wrote (a .out .now) (a .o) (w .put-comment .last .0) (w .put-comment .result)) (sym (shown p _ (k .head5 .given .1) .text)) (w .put-comment .ensures)
 
 pub put-record-spec : {M : Type 1} → statement M
 put-record-spec =
