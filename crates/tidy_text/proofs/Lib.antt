@@ -1,0 +1,3 @@
+pub mod OfKind
+pub mod Lines
+pub mod Total
