@@ -31,6 +31,11 @@ pairs-records strict (p ∷ ps) (r ∷ rs) h =
     let i = pairs-records strict ps rs (h .1) in
     (rw (h .0) (ap (λ l. r ∷ l) (i .0)), rw (h .0) (i .1))
 
+reading : (g : Reading) → isAccepted g ≡ true → g ≡ accept (recordsOf g)
+unfolding isAccepted recordsOf
+reading (refuse n l) q = absurd (never (cc))
+reading (accept rs) q = refl
+
 -- before the first turn
 pub record Opened (strict : Bool) (t : List ℕ) : Type 0 where
   pub fits : length t ≤ 16777216
@@ -41,14 +46,9 @@ pub record Opened (strict : Bool) (t : List ℕ) : Type 0 where
 pub opened : (strict : Bool) (t : List ℕ) → isAccepted (readText t) ≡ true → strict ≡ isStrict (announced (lines t)) → Opened strict t
 unfolding lines strictly
 opened strict t h s =
-    let e = accepted (readText t) h in
+    let e = reading (readText t) h in
     let p = pairs-records (strictly t) (lines t) (recordsOf (readText t)) (text-lines t (recordsOf (readText t)) e) in
     rw s (record { fits = text-fits t (recordsOf (readText t)) e; reads = e; records = p .0; lines = p .1 })
-  where
-    accepted : (g : Reading) → isAccepted g ≡ true → g ≡ accept (recordsOf g)
-    unfolding isAccepted recordsOf
-    accepted (refuse n l) q = absurd (never (cc))
-    accepted (accept rs) q = refl
 
 -- ---- one turn
 

@@ -58,6 +58,15 @@ kind-number (group p fs) = refl
 kind-number (program p fs) = refl
 kind-number (comment p) = refl
 
+-- only an SQ has a name
+nameless : (r : Record) → eqb (code r) 2 ≡ false → isWritable r ≡ true
+unfolding isWritable code
+nameless (header v fs) q = refl
+nameless (reference p n fs) q = absurd (never (cc))
+nameless (group p fs) q = refl
+nameless (program p fs) q = refl
+nameless (comment p) q = refl
+
 -- ---- an accepted line
 
 -- its first three bytes
@@ -99,27 +108,17 @@ module _ (strict : Bool) (at : ℕ) (s : List ℕ) (h : isRead (line strict (rec
   unfolding kindText
   kind-other k e = by-record (λ l. kindText k l ≡ []) (λ r f. rw (sym (front-kind k r f) ∙ e) refl)
 
-  -- a record of another kind than SQ has no name
   pub other-writable : hasKind ReferenceSequence s ≡ false → lineWritable (line strict (record { at = at; bytes = s })) ≡ true
   unfolding lineWritable numberOf
   other-writable e = by-record (λ l. lineWritable l ≡ true) (λ r f. nameless r (sym (front-kind ReferenceSequence r f) ∙ e))
-    where
-      nameless : (r : Record) → eqb (code r) 2 ≡ false → isWritable r ≡ true
-      unfolding isWritable code
-      nameless (header v fs) q = refl
-      nameless (reference p n fs) q = absurd (never (cc))
-      nameless (group p fs) q = refl
-      nameless (program p fs) q = refl
-      nameless (comment p) q = refl
 
 -- ---- one line before others
 
 pub kind-onto : (k : Kind) (l : Line) (rs : List Record) → textOfKind k (onto l rs) ≡ kindText k l ++ textOfKind k rs
-unfolding textOfKind onto kindText ofKind
+unfolding textOfKind onto kindText ofKind text
 kind-onto k (refused n) rs = refl
 kind-onto k (read r) rs = go (eqb (code r) (numberOf k))
   where
     go : (t : Bool) → text (cond t (r ∷ ofKind (numberOf k) rs) (ofKind (numberOf k) rs)) ≡ cond t (recordText r) [] ++ text (ofKind (numberOf k) rs)
-    unfolding text
     go true = refl
     go false = refl

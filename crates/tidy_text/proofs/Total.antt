@@ -56,13 +56,13 @@ one-kind (group p fs) = omega arith
 one-kind (program p fs) = omega arith
 one-kind (comment p) = omega arith
 
+none : size Header [] + size ReferenceSequence [] + size ReadGroup [] + size Program [] + size Comment [] ≡ 0
+unfolding textOfKind ofKind text
+none = refl
+
 kinds-length : (rs : List Record) → size Header rs + size ReferenceSequence rs + size ReadGroup rs + size Program rs + size Comment rs ≡ length (text rs)
 unfolding text
 kinds-length [] = none
-  where
-    none : size Header [] + size ReferenceSequence [] + size ReadGroup [] + size Program [] + size Comment [] ≡ 0
-    unfolding textOfKind ofKind text
-    none = refl
 kinds-length (r ∷ rs) =
     omega (
       arith,

@@ -19,6 +19,11 @@ wrote-then out at mid n last m xs ys (e, w) (f, v) h =
     let l : length (xs ++ ys) ≡ length xs + length ys = length-append xs ys in
     (omega arith, v ∙ ap (λ k. over mid k ys) e ∙ ap (λ l. over l (at + length xs) ys) w ∙ over-over out at xs ys (omega arith))
 
+-- what is still to come, written behind it
+pub wrote-onward : (out last : List ℕ) (n m : ℕ) (all xs ys : List ℕ) → all ≡ xs ++ ys → Wrote out n last m xs → n + length xs + length ys ≤ length out → over last m ys ≡ over out n all
+wrote-onward out last n m all xs ys e w h =
+    ap (λ k. over last k ys) (w .0) ∙ ap (λ l. over l (n + length xs) ys) (w .1) ∙ over-over out n xs ys h ∙ ap (over out n) (sym e)
+
 -- one store, and three
 pub wrote-one : (out : List ℕ) (at a : ℕ) → at < length out → set out at a ≡ over out at (a ∷ [])
 unfolding over

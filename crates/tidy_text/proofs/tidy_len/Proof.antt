@@ -1,75 +1,117 @@
+-- `tidy_text::tidy_len` meets its contract: what is counted, and what the lines still to come have, is all; the whole is at most a byte longer than the text.
+use Prim.Native.Nat.{ℕ, _+_, _-_, _≤_}
+use mathlib.Core.Path.{_≡_, refl, sym, ap, _∙_}
+use mathlib.Core.Bool.{true}
+use mathlib.Core.List.{[]}
+use native.Mathlib.Omega.{arith}
+use lib.ListN.{length, drop, length-append}
+use Rattle.format.specs.Lines.{linesFrom}
+use Rattle.format.specs.Records.{line}
+use Rattle.format.specs.Reading.{readText}
+use Rattle.format.specs.Tidy.{text, tidy}
+use Rattle.roundtrip.proofs.Total.{tidy-length}
+use Rattle.writer.specs.Line.{lineText}
+use Rattle.tidy_text.specs.Accepted.{recordsOf, allRead, recordsFrom}
+use Rattle.tidy_text.proofs.Lines.{Opened, opened, lent, Turn, turn, ended}
+use Rattle.tidy_text.proofs.Total.{text-onto, tidy-total}
+use borrow.Author.Needs.{needs}
 use Rattle.tidy_text.proofs.tidy_len.Statement.{statement}
 use Rattle.tidy_text.proofs.tidy_len.Tie as tie
-use Rattle.tidy_text.proofs.tidy_len.Reads as reads
-use Rattle.tidy_text.proofs.tidy_len.Lts as lts
-use Rattle.text.proofs.first_line.Reads as first-line-reads
-use Rattle.writer.proofs.record_len.Reads as record-len-reads
 
 abbrev Inv-loop : tie.InvT-loop
-Inv-loop text strict n₀ at₀ n at = ?
+Inv-loop t strict n₀ at₀ n at =
+    (at ≤ length t)
+    × (allRead strict (linesFrom at (drop at t)) ≡ true)
+    × (n + length (text (recordsFrom strict t at)) ≡ length (tidy (recordsOf (readText t))))
 
 abbrev μ-loop : tie.MeasureT-loop
-μ-loop text strict n₀ at₀ n at = ?
+μ-loop t strict n₀ at₀ n at = length t - at
 
--- src/lib.rt:88:5
+none : length (text []) ≡ 0
+unfolding text
+none = refl
+
+begun : (s : tie.Start Inv-loop μ-loop) → Opened (s .args .strict) (s .args .text .now)
+begun s = opened (s .args .strict) (s .args .text .now) (s .pre .0) (s .pre .1)
+
+-- the line of a turn
+turned : (c : tie.After-first-line Inv-loop μ-loop) → (let l = c .before .before .before in let a = l .before .before .args in Turn (a .strict) (a .text .now) (l .loop .at) (c .first-line .result))
+turned c =
+    let l = c .before .before .before in
+    let a = l .before .before .args in
+    turn (a .strict) (a .text .now) (l .loop .at) (omega arith) (l .loop .inv .1) (c .first-line .result) (c .first-line .ensures)
+
+-- what is counted with it, and with those after it
+counted : (c : tie.After-first-line Inv-loop μ-loop)
+    → (let l = c .before .before .before in let a = l .before .before .args in
+    (l .loop .n + length (lineText (line (a .strict) (record { at = l .loop .at; bytes = lent (a .text .now) (l .loop .at) (c .first-line .result .len) }))) + length (text (recordsFrom (a .strict) (a .text .now) (l .loop .at + c .first-line .result .next)))
+    ≡ length (tidy (recordsOf (readText (a .text .now))))) × (length (tidy (recordsOf (readText (a .text .now)))) ≤ 16777217))
+counted c =
+    let l = c .before .before .before in
+    let s = l .before .before in
+    let a = s .args in
+    let o = begun s in
+    let p = line (a .strict) (record { at = l .loop .at; bytes = lent (a .text .now) (l .loop .at) (c .first-line .result .len) }) in
+    let rest = recordsFrom (a .strict) (a .text .now) (l .loop .at + c .first-line .result .next) in (
+      omega (arith, l .loop .inv .2, ap (λ rs. length (text rs)) (turned c .records), ap length (text-onto p rest), length-append (lineText p) (text rest)),
+      omega (arith, tidy-length (a .text .now) (recordsOf (readText (a .text .now))) (o .reads), o .fits),
+    )
+
 loop-holds : tie.Need-loop-holds Inv-loop μ-loop
-loop-holds c = ?
+loop-holds c =
+    let o = begun (c .before) in
+    (omega arith, o .lines, omega (arith, ap (λ rs. length (text rs)) (o .records), tidy-total (recordsOf (readText (c .before .args .text .now)))))
 
--- src/lib.rt:89:36
 sub-first-line : tie.Need-sub-first-line Inv-loop μ-loop
-sub-first-line c = ?
+sub-first-line c = omega arith
 
--- src/lib.rt:89:36
 part-first-line-start : tie.Need-part-first-line-start Inv-loop μ-loop
-part-first-line-start c = ?
+part-first-line-start c = omega arith
 
--- src/lib.rt:89:36
 part-first-line-end : tie.Need-part-first-line-end Inv-loop μ-loop
-part-first-line-end c = ?
+part-first-line-end c = omega arith
 
--- src/lib.rt:89:13
 first-line-requires : tie.Need-first-line-requires Inv-loop μ-loop
-first-line-requires c κs = ?
+first-line-requires c κs = search needs
 
--- src/lib.rt:90:43
 add-record-len : tie.Need-add-record-len Inv-loop μ-loop
-add-record-len c = ?
+add-record-len c = omega (arith, turned (c .before))
 
--- src/lib.rt:90:33
 sub-record-len : tie.Need-sub-record-len Inv-loop μ-loop
-sub-record-len c = ?
+sub-record-len c = omega arith
 
--- src/lib.rt:90:33
 part-record-len-start : tie.Need-part-record-len-start Inv-loop μ-loop
-part-record-len-start c = ?
+part-record-len-start c = omega arith
 
--- src/lib.rt:90:33
 part-record-len-end : tie.Need-part-record-len-end Inv-loop μ-loop
-part-record-len-end c = ?
+part-record-len-end c = omega (arith, turned (c .before))
 
--- src/lib.rt:90:14
 record-len-requires : tie.Need-record-len-requires Inv-loop μ-loop
-record-len-requires c κs = ?
+record-len-requires c κs =
+    let f = c .before .before in
+    let t = turned f in
+    (t .read, omega (arith, t .size, t .inside, begun (f .before .before .before .before .before) .fits))
 
--- src/lib.rt:90:9
 add-n : tie.Need-add-n Inv-loop μ-loop
-add-n c = ?
+add-n c = omega (arith, counted (c .before .before .before))
 
--- src/lib.rt:91:9
 add-at : tie.Need-add-at Inv-loop μ-loop
-add-at c = ?
+add-at c = omega (arith, turned (c .before .before .before .before))
 
--- src/lib.rt:88:5
 loop-less : tie.Need-loop-less Inv-loop μ-loop
-loop-less c = ?
+loop-less c = omega (arith, turned (c .before .before .before .before))
 
--- src/lib.rt:88:5
 loop-again : tie.Need-loop-again Inv-loop μ-loop
-loop-again c = ?
+loop-again c =
+    let f = c .before .before .before .before in
+    let t = turned f in
+    (t .within, t .rest, omega (arith, counted f))
 
--- src/lib.rt:81:1
 returns : tie.Need-returns Inv-loop μ-loop
-returns c = ?
+returns c =
+    let l = c .before in
+    let a = l .before .before .args in
+    omega (arith, l .loop .inv .2, ap (λ rs. length (text rs)) (ended (a .strict) (a .text .now) (l .loop .at) (c .loop-test .left)), none)
 
 pub tidy-len-spec : {M : Type 1} → statement M
 tidy-len-spec =

@@ -1,79 +1,127 @@
+-- `tidy_text::unwritable` meets its contract: what is asked of the whole text is asked of the lines still to come.
+use Prim.Native.Nat.{ℕ, _+_, _-_, _≤_}
+use mathlib.Core.Path.{_≡_, refl, sym, ap, _∙_}
+use mathlib.Core.Bool.{Bool, true, false, cond}
+use mathlib.Core.Option.{some}
+use native.Mathlib.Omega.{arith}
+use lib.ListN.{length, drop}
+use borrow.Author.Tests.{not-true, not-false}
+use Rattle.format.specs.Lines.{linesFrom}
+use Rattle.format.specs.Records.{line}
+use Rattle.format.specs.Reading.{readText}
+use Rattle.format.specs.Tidy.{unwritable}
+use Rattle.writer.specs.Line.{lineWritable}
+use Rattle.tidy_text.specs.Accepted.{recordsOf, namedOf, allRead, recordsFrom}
+use Rattle.tidy_text.proofs.Lines.{Opened, opened, lent, Turn, turn, ended}
+use Rattle.tidy_text.proofs.Names.{unwritable-onto, unwritable-none}
+use borrow.Author.Needs.{needs}
 use Rattle.tidy_text.proofs.unwritable.Statement.{statement}
 use Rattle.tidy_text.proofs.unwritable.Tie as tie
-use Rattle.tidy_text.proofs.unwritable.Reads as reads
-use Rattle.tidy_text.proofs.unwritable.Lts as lts
-use Rattle.text.proofs.first_line.Reads as first-line-reads
-use Rattle.tidy_text.proofs.is_line_writable.Reads as is-line-writable-reads
 
 abbrev Inv-loop : tie.InvT-loop
-Inv-loop text strict l₀ at₀ l at = ?
+Inv-loop t strict l₀ at₀ l at =
+    (at ≤ length t)
+    × (l ≤ at)
+    × (allRead strict (linesFrom at (drop at t)) ≡ true)
+    × (unwritable 0 (recordsOf (readText t)) ≡ unwritable l (recordsFrom strict t at))
 
 abbrev μ-loop : tie.MeasureT-loop
-μ-loop text strict l₀ at₀ l at = ?
+μ-loop t strict l₀ at₀ l at = length t - at
 
--- src/lib.rt:69:5
+begun : (s : tie.Start Inv-loop μ-loop) → Opened (s .args .strict) (s .args .text .now)
+begun s = opened (s .args .strict) (s .args .text .now) (s .pre .0) (s .pre .1)
+
+-- the line of a turn
+turned : (c : tie.After-first-line Inv-loop μ-loop) → (let l = c .before .before .before in let a = l .before .before .args in Turn (a .strict) (a .text .now) (l .loop .at) (c .first-line .result))
+turned c =
+    let l = c .before .before .before in
+    let a = l .before .before .args in
+    turn (a .strict) (a .text .now) (l .loop .at) (omega arith) (l .loop .inv .2) (c .first-line .result) (c .first-line .ensures)
+
+-- what is asked, by what the callee answered of the line
+asked : (c : tie.After-is-line-writable Inv-loop μ-loop)
+    → (let f = c .before .before .before in let l = f .before .before .before in let a = l .before .before .args in
+    unwritable 0 (recordsOf (readText (a .text .now)))
+    ≡ cond (c .is-line-writable .result) (unwritable (l .loop .l + 1) (recordsFrom (a .strict) (a .text .now) (l .loop .at + f .first-line .result .next))) (some (l .loop .l)))
+asked c =
+    let f = c .before .before .before in
+    let l = f .before .before .before in
+    let a = l .before .before .args in
+    let t = turned f in
+    let p = line (a .strict) (record { at = l .loop .at; bytes = lent (a .text .now) (l .loop .at) (f .first-line .result .len) }) in
+    let rest = recordsFrom (a .strict) (a .text .now) (l .loop .at + f .first-line .result .next) in
+    l .loop .inv .3
+    ∙ ap (unwritable (l .loop .l)) (t .records)
+    ∙ unwritable-onto (l .loop .l) p rest (t .read)
+    ∙ ap (λ b. cond b (unwritable (l .loop .l + 1) rest) (some (l .loop .l))) (sym (c .is-line-writable .ensures))
+
+-- the flag once it is known
+cond-is : {A : Type 0} (b d : Bool) (x y : A) → b ≡ d → cond b x y ≡ cond d x y
+cond-is b d x y e = ap (λ b. cond b x y) e
+
 loop-holds : tie.Need-loop-holds Inv-loop μ-loop
-loop-holds c = ?
+loop-holds c = let o = begun (c .before) in (omega arith, omega arith, o .lines, ap (unwritable 0) (sym (o .records)))
 
--- src/lib.rt:70:36
 sub-first-line : tie.Need-sub-first-line Inv-loop μ-loop
-sub-first-line c = ?
+sub-first-line c = omega arith
 
--- src/lib.rt:70:36
 part-first-line-start : tie.Need-part-first-line-start Inv-loop μ-loop
-part-first-line-start c = ?
+part-first-line-start c = omega arith
 
--- src/lib.rt:70:36
 part-first-line-end : tie.Need-part-first-line-end Inv-loop μ-loop
-part-first-line-end c = ?
+part-first-line-end c = omega arith
 
--- src/lib.rt:70:13
 first-line-requires : tie.Need-first-line-requires Inv-loop μ-loop
-first-line-requires c κs = ?
+first-line-requires c κs = search needs
 
--- src/lib.rt:71:40
 add-is-line-writable : tie.Need-add-is-line-writable Inv-loop μ-loop
-add-is-line-writable c = ?
+add-is-line-writable c = omega (arith, turned (c .before))
 
--- src/lib.rt:71:30
 sub-is-line-writable : tie.Need-sub-is-line-writable Inv-loop μ-loop
-sub-is-line-writable c = ?
+sub-is-line-writable c = omega arith
 
--- src/lib.rt:71:30
 part-is-line-writable-start : tie.Need-part-is-line-writable-start Inv-loop μ-loop
-part-is-line-writable-start c = ?
+part-is-line-writable-start c = omega arith
 
--- src/lib.rt:71:30
 part-is-line-writable-end : tie.Need-part-is-line-writable-end Inv-loop μ-loop
-part-is-line-writable-end c = ?
+part-is-line-writable-end c = omega (arith, turned (c .before))
 
--- src/lib.rt:71:13
 is-line-writable-requires : tie.Need-is-line-writable-requires Inv-loop μ-loop
-is-line-writable-requires c κs = ?
+is-line-writable-requires c κs =
+    let f = c .before .before in
+    let t = turned f in
+    (t .read, omega (arith, t .size, t .inside, begun (f .before .before .before .before .before) .fits))
 
--- src/lib.rt:72:13
 returns : tie.Need-returns Inv-loop μ-loop
-returns c = ?
+unfolding namedOf
+returns c = let w = c .before in sym (ap namedOf (asked w ∙ cond-is (w .is-line-writable .result) false _ _ (not-true (w .is-line-writable .result) (c .if1 .taken))))
 
--- src/lib.rt:74:9
 add-l : tie.Need-add-l Inv-loop μ-loop
-add-l c = ?
+add-l c =
+    let f = c .before .before .before .before in
+    let l = f .before .before .before in
+    omega (arith, l .loop .inv, begun (l .before .before) .fits)
 
--- src/lib.rt:75:9
 add-at : tie.Need-add-at Inv-loop μ-loop
-add-at c = ?
+add-at c = omega (arith, turned (c .before .before .before .before .before))
 
--- src/lib.rt:69:5
 loop-less : tie.Need-loop-less Inv-loop μ-loop
-loop-less c = ?
+loop-less c = omega (arith, turned (c .before .before .before .before .before))
 
--- src/lib.rt:69:5
 loop-again : tie.Need-loop-again Inv-loop μ-loop
-loop-again c = ?
+loop-again c =
+    let e = c .before in
+    let w = e .before in
+    let f = w .before .before .before in
+    let t = turned f in
+    (t .within, omega (arith, f .before .before .before .loop .inv, t .onward), t .rest, asked w ∙ cond-is (w .is-line-writable .result) true _ _ (not-false (w .is-line-writable .result) (e .if1 .left)))
 
--- src/lib.rt:62:1
 returns-2 : tie.Need-returns-2 Inv-loop μ-loop
-returns-2 c = ?
+unfolding namedOf
+returns-2 c =
+    let l = c .before in
+    let a = l .before .before .args in
+    sym (ap namedOf (l .loop .inv .3 ∙ ap (unwritable (l .loop .l)) (ended (a .strict) (a .text .now) (l .loop .at) (c .loop-test .left)) ∙ unwritable-none (l .loop .l)))
 
 pub unwritable-spec : {M : Type 1} → statement M
 unwritable-spec =

@@ -1,25 +1,19 @@
 -- `writer::put_other_fields` meets its contract: what is written, and what the fields still to come will write, is all.
 use Prim.Native.Nat.{ℕ, _+_, _-_, _≤_}
 use mathlib.Core.Path.{_≡_, refl, sym, ap, _∙_}
-use mathlib.Core.List.{List, [], _++_}
 use native.Mathlib.Omega.{arith}
 use lib.ListN.{length, take, drop, length-append}
 use Rattle.format.specs.Tidy.{fieldText}
 use Rattle.text.specs.Over.{over}
-use Rattle.text.proofs.Over.{over-none, over-over}
+use Rattle.text.proofs.Over.{over-none}
 use Rattle.walk.specs.Run.{AtField}
 use Rattle.walk.proofs.Walked.{Gone, next-field}
 use Rattle.writer.specs.Parts.{othersText}
-use Rattle.writer.proofs.Wrote.{Wrote}
+use Rattle.writer.proofs.Wrote.{wrote-onward}
 use Rattle.writer.proofs.Others.{restText, rest-all, rest-none, rest-more, rest-size, value-inside}
 use borrow.Author.Needs.{needs}
 use Rattle.writer.proofs.put_other_fields.Statement.{statement}
 use Rattle.writer.proofs.put_other_fields.Tie as tie
-
--- a write, and what comes behind it
-onward : (out last : List ℕ) (n m : ℕ) (all xs ys : List ℕ) → all ≡ xs ++ ys → Wrote out n last m xs → n + length xs + length ys ≤ length out → over last m ys ≡ over out n all
-onward out last n m all xs ys e w h =
-    ap (λ k. over last k ys) (w .0) ∙ ap (λ l. over l (n + length xs) ys) (w .1) ∙ over-over out n xs ys h ∙ ap (over out n) (sym e)
 
 abbrev Inv-loop : tie.InvT-loop
 Inv-loop out₀ o kind line at strict n₀ pos₀ out n pos =
@@ -100,7 +94,7 @@ loop-again c =
     let s = ap length r ∙ length-append xs ys in (
       g .next,
       omega (arith, s, p .put-field .ensures .0, l .loop .inv .1),
-      onward (l .loop .out) (p .put-field .last .0) (l .loop .n) (p .put-field .result) (restText (a .kind) (a .at) (a .line .now) (l .loop .pos)) xs ys r (p .put-field .ensures) (omega (arith, s, l .loop .inv, l .before .before .before .pre))
+      wrote-onward (l .loop .out) (p .put-field .last .0) (l .loop .n) (p .put-field .result) (restText (a .kind) (a .at) (a .line .now) (l .loop .pos)) xs ys r (p .put-field .ensures) (omega (arith, s, l .loop .inv, l .before .before .before .pre))
           ∙ l .loop .inv .2,
       p .put-field .kept .0 ∙ l .loop .inv .3,
     )
