@@ -38,7 +38,7 @@ tidy-kinds rs =
 -- ---- the order does not matter for the sum
 
 -- how long the records of a kind are
-abbrev size : Kind → List Record → ℕ
+abbrev pub size : Kind → List Record → ℕ
 size k rs = length (textOfKind k rs)
 
 -- one record more
@@ -76,20 +76,16 @@ kinds-length (r ∷ rs) =
       length-append (recordText r) (text rs),
     )
 
--- the tidy text is as long as the records' lines in text order
-pub tidy-total : (rs : List Record) → length (tidy rs) ≡ length (text rs)
-tidy-total rs =
+-- the tidy text's length, kind by kind
+pub tidy-sizes : (rs : List Record) → length (tidy rs) ≡ size Header rs + size ReferenceSequence rs + size ReadGroup rs + size Program rs + size Comment rs
+tidy-sizes rs =
     let a : List ℕ = textOfKind Header rs in
     let b : List ℕ = textOfKind ReferenceSequence rs in
     let c : List ℕ = textOfKind ReadGroup rs in
     let d : List ℕ = textOfKind Program rs in
     let e : List ℕ = textOfKind Comment rs in
-    omega (
-      arith,
-      ap length (tidy-kinds rs),
-      length-append (a ++ b ++ c ++ d) e,
-      length-append (a ++ b ++ c) d,
-      length-append (a ++ b) c,
-      length-append a b,
-      kinds-length rs,
-    )
+    omega (arith, ap length (tidy-kinds rs), length-append (a ++ b ++ c ++ d) e, length-append (a ++ b ++ c) d, length-append (a ++ b) c, length-append a b)
+
+-- it is as long as the records' lines in text order
+pub tidy-total : (rs : List Record) → length (tidy rs) ≡ length (text rs)
+tidy-total rs = tidy-sizes rs ∙ kinds-length rs
