@@ -15,9 +15,16 @@ ghost use Rattle.format.specs.Tidy.{fieldText};
 ghost use Rattle.text.specs.Over.{over};
 ghost use Rattle.accepted.specs.Spelled.{kind₀, kind₁};
 ghost use Rattle.walk.specs.Run.{AtField};
-ghost use Rattle.writer.specs.Line.{isRead, lineText, lineWritable};
+ghost use Rattle.writer.specs.Line.{isRead, lineText, lineWritable, sizeOf};
 ghost use Rattle.writer.specs.Parts.{prefixText, versionText, othersText};
+ghost use Rattle.writer.specs.Heads.{headText, headWritable, Holds};
 ghost use Rattle.writer.specs.Texts.{Inside, headerText, sequenceText, mapText, commentText};
+
+// How many bytes a record has, if it can be written.
+pub enum Size {
+    Unwritable,
+    Is(usize),
+}
 
 // The first byte of a kind.
 pub fn kind_first(kind: Kind) -> u8
@@ -269,30 +276,29 @@ fn version_len(v: Version) -> usize
     decimal::len_u64(major as u64) + 1 + decimal::len_u64(minor as u64)
 }
 
-// How many bytes the record of an accepted line has: a prefix of three, four before each value, and the LF.
-pub fn record_len(src: &[u8], at: usize, strict: bool) -> usize
-    requires { ⌜ isRead (line strict (record { at = at; bytes = now src })) ≡ true ⌝ }
-    requires { ⌜ at + length (now src) ≤ 16777216 ⌝ }
-    ensures { λ r. ⌜ r ≡ length (lineText (line strict (record { at = at; bytes = now (src .entry) }))) ⌝ }
+// How many bytes the record with this head has: a prefix of three, four before each value, and the LF.
+fn head_len(head: Head, line: &[u8], at: usize, strict: bool) -> usize
+    requires { ⌜ Holds strict at (now line) head ⌝ }
+    requires { ⌜ at + length (now line) ≤ 16777216 ⌝ }
+    ensures { λ r. ⌜ r ≡ length (headText at (now (line .entry)) head) ⌝ }
 {
-    let head = record::parse_record(src, at, strict);
     match head {
         Head::Refused(_) => 0,
-        Head::Header(v, _) => 8 + version_len(v) + other_fields_len(Kind::Header, src, at, strict),
+        Head::Header(v, _) => 8 + version_len(v) + other_fields_len(Kind::Header, line, at, strict),
         Head::ReferenceSequence(p, n, _) => {
             let name = p.len;
             12
                 + name
                 + decimal::len_u64(n)
-                + other_fields_len(Kind::ReferenceSequence, src, at, strict)
+                + other_fields_len(Kind::ReferenceSequence, line, at, strict)
         }
         Head::ReadGroup(p, _) => {
             let id = p.len;
-            8 + id + other_fields_len(Kind::ReadGroup, src, at, strict)
+            8 + id + other_fields_len(Kind::ReadGroup, line, at, strict)
         }
         Head::Program(p, _) => {
             let id = p.len;
-            8 + id + other_fields_len(Kind::Program, src, at, strict)
+            8 + id + other_fields_len(Kind::Program, line, at, strict)
         }
         Head::Comment(p) => {
             let len = p.len;
@@ -301,19 +307,50 @@ pub fn record_len(src: &[u8], at: usize, strict: bool) -> usize
     }
 }
 
-// Whether the record of an accepted line can be written: an SQ only if its name follows the specification's rule.
+// Whether the record with this head can be written: an SQ only if its name follows the specification's rule.
+fn is_head_writable(head: Head, line: &[u8], at: usize, strict: bool) -> bool
+    requires { ⌜ Holds strict at (now line) head ⌝ }
+    ensures { λ r. ⌜ r ≡ headWritable at (now (line .entry)) head ⌝ }
+{
+    match head {
+        Head::ReferenceSequence(p, _, _) => {
+            let from = p.at - at;
+            let len = p.len;
+            name::is_name(&line[from..from + len])
+        }
+        _ => true,
+    }
+}
+
+// How many bytes the record of an accepted line has.
+pub fn record_len(src: &[u8], at: usize, strict: bool) -> usize
+    requires { ⌜ isRead (line strict (record { at = at; bytes = now src })) ≡ true ⌝ }
+    requires { ⌜ at + length (now src) ≤ 16777216 ⌝ }
+    ensures { λ r. ⌜ r ≡ length (lineText (line strict (record { at = at; bytes = now (src .entry) }))) ⌝ }
+{
+    let head = record::parse_record(src, at, strict);
+    head_len(head, src, at, strict)
+}
+
+// Whether the record of an accepted line can be written.
 pub fn is_writable(src: &[u8], at: usize, strict: bool) -> bool
     requires { ⌜ isRead (line strict (record { at = at; bytes = now src })) ≡ true ⌝ }
     requires { ⌜ at + length (now src) ≤ 16777216 ⌝ }
     ensures { λ r. ⌜ r ≡ lineWritable (line strict (record { at = at; bytes = now (src .entry) })) ⌝ }
 {
     let head = record::parse_record(src, at, strict);
-    match head {
-        Head::ReferenceSequence(p, _, _) => {
-            let from = p.at - at;
-            let len = p.len;
-            name::is_name(&src[from..from + len])
-        }
-        _ => true,
+    is_head_writable(head, src, at, strict)
+}
+
+// Both in one look: how many bytes the record of an accepted line has, or that it can't be written.
+pub fn record_size(src: &[u8], at: usize, strict: bool) -> Size
+    requires { ⌜ isRead (line strict (record { at = at; bytes = now src })) ≡ true ⌝ }
+    requires { ⌜ at + length (now src) ≤ 16777216 ⌝ }
+    ensures { λ r. ⌜ r ≡ sizeOf (line strict (record { at = at; bytes = now (src .entry) })) ⌝ }
+{
+    let head = record::parse_record(src, at, strict);
+    if is_head_writable(head, src, at, strict) {
+        return Size::Is(head_len(head, src, at, strict));
     }
+    Size::Unwritable
 }

@@ -10,6 +10,7 @@ use Rattle.record.specs.declared.Place.{Place}
 use Rattle.writer.specs.Parts.{prefixText}
 use Rattle.writer.specs.Texts.{Inside, placeText, commentText}
 use Rattle.writer.proofs.Wrote.{wrote-then, wrote-one}
+use Rattle.writer.proofs.Texts.{place-part}
 use Rattle.writer.proofs.Sizes.{place-size, comment-size}
 use borrow.Author.Needs.{needs}
 use Rattle.writer.proofs.put_comment.Statement.{statement}
@@ -22,11 +23,6 @@ sizes s =
     let a = s .args in
     let i = s .pre .0 in
     (place-size (a .at) (a .line .now) (a .comment) i, comment-size (a .at) (a .line .now) (a .comment) i)
-
--- the part that is lent
-part : (at : ℕ) (line : List ℕ) (p : Place) → take (p .at - at + p .len - (p .at - at)) (drop (p .at - at) line) ≡ placeText at line p
-unfolding placeText
-part at line p = let e : p .at - at + p .len - (p .at - at) ≡ p .len = omega arith in ap (λ n. take n (drop (p .at - at) line)) e
 
 -- the output's length after the copy
 kept : (c : tie.After-put-bytes) → length (c .put-bytes .last .0) ≡ length (c .before .before .before .before .before .before .before .before .before .before .args .out .now)
@@ -60,7 +56,7 @@ put-bytes-requires : tie.Need-put-bytes-requires
 put-bytes-requires c κs =
     let s = c .before .before .before .before .before .before .before .before .before in
     let a = s .args in
-    simp length-set (omega (arith, s .pre, sizes s, ap length (part (a .at) (a .line .now) (a .comment))))
+    simp length-set (omega (arith, s .pre, sizes s, ap length (place-part (a .at) (a .line .now) (a .comment))))
 
 add-out : tie.Need-add-out
 add-out c = search needs
@@ -95,7 +91,7 @@ returns c =
     let mid = prefix .put-prefix .last .0 in
     let n = prefix .put-prefix .result in
     let last = bytes .put-bytes .last .0 in
-    let written : last ≡ over (set mid n 9) (n + 1) text = bytes .put-bytes .ensures ∙ ap (over (set mid n 9) (n + 1)) (part (a .at) (a .line .now) (a .comment)) in
+    let written : last ≡ over (set mid n 9) (n + 1) text = bytes .put-bytes .ensures ∙ ap (over (set mid n 9) (n + 1)) (place-part (a .at) (a .line .now) (a .comment)) in
     let tabbed = wrote-then (a .out .now) (a .o) mid n (set mid n 9) (n + 1) (prefixText Comment) (9 ∷ []) (prefix .put-prefix .ensures) (refl, wrote-one mid n 9 (omega (arith, s .pre, sizes s))) (omega (arith, s .pre, sizes s)) in
     let told = wrote-then (a .out .now) (a .o) (set mid n 9) (n + 1) last (n + 1 + len) (prefixText Comment ++ (9 ∷ [])) text tabbed (omega (arith, sizes s), written) (omega (arith, s .pre, sizes s)) in
     let whole = wrote-then (a .out .now) (a .o) last (n + 1 + len) (set last (n + 1 + len) 10) (n + 1 + len + 1) (prefixText Comment ++ (9 ∷ []) ++ text) (10 ∷ []) told (refl, wrote-one last (n + 1 + len) 10 (omega (arith, s .pre, sizes s, kept bytes))) (s .pre .1) in
