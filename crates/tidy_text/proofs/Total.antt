@@ -1,18 +1,22 @@
 -- The tidy text kind by kind, and its length line by line: each record is of one kind.
-use Prim.Native.Nat.{ℕ, _+_}
+use Prim.Native.Nat.{ℕ, _+_, _≤_}
+use mathlib.Core.Bool.{Bool}
 use mathlib.Core.Path.{_≡_, refl, sym, ap, _∙_}
 use mathlib.Core.List.{List, [], _∷_, _++_, append-assoc}
 use native.Mathlib.Omega.{arith}
 use lib.ListN.{length, length-append}
-use Rattle.format.specs.Records.{Record, header, reference, group, program, comment, code, Line, refused, read}
-use Rattle.format.specs.Reading.{ofKind}
+use Rattle.format.specs.Records.{Record, header, reference, group, program, comment, code, Line, refused, read, line}
+use Rattle.format.specs.Reading.{ofKind, readText}
 use Rattle.format.specs.Tidy.{recordText, text, inOrder, tidy}
 use Rattle.format.specs.declared.Kind.{Kind}
 use Rattle.format.specs.declared.Kind.the-variants.{Header, ReferenceSequence, ReadGroup, Program, Comment}
 use Rattle.writer.specs.Line.{lineText}
-use Rattle.tidy_text.specs.Accepted.{onto}
+use Rattle.tidy_text.specs.Accepted.{onto, recordsOf, recordsFrom}
 use Rattle.tidy_text.specs.Kinds.{numberOf, kindText, textOfKind}
 use Rattle.tidy_text.proofs.OfKind.{kind-onto}
+use Rattle.tidy_text.proofs.Lines.{Opened, lent, Turn, ended}
+use Rattle.text.specs.declared.Cut.{Cut}
+use Rattle.roundtrip.proofs.Total.{tidy-length}
 
 pub text-onto : (l : Line) (rs : List Record) → text (onto l rs) ≡ lineText l ++ text rs
 unfolding text onto lineText
@@ -89,3 +93,28 @@ tidy-sizes rs =
 -- it is as long as the records' lines in text order
 pub tidy-total : (rs : List Record) → length (tidy rs) ≡ length (text rs)
 tidy-total rs = tidy-sizes rs ∙ kinds-length rs
+
+-- ---- a turn
+
+abbrev lineAt : Bool → List ℕ → ℕ → Cut → Line
+lineAt strict t at c = line strict (record { at = at; bytes = lent t at (c .len) })
+
+pub text-turn : (strict : Bool) (t : List ℕ) (at : ℕ) (c : Cut) → Turn strict t at c
+    → length (text (recordsFrom strict t at)) ≡ length (lineText (lineAt strict t at c)) + length (text (recordsFrom strict t (at + c .next)))
+text-turn strict t at c u =
+    ap (λ rs. length (text rs)) (u .records)
+    ∙ ap length (text-onto (lineAt strict t at c) (recordsFrom strict t (at + c .next)))
+    ∙ length-append (lineText (lineAt strict t at c)) (text (recordsFrom strict t (at + c .next)))
+
+-- after the last line
+pub text-ended : (strict : Bool) (t : List ℕ) (at : ℕ) → length t ≤ at → length (text (recordsFrom strict t at)) ≡ 0
+unfolding text
+text-ended strict t at h = ap (λ rs. length (text rs)) (ended strict t at h)
+
+-- the whole, a byte longer than the text at most
+pub tidy-small : (strict : Bool) (t : List ℕ) → Opened strict t
+    → (length (text (recordsFrom strict t 0)) ≡ length (tidy (recordsOf (readText t)))) × (length (tidy (recordsOf (readText t))) ≤ 16777217)
+tidy-small strict t o = (
+  ap (λ rs. length (text rs)) (o .records) ∙ sym (tidy-total (recordsOf (readText t))),
+  omega (arith, tidy-length t (recordsOf (readText t)) (o .reads), o .fits),
+)

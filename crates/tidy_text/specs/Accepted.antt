@@ -10,6 +10,8 @@ use Rattle.format.specs.Reading.{Reading, refuse, accept}
 use Rattle.writer.specs.Line.{isRead}
 use Rattle.tidy_text.specs.declared.Named.{Named}
 use Rattle.tidy_text.specs.declared.Named.the-variants.{Fine, Bad}
+use Rattle.tidy_text.specs.declared.Measured.{Measured}
+use Rattle.tidy_text.specs.declared.Measured.the-variants as measured
 
 unfoldable pub isAccepted : Reading → Bool
 isAccepted (refuse n l) = false
@@ -23,6 +25,11 @@ recordsOf (accept rs) = rs
 unfoldable pub namedOf : Option ℕ → Named
 namedOf none = Fine
 namedOf (some l) = Bad (record { 0 = l })
+
+-- the tidy text's length, if every name can be written
+unfoldable pub measuredOf : Option ℕ → ℕ → Measured
+measuredOf none n = measured.Is n
+measuredOf (some l) n = measured.Bad (record { 0 = l })
 
 -- ---- line by line
 

@@ -1,6 +1,7 @@
 // The tidy text of an accepted text: HD, then all SQ, RG, PG, CO, each kind in text order.
 use format::Kind;
 use format::LineNo;
+use writer::Size;
 ghost use mathlib.Core.Path.{_≡_};
 ghost use mathlib.Core.Bool.{true};
 ghost use Prim.Native.Nat.{_≤_, _+_};
@@ -11,13 +12,19 @@ ghost use Rattle.format.specs.Reading.{announced, isStrict, readText};
 ghost use Rattle.format.specs.Tidy.{tidy, unwritable};
 ghost use Rattle.text.specs.Over.{over};
 ghost use Rattle.writer.specs.Line.{isRead, lineWritable};
-ghost use Rattle.tidy_text.specs.Accepted.{isAccepted, recordsOf, namedOf};
+ghost use Rattle.tidy_text.specs.Accepted.{isAccepted, recordsOf, namedOf, measuredOf};
 ghost use Rattle.tidy_text.specs.Kinds.{hasKind, kindText, textOfKind};
 
 // Every reference name can be written, or the line of the first that can't.
 pub enum Named {
     Fine,
     Bad(LineNo),
+}
+
+// How many bytes the tidy text has, or the line of the first SQ whose name can't be written.
+pub enum Measured {
+    Bad(LineNo),
+    Is(usize),
 }
 
 // Whether the kind bytes of an accepted line are those of `kind`.
@@ -91,6 +98,28 @@ pub fn tidy_len(text: &[u8], strict: bool) -> usize
         at += cut.next;
     }
     n
+}
+
+// Both in one pass, each line looked at once: the length of the tidy text, or the line of the first SQ whose name can't be written.
+pub fn measure(text: &[u8], strict: bool) -> Measured
+    requires { ⌜ isAccepted (readText (now text)) ≡ true ⌝ }
+    requires { ⌜ strict ≡ isStrict (announced (lines (now text))) ⌝ }
+    ensures { λ r. ⌜ r ≡ measuredOf (unwritable 0 (recordsOf (readText (now (text .entry))))) (length (tidy (recordsOf (readText (now (text .entry)))))) ⌝ }
+{
+    let mut l: u32 = 0;
+    let mut n: usize = 0;
+    let mut at: usize = 0;
+    while at < text.len() {
+        let cut = text::first_line(&text[at..]);
+        let size = writer::record_size(&text[at..at + cut.len], at, strict);
+        let Size::Is(len) = size else {
+            return Measured::Bad(LineNo(l));
+        };
+        l += 1;
+        n += len;
+        at += cut.next;
+    }
+    Measured::Is(n)
 }
 
 // Writes the records of one kind, in text order.

@@ -1,19 +1,17 @@
 -- `tidy_text::tidy_len` meets its contract: what is counted, and what the lines still to come have, is all; the whole is at most a byte longer than the text.
 use Prim.Native.Nat.{ℕ, _+_, _-_, _≤_}
-use mathlib.Core.Path.{_≡_, refl, sym, ap, _∙_}
+use mathlib.Core.Path.{_≡_}
 use mathlib.Core.Bool.{true}
-use mathlib.Core.List.{[]}
 use native.Mathlib.Omega.{arith}
-use lib.ListN.{length, drop, length-append}
+use lib.ListN.{length, drop}
 use Rattle.format.specs.Lines.{linesFrom}
 use Rattle.format.specs.Records.{line}
 use Rattle.format.specs.Reading.{readText}
 use Rattle.format.specs.Tidy.{text, tidy}
-use Rattle.roundtrip.proofs.Total.{tidy-length}
 use Rattle.writer.specs.Line.{lineText}
 use Rattle.tidy_text.specs.Accepted.{recordsOf, allRead, recordsFrom}
-use Rattle.tidy_text.proofs.Lines.{Opened, opened, lent, Turn, turn, ended}
-use Rattle.tidy_text.proofs.Total.{text-onto, tidy-total}
+use Rattle.tidy_text.proofs.Lines.{Opened, opened, lent, Turn, turn}
+use Rattle.tidy_text.proofs.Total.{text-turn, text-ended, tidy-small}
 use borrow.Author.Needs.{needs}
 use Rattle.tidy_text.proofs.tidy_len.Statement.{statement}
 use Rattle.tidy_text.proofs.tidy_len.Tie as tie
@@ -26,10 +24,6 @@ Inv-loop t strict n₀ at₀ n at =
 
 abbrev μ-loop : tie.MeasureT-loop
 μ-loop t strict n₀ at₀ n at = length t - at
-
-none : length (text []) ≡ 0
-unfolding text
-none = refl
 
 begun : (s : tie.Start Inv-loop μ-loop) → Opened (s .args .strict) (s .args .text .now)
 begun s = opened (s .args .strict) (s .args .text .now) (s .pre .0) (s .pre .1)
@@ -50,17 +44,13 @@ counted c =
     let l = c .before .before .before in
     let s = l .before .before in
     let a = s .args in
-    let o = begun s in
-    let p = line (a .strict) (record { at = l .loop .at; bytes = lent (a .text .now) (l .loop .at) (c .first-line .result .len) }) in
-    let rest = recordsFrom (a .strict) (a .text .now) (l .loop .at + c .first-line .result .next) in (
-      omega (arith, l .loop .inv .2, ap (λ rs. length (text rs)) (turned c .records), ap length (text-onto p rest), length-append (lineText p) (text rest)),
-      omega (arith, tidy-length (a .text .now) (recordsOf (readText (a .text .now))) (o .reads), o .fits),
-    )
+    (omega (arith, l .loop .inv .2, text-turn (a .strict) (a .text .now) (l .loop .at) (c .first-line .result) (turned c)), tidy-small (a .strict) (a .text .now) (begun s) .1)
 
 loop-holds : tie.Need-loop-holds Inv-loop μ-loop
 loop-holds c =
-    let o = begun (c .before) in
-    (omega arith, o .lines, omega (arith, ap (λ rs. length (text rs)) (o .records), tidy-total (recordsOf (readText (c .before .args .text .now)))))
+    let s = c .before in
+    let o = begun s in
+    (omega arith, o .lines, omega (arith, tidy-small (s .args .strict) (s .args .text .now) o))
 
 sub-first-line : tie.Need-sub-first-line Inv-loop μ-loop
 sub-first-line c = omega arith
@@ -111,7 +101,7 @@ returns : tie.Need-returns Inv-loop μ-loop
 returns c =
     let l = c .before in
     let a = l .before .before .args in
-    omega (arith, l .loop .inv .2, ap (λ rs. length (text rs)) (ended (a .strict) (a .text .now) (l .loop .at) (c .loop-test .left)), none)
+    omega (arith, l .loop .inv .2, text-ended (a .strict) (a .text .now) (l .loop .at) (c .loop-test .left))
 
 pub tidy-len-spec : {M : Type 1} → statement M
 tidy-len-spec =

@@ -1,19 +1,17 @@
 -- `tidy_text::unwritable` meets its contract: what is asked of the whole text is asked of the lines still to come.
 use Prim.Native.Nat.{ℕ, _+_, _-_, _≤_}
-use mathlib.Core.Path.{_≡_, refl, sym, ap, _∙_}
-use mathlib.Core.Bool.{Bool, true, false, cond}
+use mathlib.Core.Path.{_≡_, sym, ap, _∙_}
+use mathlib.Core.Bool.{true, false, cond}
 use mathlib.Core.Option.{some}
 use native.Mathlib.Omega.{arith}
 use lib.ListN.{length, drop}
 use borrow.Author.Tests.{not-true, not-false}
 use Rattle.format.specs.Lines.{linesFrom}
-use Rattle.format.specs.Records.{line}
 use Rattle.format.specs.Reading.{readText}
 use Rattle.format.specs.Tidy.{unwritable}
-use Rattle.writer.specs.Line.{lineWritable}
 use Rattle.tidy_text.specs.Accepted.{recordsOf, namedOf, allRead, recordsFrom}
-use Rattle.tidy_text.proofs.Lines.{Opened, opened, lent, Turn, turn, ended}
-use Rattle.tidy_text.proofs.Names.{unwritable-onto, unwritable-none}
+use Rattle.tidy_text.proofs.Lines.{Opened, opened, Turn, turn}
+use Rattle.tidy_text.proofs.Names.{cond-is, unwritable-turn, unwritable-ended}
 use borrow.Author.Needs.{needs}
 use Rattle.tidy_text.proofs.unwritable.Statement.{statement}
 use Rattle.tidy_text.proofs.unwritable.Tie as tie
@@ -47,17 +45,10 @@ asked c =
     let f = c .before .before .before in
     let l = f .before .before .before in
     let a = l .before .before .args in
-    let t = turned f in
-    let p = line (a .strict) (record { at = l .loop .at; bytes = lent (a .text .now) (l .loop .at) (f .first-line .result .len) }) in
     let rest = recordsFrom (a .strict) (a .text .now) (l .loop .at + f .first-line .result .next) in
     l .loop .inv .3
-    ∙ ap (unwritable (l .loop .l)) (t .records)
-    ∙ unwritable-onto (l .loop .l) p rest (t .read)
+    ∙ unwritable-turn (a .strict) (a .text .now) (l .loop .at) (f .first-line .result) (turned f) (l .loop .l)
     ∙ ap (λ b. cond b (unwritable (l .loop .l + 1) rest) (some (l .loop .l))) (sym (c .is-line-writable .ensures))
-
--- the flag once it is known
-cond-is : {A : Type 0} (b d : Bool) (x y : A) → b ≡ d → cond b x y ≡ cond d x y
-cond-is b d x y e = ap (λ b. cond b x y) e
 
 loop-holds : tie.Need-loop-holds Inv-loop μ-loop
 loop-holds c = let o = begun (c .before) in (omega arith, omega arith, o .lines, ap (unwritable 0) (sym (o .records)))
@@ -121,7 +112,7 @@ unfolding namedOf
 returns-2 c =
     let l = c .before in
     let a = l .before .before .args in
-    sym (ap namedOf (l .loop .inv .3 ∙ ap (unwritable (l .loop .l)) (ended (a .strict) (a .text .now) (l .loop .at) (c .loop-test .left)) ∙ unwritable-none (l .loop .l)))
+    sym (ap namedOf (l .loop .inv .3 ∙ unwritable-ended (a .strict) (a .text .now) (l .loop .at) (c .loop-test .left) (l .loop .l)))
 
 pub unwritable-spec : {M : Type 1} → statement M
 unwritable-spec =
