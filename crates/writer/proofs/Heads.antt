@@ -1,17 +1,13 @@
 -- The head of an accepted line tells the record's text.
-use Prim.Native.Nat.{ℕ, _-_}
+use Prim.Native.Nat.{ℕ}
 use mathlib.Core.Path.{_≡_, refl, sym, ap, subst, _∙_}
-use mathlib.Core.Bool.{Bool, true, false}
+use mathlib.Core.Bool.{Bool, true}
 use mathlib.Core.List.{List, [], _∷_, _++_, append-assoc}
 use native.Mathlib.Omega.{arith}
-use lib.ListN.{length, take, drop}
 use Rattle.format.specs.Decimal.{written}
 use Rattle.format.specs.Lines.{Piece}
-use Rattle.format.specs.Fields.{Field}
 use Rattle.format.specs.Records.{Record, header, reference, group, program, comment, code, others, Line, refused, read, line}
 use Rattle.format.specs.Tidy.{fieldText, fieldsText, recordText, isWritable, isName}
-use Rattle.format.specs.declared.Version.{Version}
-use Rattle.format.specs.declared.Kind.{Kind}
 use Rattle.format.specs.declared.Kind.the-variants as kinds
 use Rattle.text.specs.Stands.{Stands, Each}
 use Rattle.accepted.specs.Pieces.{pieces}
@@ -23,9 +19,8 @@ use Rattle.accepted.proofs.Spelled.{line-accepted}
 use Rattle.accepted.proofs.Stands.{line-stand}
 use Rattle.record.specs.Head.{placeOf, recordHead, headOf}
 use Rattle.record.specs.declared.Head.{Head}
-use Rattle.walk.specs.Run.{fieldsFrom, AtField}
+use Rattle.walk.specs.Run.{AtField}
 use Rattle.walk.proofs.Start.{accepted-start, accepted-others}
-use Rattle.tags.specs.Others.{firsts}
 use Rattle.writer.specs.Line.{isRead, lineText, lineWritable}
 use Rattle.writer.specs.Parts.{prefixText, versionText, othersText}
 use Rattle.writer.specs.Texts.{Inside, placeText, headerText, sequenceText, mapText, commentText}

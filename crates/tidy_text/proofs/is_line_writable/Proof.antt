@@ -1,5 +1,5 @@
 -- `tidy_text::is_line_writable` meets its contract: a record of another kind than SQ has no name.
-use mathlib.Core.Path.{_≡_, sym, _∙_}
+use mathlib.Core.Path.{sym, _∙_}
 use Rattle.tidy_text.proofs.OfKind.{three, other-writable}
 use borrow.Author.Needs.{needs}
 use Rattle.tidy_text.proofs.is_line_writable.Statement.{statement}

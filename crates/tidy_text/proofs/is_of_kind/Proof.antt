@@ -1,10 +1,9 @@
 -- `tidy_text::is_of_kind` meets its contract: two bytes are compared.
-use mathlib.Core.Path.{_≡_, refl, sym, ap, _∙_}
-use mathlib.Core.Bool.{false, _&&_}
+use mathlib.Core.Path.{refl, sym, ap, _∙_}
 use lib.ListN.{getD}
 use lib.Dec.{eqb}
 use borrow.Author.Tests.{eq-eqb, ne-eqb}
-use Rattle.accepted.specs.Spelled.{kind₀, kind₁}
+use Rattle.accepted.specs.Spelled.{kind₀}
 use Rattle.tidy_text.specs.Kinds.{hasKind}
 use borrow.Author.Needs.{needs}
 use Rattle.tidy_text.proofs.is_of_kind.Statement.{statement}

@@ -1,5 +1,5 @@
 -- `tidy_text::measure` meets its contract: what is asked of the whole text is asked of the lines still to come, and their lengths add up.
-use Prim.Native.Nat.{ℕ, _+_, _-_, _≤_}
+use Prim.Native.Nat.{_+_, _-_, _≤_}
 use mathlib.Core.Path.{_≡_, sym, ap, _∙_}
 use mathlib.Core.Bool.{true, false, cond}
 use mathlib.Core.Option.{some}

@@ -1,5 +1,5 @@
 -- `tidy_text::put_kind` meets its contract: what is written, and what the lines still to come will write, is all.
-use Prim.Native.Nat.{ℕ, _+_, _-_, _≤_}
+use Prim.Native.Nat.{_+_, _-_, _≤_}
 use mathlib.Core.Path.{_≡_, refl, sym, ap, _∙_}
 use mathlib.Core.Bool.{true}
 use mathlib.Core.List.{[], _++_}

@@ -1,7 +1,6 @@
 -- `tidy_text::put_of_kind` meets its contract: the line is of the kind by its bytes, and its record is written, or nothing.
 use Prim.Native.Nat.{_+_, _≤_}
 use mathlib.Core.Path.{_≡_, sym, ap, subst, _∙_}
-use mathlib.Core.List.{[]}
 use native.Mathlib.Omega.{arith}
 use lib.ListN.{length}
 use Rattle.text.specs.Over.{over}

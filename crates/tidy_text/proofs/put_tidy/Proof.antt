@@ -1,12 +1,9 @@
 -- `tidy_text::put_tidy` meets its contract: one kind behind the other.
-use Prim.Native.Nat.{ℕ, _+_, _≤_}
-use mathlib.Core.Path.{_≡_, sym, ap, subst, _∙_}
-use mathlib.Core.List.{List, _++_}
+use mathlib.Core.Path.{sym, ap, subst}
+use mathlib.Core.List.{_++_}
 use native.Mathlib.Omega.{arith}
 use lib.ListN.{length, length-append}
 use Rattle.format.specs.Reading.{readText}
-use Rattle.format.specs.Tidy.{tidy}
-use Rattle.format.specs.Records.{Record}
 use Rattle.format.specs.declared.Kind.the-variants.{Header, ReferenceSequence, ReadGroup, Program, Comment}
 use Rattle.writer.proofs.Wrote.{Wrote, wrote-then}
 use Rattle.tidy_text.specs.Accepted.{recordsOf}

@@ -1,5 +1,5 @@
 -- `tidy_text::tidy_len` meets its contract: what is counted, and what the lines still to come have, is all; the whole is at most a byte longer than the text.
-use Prim.Native.Nat.{ℕ, _+_, _-_, _≤_}
+use Prim.Native.Nat.{_+_, _-_, _≤_}
 use mathlib.Core.Path.{_≡_}
 use mathlib.Core.Bool.{true}
 use native.Mathlib.Omega.{arith}

@@ -1,6 +1,5 @@
 -- `writer::is_writable` meets its contract: what the head tells is what the line's record has.
-use mathlib.Core.Path.{refl, sym, ap, _∙_}
-use lib.ListN.{length}
+use mathlib.Core.Path.{refl, sym, _∙_}
 use Rattle.writer.proofs.Heads.{Told, told}
 use borrow.Author.Needs.{needs}
 use Rattle.writer.proofs.is_writable.Statement.{statement}

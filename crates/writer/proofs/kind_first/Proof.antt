@@ -1,5 +1,5 @@
 -- `writer::kind_first` meets its contract: an arm for each kind.
-use mathlib.Core.Path.{_≡_, sym, ap}
+use mathlib.Core.Path.{sym, ap}
 use Rattle.accepted.specs.Spelled.{kind₀}
 use borrow.Author.Needs.{needs}
 use Rattle.writer.proofs.kind_first.Statement.{statement}

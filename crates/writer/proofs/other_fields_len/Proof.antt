@@ -1,5 +1,5 @@
 -- `writer::other_fields_len` meets its contract: what is counted, and what the fields still to come have, is all.
-use Prim.Native.Nat.{ℕ, _+_, _-_, _≤_}
+use Prim.Native.Nat.{_+_, _-_, _≤_}
 use mathlib.Core.Path.{_≡_, sym, ap, _∙_}
 use native.Mathlib.Omega.{arith}
 use lib.ListN.{length}

@@ -1,14 +1,13 @@
 -- `writer::put_comment` meets its contract: the prefix, a tab, the bytes of the line, an LF.
-use Prim.Native.Nat.{ℕ, _+_, _-_, _≤_}
+use Prim.Native.Nat.{_+_}
 use mathlib.Core.Path.{_≡_, refl, ap, _∙_}
-use mathlib.Core.List.{List, [], _∷_, _++_}
+use mathlib.Core.List.{[], _∷_, _++_}
 use native.Mathlib.Omega.{arith}
-use lib.ListN.{length, take, drop, set, length-set, length-append}
+use lib.ListN.{length, set, length-set}
 use Rattle.format.specs.declared.Kind.the-variants.{Comment}
 use Rattle.text.specs.Over.{over}
-use Rattle.record.specs.declared.Place.{Place}
 use Rattle.writer.specs.Parts.{prefixText}
-use Rattle.writer.specs.Texts.{Inside, placeText, commentText}
+use Rattle.writer.specs.Texts.{placeText, commentText}
 use Rattle.writer.proofs.Wrote.{wrote-then, wrote-one}
 use Rattle.writer.proofs.Texts.{place-part}
 use Rattle.writer.proofs.Sizes.{place-size, comment-size}

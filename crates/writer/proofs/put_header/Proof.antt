@@ -1,9 +1,6 @@
 -- `writer::put_header` meets its contract: the prefix, the version as a field, the rest.
-use Prim.Native.Nat.{ℕ}
-use mathlib.Core.Path.{_≡_}
-use mathlib.Core.List.{List, [], _∷_, _++_}
+use mathlib.Core.List.{[], _∷_, _++_}
 use native.Mathlib.Omega.{arith}
-use lib.ListN.{length}
 use Rattle.format.specs.Tidy.{fieldText}
 use Rattle.format.specs.declared.Kind.the-variants.{Header}
 use Rattle.writer.specs.Parts.{prefixText, versionText, othersText}

@@ -1,11 +1,10 @@
 -- `writer::put_prefix` meets its contract: three stores in a row.
-use mathlib.Core.Path.{_≡_, refl, ap, _∙_}
-use mathlib.Core.List.{List, [], _∷_}
+use mathlib.Core.Path.{refl, ap, _∙_}
+use mathlib.Core.List.{[], _∷_}
 use native.Mathlib.Omega.{arith}
-use Prim.Native.Nat.{ℕ}
 use lib.ListN.{length-set}
 use Rattle.text.specs.Over.{over}
-use Rattle.accepted.specs.Spelled.{kind₀, kind₁}
+use Rattle.accepted.specs.Spelled.{kind₀}
 use Rattle.writer.specs.Parts.{prefixText}
 use Rattle.writer.proofs.Wrote.{wrote-three}
 use borrow.Author.Needs.{needs}

@@ -1,7 +1,6 @@
 -- `writer::put_record` meets its contract: the head of an accepted line says which record is to be written, and its text.
 use Prim.Native.Nat.{_+_, _≤_}
 use mathlib.Core.Path.{_≡_, sym, subst}
-use native.Mathlib.Omega.{arith}
 use lib.ListN.{length}
 use Rattle.record.specs.declared.Head.{Head}
 use Rattle.writer.specs.Heads.{headText, Holds}

@@ -1,6 +1,5 @@
 -- `writer::record_size` meets its contract: what the head tells is what the line's record has.
 use mathlib.Core.Path.{_≡_, refl, sym, ap, _∙_}
-use mathlib.Core.Bool.{true, false}
 use lib.ListN.{length}
 use Rattle.format.specs.Records.{line}
 use Rattle.writer.specs.Line.{lineWritable, sizeOf}
