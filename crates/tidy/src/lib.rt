@@ -1,0 +1,51 @@
+// Tidying: the text of the same records with the keys first, one LF after each line, kind by kind.
+use format::LineNo;
+use parser::Answer;
+use parser::Judged;
+use tidy_text::Measured;
+ghost use mathlib.Core.Path.{_≡_};
+ghost use mathlib.Core.Bool.{true};
+ghost use lib.ListN.{length};
+ghost use Rattle.format.specs.Lines.{lines};
+ghost use Rattle.format.specs.Reading.{announced, isStrict, readText};
+ghost use Rattle.format.specs.Tidy.{tidy, unwritable};
+ghost use Rattle.format.specs.Calls.{writing, tidying};
+ghost use Rattle.parser.specs.Answers.{answerOf, outputOf};
+ghost use Rattle.tidy_text.specs.Accepted.{isAccepted, recordsOf};
+
+// Writes the tidy text of an accepted text: 24, then 1, then 20.
+fn write_accepted(text: &[u8], strict: bool, out: &mut [u8]) -> Answer
+    requires { ⌜ isAccepted (readText (now text)) ≡ true ⌝ }
+    requires { ⌜ strict ≡ isStrict (announced (lines (now text))) ⌝ }
+    ensures answer { λ r. ⌜ r ≡ answerOf (writing (length (now (out .entry))) (unwritable 0 (recordsOf (readText (now (text .entry))))) (tidy (recordsOf (readText (now (text .entry)))))) ⌝ }
+    ensures wrote { λ _. ⌜ now (out .exit) ≡ outputOf (writing (length (now (out .entry))) (unwritable 0 (recordsOf (readText (now (text .entry))))) (tidy (recordsOf (readText (now (text .entry)))))) (now (out .entry)) ⌝ }
+{
+    match tidy_text::measure(text, strict) {
+        Measured::Bad(line) => Answer::Refused(24, line),
+        Measured::Is(n) => {
+            if 16777216 < n {
+                return Answer::Refused(1, LineNo(0));
+            }
+            if out.len() < n {
+                return Answer::Refused(20, LineNo(0));
+            }
+            let n = tidy_text::put_tidy(text, strict, out);
+            Answer::Count(n)
+        }
+    }
+}
+
+// Tidies `text` into the front of `out`, or answers the first refusal, which changes nothing.
+pub fn tidy(text: &[u8], out: &mut [u8]) -> Answer
+    ensures answer { λ r. ⌜ r ≡ answerOf (tidying (now (text .entry)) (length (now (out .entry)))) ⌝ }
+    ensures wrote { λ _. ⌜ now (out .exit) ≡ outputOf (tidying (now (text .entry)) (length (now (out .entry)))) (now (out .entry)) ⌝ }
+{
+    if 16777216 < text.len() {
+        return Answer::Refused(1, LineNo(0));
+    }
+    let strict = rules::is_strict(text);
+    match parser::judge(text, strict) {
+        Judged::Refused(n, line) => Answer::Refused(n, line),
+        Judged::Accepted(_) => write_accepted(text, strict, out),
+    }
+}

@@ -1,0 +1,4 @@
+pub mod OfKind
+pub mod Lines
+pub mod Total
+pub mod Names

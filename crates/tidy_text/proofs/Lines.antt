@@ -1,0 +1,94 @@
+-- An accepted text, line by line: each line is read, and a turn takes the first line of what is left.
+use Prim.Native.Nat.{ℕ, _+_, _-_, _≤_, _<_}
+use mathlib.Core.Path.{_≡_, refl, sym, ap, _∙_}
+use mathlib.Core.Bool.{Bool, true}
+use mathlib.Core.List.{List, [], _∷_}
+use native.Mathlib.Omega.{arith}
+use lib.ListN.{length, take, drop, length-drop, drop-of-length-le}
+use lib.Seq.{take-all, drop-drop, length-take-le}
+use Rattle.format.specs.Lines.{Piece, lines, linesFrom}
+use Rattle.format.specs.Records.{Record, read, line}
+use Rattle.format.specs.Reading.{Reading, refuse, accept, announced, isStrict, readText}
+use Rattle.text.specs.First.{firstLine}
+use Rattle.text.specs.declared.Cut.{Cut}
+use Rattle.text.proofs.Lines.{lines-none}
+use Rattle.text.proofs.First.{first-le, first-within, first-some, lines-first}
+use Rattle.accepted.specs.Admits.{strictly}
+use Rattle.accepted.specs.Pieces.{Pairs}
+use Rattle.accepted.proofs.Bools.{never, and-left, and-right}
+use Rattle.accepted.proofs.Text.{text-fits, text-lines}
+use Rattle.writer.specs.Line.{isRead}
+use Rattle.tidy_text.specs.Accepted.{isAccepted, recordsOf, onto, lineRecords, allRead, recordsFrom}
+
+-- ---- all lines
+
+pairs-records : (strict : Bool) (ps : List Piece) (rs : List Record) → Pairs (λ p r. line strict p ≡ read r) ps rs → (lineRecords strict ps ≡ rs) × (allRead strict ps ≡ true)
+unfolding Pairs lineRecords allRead onto isRead
+pairs-records strict [] [] h = (refl, refl)
+pairs-records strict [] (r ∷ rs) h = absurd h
+pairs-records strict (p ∷ ps) [] h = absurd h
+pairs-records strict (p ∷ ps) (r ∷ rs) h =
+    let i = pairs-records strict ps rs (h .1) in
+    (rw (h .0) (ap (λ l. r ∷ l) (i .0)), rw (h .0) (i .1))
+
+reading : (g : Reading) → isAccepted g ≡ true → g ≡ accept (recordsOf g)
+unfolding isAccepted recordsOf
+reading (refuse n l) q = absurd (never (cc))
+reading (accept rs) q = refl
+
+-- before the first turn
+pub record Opened (strict : Bool) (t : List ℕ) : Type 0 where
+  pub fits : length t ≤ 16777216
+  pub reads : readText t ≡ accept (recordsOf (readText t))
+  pub records : recordsFrom strict t 0 ≡ recordsOf (readText t)
+  pub lines : allRead strict (linesFrom 0 (drop 0 t)) ≡ true
+
+pub opened : (strict : Bool) (t : List ℕ) → isAccepted (readText t) ≡ true → strict ≡ isStrict (announced (lines t)) → Opened strict t
+unfolding lines strictly
+opened strict t h s =
+    let e = reading (readText t) h in
+    let p = pairs-records (strictly t) (lines t) (recordsOf (readText t)) (text-lines t (recordsOf (readText t)) e) in
+    rw s (record { fits = text-fits t (recordsOf (readText t)) e; reads = e; records = p .0; lines = p .1 })
+
+-- ---- one turn
+
+-- the part of the text that a line is lent as
+abbrev pub lent : List ℕ → ℕ → ℕ → List ℕ
+lent t at n = take (at + n - at) (drop at t)
+
+-- the first line of what is left, at `at`, was cut to `c`
+pub record Turn (strict : Bool) (t : List ℕ) (at : ℕ) (c : Cut) : Type 0 where
+  pub inside : at + c .len ≤ length t
+  pub onward : 0 < c .next
+  pub within : at + c .next ≤ length t
+  pub size : length (lent t at (c .len)) ≡ c .len
+  pub read : isRead (line strict (record { at = at; bytes = lent t at (c .len) })) ≡ true
+  pub records : recordsFrom strict t at ≡ onto (line strict (record { at = at; bytes = lent t at (c .len) })) (recordsFrom strict t (at + c .next))
+  pub rest : allRead strict (linesFrom (at + c .next) (drop (at + c .next) t)) ≡ true
+
+pub turn : (strict : Bool) (t : List ℕ) (at : ℕ) → at < length t → allRead strict (linesFrom at (drop at t)) ≡ true
+    → (c : Cut) → c ≡ firstLine (take (length t - at) (drop at t)) → Turn strict t at c
+unfolding allRead lineRecords
+turn strict t at h ok c e =
+    let s : List ℕ = drop at t in
+    let l : length s ≡ length t - at = length-drop at t in
+    let f : c ≡ firstLine s = e ∙ ap firstLine (take-all (length t - at) s (omega arith)) in
+    let bound : (c .len ≤ c .next) × (c .next ≤ length s) × (0 < c .next) = rw f (first-le s, first-within s, first-some s (omega arith)) in
+    let m : at + c .len - at ≡ c .len = omega arith in
+    let cut : linesFrom at s ≡ record { at = at; bytes = lent t at (c .len) } ∷ linesFrom (at + c .next) (drop (at + c .next) t) =
+    rw m (lines-first at s (omega arith) ∙ rw (← f, drop-drop (c .next) at t) refl) in
+    let all = sym (ap (allRead strict) cut) ∙ ok in
+    record {
+      inside = omega (arith, bound);
+      onward = bound .2;
+      within = omega (arith, bound);
+      size = rw m (length-take-le (c .len) s (omega (arith, bound)));
+      read = and-left (isRead (line strict (record { at = at; bytes = lent t at (c .len) }))) (allRead strict (linesFrom (at + c .next) (drop (at + c .next) t))) all;
+      records = ap (lineRecords strict) cut;
+      rest = and-right (isRead (line strict (record { at = at; bytes = lent t at (c .len) }))) (allRead strict (linesFrom (at + c .next) (drop (at + c .next) t))) all;
+    }
+
+-- after the last
+pub ended : (strict : Bool) (t : List ℕ) (at : ℕ) → length t ≤ at → recordsFrom strict t at ≡ []
+unfolding lineRecords
+ended strict t at h = ap (λ s. lineRecords strict (linesFrom at s)) (drop-of-length-le t h) ∙ ap (lineRecords strict) (lines-none at)

@@ -1,0 +1,54 @@
+-- The first SQ whose name can't be written, a line further.
+use Prim.Native.Nat.{ℕ, _+_, _≤_}
+use mathlib.Core.Path.{_≡_, refl, ap, _∙_}
+use mathlib.Core.Bool.{Bool, true, false, cond}
+use mathlib.Core.List.{List}
+use mathlib.Core.Option.{none, some}
+use lib.ListN.{length}
+use Rattle.format.specs.Records.{Record, Line, refused, read, line}
+use Rattle.format.specs.Tidy.{unwritable}
+use Rattle.accepted.proofs.Bools.{never}
+use Rattle.writer.specs.Line.{isRead, lineText, lineWritable, sizeOf}
+use Rattle.writer.specs.declared.Size.the-variants.{Unwritable, Is}
+use Rattle.tidy_text.specs.Accepted.{onto, recordsFrom}
+use Rattle.tidy_text.proofs.Lines.{lent, Turn, ended}
+use Rattle.text.specs.declared.Cut.{Cut}
+
+-- a choice once its flag is known
+pub cond-is : {A : Type 0} (b d : Bool) (x y : A) → b ≡ d → cond b x y ≡ cond d x y
+cond-is b d x y e = ap (λ b. cond b x y) e
+
+unwritable-onto : (l : ℕ) (p : Line) (rs : List Record) → isRead p ≡ true → unwritable l (onto p rs) ≡ cond (lineWritable p) (unwritable (l + 1) rs) (some l)
+unfolding unwritable onto isRead lineWritable
+unwritable-onto l (refused n) rs h = absurd (never (cc))
+unwritable-onto l (read r) rs h = refl
+
+pub unwritable-turn : (strict : Bool) (t : List ℕ) (at : ℕ) (c : Cut) → Turn strict t at c → (l : ℕ)
+    → unwritable l (recordsFrom strict t at)
+    ≡ cond (lineWritable (line strict (record { at = at; bytes = lent t at (c .len) }))) (unwritable (l + 1) (recordsFrom strict t (at + c .next))) (some l)
+unwritable-turn strict t at c u l =
+    ap (unwritable l) (u .records)
+    ∙ unwritable-onto l (line strict (record { at = at; bytes = lent t at (c .len) })) (recordsFrom strict t (at + c .next)) (u .read)
+
+-- after the last line
+pub unwritable-ended : (strict : Bool) (t : List ℕ) (at : ℕ) → length t ≤ at → (l : ℕ) → unwritable l (recordsFrom strict t at) ≡ none
+unfolding unwritable
+unwritable-ended strict t at h l = ap (unwritable l) (ended strict t at h)
+
+-- ---- by a line's size
+
+pub size-bad : (p : Line) → sizeOf p ≡ Unwritable → lineWritable p ≡ false
+unfolding sizeOf
+size-bad p e = go (lineWritable p) refl e
+  where
+    go : (b : Bool) → lineWritable p ≡ b → cond b (Is (length (lineText p))) Unwritable ≡ Unwritable → lineWritable p ≡ false
+    go true q e = absurd (never (cc))
+    go false q e = q
+
+pub size-is : (p : Line) (k : ℕ) → sizeOf p ≡ Is k → (lineWritable p ≡ true) × (length (lineText p) ≡ k)
+unfolding sizeOf
+size-is p k e = go (lineWritable p) refl e
+  where
+    go : (b : Bool) → lineWritable p ≡ b → cond b (Is (length (lineText p))) Unwritable ≡ Is k → (lineWritable p ≡ true) × (length (lineText p) ≡ k)
+    go true q e = (q, cc)
+    go false q e = absurd (never (cc))

@@ -1,0 +1,53 @@
+-- The records of an accepted text, from its reading and line by line, and which of its names can't be written.
+use Prim.Native.Nat.{ℕ}
+use mathlib.Core.Bool.{Bool, true, false, _&&_}
+use mathlib.Core.List.{List, [], _∷_}
+use mathlib.Core.Option.{Option, none, some}
+use lib.ListN.{drop}
+use Rattle.format.specs.Lines.{Piece, linesFrom}
+use Rattle.format.specs.Records.{Record, Line, refused, read, line}
+use Rattle.format.specs.Reading.{Reading, refuse, accept}
+use Rattle.writer.specs.Line.{isRead}
+use Rattle.tidy_text.specs.declared.Named.{Named}
+use Rattle.tidy_text.specs.declared.Named.the-variants.{Fine, Bad}
+use Rattle.tidy_text.specs.declared.Measured.{Measured}
+use Rattle.tidy_text.specs.declared.Measured.the-variants as measured
+
+unfoldable pub isAccepted : Reading → Bool
+isAccepted (refuse n l) = false
+isAccepted (accept rs) = true
+
+unfoldable pub recordsOf : Reading → List Record
+recordsOf (refuse n l) = []
+recordsOf (accept rs) = rs
+
+-- every name can be written, or the line of the first SQ whose name can't
+unfoldable pub namedOf : Option ℕ → Named
+namedOf none = Fine
+namedOf (some l) = Bad (record { 0 = l })
+
+-- the tidy text's length, if every name can be written
+unfoldable pub measuredOf : Option ℕ → ℕ → Measured
+measuredOf none n = measured.Is n
+measuredOf (some l) n = measured.Bad (record { 0 = l })
+
+-- ---- line by line
+
+-- a line's record before those of the lines after it
+unfoldable pub onto : Line → List Record → List Record
+onto (refused n) rs = rs
+onto (read r) rs = r ∷ rs
+
+unfoldable pub lineRecords : Bool → List Piece → List Record
+unfolding onto line
+lineRecords strict [] = []
+lineRecords strict (p ∷ ps) = onto (line strict p) (lineRecords strict ps)
+
+unfoldable pub allRead : Bool → List Piece → Bool
+unfolding isRead line
+allRead strict [] = true
+allRead strict (p ∷ ps) = isRead (line strict p) && allRead strict ps
+
+-- the records of the lines from the place `at` of the text `t` on
+abbrev pub recordsFrom : Bool → List ℕ → ℕ → List Record
+recordsFrom strict t at = lineRecords strict (linesFrom at (drop at t))

@@ -1,0 +1,156 @@
+// The tidy text of an accepted text: HD, then all SQ, RG, PG, CO, each kind in text order.
+use format::Kind;
+use format::LineNo;
+use writer::Size;
+ghost use mathlib.Core.Path.{_≡_};
+ghost use mathlib.Core.Bool.{true};
+ghost use Prim.Native.Nat.{_≤_, _+_};
+ghost use lib.ListN.{length};
+ghost use Rattle.format.specs.Lines.{lines};
+ghost use Rattle.format.specs.Records.{line};
+ghost use Rattle.format.specs.Reading.{announced, isStrict, readText};
+ghost use Rattle.format.specs.Tidy.{tidy, unwritable};
+ghost use Rattle.text.specs.Over.{over};
+ghost use Rattle.writer.specs.Line.{isRead, lineWritable};
+ghost use Rattle.tidy_text.specs.Accepted.{isAccepted, recordsOf, namedOf, measuredOf};
+ghost use Rattle.tidy_text.specs.Kinds.{hasKind, kindText, textOfKind};
+
+// Every reference name can be written, or the line of the first that can't.
+pub enum Named {
+    Fine,
+    Bad(LineNo),
+}
+
+// How many bytes the tidy text has, or the line of the first SQ whose name can't be written.
+pub enum Measured {
+    Bad(LineNo),
+    Is(usize),
+}
+
+// Whether the kind bytes of an accepted line are those of `kind`.
+fn is_of_kind(src: &[u8], kind: Kind) -> bool
+    requires { ⌜ 3 ≤ length (now src) ⌝ }
+    ensures { λ r. ⌜ r ≡ hasKind kind (now (src .entry)) ⌝ }
+{
+    let b = src[2];
+    if src[1] == writer::kind_first(kind) {
+        return b == writer::kind_second(kind);
+    }
+    false
+}
+
+// Whether the record of an accepted line can be written: a line of another kind than SQ is passed by its kind bytes.
+fn is_line_writable(src: &[u8], at: usize, strict: bool) -> bool
+    requires { ⌜ isRead (line strict (record { at = at; bytes = now src })) ≡ true ⌝ }
+    requires { ⌜ at + length (now src) ≤ 16777216 ⌝ }
+    ensures { λ r. ⌜ r ≡ lineWritable (line strict (record { at = at; bytes = now (src .entry) })) ⌝ }
+{
+    if is_of_kind(src, Kind::ReferenceSequence) {
+        return writer::is_writable(src, at, strict);
+    }
+    true
+}
+
+// Writes the record of an accepted line if it is of `kind`: a line of another kind is passed by its kind bytes.
+fn put_of_kind(out: &mut [u8], o: usize, kind: Kind, src: &[u8], at: usize, strict: bool) -> usize
+    requires { ⌜ isRead (line strict (record { at = at; bytes = now src })) ≡ true ⌝ }
+    requires { ⌜ at + length (now src) ≤ 16777216 ⌝ }
+    requires { ⌜ o + length (kindText kind (line strict (record { at = at; bytes = now src }))) ≤ length (now out) ⌝ }
+    ensures next { λ r. ⌜ r ≡ o + length (kindText kind (line strict (record { at = at; bytes = now (src .entry) }))) ⌝ }
+    ensures wrote { λ _. ⌜ now (out .exit) ≡ over (now (out .entry)) o (kindText kind (line strict (record { at = at; bytes = now (src .entry) }))) ⌝ }
+{
+    if is_of_kind(src, kind) {
+        return writer::put_record(out, o, src, at, strict);
+    }
+    o
+}
+
+// The line of the first SQ of an accepted text whose name can't be written; `strict` is what the text says of repeated tags.
+pub fn unwritable(text: &[u8], strict: bool) -> Named
+    requires { ⌜ isAccepted (readText (now text)) ≡ true ⌝ }
+    requires { ⌜ strict ≡ isStrict (announced (lines (now text))) ⌝ }
+    ensures { λ r. ⌜ r ≡ namedOf (unwritable 0 (recordsOf (readText (now (text .entry))))) ⌝ }
+{
+    let mut l: u32 = 0;
+    let mut at: usize = 0;
+    while at < text.len() {
+        let cut = text::first_line(&text[at..]);
+        if !is_line_writable(&text[at..at + cut.len], at, strict) {
+            return Named::Bad(LineNo(l));
+        }
+        l += 1;
+        at += cut.next;
+    }
+    Named::Fine
+}
+
+// How many bytes the tidy text of an accepted text has.
+pub fn tidy_len(text: &[u8], strict: bool) -> usize
+    requires { ⌜ isAccepted (readText (now text)) ≡ true ⌝ }
+    requires { ⌜ strict ≡ isStrict (announced (lines (now text))) ⌝ }
+    ensures { λ r. ⌜ r ≡ length (tidy (recordsOf (readText (now (text .entry))))) ⌝ }
+{
+    let mut n: usize = 0;
+    let mut at: usize = 0;
+    while at < text.len() {
+        let cut = text::first_line(&text[at..]);
+        n += writer::record_len(&text[at..at + cut.len], at, strict);
+        at += cut.next;
+    }
+    n
+}
+
+// Both in one pass, each line looked at once: the length of the tidy text, or the line of the first SQ whose name can't be written.
+pub fn measure(text: &[u8], strict: bool) -> Measured
+    requires { ⌜ isAccepted (readText (now text)) ≡ true ⌝ }
+    requires { ⌜ strict ≡ isStrict (announced (lines (now text))) ⌝ }
+    ensures { λ r. ⌜ r ≡ measuredOf (unwritable 0 (recordsOf (readText (now (text .entry))))) (length (tidy (recordsOf (readText (now (text .entry)))))) ⌝ }
+{
+    let mut l: u32 = 0;
+    let mut n: usize = 0;
+    let mut at: usize = 0;
+    while at < text.len() {
+        let cut = text::first_line(&text[at..]);
+        let size = writer::record_size(&text[at..at + cut.len], at, strict);
+        let Size::Is(len) = size else {
+            return Measured::Bad(LineNo(l));
+        };
+        l += 1;
+        n += len;
+        at += cut.next;
+    }
+    Measured::Is(n)
+}
+
+// Writes the records of one kind, in text order.
+fn put_kind(text: &[u8], strict: bool, kind: Kind, out: &mut [u8], o: usize) -> usize
+    requires { ⌜ isAccepted (readText (now text)) ≡ true ⌝ }
+    requires { ⌜ strict ≡ isStrict (announced (lines (now text))) ⌝ }
+    requires { ⌜ o + length (textOfKind kind (recordsOf (readText (now text)))) ≤ length (now out) ⌝ }
+    ensures next { λ r. ⌜ r ≡ o + length (textOfKind kind (recordsOf (readText (now (text .entry))))) ⌝ }
+    ensures wrote { λ _. ⌜ now (out .exit) ≡ over (now (out .entry)) o (textOfKind kind (recordsOf (readText (now (text .entry))))) ⌝ }
+{
+    let mut n = o;
+    let mut at: usize = 0;
+    while at < text.len() {
+        let cut = text::first_line(&text[at..]);
+        n = put_of_kind(out, n, kind, &text[at..at + cut.len], at, strict);
+        at += cut.next;
+    }
+    n
+}
+
+// Writes the tidy text of an accepted text, kind by kind, and answers its length.
+pub fn put_tidy(text: &[u8], strict: bool, out: &mut [u8]) -> usize
+    requires { ⌜ isAccepted (readText (now text)) ≡ true ⌝ }
+    requires { ⌜ strict ≡ isStrict (announced (lines (now text))) ⌝ }
+    requires { ⌜ length (tidy (recordsOf (readText (now text)))) ≤ length (now out) ⌝ }
+    ensures next { λ r. ⌜ r ≡ length (tidy (recordsOf (readText (now (text .entry))))) ⌝ }
+    ensures wrote { λ _. ⌜ now (out .exit) ≡ over (now (out .entry)) 0 (tidy (recordsOf (readText (now (text .entry))))) ⌝ }
+{
+    let n = put_kind(text, strict, Kind::Header, out, 0);
+    let n = put_kind(text, strict, Kind::ReferenceSequence, out, n);
+    let n = put_kind(text, strict, Kind::ReadGroup, out, n);
+    let n = put_kind(text, strict, Kind::Program, out, n);
+    put_kind(text, strict, Kind::Comment, out, n)
+}

@@ -1,0 +1,5 @@
+pub mod Wrote
+pub mod Others
+pub mod Texts
+pub mod Sizes
+pub mod Heads

@@ -1,0 +1,4 @@
+pub mod Line
+pub mod Parts
+pub mod Texts
+pub mod Heads

@@ -1,0 +1,31 @@
+-- What the tidy text has of one line: the record's text, and whether its name can be written.
+use Prim.Native.Nat.{ℕ}
+use mathlib.Core.Bool.{Bool, true, false, cond}
+use mathlib.Core.List.{List, []}
+use lib.ListN.{length}
+use Rattle.format.specs.Records.{Line, refused, read}
+use Rattle.format.specs.Tidy.{recordText, isWritable}
+use Rattle.writer.specs.declared.Size.{Size}
+use Rattle.writer.specs.declared.Size.the-variants.{Unwritable, Is}
+
+-- is it accepted?
+unfoldable pub isRead : Line → Bool
+isRead (refused n) = false
+isRead (read r) = true
+
+-- the record's line, with its LF
+unfoldable pub lineText : Line → List ℕ
+unfolding recordText
+lineText (refused n) = []
+lineText (read r) = recordText r
+
+-- can it be written?
+unfoldable pub lineWritable : Line → Bool
+unfolding isWritable
+lineWritable (refused n) = true
+lineWritable (read r) = isWritable r
+
+-- its length, if it can be written
+unfoldable pub sizeOf : Line → Size
+unfolding lineWritable lineText
+sizeOf l = cond (lineWritable l) (Is (length (lineText l))) Unwritable
