@@ -4,7 +4,7 @@ use parser::Answer;
 use parser::Checked;
 ghost use mathlib.Core.Path.{_≡_};
 ghost use lib.ListN.{length};
-ghost use Rattle.format.specs.Calls.{reading, fresh};
+ghost use Rattle.format.specs.Calls.{reading, fresh, tidying};
 ghost use Rattle.parser.specs.Answers.{answerOf, outputOf, checkedOf};
 ghost use Rattle.exports.specs.Words.{refusalWord, answerWord, checkedWord};
 
@@ -45,4 +45,12 @@ pub extern "C" fn sam_header_check(text: &[u8], catalogue: &[u8]) -> u64
     ensures { λ r. ⌜ r ≡ checkedWord (checkedOf (fresh (now (text .entry)) (now (catalogue .entry)))) ⌝ }
 {
     checked_word(parser::check(text, catalogue))
+}
+
+#[no_mangle]
+pub extern "C" fn sam_header_tidy(text: &[u8], out: &mut [u8]) -> u64
+    ensures answer { λ r. ⌜ r ≡ answerWord (answerOf (tidying (now (text .entry)) (length (now (out .entry))))) ⌝ }
+    ensures wrote { λ _. ⌜ now (out .exit) ≡ outputOf (tidying (now (text .entry)) (length (now (out .entry)))) (now (out .entry)) ⌝ }
+{
+    answer_word(tidy::tidy(text, out))
 }
