@@ -73,7 +73,14 @@ fn barred_new(count: usize, programs: usize, head: Head) -> u8
 }
 
 // As `bars::barred`, where a key that one of the lines before has is known to be `seen`.
-pub fn barred(text: &[u8], count: usize, programs: usize, head: Head, strict: bool, seen: bool) -> u8
+pub fn barred(
+    text: &[u8],
+    count: usize,
+    programs: usize,
+    head: Head,
+    strict: bool,
+    seen: bool,
+) -> u8
     requires { ⌜ length (now text) ≤ 16777216 ⌝ }
     requires { ⌜ count ≤ length (lines (now text)) ⌝ }
     requires { ⌜ Within (length (now text)) head ⌝ }
