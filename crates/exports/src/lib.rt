@@ -1,0 +1,48 @@
+// The calls for programs in C and Rust: each answer is one number (include/sam_header.h).
+use format::LineNo;
+use parser::Answer;
+use parser::Checked;
+ghost use mathlib.Core.Path.{_≡_};
+ghost use lib.ListN.{length};
+ghost use Rattle.format.specs.Calls.{reading, fresh};
+ghost use Rattle.parser.specs.Answers.{answerOf, outputOf, checkedOf};
+ghost use Rattle.exports.specs.Words.{refusalWord, answerWord, checkedWord};
+
+fn refusal_word(n: u8, line: LineNo) -> u64
+    ensures { λ r. ⌜ r ≡ refusalWord n (line .0) ⌝ }
+{
+    9223372036854775808 + (n as u64) * 4294967296 + (line.0 as u64)
+}
+
+fn answer_word(answer: Answer) -> u64
+    ensures { λ r. ⌜ r ≡ answerWord answer ⌝ }
+{
+    match answer {
+        Answer::Refused(n, line) => refusal_word(n, line),
+        Answer::Count(n) => n as u64,
+    }
+}
+
+fn checked_word(checked: Checked) -> u64
+    ensures { λ r. ⌜ r ≡ checkedWord checked ⌝ }
+{
+    match checked {
+        Checked::Refused(n, line) => refusal_word(n, line),
+        Checked::Fresh => 0,
+    }
+}
+
+#[no_mangle]
+pub extern "C" fn sam_header_read(text: &[u8], catalogue: &mut [u8]) -> u64
+    ensures answer { λ r. ⌜ r ≡ answerWord (answerOf (reading (now (text .entry)) (length (now (catalogue .entry))))) ⌝ }
+    ensures wrote { λ _. ⌜ now (catalogue .exit) ≡ outputOf (reading (now (text .entry)) (length (now (catalogue .entry)))) (now (catalogue .entry)) ⌝ }
+{
+    answer_word(parser::read(text, catalogue))
+}
+
+#[no_mangle]
+pub extern "C" fn sam_header_check(text: &[u8], catalogue: &[u8]) -> u64
+    ensures { λ r. ⌜ r ≡ checkedWord (checkedOf (fresh (now (text .entry)) (now (catalogue .entry)))) ⌝ }
+{
+    checked_word(parser::check(text, catalogue))
+}

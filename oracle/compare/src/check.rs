@@ -1,0 +1,586 @@
+//! One case: both sides are asked, and everything that they answer is compared.
+
+use library::{Answer, Element, Lent, Refusal};
+use oracle::{Header, inputs::Rng};
+
+use crate::{
+    known::{self, Kind},
+    tally::{Call, Tally},
+};
+
+/// A text, and what is given to add after it.
+#[derive(Clone, Debug, Default, Eq, PartialEq)]
+pub struct Case {
+    pub text: Vec<u8>,
+    pub add: Option<(Vec<u8>, Vec<u8>)>,
+}
+
+impl Case {
+    pub fn len(&self) -> usize {
+        self.text.len() + self.add.as_ref().map_or(0, |(p, f)| p.len() + f.len())
+    }
+}
+
+/// A difference: a known kind, or none.
+#[derive(Clone, Debug)]
+pub struct Difference {
+    pub call: Call,
+    pub kind: Option<Kind>,
+    pub what: String,
+}
+
+const SHORT: Refusal = Refusal { number: 20, line: 0 };
+const STALE: Refusal = Refusal { number: 21, line: 0 };
+#[cfg(feature = "lookup")]
+const ABSENT: Refusal = Refusal { number: 25, line: 0 };
+
+fn refusal(number: u32) -> Refusal {
+    Refusal { number, line: 0 }
+}
+
+/// Runs a call with an output, at every length that matters: longer than the answer, exactly as long, one short, and empty.
+/// `want` is what it writes and what it returns, or its refusal. Says what is wrong, if anything.
+fn outputs<T: Element>(
+    lent: &mut Lent<T>,
+    want: Result<(&[T], u64), Refusal>,
+    mut run: impl FnMut(&mut [T]) -> Answer,
+) -> Option<String> {
+    let n = want.as_ref().map_or(0, |(bytes, _)| bytes.len());
+    let lengths = if n == 0 { [9, 0, 0, 0] } else { [n + 9, n, n - 1, 0] };
+    for (i, &len) in lengths.iter().enumerate() {
+        if lengths[..i].contains(&len) {
+            continue;
+        }
+        let expected = match want {
+            Ok((_, answer)) if len >= n => Ok(answer),
+            Ok(_) => Err(SHORT),
+            Err(r) => Err(r),
+        };
+        let got = run(lent.lend(len));
+        if got != expected {
+            return Some(format!("an output of {len}: {got:?}, wanted {expected:?}"));
+        }
+        let written = if expected.is_ok() { n } else { 0 };
+        if let (Ok((bytes, _)), Ok(_)) = (want, expected)
+            && lent.front(n) != bytes
+        {
+            let (got, want) = (T::show(lent.front(n)), T::show(bytes));
+            return Some(format!("an output of {len}: {got}, wanted {want}"));
+        }
+        if !lent.kept_from(written) {
+            return Some(format!("an output of {len}: something past the {written} elements of the answer was changed"));
+        }
+    }
+    None
+}
+
+/// How long the catalogue of these records is, by document 01's table.
+fn catalogue_len(header: &Header) -> usize {
+    let f = |n: usize| 11 * n;
+    header.header().map_or(0, |m| 9 + f(m.other_fields().len()))
+        + header.reference_sequences().values().map(|m| 17 + f(m.other_fields().len())).sum::<usize>()
+        + header.read_groups().values().map(|m| 9 + f(m.other_fields().len())).sum::<usize>()
+        + header.programs().as_ref().values().map(|m| 9 + f(m.other_fields().len())).sum::<usize>()
+        + 9 * header.comments().len()
+}
+
+/// A catalogue's entries, taken one after the other.
+struct Entries<'a> {
+    text: &'a [u8],
+    rest: &'a [u8],
+    line: (usize, usize),
+}
+
+impl<'a> Entries<'a> {
+    fn take<const N: usize>(&mut self) -> Result<[u8; N], String> {
+        let (a, rest) = self.rest.split_first_chunk::<N>().ok_or("the catalogue ends within an entry")?;
+        self.rest = rest;
+        Ok(*a)
+    }
+
+    fn u32(&mut self) -> Result<u32, String> {
+        self.take().map(u32::from_le_bytes)
+    }
+
+    fn place(&mut self) -> Result<(usize, usize), String> {
+        let (offset, len) = (self.u32()? as usize, self.u32()? as usize);
+        let (start, end) = self.line;
+        if offset < start + 4 || offset + len > end {
+            return Err(format!("{offset} and {len} are not in the line from {start} to {end}"));
+        }
+        Ok((offset, len))
+    }
+
+    // A value's place: the last field of its line with this tag, from its colon to a tab or the line's end.
+    fn value(&mut self, tag: &[u8; 2]) -> Result<&'a [u8], String> {
+        let (offset, len) = self.place()?;
+        let (start, end) = self.line;
+        let whole = &self.text[start..end];
+        let (offset, last) = (offset - start, offset - start + len);
+        let front = [b'\t', tag[0], tag[1], b':'];
+        let wrong = |why: &str| Err(format!("the place of {} at {offset} and {len}: {why}", tag.escape_ascii()));
+        if whole[offset - 4..offset] != front {
+            return wrong("its tag is not before it");
+        }
+        if whole[offset..last].contains(&b'\t') || last < whole.len() && whole[last] != b'\t' {
+            return wrong("it does not end where its field does");
+        }
+        if whole[last..].windows(4).any(|w| w == front) {
+            return wrong("a later field has the tag");
+        }
+        Ok(&whole[offset..last])
+    }
+
+    fn fields<'b, K, V>(&mut self, fields: impl Iterator<Item = (&'b K, &'b V)>) -> Result<(), String>
+    where
+        K: AsRef<[u8; 2]> + 'b,
+        V: AsRef<[u8]> + 'b,
+    {
+        for (tag, value) in fields {
+            let tag = tag.as_ref();
+            match self.take::<3>()? {
+                [6, a, b] if [a, b] == *tag => {}
+                other => return Err(format!("an entry starts {other:?} where the field {} is due", tag.escape_ascii())),
+            }
+            if self.value(tag)? != value.as_ref() {
+                return Err(format!("the value of {}", tag.escape_ascii()));
+            }
+        }
+        Ok(())
+    }
+}
+
+/// Holds the catalogue to the crate's records, line by line.
+fn records(text: &[u8], catalogue: &[u8], header: &Header) -> Result<(), String> {
+    let mut e = Entries { text, rest: catalogue, line: (0, 0) };
+    let mut sq = header.reference_sequences().iter();
+    let mut rg = header.read_groups().iter();
+    let mut pg = header.programs().as_ref().iter();
+    let mut co = header.comments().iter();
+    for (i, line) in oracle::spans(text).enumerate() {
+        e.line = line;
+        let due = match &text[line.0 + 1..line.0 + 3] {
+            b"HD" => 1,
+            b"SQ" => 2,
+            b"RG" => 3,
+            b"PG" => 4,
+            _ => 5,
+        };
+        let [kind] = e.take()?;
+        if kind != due {
+            return Err(format!("an entry of kind {kind} for line {i}, where {due} is due"));
+        }
+        let odd = |what: &str| Err(format!("{what} of line {i}"));
+        match kind {
+            1 => {
+                let hd = header.header().ok_or("the crate has no HD")?;
+                if (e.u32()?, e.u32()?) != (hd.version().major(), hd.version().minor()) {
+                    return odd("VN");
+                }
+                e.fields(hd.other_fields().iter())?;
+            }
+            2 => {
+                let (name, map) = sq.next().ok_or("the crate has fewer SQ")?;
+                if e.value(b"SN")? != &name[..] {
+                    return odd("SN");
+                }
+                if u64::from_le_bytes(e.take()?) != map.length().get() as u64 {
+                    return odd("LN");
+                }
+                e.fields(map.other_fields().iter())?;
+            }
+            3 => {
+                let (id, map) = rg.next().ok_or("the crate has fewer RG")?;
+                if e.value(b"ID")? != &id[..] {
+                    return odd("ID");
+                }
+                e.fields(map.other_fields().iter())?;
+            }
+            4 => {
+                let (id, map) = pg.next().ok_or("the crate has fewer PG")?;
+                if e.value(b"ID")? != &id[..] {
+                    return odd("ID");
+                }
+                e.fields(map.other_fields().iter())?;
+            }
+            _ => {
+                let comment = co.next().ok_or("the crate has fewer CO")?;
+                let (offset, len) = e.place()?;
+                if (offset, offset + len) != (line.0 + 4, line.1) || &text[offset..offset + len] != &comment[..] {
+                    return odd("the comment");
+                }
+            }
+        }
+    }
+    if !e.rest.is_empty() || sq.next().is_some() || rg.next().is_some() || pg.next().is_some() || co.next().is_some() {
+        return Err("the crate has other records, or there are entries left".into());
+    }
+    Ok(())
+}
+
+/// Asks and compares. Buffers are kept from case to case.
+#[derive(Default)]
+pub struct Checker {
+    bytes: Lent<u8>,
+    #[cfg(feature = "graph")]
+    words: Lent<u32>,
+    found: Vec<Difference>,
+    pub tally: Tally,
+}
+
+impl Checker {
+    /// The differences of one case. The bytes that are damaged follow from the text, so that a case always answers the same.
+    pub fn case(&mut self, case: &Case) -> Vec<Difference> {
+        self.found.clear();
+        let before = case.clone();
+        let text = &case.text[..];
+        let theirs = oracle::parse(text);
+        let room = theirs.as_ref().map_or(40, |h| catalogue_len(h) + 9);
+        let ours = library::read(text, self.bytes.lend(room));
+        match (ours, theirs) {
+            (Err(r), theirs) => {
+                let theirs = theirs.err();
+                if theirs.as_ref().is_some_and(|t| t.number == r.number && t.line == r.line as usize) {
+                    self.tally.text(r.number);
+                } else {
+                    let kind = known::reading(text, r, theirs.as_ref());
+                    let theirs = theirs.map_or("accepted".into(), |t| format!("{} line {} {}", t.number, t.line, t.error));
+                    self.differ(Call::Read, kind, format!("refused {} line {}; the crate: {theirs}", r.number, r.line));
+                }
+                self.refused(case, r);
+            }
+            (Ok(n), Err(t)) => {
+                self.differ(
+                    Call::Read,
+                    None,
+                    format!("accepted ({n} bytes); the crate: {} line {} {}", t.number, t.line, t.error),
+                );
+            }
+            (Ok(n), Ok(header)) => {
+                self.accepted(case, n, &header);
+            }
+        }
+        if *case != before {
+            self.differ(Call::Read, None, "a text, a prefix or fields were changed".into());
+        }
+        std::mem::take(&mut self.found)
+    }
+
+    fn differ(&mut self, call: Call, kind: Option<Kind>, what: String) {
+        self.found.push(Difference { call, kind, what });
+    }
+
+    // An answer that must be this one.
+    fn same(&mut self, call: Call, got: Answer, want: Answer, what: &str) {
+        if got == want {
+            self.tally.call(call, want.err().map_or(0, |r| r.number));
+        } else {
+            self.differ(call, None, format!("{what}: {got:?}, wanted {want:?}"));
+        }
+    }
+
+    // As `same` and `said`, over a refused text.
+    fn still(&mut self, call: Call, got: Answer, r: Refusal) {
+        self.held(call, (got != Err(r)).then(|| format!("on a refused text: {got:?}, wanted {r:?}")));
+    }
+
+    fn held(&mut self, call: Call, said: Option<String>) {
+        match said {
+            None => self.tally.refused(call),
+            Some(what) => self.differ(call, None, what),
+        }
+    }
+
+    // What `outputs` said.
+    fn said(&mut self, call: Call, number: u32, said: Option<String>) {
+        match said {
+            None => self.tally.call(call, number),
+            Some(what) => self.differ(call, None, what),
+        }
+    }
+
+    // A refused text gives reading's refusal in every call, whatever the catalogue holds, and no byte is written.
+    fn refused(&mut self, case: &Case, r: Refusal) {
+        let text = &case.text[..];
+        let said = outputs(&mut self.bytes, Err(r), |o| library::read(text, o));
+        self.held(Call::Read, said);
+        let said = outputs(&mut self.bytes, Err(r), |o| library::tidy(text, o));
+        self.held(Call::Tidy, said);
+        for catalogue in [&b""[..], b"\x01\x01\x00\x00\x00\x06\x00\x00\x00"] {
+            self.still(Call::Check, library::check(text, catalogue), r);
+            #[cfg(feature = "lookup")]
+            {
+                self.still(Call::Count, library::count(text, catalogue, 1), r);
+                self.still(Call::Count, library::count(text, catalogue, 9), r);
+                self.still(Call::Key, library::key(text, catalogue, 2, 0), r);
+                let mut ln = 0x5a5a;
+                self.still(Call::Length, library::length(text, catalogue, 0, &mut ln), r);
+                if ln != 0x5a5a {
+                    self.differ(Call::Length, None, "a refusal changed the number".into());
+                }
+            }
+            #[cfg(feature = "graph")]
+            {
+                let said = outputs(&mut self.words, Err(r), |o| library::roots(text, catalogue, o));
+                self.held(Call::Roots, said);
+                let said = outputs(&mut self.words, Err(r), |o| library::leaves(text, catalogue, o));
+                self.held(Call::Leaves, said);
+            }
+            #[cfg(feature = "add")]
+            {
+                let (p, f) = case.add.as_ref().map_or((&b"x"[..], &b""[..]), |(p, f)| (p, f));
+                let said = outputs(&mut self.bytes, Err(r), |o| library::add(text, catalogue, p, f, o));
+                self.held(Call::Add, said);
+            }
+        }
+    }
+
+    fn accepted(&mut self, case: &Case, n: u64, header: &Header) {
+        let text = &case.text[..];
+        let need = catalogue_len(header);
+        if n != need as u64 {
+            return self.differ(Call::Read, None, format!("{n} bytes of catalogue, wanted {need}"));
+        }
+        if !self.bytes.kept_from(need) {
+            return self.differ(Call::Read, None, "something past the catalogue was changed".into());
+        }
+        let catalogue = self.bytes.front(need).to_vec();
+        if let Err(what) = records(text, &catalogue, header) {
+            return self.differ(Call::Read, None, format!("{what}; catalogue {}", oracle::inputs::hex(&catalogue)));
+        }
+        let said = outputs(&mut self.bytes, Ok((&catalogue, n)), |o| library::read(text, o));
+        self.said(Call::Read, 0, said);
+        self.tally.text(0);
+
+        // The catalogue is this text's; a damaged one is not.
+        self.same(Call::Check, library::check(text, &catalogue), Ok(0), "its own catalogue");
+        let hash = text.iter().fold(0xcbf2_9ce4_8422_2325u64, |h, &b| (h ^ u64::from(b)).wrapping_mul(0x100_0000_01b3));
+        let mut rng = Rng::new(hash);
+        let mut damaged = Vec::new();
+        for _ in 0..if need == 0 { 0 } else { 3 } {
+            let mut c = catalogue.clone();
+            c[rng.below(need)] ^= if rng.one_in(2) { 1 << rng.below(8) } else { 1 + rng.below(255) as u8 };
+            damaged.push(c);
+        }
+        damaged.push([&catalogue[..], &[*rng.of(b"\x00\x06\x01\xff")]].concat());
+        if need > 0 {
+            damaged.push(catalogue[..need - 1].to_vec());
+            damaged.push(Vec::new());
+        }
+        for c in &damaged {
+            self.same(Call::Check, library::check(text, c), Err(STALE), "a damaged catalogue");
+        }
+
+        self.tidy(text, header);
+        #[cfg(feature = "lookup")]
+        self.lookup(text, &catalogue, &damaged, header, &mut rng);
+        #[cfg(feature = "graph")]
+        self.graph(text, &catalogue, &damaged, header, &mut rng);
+        #[cfg(feature = "add")]
+        self.add(case, &catalogue, &damaged, header, &mut rng);
+    }
+
+    // The line of the first SQ whose name the crate does not write.
+    fn unwritable(text: &[u8], header: &Header) -> Refusal {
+        let ordinal = oracle::unwritable(header).expect("the crate refused a name");
+        let mut sq = oracle::spans(text).enumerate().filter(|&(_, (a, b))| text[a..b].starts_with(b"@SQ"));
+        Refusal { number: 24, line: sq.nth(ordinal).expect("an SQ line").0 as u32 }
+    }
+
+    fn tidy(&mut self, text: &[u8], header: &Header) {
+        let written = oracle::tidy(header);
+        let want = match &written {
+            Ok(t) if t.len() > oracle::LONGEST => Err(refusal(1)),
+            Ok(t) => Ok((&t[..], t.len() as u64)),
+            Err(_) => Err(Self::unwritable(text, header)),
+        };
+        let said = outputs(&mut self.bytes, want, |o| library::tidy(text, o));
+        let number = want.err().map_or(0, |r| r.number);
+        if number == 1 && said.is_none() {
+            self.differ(Call::Tidy, Some(Kind::Size), "refused 1; the crate writes it".into());
+        }
+        self.said(Call::Tidy, number, said);
+    }
+
+    #[cfg(feature = "lookup")]
+    fn lookup(&mut self, text: &[u8], catalogue: &[u8], damaged: &[Vec<u8>], header: &Header, rng: &mut Rng) {
+        let sizes = [
+            usize::from(header.header().is_some()),
+            header.reference_sequences().len(),
+            header.read_groups().len(),
+            header.programs().as_ref().len(),
+            header.comments().len(),
+        ];
+        for kind in [0, 1, 2, 3, 4, 5, 6, 7, 255] {
+            let n = usize::from(kind).checked_sub(1).and_then(|k| sizes.get(k)).copied();
+            let want = n.map_or(Err(ABSENT), |n| Ok(n as u64));
+            self.same(Call::Count, library::count(text, catalogue, kind), want, &format!("kind {kind}"));
+            let n = n.unwrap_or(0);
+            let ordinals = [0, n, u32::MAX as usize, n.saturating_sub(1), rng.below(n.max(1))];
+            let ordinals = if (2..=4).contains(&kind) { &ordinals[..] } else { &ordinals[..1] };
+            for &i in ordinals {
+                // The bytes at the place are the crate's key, and its tag stands before them.
+                let key: Option<(&[u8], &[u8; 4])> = match kind {
+                    2 => header.reference_sequences().get_index(i).map(|(k, _)| (&k[..], b"\tSN:")),
+                    3 => header.read_groups().get_index(i).map(|(k, _)| (&k[..], b"\tID:")),
+                    4 => header.programs().as_ref().get_index(i).map(|(k, _)| (&k[..], b"\tID:")),
+                    _ => None,
+                };
+                let got = library::key(text, catalogue, kind, i as u32);
+                let fits = match (key, got) {
+                    (None, got) => got == Err(ABSENT),
+                    (Some((k, tag)), Ok(a)) => {
+                        let (offset, len) = ((a >> 32) as usize, a as u32 as usize);
+                        let entry = [kind, a.to_le_bytes()[4], a.to_le_bytes()[5], a.to_le_bytes()[6], a.to_le_bytes()[7]];
+                        text.get(offset..offset + len) == Some(k)
+                            && text[..offset].ends_with(tag)
+                            && catalogue.windows(5).any(|w| w == entry)
+                    }
+                    _ => false,
+                };
+                if fits {
+                    self.tally.call(Call::Key, got.err().map_or(0, |r| r.number));
+                } else {
+                    self.differ(Call::Key, None, format!("kind {kind} ordinal {i}: {got:?}, the crate: {key:?}"));
+                }
+                if kind == 2 {
+                    let mut ln = 0x5a5a_5a5a_5a5a;
+                    let got = library::length(text, catalogue, i as u32, &mut ln);
+                    let want = header.reference_sequences().get_index(i).map(|(_, m)| m.length().get() as u64);
+                    let fits = match want {
+                        Some(n) => got == Ok(0) && ln == n,
+                        None => got == Err(ABSENT) && ln == 0x5a5a_5a5a_5a5a,
+                    };
+                    if fits {
+                        self.tally.call(Call::Length, got.err().map_or(0, |r| r.number));
+                    } else {
+                        self.differ(Call::Length, None, format!("ordinal {i}: {got:?} and {ln}, the crate: {want:?}"));
+                    }
+                }
+            }
+        }
+        let kind = rng.below(8) as u8;
+        let mut ln = 7;
+        self.same(Call::Count, library::count(text, &rng.of(damaged)[..], kind), Err(STALE), "a damaged catalogue");
+        self.same(Call::Key, library::key(text, &rng.of(damaged)[..], kind, 0), Err(STALE), "a damaged catalogue");
+        self.same(Call::Length, library::length(text, &rng.of(damaged)[..], 0, &mut ln), Err(STALE), "a damaged catalogue");
+        if ln != 7 {
+            self.differ(Call::Length, None, "a refusal changed the number".into());
+        }
+    }
+
+    #[cfg(feature = "graph")]
+    fn graph(&mut self, text: &[u8], catalogue: &[u8], damaged: &[Vec<u8>], header: &Header, rng: &mut Rng) {
+        use oracle::Leaves;
+        let ordinals = |l: Vec<usize>| l.into_iter().map(|i| i as u32).collect::<Vec<u32>>();
+        let roots = ordinals(oracle::roots(header));
+        let said = outputs(&mut self.words, Ok((&roots, roots.len() as u64)), |o| library::roots(text, catalogue, o));
+        self.said(Call::Roots, 0, said);
+
+        let parents = oracle::parents(header);
+        let leaves = oracle::leaves(header);
+        let (number, kind) = chained(&parents, &leaves);
+        let list = if let Leaves::List(l) = leaves { ordinals(l) } else { Vec::new() };
+        let want = if number == 0 { Ok((&list[..], hops(&parents) << 32 | list.len() as u64)) } else { Err(refusal(number)) };
+        let said = outputs(&mut self.words, want, |o| library::leaves(text, catalogue, o));
+        if let (Some(kind), None) = (kind, &said) {
+            self.differ(Call::Leaves, Some(kind), format!("refused {number}"));
+        }
+        self.said(Call::Leaves, number, said);
+
+        let c = rng.of(damaged);
+        let said = outputs(&mut self.words, Err(STALE), |o| library::roots(text, c, o));
+        self.said(Call::Roots, 21, said);
+        let said = outputs(&mut self.words, Err(STALE), |o| library::leaves(text, c, o));
+        self.said(Call::Leaves, 21, said);
+    }
+
+    #[cfg(feature = "add")]
+    fn add(&mut self, case: &Case, catalogue: &[u8], damaged: &[Vec<u8>], header: &Header, rng: &mut Rng) {
+        let Some((prefix, fields)) = &case.add else { return };
+        let text = &case.text[..];
+        // The lenient build cannot say what is not in form.
+        if oracle::LENIENT {
+            let line = [b"@PG\tID:", &prefix[..], fields].concat();
+            if line.contains(&b'\n') || !oracle::inputs::in_domain(&line) {
+                return;
+            }
+        }
+        let given = oracle::program_fields(fields).ok().filter(|_| oracle::is_id(prefix));
+        let (mut kind, mut out) = (None, Vec::new());
+        // The crate's answer; where it has none, or another by intent, a known kind.
+        let leaves = oracle::leaves(header);
+        let (graph, odd) = chained(&oracle::parents(header), &leaves);
+        let want = match given {
+            None => Err(refusal(26)),
+            Some(_) if graph == 22 => {
+                kind = odd;
+                Err(refusal(22))
+            }
+            Some(map) if oracle::names_program(header, &map) == Some(false) => {
+                kind = Some(Kind::AddNobody);
+                Err(refusal(22))
+            }
+            Some(_) if graph == 23 => {
+                kind = odd;
+                Err(refusal(23))
+            }
+            Some(map) => match oracle::add(header, prefix, map) {
+                None => Err(refusal(18)),
+                Some(more) if more.programs().as_ref().len() > oracle::PROGRAMS => {
+                    kind = Some(Kind::AddPrograms);
+                    Err(refusal(19))
+                }
+                Some(more) => match oracle::tidy(&more) {
+                    Err(_) => Err(Self::unwritable(text, header)),
+                    Ok(t) if t.len() > oracle::LONGEST => {
+                        kind = Some(Kind::Size);
+                        Err(refusal(1))
+                    }
+                    Ok(t) => {
+                        out = t;
+                        Ok(())
+                    }
+                },
+            },
+        };
+        let want = want.map(|()| (&out[..], out.len() as u64));
+        let number = want.err().map_or(0, |r| r.number);
+        let said = outputs(&mut self.bytes, want, |o| library::add(text, catalogue, prefix, fields, o));
+        if let (Some(kind), None) = (kind, &said) {
+            self.differ(Call::Add, Some(kind), format!("refused {number}; the crate does not"));
+        }
+        self.said(Call::Add, number, said);
+        let c = rng.of(damaged);
+        let said = outputs(&mut self.bytes, Err(STALE), |o| library::add(text, c, prefix, fields, o));
+        self.said(Call::Add, 21, said);
+    }
+}
+
+/// The refusal that is due where leaves are looked for, 0 for none, and the kind of difference if the crate has no such answer.
+#[cfg(any(feature = "graph", feature = "add"))]
+fn chained(parents: &[oracle::Parent], leaves: &oracle::Leaves) -> (u32, Option<Kind>) {
+    use oracle::Leaves;
+    match (parents.contains(&oracle::Parent::Nobody), leaves) {
+        (false, Leaves::List(_)) => (0, None),
+        (false, Leaves::Cycle) => (23, None),
+        (false, Leaves::Endless) => (23, Some(Kind::Endless)),
+        (true, Leaves::Panics) => (22, Some(Kind::Dangling)),
+        (true, Leaves::Cycle) => (22, Some(Kind::CycleFirst)),
+        (true, Leaves::Endless) => (22, Some(Kind::Endless)),
+        (true, Leaves::List(_)) | (false, Leaves::Panics) => unreachable!("the crate looks up every PP"),
+    }
+}
+
+/// The parent links from every program to its root, summed. The crate has no such number: this one comes from its tables.
+#[cfg(feature = "graph")]
+fn hops(parents: &[oracle::Parent]) -> u64 {
+    let depth = |mut i: usize| {
+        let mut d = 0;
+        while let oracle::Parent::Program(p) = parents[i] {
+            (i, d) = (p, d + 1);
+        }
+        d
+    };
+    (0..parents.len()).map(depth).sum()
+}

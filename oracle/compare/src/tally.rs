@@ -1,0 +1,69 @@
+//! What was asked and answered, in numbers.
+
+use std::fmt;
+
+#[derive(Clone, Copy, Debug, Eq, PartialEq)]
+#[allow(dead_code)] // some calls are there only with their features
+pub enum Call {
+    Read,
+    Check,
+    Tidy,
+    Count,
+    Key,
+    Length,
+    Roots,
+    Leaves,
+    Add,
+}
+
+const CALLS: [Call; 9] =
+    [Call::Read, Call::Check, Call::Tidy, Call::Count, Call::Key, Call::Length, Call::Roots, Call::Leaves, Call::Add];
+
+/// How often both sides agreed. A number is a refusal's, 0 an acceptance.
+#[derive(Default)]
+pub struct Tally {
+    texts: [u64; 27],
+    calls: [[u64; 27]; CALLS.len()],
+    refused: [u64; CALLS.len()],
+}
+
+impl Tally {
+    /// The crate and reading agree on a text.
+    pub fn text(&mut self, number: u32) {
+        self.texts[number as usize] += 1;
+    }
+
+    /// A call over an accepted text answered as it must, for every length of its output.
+    pub fn call(&mut self, call: Call, number: u32) {
+        self.calls[call as usize][number as usize] += 1;
+    }
+
+    /// A call over a refused text gave reading's refusal, for every length of its output.
+    pub fn refused(&mut self, call: Call) {
+        self.refused[call as usize] += 1;
+    }
+}
+
+fn row(f: &mut fmt::Formatter<'_>, row: &[u64; 27]) -> fmt::Result {
+    write!(f, "accepted {}", row[0])?;
+    for (number, n) in row.iter().enumerate().skip(1).filter(|&(_, &n)| n > 0) {
+        write!(f, ", {number}: {n}")?;
+    }
+    writeln!(f)
+}
+
+impl fmt::Display for Tally {
+    fn fmt(&self, f: &mut fmt::Formatter<'_>) -> fmt::Result {
+        write!(f, "Texts on which both agree, by refusal number: ")?;
+        row(f, &self.texts)?;
+        writeln!(f, "Calls that answered as they must, over accepted texts and over refused ones:")?;
+        for call in CALLS {
+            let i = call as usize;
+            if self.refused[i] + self.calls[i].iter().sum::<u64>() > 0 {
+                write!(f, "  {call:?}: {} on refused texts; ", self.refused[i])?;
+                row(f, &self.calls[i])?;
+            }
+        }
+        Ok(())
+    }
+}
