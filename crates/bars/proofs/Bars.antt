@@ -33,7 +33,7 @@ use Rattle.bars.specs.Bars.{refusalOf, isFound, isUsed, barring, Within}
 -- ---- a line's key stands in the text
 
 -- the pieces of a line that stands in the text stand there too
-stood : (strict : Bool) (t : List ℕ) (p : Piece) → Stands t 0 p → (r : Record) → records.line strict p ≡ read r → Each (Stands t 0) (pieces r)
+pub stood : (strict : Bool) (t : List ℕ) (p : Piece) → Stands t 0 p → (r : Record) → records.line strict p ≡ read r → Each (Stands t 0) (pieces r)
 stood strict t p s r e = each-map (Stands (p .bytes) (p .at)) (Stands t 0) (λ x. stands-within t 0 p x s) (pieces r) (line-stand strict p r e)
 
 record-within : (t : List ℕ) (r : Record) → Each (Stands t 0) (pieces r) → Within (length t) (recordHead r)
@@ -55,7 +55,7 @@ head-within strict t p s = go (records.line strict p) refl
 -- ---- a key used before
 
 -- the search finds a key among lines that are read exactly where one of their records has it
-found-any : (strict : Bool) (k : ℕ) (id : List ℕ) (i : ℕ) (ps : List Piece) (rs : List Record) → Pairs (λ q r. records.line strict q ≡ read r) ps rs
+pub found-any : (strict : Bool) (k : ℕ) (id : List ℕ) (i : ℕ) (ps : List Piece) (rs : List Record) → Pairs (λ q r. records.line strict q ≡ read r) ps rs
     → isFound (findIn k id i (map (records.line strict) ps)) ≡ any (λ r. hasKey k id (read r)) rs
 unfolding isFound findIn any Pairs
 found-any strict k id i [] [] h = refl

@@ -20,11 +20,12 @@ use Rattle.accepted.proofs.Onward.{read-first, read-none}
 use Rattle.accepted.proofs.Pairs.{pairs-length}
 use Rattle.accepted.proofs.OfKind.{ofKind-append}
 use Rattle.record.specs.Head.{headOf, recordHead}
+use Rattle.marks.proofs.Marks.{Marked, marked-none}
 use Rattle.parser.specs.declared.Judged.the-variants.{Refused, Accepted}
 use Rattle.parser.specs.Judged.{judgedOf, programsOf}
 
--- at the line that starts at `at`, the line number `n`: the lines before it are records
-pub record Judging (strict : Bool) (t : List ℕ) (at n programs size : ℕ) : Type 0 where
+-- at the line that starts at `at`, the line number `n`: the lines before it are records, whose keys are marked in `seen`
+pub record Judging (strict : Bool) (t : List ℕ) (seen : List Bool) (at n programs size : ℕ) : Type 0 where
   pub passed : List Piece
   pub before : List Record
   pub split : lines t ≡ passed ++ linesFrom at (drop at t)
@@ -36,10 +37,12 @@ pub record Judging (strict : Bool) (t : List ℕ) (at n programs size : ℕ) : T
   pub inside : at ≤ length t
   pub slow : n ≤ at
   pub small : size ≤ 28 * at
+  pub marks : Marked seen before
+  pub full : length seen ≡ 65536
 
-pub judging-start : (strict : Bool) (t : List ℕ) → Judging strict t 0 0 0 0
+pub judging-start : (strict : Bool) (t : List ℕ) (seen : List Bool) → length seen ≡ 65536 → Judging strict t seen 0 0 0 0
 unfolding lines Pairs ofKind catalogue
-judging-start strict t =
+judging-start strict t seen f =
     record {
       passed = [];
       before = [];
@@ -52,6 +55,8 @@ judging-start strict t =
       inside = omega arith;
       slow = omega arith;
       small = omega arith;
+      marks = marked-none seen;
+      full = f;
     }
 
 pairs-snoc : {A B : Type 0} (R : A → B → Type 0) (xs : List A) (ys : List B) (x : A) (y : B) → Pairs R xs ys → R x y → Pairs R (xs ++ (x ∷ [])) (ys ++ (y ∷ []))
@@ -70,7 +75,7 @@ programs-one (group p fs) = refl
 programs-one (program p fs) = refl
 programs-one (comment p) = refl
 
-module _ (strict : Bool) (t : List ℕ) (at n programs size : ℕ) (j : Judging strict t at n programs size) where
+module _ (strict : Bool) (t : List ℕ) (seen : List Bool) (at n programs size : ℕ) (j : Judging strict t seen at n programs size) where
   -- no line is left
   pub judging-end : length t ≤ at → Accepted size ≡ judgedOf (readFrom strict 0 [] (lines t))
   unfolding judgedOf
@@ -128,8 +133,9 @@ module _ (strict : Bool) (t : List ℕ) (at n programs size : ℕ) (j : Judging 
     -- the line is a record more
     module _ (r : Record) (is : records.line strict (record { at = at; bytes = take (firstLine (drop at t) .len) (drop at t) }) ≡ read r)
         (ok : admitted strict (j .before) (record { at = at; bytes = take (firstLine (drop at t) .len) (drop at t) }) ≡ read r)
+        (seen₁ : List Bool) (marked : Marked seen₁ (j .before ++ (r ∷ []))) (full : length seen₁ ≡ 65536)
         (entry : ℕ) (long : length (catalogue (j .before ++ (r ∷ []))) ≡ length (catalogue (j .before)) + entry) (bound : entry ≤ 28 * firstLine (drop at t) .next) where
-      pub judging-on : Judging strict t (at + firstLine (drop at t) .next) (n + 1) (programs + programsOf (recordHead r)) (size + entry)
+      pub judging-on : Judging strict t seen₁ (at + firstLine (drop at t) .next) (n + 1) (programs + programsOf (recordHead r)) (size + entry)
       unfolding taken
       judging-on =
           record {
@@ -147,4 +153,6 @@ module _ (strict : Bool) (t : List ℕ) (at n programs size : ℕ) (j : Judging 
             inside = next-within;
             slow = omega (arith, j .slow, next-some);
             small = omega (arith, j .small, bound);
+            marks = marked;
+            full = full;
           }

@@ -48,9 +48,10 @@ fn programs_of(head: Head) -> usize
     }
 }
 
-// Line by line: each line's own refusal, then 17, 18 and 19.
-pub fn judge(text: &[u8], strict: bool) -> Judged
+// Line by line: each line's own refusal, then 17, 18 and 19. The mark of each key that stood is set in `seen`.
+fn judge_marked(text: &[u8], strict: bool, seen: &mut [bool]) -> Judged
     requires { ⌜ length (now text) ≤ 16777216 ⌝ }
+    requires { ⌜ length (now seen) ≡ 65536 ⌝ }
     ensures { λ r. ⌜ r ≡ judgedOf (readFrom strict 0 [] (lines (now (text .entry)))) ⌝ }
 {
     let mut at: usize = 0;
@@ -61,16 +62,27 @@ pub fn judge(text: &[u8], strict: bool) -> Judged
         let cut = text::first_line(&text[at..]);
         let end = at + cut.len;
         let head = record::parse_record(&text[at..end], at, strict);
-        let n = bars::barred(text, line, programs, head, strict);
+        let slot = marks::slot_of(text, head);
+        let n = marks::barred(text, line, programs, head, strict, seen[slot]);
         if n != 0 {
             return Judged::Refused(n, LineNo(line as u32));
         }
+        seen[slot] = true;
         programs += programs_of(head);
         size += catalogue::record_size(head);
         at += cut.next;
         line += 1;
     }
     Judged::Accepted(size)
+}
+
+// What `text` is: the first refusal, or the size of its catalogue.
+pub fn judge(text: &[u8], strict: bool) -> Judged
+    requires { ⌜ length (now text) ≤ 16777216 ⌝ }
+    ensures { λ r. ⌜ r ≡ judgedOf (readFrom strict 0 [] (lines (now (text .entry)))) ⌝ }
+{
+    let mut seen = [false; 65536];
+    judge_marked(text, strict, &mut seen)
 }
 
 // Writes the catalogue of an accepted text to the front of `out`.

@@ -1,0 +1,361 @@
+-- `parser::judge_marked` meets its contract: the lines before are records, and what is ahead decides.
+use Prim.Native.Nat.{ℕ, suc, _+_, _-_, _*_, _≤_, _<_}
+use mathlib.Core.Path.{_≡_, refl, sym, ap, subst, _∙_}
+use mathlib.Core.Bool.{Bool, true, false, cond}
+use mathlib.Core.List.{List, [], _∷_}
+use native.Mathlib.Omega.{arith}
+use borrow.Author.Needs.{needs}
+use lib.ListN.{length, take, drop, getD, set, length-take, length-drop, length-set}
+use Rattle.format.specs.Lines.{Piece}
+use lib.Dec.{eqb}
+use Rattle.format.specs.Records.{Record, Line, read, refused, line, others, code}
+use Rattle.format.specs.Reading.{admitted, ofKind}
+use Rattle.format.specs.Catalogue.{catalogue}
+use Rattle.text.specs.First.{firstLine}
+use Rattle.text.specs.Stands.{Stands}
+use Rattle.text.proofs.First.{first-le}
+use Rattle.field.proofs.Before.{rest}
+use Rattle.record.specs.declared.Head.{Head}
+use Rattle.record.specs.declared.Head.the-variants as head
+use Rattle.record.specs.Head.{headOf, recordHead}
+use Rattle.bars.specs.Bars.{refusalOf, barring, Within}
+use Rattle.bars.proofs.Bars.{stood, head-within, barring-is, refusal-none, refusal-some}
+use Rattle.bars.proofs.Few.{others-few}
+use Rattle.marks.specs.Slot.{headSlot}
+use Rattle.marks.specs.Marked.{isTaken}
+use Rattle.marks.proofs.Marks.{slot-below, taken-marked, marked-more}
+use Rattle.catalogue.specs.Line.{recordBytes}
+use Rattle.catalogue.specs.Parts.{sizeOfHead, othersOf, ownEntry}
+use Rattle.catalogue.proofs.Records.{catalogue-length, own-others, size-length}
+use Rattle.catalogue.proofs.Entries.{size-most}
+use Rattle.parser.specs.Judged.{judgedOf, programsOf}
+use Rattle.parser.proofs.Judging.{Judging, judging-start, judging-end, judging-refused, judging-on, few-lines, passed-are, next-within, len-within, next-some, len-is, line-stands}
+use Rattle.parser.proofs.judge_marked.Statement.{statement}
+use Rattle.parser.proofs.judge_marked.Tie as tie
+use Rattle.parser.proofs.judge_marked.Reads as reads
+use Rattle.parser.proofs.judge_marked.Lts as lts
+use Rattle.marks.proofs.barred.Reads as barred-reads
+use Rattle.marks.proofs.slot_of.Reads as slot-of-reads
+use Rattle.catalogue.proofs.record_size.Reads as record-size-reads
+use Rattle.parser.proofs.programs_of.Reads as programs-of-reads
+use Rattle.record.proofs.parse_record.Reads as parse-record-reads
+use Rattle.text.proofs.first_line.Reads as first-line-reads
+
+abbrev Inv-loop : tie.InvT-loop
+Inv-loop text strict seen₀ at₀ line₀ programs₀ size₀ seen at line programs size = Judging strict text seen at line programs size
+
+abbrev μ-loop : tie.MeasureT-loop
+μ-loop text strict seen₀ at₀ line₀ programs₀ size₀ seen at line programs size = length text - at
+
+-- ---- in a turn
+
+-- the first of the lines ahead
+cut : (c : tie.After-first-line Inv-loop μ-loop) → c .first-line .result ≡ firstLine (drop (c .before .before .before .loop .at) (c .before .before .before .before .before .before .args .text .now))
+cut c = c .first-line .ensures ∙ ap firstLine (rest (c .before .before .before .loop .at) (c .before .before .before .before .before .before .args .text .now))
+
+inside : (c : tie.After-first-line Inv-loop μ-loop)
+    → let l = c .before .before .before in
+    let t = l .before .before .before .args .text .now in
+    (l .loop .at + c .first-line .result .len ≤ length t) × (l .loop .at + c .first-line .result .next ≤ length t) × (0 < c .first-line .result .next)
+inside c =
+    let l = c .before .before .before in
+    let a = l .before .before .before .args in
+    let h = c .before .before .loop-test .taken in
+    let e = cut c in (
+      rw e (len-within (a .strict) (a .text .now) (l .loop .seen) (l .loop .at) (l .loop .line) (l .loop .programs) (l .loop .size) (l .loop .inv) h),
+      rw e (next-within (a .strict) (a .text .now) (l .loop .seen) (l .loop .at) (l .loop .line) (l .loop .programs) (l .loop .size) (l .loop .inv) h),
+      rw e (next-some (a .strict) (a .text .now) (l .loop .seen) (l .loop .at) (l .loop .line) (l .loop .programs) (l .loop .size) (l .loop .inv) h),
+    )
+
+piece : tie.After-first-line Inv-loop μ-loop → Piece
+piece c =
+    let l = c .before .before .before in
+    let t = l .before .before .before .args .text .now in
+    record { at = l .loop .at; bytes = take (firstLine (drop (l .loop .at) t) .len) (drop (l .loop .at) t) }
+
+stands : (c : tie.After-first-line Inv-loop μ-loop) → Stands (c .before .before .before .before .before .before .args .text .now) 0 (piece c)
+unfolding piece
+stands c =
+    let l = c .before .before .before in
+    let a = l .before .before .before .args in
+    line-stands (a .strict) (a .text .now) (l .loop .seen) (l .loop .at) (l .loop .line) (l .loop .programs) (l .loop .size) (l .loop .inv) (c .before .before .loop-test .taken)
+
+-- its head
+head-is : (c : tie.After-parse-record Inv-loop μ-loop)
+    → let q = c .before .before .before in
+    c .parse-record .result ≡ headOf (line (q .before .before .before .before .before .before .args .strict) (piece q))
+unfolding piece
+head-is c =
+    let q = c .before .before .before in
+    let l = q .before .before .before in
+    let a = l .before .before .before .args in
+    let n : l .loop .at + q .first-line .result .len - l .loop .at ≡ q .first-line .result .len = omega arith in
+    c .parse-record .ensures ∙ ap (λ b. headOf (line (a .strict) (record { at = l .loop .at; bytes = take b (drop (l .loop .at) (a .text .now)) }))) (n ∙ ap (λ x. x .len) (cut q))
+
+within : (c : tie.After-parse-record Inv-loop μ-loop)
+    → let q = c .before .before .before in
+    Within (length (q .before .before .before .before .before .before .args .text .now)) (c .parse-record .result)
+within c =
+    let q = c .before .before .before in
+    let a = q .before .before .before .before .before .before .args in
+    subst (Within (length (a .text .now))) (sym (head-is c)) (head-within (a .strict) (a .text .now) (piece q) (stands q))
+
+-- its mark is one of those
+marked-place : (c : tie.After-slot-of Inv-loop μ-loop) → c .slot-of .result < length (c .before .before .before .before .before .before .before .loop .seen)
+marked-place c =
+    let l = c .before .before .before .before .before .before .before in
+    omega (arith, c .slot-of .ensures, slot-below (l .before .before .before .args .text .now) (c .before .parse-record .result), l .loop .inv .full)
+
+-- whether it may follow the lines before
+number : (c : tie.After-barred Inv-loop μ-loop)
+    → let q = c .before .before .before .before .before .before in
+    let l = q .before .before .before in
+    c .barred .result ≡ refusalOf (admitted (l .before .before .before .args .strict) (l .loop .inv .before) (piece q))
+number c =
+    let q = c .before .before .before .before .before .before in
+    let l = q .before .before .before in
+    let a = l .before .before .before .args in
+    let j = l .loop .inv in
+    c .barred .ensures
+    ∙ ap (barring (a .strict) (l .loop .line) (l .loop .programs) (a .text .now)) (head-is (c .before .before .before))
+    ∙ ap (λ n. barring (a .strict) n (l .loop .programs) (a .text .now) (headOf (line (a .strict) (piece q)))) (sym (j .counted))
+    ∙ ap (λ n. barring (a .strict) (length (j .before)) n (a .text .now) (headOf (line (a .strict) (piece q)))) (j .told)
+    ∙ barring-is (a .strict) (a .text .now) (j .passed) (j .before) (j .pairs) (passed-are (a .strict) (a .text .now) (l .loop .seen) (l .loop .at) (l .loop .line) (l .loop .programs) (l .loop .size) j) (piece q) (stands q)
+
+-- it is a record more
+accepted : (c : tie.Else1 Inv-loop μ-loop)
+    → let q = c .before .before .before .before .before .before .before in
+    let l = q .before .before .before in
+    let a = l .before .before .before .args in
+    (r : Record) × (line (a .strict) (piece q) ≡ read r) × (admitted (a .strict) (l .loop .inv .before) (piece q) ≡ read r)
+accepted c =
+    let q = c .before .before .before .before .before .before .before in
+    let l = q .before .before .before in
+    refusal-none (l .before .before .before .args .strict) (l .loop .inv .before) (piece q) (sym (number (c .before)) ∙ c .if1 .left)
+
+record-is : (c : tie.Else1 Inv-loop μ-loop) → c .before .before .before .before .parse-record .result ≡ recordHead (accepted c .0)
+unfolding headOf
+record-is c = head-is (c .before .before .before .before) ∙ ap headOf (accepted c .1)
+
+-- it has no more other fields than bytes, and its entries are within bounds
+few : (c : tie.Else1 Inv-loop μ-loop)
+    → let q = c .before .before .before .before .before .before .before in
+    let l = q .before .before .before in
+    othersOf (c .before .before .before .before .parse-record .result) ≤ firstLine (drop (l .loop .at) (l .before .before .before .args .text .now)) .len
+unfolding piece
+few c =
+    let q = c .before .before .before .before .before .before .before in
+    let l = q .before .before .before in
+    let a = l .before .before .before .args in
+    let n = len-is (a .strict) (a .text .now) (l .loop .seen) (l .loop .at) (l .loop .line) (l .loop .programs) (l .loop .size) (l .loop .inv) (q .before .before .loop-test .taken) in
+    omega (arith, ap othersOf (record-is c), own-others (accepted c .0), others-few (a .strict) (piece q) (accepted c .0) (accepted c .1), n)
+
+head-most : (h : Head) → sizeOfHead h ≤ 17 + 11 * othersOf h
+unfolding sizeOfHead
+head-most h = omega (arith, size-most (ownEntry h))
+
+entry-most : (c : tie.Else1 Inv-loop μ-loop)
+    → let q = c .before .before .before .before .before .before .before in
+    sizeOfHead (c .before .before .before .before .parse-record .result) ≤ 28 * q .first-line .result .next
+entry-most c =
+    let q = c .before .before .before .before .before .before .before in
+    let l = q .before .before .before in
+    let t = l .before .before .before .args .text .now in
+    omega (arith, head-most (c .before .before .before .before .parse-record .result), few c, first-le (drop (l .loop .at) t), ap (λ x. x .next) (cut q), inside q .2)
+
+kind-few : (k : ℕ) (rs : List Record) → length (ofKind k rs) ≤ length rs
+unfolding ofKind
+kind-few k [] = omega arith
+kind-few k (r ∷ rs) = go (eqb (code r) k) (kind-few k rs)
+  where
+    go : (t : Bool) → length (ofKind k rs) ≤ length rs → length (cond t (r ∷ ofKind k rs) (ofKind k rs)) ≤ suc (length rs)
+    go true h = omega arith
+    go false h = omega arith
+
+programs-most : (h : Head) → programsOf h ≤ 1
+unfolding programsOf
+programs-most (head.Refused n) = omega arith
+programs-most (head.Header v n) = omega arith
+programs-most (head.ReferenceSequence p l n) = omega arith
+programs-most (head.ReadGroup p n) = omega arith
+programs-most (head.Program p n) = omega arith
+programs-most (head.Comment p) = omega arith
+
+loop-holds : tie.Need-loop-holds Inv-loop μ-loop
+loop-holds c = let s = c .before .before in judging-start (s .args .strict) (s .args .text .now) (s .args .seen .now) (s .pre .1)
+
+sub-first-line : tie.Need-sub-first-line Inv-loop μ-loop
+sub-first-line c = omega arith
+
+part-first-line-start : tie.Need-part-first-line-start Inv-loop μ-loop
+part-first-line-start c = omega arith
+
+part-first-line-end : tie.Need-part-first-line-end Inv-loop μ-loop
+part-first-line-end c = omega arith
+
+first-line-requires : tie.Need-first-line-requires Inv-loop μ-loop
+first-line-requires c κs = search needs
+
+add-end : tie.Need-add-end Inv-loop μ-loop
+add-end c = omega (arith, inside (c .before))
+
+sub-parse-record : tie.Need-sub-parse-record Inv-loop μ-loop
+sub-parse-record c = omega arith
+
+part-parse-record-start : tie.Need-part-parse-record-start Inv-loop μ-loop
+part-parse-record-start c = omega arith
+
+part-parse-record-end : tie.Need-part-parse-record-end Inv-loop μ-loop
+part-parse-record-end c = omega (arith, inside (c .before))
+
+parse-record-requires : tie.Need-parse-record-requires Inv-loop μ-loop
+parse-record-requires c κs =
+    let q = c .before .before in
+    let l = q .before .before .before in
+    let t = l .before .before .before .args .text .now in
+    omega (arith, inside q, length-take (l .loop .at + q .first-line .result .len - l .loop .at) (drop (l .loop .at) t), l .before .before .before .pre .0)
+
+slot-of-requires : tie.Need-slot-of-requires Inv-loop μ-loop
+slot-of-requires c κs = within c
+
+slice-read-barred : tie.Need-slice-read-barred Inv-loop μ-loop
+slice-read-barred c = marked-place (c .before)
+
+barred-requires : tie.Need-barred-requires Inv-loop μ-loop
+barred-requires c κs =
+    let q = c .before .before .before .before .before in
+    let l = q .before .before .before in
+    let a = l .before .before .before .args in
+    let j = l .loop .inv in (
+      l .before .before .before .pre .0,
+      (
+        few-lines (a .strict) (a .text .now) (l .loop .seen) (l .loop .at) (l .loop .line) (l .loop .programs) (l .loop .size) j,
+        (
+          within (c .before .before),
+          (λ y.
+              ap (λ i. getD (l .loop .seen) i false) (c .before .slot-of .ensures)
+              ∙ taken-marked (a .strict) (a .text .now) (j .passed) (j .before) (j .pairs) (passed-are (a .strict) (a .text .now) (l .loop .seen) (l .loop .at) (l .loop .line) (l .loop .programs) (l .loop .size) j) (l .loop .seen) (j .marks) (c .before .before .parse-record .result)
+              (ap (λ n. isTaken (a .strict) n (a .text .now) (c .before .before .parse-record .result)) (j .counted) ∙ y)),
+        ),
+      ),
+    )
+
+cast-t22 : tie.Need-cast-t22 Inv-loop μ-loop
+cast-t22 c =
+    let q = c .before .before .before .before .before .before .before in
+    let l = q .before .before .before in
+    omega (arith, l .loop .inv .slow, inside q, l .before .before .before .pre .0)
+
+same-length : tie.Need-same-length Inv-loop μ-loop
+same-length c =
+    let l = c .before .before .before .before .before .before .before .before .before .before in
+    l .loop .inv .full ∙ sym (l .before .before .before .pre .1)
+
+returns : tie.Need-returns Inv-loop μ-loop
+unfolding piece
+returns c =
+    let q = c .before .before .before .before .before .before .before in
+    let l = q .before .before .before in
+    let a = l .before .before .before .args in
+    judging-refused (a .strict) (a .text .now) (l .loop .seen) (l .loop .at) (l .loop .line) (l .loop .programs) (l .loop .size) (l .loop .inv) (q .before .before .loop-test .taken) (c .before .barred .result)
+    (refusal-some (a .strict) (l .loop .inv .before) (piece q) (c .before .barred .result) (sym (number (c .before))) (c .if1 .taken))
+
+slice-write-seen : tie.Need-slice-write-seen Inv-loop μ-loop
+slice-write-seen c = marked-place (c .before .before .before)
+
+programs-of-requires : tie.Need-programs-of-requires Inv-loop μ-loop
+programs-of-requires c κs = search needs
+
+add-programs : tie.Need-add-programs Inv-loop μ-loop
+add-programs c =
+    let q = c .before .before .before .before .before .before .before .before in
+    let l = q .before .before .before in
+    let j = l .loop .inv in
+    omega (arith, c .programs-of .ensures, programs-most (c .before .before .before .before .before .parse-record .result), j .told, kind-few 4 (j .before), j .counted, j .slow, inside q)
+
+record-size-requires : tie.Need-record-size-requires Inv-loop μ-loop
+record-size-requires c κs =
+    let q = c .before .before .before .before .before .before .before .before in
+    let l = q .before .before .before in
+    omega (arith, few (c .before), ap (λ x. x .len) (cut q), inside q .0, l .before .before .before .pre .0)
+
+add-size : tie.Need-add-size Inv-loop μ-loop
+add-size c =
+    let e = c .before .before in
+    let q = e .before .before .before .before .before .before .before in
+    let l = q .before .before .before in
+    omega (arith, c .record-size .ensures, entry-most e, l .loop .inv .small, inside q .1, l .before .before .before .pre .0)
+
+add-at : tie.Need-add-at Inv-loop μ-loop
+add-at c = omega (arith, inside (c .before .before .before .before .before .before .before .before .before .before))
+
+add-line : tie.Need-add-line Inv-loop μ-loop
+add-line c =
+    let q = c .before .before .before .before .before .before .before .before .before .before in
+    let l = q .before .before .before in
+    omega (arith, l .loop .inv .slow, inside q .1)
+
+loop-less : tie.Need-loop-less Inv-loop μ-loop
+loop-less c = omega (arith, inside (c .before .before .before .before .before .before .before .before .before .before))
+
+loop-again : tie.Need-loop-again Inv-loop μ-loop
+unfolding piece
+loop-again c =
+    let e = c .before .before .before in
+    let q = e .before .before .before .before .before .before .before in
+    let l = q .before .before .before in
+    let a = l .before .before .before .args in
+    let j = l .loop .inv in
+    let r = accepted e .0 in
+    let size : c .before .record-size .result ≡ length (recordBytes (read r)) =
+    c .before .record-size .ensures ∙ ap sizeOfHead (head-is (e .before .before .before .before)) ∙ size-length (line (a .strict) (piece q)) ∙ ap (λ x. length (recordBytes x)) (accepted e .1) in
+    let bound : c .before .record-size .result ≤ 28 * firstLine (drop (l .loop .at) (a .text .now)) .next = omega (arith, c .before .record-size .ensures, entry-most e, ap (λ x. x .next) (cut q)) in
+    rw (cut q, c .before .before .programs-of .ensures, e .before .before .before .slot-of .ensures, record-is e)
+    (judging-on (a .strict) (a .text .now) (l .loop .seen) (l .loop .at) (l .loop .line) (l .loop .programs) (l .loop .size) j (q .before .before .loop-test .taken) r (accepted e .1) (accepted e .2)
+    (set (l .loop .seen) (headSlot (a .text .now) (recordHead r)) true)
+    (marked-more (l .loop .seen) (j .full) (j .before) (j .marks) (a .text .now) r (stood (a .strict) (a .text .now) (piece q) (stands q) r (accepted e .1)))
+    (length-set (l .loop .seen) (headSlot (a .text .now) (recordHead r)) true ∙ j .full)
+    (c .before .record-size .result) (catalogue-length (j .before) r ∙ ap (λ n. length (catalogue (j .before)) + n) (sym size)) bound)
+
+same-length-2 : tie.Need-same-length-2 Inv-loop μ-loop
+same-length-2 c = c .before .loop .inv .full ∙ sym (c .before .before .before .before .pre .1)
+
+returns-2 : tie.Need-returns-2 Inv-loop μ-loop
+returns-2 c =
+    let l = c .before in
+    let a = l .before .before .before .args in
+    judging-end (a .strict) (a .text .now) (l .loop .seen) (l .loop .at) (l .loop .line) (l .loop .programs) (l .loop .size) (l .loop .inv) (c .loop-test .left)
+
+pub judge-marked-spec : {M : Type 1} → statement M
+judge-marked-spec =
+    tie.close
+    (tie.spec
+    Inv-loop
+    μ-loop
+    loop-holds
+    sub-first-line
+    part-first-line-start
+    part-first-line-end
+    first-line-requires
+    add-end
+    sub-parse-record
+    part-parse-record-start
+    part-parse-record-end
+    parse-record-requires
+    slot-of-requires
+    slice-read-barred
+    barred-requires
+    cast-t22
+    same-length
+    returns
+    slice-write-seen
+    programs-of-requires
+    add-programs
+    record-size-requires
+    add-size
+    add-at
+    add-line
+    loop-less
+    loop-again
+    same-length-2
+    returns-2)
