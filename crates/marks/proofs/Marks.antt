@@ -30,7 +30,7 @@ use Rattle.marks.specs.Marked.{isTaken, newBarring}
 from-below : (h : ℕ) (s : List ℕ) → h < 65536 → slotFrom h s < 65536
 unfolding slotFrom
 from-below h [] k = k
-from-below h (b ∷ s) k = from-below ((h * 33 + b) % 65536) s (omega arith)
+from-below h (b ∷ s) k = from-below ((h * 40503 + b) % 65536) s (omega arith)
 
 pub slot-below : (t : List ℕ) (x : Head) → headSlot t x < 65536
 unfolding headSlot slotOf

@@ -8,7 +8,7 @@ use Rattle.record.specs.declared.Head.the-variants as head
 -- the place that the bytes `s` lead to, from the place `h`
 unfoldable pub slotFrom : ℕ → List ℕ → ℕ
 slotFrom h [] = h
-slotFrom h (b ∷ s) = slotFrom ((h * 33 + b) % 65536) s
+slotFrom h (b ∷ s) = slotFrom ((h * 40503 + b) % 65536) s
 
 -- the place of the key `id` of kind `k` among 65536
 unfoldable pub slotOf : ℕ → List ℕ → ℕ

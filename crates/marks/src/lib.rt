@@ -17,7 +17,7 @@ fn slot(kind: u8, id: &[u8]) -> usize
     let mut h: usize = kind as usize;
     let mut i: usize = 0;
     while i < id.len() {
-        h = (h * 33 + (id[i] as usize)) % 65536;
+        h = (h * 40503 + (id[i] as usize)) % 65536;
         i += 1;
     }
     h

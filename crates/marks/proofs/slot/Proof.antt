@@ -13,7 +13,7 @@ use Rattle.marks.proofs.slot.Reads as reads
 use Rattle.marks.proofs.slot.Lts as lts
 
 module _ (h : ℕ) (s : List ℕ) (i : ℕ) where
-  pass : i < length s → slotFrom h (drop i s) ≡ slotFrom ((h * 33 + getD s i 0) % 65536) (drop (i + 1) s)
+  pass : i < length s → slotFrom h (drop i s) ≡ slotFrom ((h * 40503 + getD s i 0) % 65536) (drop (i + 1) s)
   unfolding slotFrom
   pass k = rw (drop-cons s i 0 k, add-one i) refl
 
