@@ -1,0 +1,209 @@
+// Runs a list of texts through `parser::read` and `parser::check`, and writes what it got.
+//
+// A line of the input is a case: the text in hex (`-` for the empty one), a space, and the room for
+// the catalogue. 123 cases are the corners of document 01: each refusal of reading but 1, on both
+// sides, 1,024 programs and one more. 107 are longer texts. What is expected of the longer ones comes
+// from a model written from document 01 alone, and of the others from document 01 by hand: none of
+// it from this program.
+//
+// A line of the output is `refused N line L`, or `read N` and the catalogue in hex. Then `kept` says
+// that no byte of the buffer has changed but those of the catalogue, in the room or behind it, and
+// `fresh` that `parser::check` takes the catalogue and refuses it with 21 when its last byte is another.
+use format::LineNo;
+use libc::STDOUT_FILENO;
+use parser::Answer;
+use parser::Checked;
+ghost use mathlib.Core.Path.{_≡_};
+ghost use Prim.Native.Nat.{_<_, _≤_};
+ghost use lib.ListN.{length};
+
+// What the room holds before a call.
+const FILLER: u8 = 0xa5;
+
+// 131,072 zeros, which hold the whole input.
+fn space() -> [u8; 131072]
+    ensures { λ r. ⌜ 131072 ≡ length r ⌝ }
+{
+    [0; 131072]
+}
+
+fn least(a: usize, b: usize) -> usize
+    ensures { λ r. ⌜ (r ≤ a) × (r ≤ b) ⌝ }
+{
+    if a < b { a } else { b }
+}
+
+// The value of a digit, decimal or hex, and 0 for any other byte.
+fn digit(b: u8) -> u8
+    ensures { λ r. ⌜ r < 16 ⌝ }
+{
+    if b < b'0' {
+        return 0;
+    }
+    if b <= b'9' {
+        return b - b'0';
+    }
+    if b < b'a' {
+        return 0;
+    }
+    if b <= b'f' {
+        return b - b'a' + 10;
+    }
+    0
+}
+
+// The number that `s` spells, by its last six digits.
+fn number(s: &[u8]) -> usize {
+    let mut n: usize = 0;
+    let mut i: usize = 0;
+    while i < s.len() {
+        n = n % 100000 * 10 + digit(s[i]) as usize;
+        i += 1;
+    }
+    n
+}
+
+// Puts the bytes that `hex` spells at the front of `text`, as many as fit, and answers how many.
+fn decode(hex: &[u8], text: &mut [u8]) -> usize
+    ensures { λ r. ⌜ (r ≤ length (now (text .exit))) × (length (now (text .exit)) ≡ length (now (text .entry))) ⌝ }
+{
+    let n = least(hex.len() / 2, text.len());
+    let mut i: usize = 0;
+    while i < n {
+        text[i] = digit(hex[2 * i]) * 16 + digit(hex[2 * i + 1]);
+        i += 1;
+    }
+    n
+}
+
+// Fills `kept`, so that a byte that is written shows.
+fn fill(kept: &mut [u8])
+    ensures { λ _. ⌜ length (now (kept .exit)) ≡ length (now (kept .entry)) ⌝ }
+{
+    let mut i: usize = 0;
+    while i < kept.len() {
+        kept[i] = FILLER;
+        i += 1;
+    }
+}
+
+// Whether no byte has been written over.
+fn is_untouched(kept: &[u8]) -> bool {
+    let mut i: usize = 0;
+    while i < kept.len() {
+        if kept[i] != FILLER {
+            return false;
+        }
+        i += 1;
+    }
+    true
+}
+
+fn print_kept(rest: &[u8]) {
+    if is_untouched(rest) {
+        io::write_all(STDOUT_FILENO, b" kept");
+    } else {
+        io::write_all(STDOUT_FILENO, b" spoiled");
+    }
+}
+
+// Writes `s` in hex, `-` where it is empty.
+fn print_bytes(s: &[u8]) {
+    if s.len() == 0 {
+        io::write_all(STDOUT_FILENO, b"-");
+    }
+    let mut i: usize = 0;
+    while i < s.len() {
+        io::print_hex(STDOUT_FILENO, s[i] as u64, 2);
+        i += 1;
+    }
+}
+
+fn is_taken(text: &[u8], kept: &[u8]) -> bool {
+    match parser::check(text, kept) {
+        Checked::Fresh => true,
+        Checked::Refused(_, _) => false,
+    }
+}
+
+fn is_stale(text: &[u8], kept: &[u8]) -> bool {
+    match parser::check(text, kept) {
+        Checked::Fresh => false,
+        Checked::Refused(n, _) => n == 21,
+    }
+}
+
+// Whether the check takes `kept` and refuses it with another last byte. The empty one has no last byte.
+fn is_fresh(text: &[u8], kept: &mut [u8]) -> bool {
+    if !is_taken(text, kept) {
+        return false;
+    }
+    if kept.len() == 0 {
+        return true;
+    }
+    let last = kept.len() - 1;
+    kept[last] = kept[last] ^ 1;
+    is_stale(text, kept)
+}
+
+fn print_refusal(n: u8, line: LineNo, kept: &[u8]) {
+    io::write_all(STDOUT_FILENO, b"refused ");
+    io::print_decimal(STDOUT_FILENO, n as u64);
+    io::write_all(STDOUT_FILENO, b" line ");
+    io::print_decimal(STDOUT_FILENO, line.0 as u64);
+    print_kept(kept);
+}
+
+// Writes an answer: of one that is larger than the buffer the number alone.
+fn print_read(text: &[u8], kept: &mut [u8], size: usize) {
+    io::write_all(STDOUT_FILENO, b"read ");
+    io::print_decimal(STDOUT_FILENO, size as u64);
+    if kept.len() < size {
+        return;
+    }
+    io::write_all(STDOUT_FILENO, b" ");
+    print_bytes(&kept[..size]);
+    print_kept(&kept[size..]);
+    if is_fresh(text, &mut kept[..size]) {
+        io::write_all(STDOUT_FILENO, b" fresh");
+    } else {
+        io::write_all(STDOUT_FILENO, b" stale?");
+    }
+}
+
+// Reads `text` into the first `room` bytes of `kept`.
+fn answer(text: &[u8], kept: &mut [u8], room: usize)
+    requires { ⌜ room ≤ length (now kept) ⌝ }
+{
+    match parser::read(text, &mut kept[..room]) {
+        Answer::Refused(n, line) => print_refusal(n, line, kept),
+        Answer::Count(size) => print_read(text, kept, size),
+    }
+    io::write_all(STDOUT_FILENO, b"\n");
+}
+
+// One line of the input.
+fn case(line: &[u8], text: &mut [u8], kept: &mut [u8]) {
+    let gap = text::upto(line, b' ');
+    let room = least(number(&line[gap..]), kept.len());
+    let n = decode(&line[..gap], text);
+    fill(kept);
+    answer(&text[..n], kept, room);
+}
+
+fn cases(input: &[u8], text: &mut [u8], kept: &mut [u8]) {
+    let mut at: usize = 0;
+    while at < input.len() {
+        let n = text::upto(&input[at..], b'\n');
+        case(&input[at..at + n], text, kept);
+        at += n + 1;
+    }
+}
+
+fn main() {
+    let mut input = space();
+    let n = io::read_full(0, &mut input);
+    let mut text = io::large_buffer();
+    let mut kept = io::large_buffer();
+    cases(&input[..n], &mut text, &mut kept);
+}
