@@ -75,15 +75,7 @@ pub fn length(text: &[u8], kept: &[u8], ordinal: u32) -> LengthAnswer
 }
 
 // The value of a field as a part of the text, or the whole stand-in where anything is amiss or there is no such field.
-pub fn field<'a>(
-    text: &'a [u8],
-    kept: &[u8],
-    kind: u8,
-    ordinal: u32,
-    a: u8,
-    b: u8,
-    stand_in: &'a [u8],
-) -> &'a [u8]
+pub fn field<'a>(text: &'a [u8], kept: &[u8], kind: u8, ordinal: u32, a: u8, b: u8, stand_in: &'a [u8]) -> &'a [u8]
     ensures { λ r. ⌜ now r ≡ looking (now (text .entry)) (now (kept .entry)) kind ordinal a b (now (stand_in .entry)) ⌝ }
 {
     match parser::check(text, kept) {
@@ -96,5 +88,38 @@ pub fn field<'a>(
                 &text[start..end]
             }
         },
+    }
+}
+
+// Writes ordinals to the front of `out`.
+fn put_ordinals(out: &mut [u32], from: &[u32])
+    requires { ⌜ length (now from) ≤ length (now out) ⌝ }
+    ensures { λ _. ⌜ now (out .exit) ≡ over (now (out .entry)) 0 (now (from .entry)) ⌝ }
+{
+    let mut i: usize = 0;
+    while i < from.len() {
+        out[i] = from[i];
+        i += 1;
+    }
+}
+
+// The programs without PP at the front of `out`: no graph check.
+pub fn roots(text: &[u8], kept: &[u8], out: &mut [u32]) -> Answer
+    ensures answer { λ r. ⌜ r ≡ answerOf (rooting (now (text .entry)) (now (kept .entry)) (length (now (out .entry)))) ⌝ }
+    ensures wrote { λ _. ⌜ now (out .exit) ≡ outputOf (rooting (now (text .entry)) (now (kept .entry)) (length (now (out .entry)))) (now (out .entry)) ⌝ }
+{
+    match parser::check(text, kept) {
+        Checked::Refused(n, line) => Answer::Refused(n, line),
+        Checked::Fresh => {
+            let parents = lookup::find_parents(text, kept);
+            let list = parents.list;
+            let found = chains::roots(&list[..parents.count]);
+            if out.len() < found.count {
+                return Answer::Refused(20, LineNo(0));
+            }
+            let ordinals = found.list;
+            put_ordinals(out, &ordinals[..found.count]);
+            Answer::Count(found.count)
+        }
     }
 }
