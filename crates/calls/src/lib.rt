@@ -75,7 +75,15 @@ pub fn length(text: &[u8], kept: &[u8], ordinal: u32) -> LengthAnswer
 }
 
 // The value of a field as a part of the text, or the whole stand-in where anything is amiss or there is no such field.
-pub fn field<'a>(text: &'a [u8], kept: &[u8], kind: u8, ordinal: u32, a: u8, b: u8, stand_in: &'a [u8]) -> &'a [u8]
+pub fn field<'a>(
+    text: &'a [u8],
+    kept: &[u8],
+    kind: u8,
+    ordinal: u32,
+    a: u8,
+    b: u8,
+    stand_in: &'a [u8],
+) -> &'a [u8]
     ensures { λ r. ⌜ now r ≡ looking (now (text .entry)) (now (kept .entry)) kind ordinal a b (now (stand_in .entry)) ⌝ }
 {
     match parser::check(text, kept) {
@@ -120,6 +128,35 @@ pub fn roots(text: &[u8], kept: &[u8], out: &mut [u32]) -> Answer
             let ordinals = found.list;
             put_ordinals(out, &ordinals[..found.count]);
             Answer::Count(found.count)
+        }
+    }
+}
+
+// The leaves at the front of `out`, in the crate's order, and the hops: 22 where a PP dangles, 23 where there is a cycle.
+pub fn leaves(text: &[u8], kept: &[u8], out: &mut [u32]) -> LeavesAnswer
+    ensures answer { λ r. ⌜ r ≡ leavesOf (leafing (now (text .entry)) (now (kept .entry)) (length (now (out .entry)))) ⌝ }
+    ensures wrote { λ _. ⌜ now (out .exit) ≡ outputOf (listOf (leafing (now (text .entry)) (now (kept .entry)) (length (now (out .entry))))) (now (out .entry)) ⌝ }
+{
+    match parser::check(text, kept) {
+        Checked::Refused(n, line) => LeavesAnswer::Refused(n, line),
+        Checked::Fresh => {
+            let parents = lookup::find_parents(text, kept);
+            if parents.dangling {
+                return LeavesAnswer::Refused(22, LineNo(0));
+            }
+            let list = parents.list;
+            let links = &list[..parents.count];
+            if chains::has_cycle(links) {
+                return LeavesAnswer::Refused(23, LineNo(0));
+            }
+            let found = chains::leaves(links);
+            if out.len() < found.count {
+                return LeavesAnswer::Refused(20, LineNo(0));
+            }
+            let hops = chains::hops(links);
+            let ordinals = found.list;
+            put_ordinals(out, &ordinals[..found.count]);
+            LeavesAnswer::Counted(found.count, hops)
         }
     }
 }

@@ -7,10 +7,6 @@ use Rattle.calls.proofs.Told.{count-refused, count-below, count-above, 
 use borrow.Author.Needs.{needs}
 use Rattle.calls.proofs.count.Statement.{statement}
 use Rattle.calls.proofs.count.Tie as tie
-use Rattle.calls.proofs.count.Reads as reads
-use Rattle.calls.proofs.count.Lts as lts
-use Rattle.entries.proofs.count_kind.Reads as count-kind-reads
-use Rattle.parser.proofs.check.Reads as check-reads
 
 check-requires : tie.Need-check-requires
 check-requires c κs = search needs

@@ -14,10 +14,6 @@ use Rattle.calls.proofs.Told.{field-refused, field-none, field-inside, 
 use borrow.Author.Needs.{needs}
 use Rattle.calls.proofs.field.Statement.{statement}
 use Rattle.calls.proofs.field.Tie as tie
-use Rattle.calls.proofs.field.Reads as reads
-use Rattle.calls.proofs.field.Lts as lts
-use Rattle.lookup.proofs.find_field.Reads as find-field-reads
-use Rattle.parser.proofs.check.Reads as check-reads
 
 -- the part that is lent is the bytes at the place
 lent : (t : List ℕ) (p : Place) → take (p .at + p .len - p .at) (drop (p .at) t) ≡ bytesAt t p

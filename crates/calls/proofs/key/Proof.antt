@@ -6,10 +6,6 @@ use Rattle.calls.proofs.Told.{key-refused, key-none, key-found}
 use borrow.Author.Needs.{needs}
 use Rattle.calls.proofs.key.Statement.{statement}
 use Rattle.calls.proofs.key.Tie as tie
-use Rattle.calls.proofs.key.Reads as reads
-use Rattle.calls.proofs.key.Lts as lts
-use Rattle.lookup.proofs.find_key.Reads as find-key-reads
-use Rattle.parser.proofs.check.Reads as check-reads
 
 check-requires : tie.Need-check-requires
 check-requires c κs = search needs

@@ -6,10 +6,6 @@ use Rattle.calls.proofs.Told.{length-refused, length-none, length-found
 use borrow.Author.Needs.{needs}
 use Rattle.calls.proofs.length.Statement.{statement}
 use Rattle.calls.proofs.length.Tie as tie
-use Rattle.calls.proofs.length.Reads as reads
-use Rattle.calls.proofs.length.Lts as lts
-use Rattle.lookup.proofs.find_length.Reads as find-length-reads
-use Rattle.parser.proofs.check.Reads as check-reads
 
 check-requires : tie.Need-check-requires
 check-requires c κs = search needs

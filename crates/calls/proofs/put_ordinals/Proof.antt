@@ -9,8 +9,6 @@ use lib.Seq.{paste, paste-zero, paste-suc, take-length}
 use Rattle.text.specs.Over.{over}
 use Rattle.calls.proofs.put_ordinals.Statement.{statement}
 use Rattle.calls.proofs.put_ordinals.Tie as tie
-use Rattle.calls.proofs.put_ordinals.Reads as reads
-use Rattle.calls.proofs.put_ordinals.Lts as lts
 
 abbrev Inv-loop : tie.InvT-loop
 Inv-loop out₀ from i₀ out i = (i ≤ length from) × (out ≡ paste out₀ 0 from i) × (length out ≡ length out₀)

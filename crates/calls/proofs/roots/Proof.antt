@@ -16,12 +16,6 @@ use Rattle.calls.proofs.Chained.{front, front-counted, front-within, to
 use borrow.Author.Needs.{needs}
 use Rattle.calls.proofs.roots.Statement.{statement}
 use Rattle.calls.proofs.roots.Tie as tie
-use Rattle.calls.proofs.roots.Reads as reads
-use Rattle.calls.proofs.roots.Lts as lts
-use Rattle.calls.proofs.put_ordinals.Reads as put-ordinals-reads
-use Rattle.chains.proofs.roots.Reads as roots-reads
-use Rattle.lookup.proofs.find_parents.Reads as find-parents-reads
-use Rattle.parser.proofs.check.Reads as check-reads
 
 check-requires : tie.Need-check-requires
 check-requires c κs = search needs
