@@ -1,23 +1,21 @@
 -- What each call answers over a catalogue that is the text's own.
-use Prim.Native.Nat.{ℕ, _+_, _≤_, _<_}
+use Prim.Native.Nat.{ℕ, _≤_, _<_}
 use mathlib.Core.Path.{_≡_, refl, sym, ap, subst, _∙_}
-use mathlib.Core.Bool.{Bool, true, false, _&&_, cond, and-false}
+use mathlib.Core.Bool.{_&&_, cond, and-false}
 use mathlib.Core.List.{List}
 use mathlib.Core.Option.{Option, none, some}
 use native.Mathlib.Omega.{arith}
-use lib.ListN.{length, take, drop, getElem?}
+use lib.ListN.{length, getElem?}
 use lib.Dec.{leb}
 use borrow.Author.Tests.{le-leb, lt-leb}
 use Rattle.format.specs.Lines.{Piece}
 use Rattle.format.specs.Records.{Record}
 use Rattle.format.specs.Reading.{ofKind}
 use Rattle.format.specs.Catalogue.{catalogue}
-use Rattle.format.specs.Calls.{Answer, no, yes, then, there, keyed, sized, valued, orStand, fresh, counting, keying, sizing, looking}
-use Rattle.text.specs.Stands.{Stands}
+use Rattle.format.specs.Calls.{no, yes, there, keyed, sized, valued, orStand, fresh, counting, keying, sizing, looking}
 use Rattle.accepted.proofs.Bools.{never}
 use Rattle.entries.specs.declared.Place.{Place}
 use Rattle.entries.specs.Entries.{pieceAt, entriesIn, counted}
-use Rattle.lookup.specs.declared.Found.{Found}
 use Rattle.lookup.specs.declared.Found.the-variants.{Nothing, At}
 use Rattle.lookup.specs.declared.Sized.the-variants as ln
 use Rattle.lookup.specs.Lookup.{foundOf, sizedOf, keyIn, lengthIn, fieldIn}

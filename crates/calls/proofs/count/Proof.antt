@@ -1,5 +1,5 @@
 -- `calls::count` meets its contract: reading, 21, then 25 outside 1 to 5, then the entries are counted.
-use mathlib.Core.Path.{_≡_, sym, ap, _∙_}
+use mathlib.Core.Path.{sym, ap, _∙_}
 use Rattle.parser.specs.declared.Answer.the-variants.{Count}
 use Rattle.calls.specs.Answers.{countOf}
 use Rattle.calls.proofs.Fresh.{Current, check-refused, check-fresh}

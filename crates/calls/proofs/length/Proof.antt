@@ -1,5 +1,5 @@
 -- `calls::length` meets its contract: reading, 21, then 25 where the catalogue has no such SQ.
-use mathlib.Core.Path.{_≡_, sym, ap, _∙_}
+use mathlib.Core.Path.{sym, ap, _∙_}
 use Rattle.calls.specs.Answers.{lengthOf}
 use Rattle.calls.proofs.Fresh.{Current, check-refused, check-fresh}
 use Rattle.calls.proofs.Told.{length-refused, length-none, length-found}
