@@ -1,5 +1,5 @@
 -- What each call answers over a catalogue that is the text's own.
-use Prim.Native.Nat.{ℕ, _≤_, _<_}
+use Prim.Native.Nat.{ℕ, _+_, _≤_, _<_}
 use mathlib.Core.Path.{_≡_, refl, sym, ap, subst, _∙_}
 use mathlib.Core.Bool.{_&&_, cond, and-false}
 use mathlib.Core.List.{List}
@@ -12,7 +12,7 @@ use Rattle.format.specs.Lines.{Piece}
 use Rattle.format.specs.Records.{Record}
 use Rattle.format.specs.Reading.{ofKind}
 use Rattle.format.specs.Catalogue.{catalogue}
-use Rattle.format.specs.Calls.{no, yes, there, keyed, sized, valued, orStand, fresh, counting, keying, sizing, looking}
+use Rattle.format.specs.Calls.{Answer, no, yes, there, keyed, sized, valued, orStand, fresh, counting, keying, sizing, looking}
 use Rattle.accepted.proofs.Bools.{never}
 use Rattle.entries.specs.declared.Place.{Place}
 use Rattle.entries.specs.Entries.{pieceAt, entriesIn, counted}
@@ -24,7 +24,7 @@ use Rattle.lookup.proofs.Kept.{text-counted, text-valued, stands-inside, stands
 use Rattle.lookup.proofs.Answers.{text-key, text-ln, text-field}
 use Rattle.parser.specs.Accepted.{recordsOf}
 use Rattle.calls.specs.declared.KeyAnswer.the-variants as key
-use Rattle.calls.specs.Answers.{keyOf}
+use Rattle.calls.specs.Answers.{keyOf, valuing, standing}
 use Rattle.calls.proofs.Fresh.{Current, goes-on, stops}
 
 -- ---- what is found, as an answer
@@ -55,6 +55,29 @@ unfolding sizedOf there
 sized-some none n e = absurd (never cc)
 sized-some (some m) n e = let z : m ≡ n = cc in ap yes z
 
+-- the answer is a piece of the text, and that is where it stands
+pub record Found-at (t : List ℕ) (answer : Answer Piece) (q : Place) : Type 0 where
+  pub piece : Piece
+  pub is : answer ≡ yes piece
+  pub at : piece .at ≡ q .at
+  pub bytes : piece .bytes ≡ bytesAt t q
+
+-- ---- the answer of a lookup: bytes and where they stand
+
+module _ (t c : List ℕ) (k i a b : ℕ) (stand : List ℕ) (at-text at-stand : ℕ × ℕ) where
+  pub stood : (n l : ℕ) → valuing t c k i a b ≡ no n l
+      → (stand ≡ looking t c k i a b stand) × (at-stand ≡ standing (valuing t c k i a b) at-text at-stand)
+  unfolding looking valuing orStand standing
+  stood n l e = (sym (ap (orStand stand) e), sym (ap (λ v. standing v at-text at-stand) e))
+
+  pub valued-at : (q : Place) → Found-at t (valuing t c k i a b) q
+      → (bytesAt t q ≡ looking t c k i a b stand) × (_≡_ {A = ℕ × ℕ} (at-text .0, q .at + at-text .1) (standing (valuing t c k i a b) at-text at-stand))
+  unfolding looking valuing orStand standing
+  valued-at q f = (
+    sym (ap (orStand stand) (f .is) ∙ f .bytes),
+    sym (ap (λ v. standing v at-text at-stand) (f .is) ∙ ap (λ x. (at-text .0, x + at-text .1)) (f .at)),
+  )
+
 -- ---- a refusal of the check is every call's
 
 module _ (t c : List ℕ) (n l : ℕ) (e : fresh t c ≡ no n l) where
@@ -70,9 +93,9 @@ module _ (t c : List ℕ) (n l : ℕ) (e : fresh t c ≡ no n l) where
   unfolding sizing
   length-refused i = stops t c (λ rs. there (sized (getElem? (ofKind 2 rs) i))) n l e
 
-  pub field-refused : (k i a b : ℕ) (stand : List ℕ) → looking t c k i a b stand ≡ stand
-  unfolding looking orStand
-  field-refused k i a b stand = ap (orStand stand) (stops t c (λ rs. there (valued a b (getElem? (ofKind k rs) i))) n l e)
+  pub field-refused : (k i a b : ℕ) → valuing t c k i a b ≡ no n l
+  unfolding valuing
+  field-refused k i a b = stops t c (λ rs. there (valued a b (getElem? (ofKind k rs) i))) n l e
 
 -- ---- over the text's own catalogue
 
@@ -140,16 +163,15 @@ module _ (t c : List ℕ) (own : Current t c) where
     abbrev value : Option Piece
     value = valued a b (getElem? (ofKind k rs) i)
 
-    looks : (stand : List ℕ) → looking t c k i a b stand ≡ orStand stand (there value)
-    unfolding looking
-    looks stand = ap (orStand stand) (goes-on t c (λ rs. there (valued a b (getElem? (ofKind k rs) i))) own)
+    values : valuing t c k i a b ≡ there value
+    unfolding valuing
+    values = goes-on t c (λ rs. there (valued a b (getElem? (ofKind k rs) i))) own
 
     value-told : foundOf value ≡ fieldIn k i a b (entriesIn c)
     value-told = sym (here (λ s. fieldIn k i a b (entriesIn s)) ∙ text-field t rs (own .reads) k i a b)
 
-    pub field-none : (stand : List ℕ) → fieldIn k i a b (entriesIn c) ≡ Nothing → looking t c k i a b stand ≡ stand
-    unfolding orStand
-    field-none stand e = looks stand ∙ ap (orStand stand) (found-none value (value-told ∙ e))
+    pub field-none : fieldIn k i a b (entriesIn c) ≡ Nothing → valuing t c k i a b ≡ no 25 0
+    field-none e = values ∙ found-none value (value-told ∙ e)
 
     -- the value's place is within the text, and its bytes are there
     pub field-inside : (q : Place) → fieldIn k i a b (entriesIn c) ≡ At q → Inside (length t) q
@@ -157,10 +179,13 @@ module _ (t c : List ℕ) (own : Current t c) where
         let s : Piece-at value q = found-some value q (value-told ∙ e) in
         subst (Inside (length t)) (s .place) (stands-inside t (s .piece) (text-valued t rs (own .reads) k i a b (s .piece) (s .is)))
 
-    pub field-found : (stand : List ℕ) (q : Place) → fieldIn k i a b (entriesIn c) ≡ At q → looking t c k i a b stand ≡ bytesAt t q
-    unfolding orStand there
-    field-found stand q e =
+    pub field-found : (q : Place) → fieldIn k i a b (entriesIn c) ≡ At q → Found-at t (valuing t c k i a b) q
+    unfolding there pieceAt
+    field-found q e =
         let s : Piece-at value q = found-some value q (value-told ∙ e) in
-        looks stand ∙ ap (λ o. orStand stand (there o)) (s .is)
-        ∙ sym (stands-bytes t (s .piece) (text-valued t rs (own .reads) k i a b (s .piece) (s .is)))
-        ∙ ap (bytesAt t) (s .place)
+        record {
+          piece = s .piece;
+          is = values ∙ ap there (s .is);
+          at = ap (λ (p : Place). p .at) (s .place);
+          bytes = sym (stands-bytes t (s .piece) (text-valued t rs (own .reads) k i a b (s .piece) (s .is))) ∙ ap (bytesAt t) (s .place);
+        }

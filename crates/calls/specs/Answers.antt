@@ -1,9 +1,10 @@
 -- The answers of the calls over text and catalogue in the code's numbers.
-use Prim.Native.Nat.{ℕ}
+use Prim.Native.Nat.{ℕ, _+_}
 use mathlib.Core.List.{List}
-use lib.ListN.{length}
+use lib.ListN.{length, getElem?}
 use Rattle.format.specs.Lines.{Piece}
-use Rattle.format.specs.Calls.{Answer, no, yes}
+use Rattle.format.specs.Reading.{ofKind}
+use Rattle.format.specs.Calls.{Answer, no, yes, then, fresh, there, valued}
 use Rattle.parser.specs.declared.Answer as parser
 use Rattle.parser.specs.declared.Answer.the-variants.{Refused, Count}
 use Rattle.calls.specs.declared.KeyAnswer.{KeyAnswer}
@@ -37,3 +38,13 @@ leavesOf (yes a) = leaves.Counted (length (a .0)) (a .1)
 unfoldable pub listOf : Answer (List ℕ × ℕ) → Answer (List ℕ)
 listOf (no n l) = no n l
 listOf (yes a) = yes (a .0)
+
+-- the value that a lookup answers with, or why there is none
+unfoldable pub valuing : List ℕ → List ℕ → ℕ → ℕ → ℕ → ℕ → Answer Piece
+unfolding then fresh there valued ofKind
+valuing text c k i a b = then (fresh text c) (λ rs. there (valued a b (getElem? (ofKind k rs) i)))
+
+-- where a lookup's answer stands: in the text, from the value's offset on, or where the stand-in stands
+unfoldable pub standing : Answer Piece → ℕ × ℕ → ℕ × ℕ → ℕ × ℕ
+standing (no n l) text stand = stand
+standing (yes p) text stand = (text .0, p .at + text .1)

@@ -5,12 +5,12 @@ use lookup::Sized;
 use parser::Answer;
 use parser::Checked;
 ghost use mathlib.Core.Path.{_≡_};
-ghost use Prim.Native.Nat.{_≤_, _+_};
-ghost use lib.ListN.{length, take};
+ghost use Prim.Native.Nat.{_≤_};
+ghost use lib.ListN.{length};
 ghost use Rattle.format.specs.Calls.{counting, keying, sizing, looking, rooting, leafing};
 ghost use Rattle.text.specs.Over.{over};
 ghost use Rattle.parser.specs.Answers.{answerOf, outputOf};
-ghost use Rattle.calls.specs.Answers.{countOf, keyOf, lengthOf, leavesOf, listOf};
+ghost use Rattle.calls.specs.Answers.{countOf, keyOf, lengthOf, leavesOf, listOf, valuing, standing};
 
 // A refusal and its line, or the key's offset and length.
 pub enum KeyAnswer {
@@ -84,7 +84,8 @@ pub fn field<'a>(
     b: u8,
     stand_in: &'a [u8],
 ) -> &'a [u8]
-    ensures { λ r. ⌜ now r ≡ looking (now (text .entry)) (now (kept .entry)) kind ordinal a b (now (stand_in .entry)) ⌝ }
+    ensures value { λ r. ⌜ now r ≡ looking (now (text .entry)) (now (kept .entry)) kind ordinal a b (now (stand_in .entry)) ⌝ }
+    ensures place { λ r. ⌜ r .ptr ≡ standing (valuing (now (text .entry)) (now (kept .entry)) kind ordinal a b) (text .entry .ptr) (stand_in .entry .ptr) ⌝ }
 {
     match parser::check(text, kept) {
         Checked::Refused(_, _) => stand_in,

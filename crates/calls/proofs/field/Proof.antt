@@ -10,7 +10,7 @@ use Rattle.lookup.specs.declared.Found.the-variants.{At}
 use Rattle.lookup.specs.Lookup.{fieldIn}
 use Rattle.lookup.specs.Parents.{bytesAt}
 use Rattle.calls.proofs.Fresh.{Current, check-refused, check-fresh}
-use Rattle.calls.proofs.Told.{field-refused, field-none, field-inside, field-found}
+use Rattle.calls.proofs.Told.{stood, valued-at, field-refused, field-none, field-inside, field-found}
 use borrow.Author.Needs.{needs}
 use Rattle.calls.proofs.field.Statement.{statement}
 use Rattle.calls.proofs.field.Tie as tie
@@ -75,20 +75,24 @@ returns c =
     let k = c .before .before in
     let a = k .before .before .before .before .args in
     let g = c .enum-told .given in
-    sym (field-refused (a .text .now) (a .kept .now) (g .0 .0) (g .0 .1 .0 .0) (check-refused (a .text .now) (a .kept .now) (g .0 .0) (g .0 .1 .0) (sym (k .check .ensures) ∙ g .1)) (a .kind) (a .ordinal) (a .a) (a .b) (a .stand-in .now))
+    stood (a .text .now) (a .kept .now) (a .kind) (a .ordinal) (a .a) (a .b) (a .stand-in .now) (a .text .ptr) (a .stand-in .ptr) (g .0 .0) (g .0 .1 .0 .0)
+    (field-refused (a .text .now) (a .kept .now) (g .0 .0) (g .0 .1 .0 .0) (check-refused (a .text .now) (a .kept .now) (g .0 .0) (g .0 .1 .0) (sym (k .check .ensures) ∙ g .1)) (a .kind) (a .ordinal) (a .a) (a .b))
 
 returns-2 : tie.Need-returns-2
 returns-2 c =
     let f = c .before .before in
     let a = f .before .before .before .before .before .before .before .args in
-    sym (field-none (a .text .now) (a .kept .now) (own (f .before)) (a .kind) (a .ordinal) (a .a) (a .b) (a .stand-in .now) (sym (f .find-field .ensures) ∙ c .enum-told3 .given .1))
+    stood (a .text .now) (a .kept .now) (a .kind) (a .ordinal) (a .a) (a .b) (a .stand-in .now) (a .text .ptr) (a .stand-in .ptr) 25 0
+    (field-none (a .text .now) (a .kept .now) (own (f .before)) (a .kind) (a .ordinal) (a .a) (a .b) (sym (f .find-field .ensures) ∙ c .enum-told3 .given .1))
 
 returns-3 : tie.Need-returns-3
 returns-3 c =
     let p = c .before .before .before .before in
     let f = p .before .before in
     let a = f .before .before .before .before .before .before .before .args in
-    lent (a .text .now) (p .p .given .0 .0) ∙ sym (field-found (a .text .now) (a .kept .now) (own (f .before)) (a .kind) (a .ordinal) (a .a) (a .b) (a .stand-in .now) (p .p .given .0 .0) (told p))
+    let v = valued-at (a .text .now) (a .kept .now) (a .kind) (a .ordinal) (a .a) (a .b) (a .stand-in .now) (a .text .ptr) (a .stand-in .ptr) (p .p .given .0 .0)
+    (field-found (a .text .now) (a .kept .now) (own (f .before)) (a .kind) (a .ordinal) (a .a) (a .b) (p .p .given .0 .0) (told p)) in
+    (lent (a .text .now) (p .p .given .0 .0) ∙ v .0, v .1)
 
 pub field-spec : {M : Type 1} → statement M
 field-spec =
