@@ -1,0 +1,71 @@
+-- The hops that leaves answers are at most n(n-1)/2, where n is how many programs the text has.
+use Prim.Native.Nat.{ℕ, _*_, _-_, _≤_, _<_}
+use mathlib.Core.Path.{_≡_, refl, sym, ap, subst, _∙_}
+use mathlib.Core.Bool.{Bool, true, false}
+use mathlib.Core.List.{List}
+use native.Mathlib.Omega.{arith}
+use lib.ListN.{length, length-map}
+use lib.Dec.{ltb}
+use borrow.Author.Tests.{ltb-true, ltb-false}
+use Rattle.format.specs.Records.{Record}
+use Rattle.format.specs.Programs.{programs, hops, leaves, loopsFrom}
+use Rattle.format.specs.Calls.{Answer, no, yes, fresh, leafing}
+use Rattle.accepted.proofs.Bools.{never, split}
+use Rattle.chains.specs.Parents.{linksOf, linkOf}
+use Rattle.chains.proofs.Bound.{hops-bound, within-below}
+use Rattle.entries.specs.Entries.{entriesIn}
+use Rattle.lookup.specs.Parents.{parentsIn, strays}
+use Rattle.lookup.proofs.Numbers.{parents-count}
+use Rattle.parser.specs.Answers.{checkedOf}
+use Rattle.parser.specs.Accepted.{recordsOf}
+use Rattle.calls.proofs.Fresh.{Current, check-fresh}
+use Rattle.calls.proofs.Chained.{all-within, leaves-refused, leaves-dangling, leaves-cycle, leaves-short, leaves-fit}
+
+-- a refusal is no answer
+refused : {A : Type 0} (n l : ℕ) (a : A) → no n l ≡ yes a → ⊥
+refused n l a e = never cc
+
+unfoldable hopsOf : Answer (List ℕ × ℕ) → ℕ
+hopsOf (no n l) = 0
+hopsOf (yes a) = a .1
+
+abbrev bounded : List ℕ → ℕ → Type 0
+bounded t h = 2 * h ≤ length (programs (recordsOf t)) * (length (programs (recordsOf t)) - 1)
+
+module _ (t c : List ℕ) (own : Current t c) where
+  abbrev parents : List ℕ
+  parents = parentsIn t (entriesIn c)
+
+  many : length (linksOf parents) ≡ length (programs (recordsOf t))
+  unfolding linksOf
+  many = length-map parents linkOf ∙ ap (λ s. length (parentsIn t (entriesIn s))) (own .own) ∙ parents-count t (recordsOf t) (own .reads)
+
+  summed : strays parents ≡ false → loopsFrom (linksOf parents) 0 (linksOf parents) ≡ false → bounded t (hops (linksOf parents))
+  summed d e =
+      let same : length parents ≡ length (linksOf parents) = sym (unfold linksOf in length-map parents linkOf) in
+      subst (λ n. 2 * hops (linksOf parents) ≤ n * (n - 1)) many
+      (hops-bound (linksOf parents) e (λ k m. subst (λ n. k < n) same (within-below (length parents) parents (all-within t c own d) k m)))
+
+  bound : (room : ℕ) (xs : List ℕ) (h : ℕ) → leafing t c room ≡ yes (xs, h) → bounded t h
+  bound room xs h a = split (strays parents) (λ d. absurd (refused 22 0 (xs, h) (sym (leaves-dangling t c own room d) ∙ a))) joined
+    where
+      fitted : (d : strays parents ≡ false) (e : loopsFrom (linksOf parents) 0 (linksOf parents) ≡ false) → length (leaves (linksOf parents)) ≤ room → bounded t h
+      fitted d e f =
+          let z : hops (linksOf parents) ≡ h = unfold hopsOf in ap hopsOf (sym (leaves-fit t c own d room e f) ∙ a) in
+          subst (bounded t) z (summed d e)
+
+      joined : strays parents ≡ false → bounded t h
+      joined d = split (loopsFrom (linksOf parents) 0 (linksOf parents)) (λ e. absurd (refused 23 0 (xs, h) (sym (leaves-cycle t c own d room e) ∙ a))) (λ e.
+          split (ltb room (length (leaves (linksOf parents))))
+          (λ f. absurd (refused 20 0 (xs, h) (sym (leaves-short t c own d room e (ltb-true _ _ f)) ∙ a)))
+          (λ f. fitted d e (ltb-false _ _ f)))
+
+-- whatever the text and the catalogue are
+pub leaves-bound : (t c : List ℕ) (room : ℕ) (xs : List ℕ) (h : ℕ) → leafing t c room ≡ yes (xs, h)
+    → 2 * h ≤ length (programs (recordsOf t)) * (length (programs (recordsOf t)) - 1)
+unfolding checkedOf
+leaves-bound t c room xs h a = go (fresh t c) refl
+  where
+    go : (f : Answer (List Record)) → fresh t c ≡ f → bounded t h
+    go (no n l) q = absurd (refused n l (xs, h) (sym (leaves-refused t c n l q room) ∙ a))
+    go (yes rs) q = bound t c (check-fresh t c (ap checkedOf q)) room xs h a

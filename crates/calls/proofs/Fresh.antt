@@ -1,0 +1,70 @@
+-- What the check of text and catalogue says to every call: the records that the catalogue is of, or the refusal.
+use Prim.Native.Nat.{ℕ}
+use mathlib.Core.Path.{_≡_, refl, sym, ap, _∙_}
+use mathlib.Core.Bool.{Bool, true, false, cond}
+use mathlib.Core.List.{List}
+use native.Mathlib.Omega.{arith}
+use Rattle.format.specs.Bytes.{same}
+use Rattle.format.specs.Records.{Record}
+use Rattle.format.specs.Reading.{Reading, refuse, accept, readText}
+use Rattle.format.specs.Catalogue.{catalogue}
+use Rattle.format.specs.Calls.{Answer, no, yes, then, fresh}
+use Rattle.format.specs.declared.LineNo.{LineNo}
+use Rattle.text.proofs.Equal.{same-equal}
+use Rattle.parser.specs.declared.Checked.the-variants.{Refused, Fresh}
+use Rattle.parser.specs.Answers.{checkedOf}
+use Rattle.parser.specs.Accepted.{kept, recordsOf}
+use Rattle.parser.proofs.Told.{fresh-refused, fresh-reads}
+
+-- the text is read, and the catalogue is its own
+pub record Current (t c : List ℕ) : Type 0 where
+  pub reads : readText t ≡ accept (recordsOf t)
+  pub own : c ≡ catalogue (recordsOf t)
+  pub says : fresh t c ≡ yes (recordsOf t)
+
+module _ (t c : List ℕ) where
+  answer-refused : (a : Answer (List Record)) (n : ℕ) (l : LineNo) → checkedOf a ≡ Refused n l → a ≡ no n (l .0)
+  unfolding checkedOf
+  answer-refused (no m k) n l e =
+      let x : m ≡ n = cc in
+      let y : _≡_ {A = LineNo} (record { 0 = k }) l = cc in
+      rw (x, ← y) refl
+  answer-refused (yes rs) n l e = absurd (let z : _≡_ {A = ℕ} 0 1 = cc in omega arith)
+
+  pub check-refused : (n : ℕ) (l : LineNo) → checkedOf (fresh t c) ≡ Refused n l → fresh t c ≡ no n (l .0)
+  check-refused n l e = answer-refused (fresh t c) n l e
+
+  -- a refusal is not fresh
+  never-fresh : (n l : ℕ) → checkedOf (no n l) ≡ Fresh → ⊥
+  unfolding checkedOf
+  never-fresh n l e = let z : _≡_ {A = ℕ} 0 1 = cc in omega arith
+
+  pub check-fresh : checkedOf (fresh t c) ≡ Fresh → Current t c
+  unfolding recordsOf kept
+  check-fresh e = go (readText t) refl
+    where
+      judged : (rs : List Record) → readText t ≡ accept rs → (b : Bool) → same c (catalogue rs) ≡ b → Current t c
+      judged rs q true s =
+          let own : recordsOf t ≡ rs = ap kept q in
+          record {
+            reads = q ∙ ap accept (sym own);
+            own = same-equal c (catalogue rs) s ∙ ap catalogue (sym own);
+            says = fresh-reads t c rs q ∙ ap (λ b. cond b (yes rs) (no 21 0)) s ∙ ap yes (sym own);
+          }
+      judged rs q false s =
+          absurd (never-fresh 21 0 (sym (ap checkedOf (fresh-reads t c rs q ∙ ap (λ b. cond b (yes rs) (no 21 0)) s)) ∙ e))
+
+      go : (r : Reading) → readText t ≡ r → Current t c
+      go (refuse n l) q = absurd (never-fresh n l (sym (ap checkedOf (fresh-refused t c n l q)) ∙ e))
+      go (accept rs) q = judged rs q (same c (catalogue rs)) refl
+
+  -- ---- what a call goes on with
+
+  module _ {A : Type 0} (f : List Record → Answer A) where
+    pub goes-on : Current t c → then (fresh t c) f ≡ f (recordsOf t)
+    unfolding then
+    goes-on k = ap (λ a. then a f) (k .says)
+
+    pub stops : (n l : ℕ) → fresh t c ≡ no n l → then (fresh t c) f ≡ no n l
+    unfolding then
+    stops n l e = ap (λ a. then a f) e

@@ -1,0 +1,4 @@
+pub mod Fresh
+pub mod Told
+pub mod Chained
+pub mod Bound

@@ -1,0 +1,50 @@
+-- The answers of the calls over text and catalogue in the code's numbers.
+use Prim.Native.Nat.{ℕ, _+_}
+use mathlib.Core.List.{List}
+use lib.ListN.{length, getElem?}
+use Rattle.format.specs.Lines.{Piece}
+use Rattle.format.specs.Reading.{ofKind}
+use Rattle.format.specs.Calls.{Answer, no, yes, then, fresh, there, valued}
+use Rattle.parser.specs.declared.Answer as parser
+use Rattle.parser.specs.declared.Answer.the-variants.{Refused, Count}
+use Rattle.calls.specs.declared.KeyAnswer.{KeyAnswer}
+use Rattle.calls.specs.declared.KeyAnswer.the-variants as key
+use Rattle.calls.specs.declared.LengthAnswer.{LengthAnswer}
+use Rattle.calls.specs.declared.LengthAnswer.the-variants as ln
+use Rattle.calls.specs.declared.LeavesAnswer.{LeavesAnswer}
+use Rattle.calls.specs.declared.LeavesAnswer.the-variants as leaves
+
+-- a refusal and its line, or how many
+unfoldable pub countOf : Answer ℕ → parser.Answer
+countOf (no n l) = Refused n (record { 0 = l })
+countOf (yes n) = Count n
+
+-- a refusal and its line, or where the key stands and how long it is
+unfoldable pub keyOf : Answer Piece → KeyAnswer
+keyOf (no n l) = key.Refused n (record { 0 = l })
+keyOf (yes p) = key.At (p .at) (length (p .bytes))
+
+-- a refusal and its line, or the LN
+unfoldable pub lengthOf : Answer ℕ → LengthAnswer
+lengthOf (no n l) = ln.Refused n (record { 0 = l })
+lengthOf (yes n) = ln.Is n
+
+-- a refusal and its line, or how many leaves, and the hops
+unfoldable pub leavesOf : Answer (List ℕ × ℕ) → LeavesAnswer
+leavesOf (no n l) = leaves.Refused n (record { 0 = l })
+leavesOf (yes a) = leaves.Counted (length (a .0)) (a .1)
+
+-- the list of ordinals that is answered
+unfoldable pub listOf : Answer (List ℕ × ℕ) → Answer (List ℕ)
+listOf (no n l) = no n l
+listOf (yes a) = yes (a .0)
+
+-- the value that a lookup answers with, or why there is none
+unfoldable pub valuing : List ℕ → List ℕ → ℕ → ℕ → ℕ → ℕ → Answer Piece
+unfolding then fresh there valued ofKind
+valuing text c k i a b = then (fresh text c) (λ rs. there (valued a b (getElem? (ofKind k rs) i)))
+
+-- where a lookup's answer stands: in the text, from the value's offset on, or where the stand-in stands
+unfoldable pub standing : Answer Piece → ℕ × ℕ → ℕ × ℕ → ℕ × ℕ
+standing (no n l) text stand = stand
+standing (yes p) text stand = (text .0, p .at + text .1)

@@ -1,0 +1,163 @@
+// The calls over a text and its catalogue: counts, keys, lengths, fields, roots and leaves. Each judges the text and the catalogue first.
+use format::LineNo;
+use lookup::Found;
+use lookup::Sized;
+use parser::Answer;
+use parser::Checked;
+ghost use mathlib.Core.Path.{_≡_};
+ghost use Prim.Native.Nat.{_≤_};
+ghost use lib.ListN.{length};
+ghost use Rattle.format.specs.Calls.{counting, keying, sizing, looking, rooting, leafing};
+ghost use Rattle.text.specs.Over.{over};
+ghost use Rattle.parser.specs.Answers.{answerOf, outputOf};
+ghost use Rattle.calls.specs.Answers.{countOf, keyOf, lengthOf, leavesOf, listOf, valuing, standing};
+
+// A refusal and its line, or the key's offset and length.
+pub enum KeyAnswer {
+    Refused(u8, LineNo),
+    At(u32, u32),
+}
+
+// A refusal and its line, or the LN.
+pub enum LengthAnswer {
+    Refused(u8, LineNo),
+    Is(u64),
+}
+
+// A refusal and its line, or how many leaves are written, and the hops.
+pub enum LeavesAnswer {
+    Refused(u8, LineNo),
+    Counted(usize, u32),
+}
+
+// How many records of a kind, 1 to 5, the text has.
+pub fn count(text: &[u8], kept: &[u8], kind: u8) -> Answer
+    ensures { λ r. ⌜ r ≡ countOf (counting (now (text .entry)) (now (kept .entry)) kind) ⌝ }
+{
+    match parser::check(text, kept) {
+        Checked::Refused(n, line) => Answer::Refused(n, line),
+        Checked::Fresh => {
+            if kind < 1 {
+                return Answer::Refused(25, LineNo(0));
+            }
+            if 5 < kind {
+                return Answer::Refused(25, LineNo(0));
+            }
+            Answer::Count(entries::count_kind(kept, kind))
+        }
+    }
+}
+
+// Where the key of a record stands: SQ, RG and PG have one.
+pub fn key(text: &[u8], kept: &[u8], kind: u8, ordinal: u32) -> KeyAnswer
+    ensures { λ r. ⌜ r ≡ keyOf (keying (now (text .entry)) (now (kept .entry)) kind ordinal) ⌝ }
+{
+    match parser::check(text, kept) {
+        Checked::Refused(n, line) => KeyAnswer::Refused(n, line),
+        Checked::Fresh => match lookup::find_key(kept, kind, ordinal) {
+            Found::Nothing => KeyAnswer::Refused(25, LineNo(0)),
+            Found::At(p) => KeyAnswer::At(p.at, p.len),
+        },
+    }
+}
+
+// The LN of the SQ with an ordinal.
+pub fn length(text: &[u8], kept: &[u8], ordinal: u32) -> LengthAnswer
+    ensures { λ r. ⌜ r ≡ lengthOf (sizing (now (text .entry)) (now (kept .entry)) ordinal) ⌝ }
+{
+    match parser::check(text, kept) {
+        Checked::Refused(n, line) => LengthAnswer::Refused(n, line),
+        Checked::Fresh => match lookup::find_length(kept, ordinal) {
+            Sized::Nothing => LengthAnswer::Refused(25, LineNo(0)),
+            Sized::Is(n) => LengthAnswer::Is(n),
+        },
+    }
+}
+
+// The value of a field as a part of the text, or the whole stand-in where anything is amiss or there is no such field.
+pub fn field<'a>(
+    text: &'a [u8],
+    kept: &[u8],
+    kind: u8,
+    ordinal: u32,
+    a: u8,
+    b: u8,
+    stand_in: &'a [u8],
+) -> &'a [u8]
+    ensures value { λ r. ⌜ now r ≡ looking (now (text .entry)) (now (kept .entry)) kind ordinal a b (now (stand_in .entry)) ⌝ }
+    ensures place { λ r. ⌜ r .ptr ≡ standing (valuing (now (text .entry)) (now (kept .entry)) kind ordinal a b) (text .entry .ptr) (stand_in .entry .ptr) ⌝ }
+{
+    match parser::check(text, kept) {
+        Checked::Refused(_, _) => stand_in,
+        Checked::Fresh => match lookup::find_field(kept, kind, ordinal, a, b) {
+            Found::Nothing => stand_in,
+            Found::At(p) => {
+                let start = p.at as usize;
+                let end = start + p.len as usize;
+                &text[start..end]
+            }
+        },
+    }
+}
+
+// Writes ordinals to the front of `out`.
+fn put_ordinals(out: &mut [u32], from: &[u32])
+    requires { ⌜ length (now from) ≤ length (now out) ⌝ }
+    ensures { λ _. ⌜ now (out .exit) ≡ over (now (out .entry)) 0 (now (from .entry)) ⌝ }
+{
+    let mut i: usize = 0;
+    while i < from.len() {
+        out[i] = from[i];
+        i += 1;
+    }
+}
+
+// The programs without PP at the front of `out`: no graph check.
+pub fn roots(text: &[u8], kept: &[u8], out: &mut [u32]) -> Answer
+    ensures answer { λ r. ⌜ r ≡ answerOf (rooting (now (text .entry)) (now (kept .entry)) (length (now (out .entry)))) ⌝ }
+    ensures wrote { λ _. ⌜ now (out .exit) ≡ outputOf (rooting (now (text .entry)) (now (kept .entry)) (length (now (out .entry)))) (now (out .entry)) ⌝ }
+{
+    match parser::check(text, kept) {
+        Checked::Refused(n, line) => Answer::Refused(n, line),
+        Checked::Fresh => {
+            let parents = lookup::find_parents(text, kept);
+            let list = parents.list;
+            let found = chains::roots(&list[..parents.count]);
+            if out.len() < found.count {
+                return Answer::Refused(20, LineNo(0));
+            }
+            let ordinals = found.list;
+            put_ordinals(out, &ordinals[..found.count]);
+            Answer::Count(found.count)
+        }
+    }
+}
+
+// The leaves at the front of `out`, in the crate's order, and the hops: 22 where a PP dangles, 23 where there is a cycle.
+pub fn leaves(text: &[u8], kept: &[u8], out: &mut [u32]) -> LeavesAnswer
+    ensures answer { λ r. ⌜ r ≡ leavesOf (leafing (now (text .entry)) (now (kept .entry)) (length (now (out .entry)))) ⌝ }
+    ensures wrote { λ _. ⌜ now (out .exit) ≡ outputOf (listOf (leafing (now (text .entry)) (now (kept .entry)) (length (now (out .entry))))) (now (out .entry)) ⌝ }
+{
+    match parser::check(text, kept) {
+        Checked::Refused(n, line) => LeavesAnswer::Refused(n, line),
+        Checked::Fresh => {
+            let parents = lookup::find_parents(text, kept);
+            if parents.dangling {
+                return LeavesAnswer::Refused(22, LineNo(0));
+            }
+            let list = parents.list;
+            let links = &list[..parents.count];
+            if chains::has_cycle(links) {
+                return LeavesAnswer::Refused(23, LineNo(0));
+            }
+            let found = chains::leaves(links);
+            if out.len() < found.count {
+                return LeavesAnswer::Refused(20, LineNo(0));
+            }
+            let hops = chains::hops(links);
+            let ordinals = found.list;
+            put_ordinals(out, &ordinals[..found.count]);
+            LeavesAnswer::Counted(found.count, hops)
+        }
+    }
+}
