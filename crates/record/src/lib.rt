@@ -13,7 +13,8 @@ ghost use lib.Dec.{eqb};
 ghost use Rattle.format.specs.Bytes.{any};
 ghost use Rattle.format.specs.Records.{line, prefixed, body, fielded, remark, breaks};
 ghost use Rattle.record.specs.Head.{headOf, hasFields};
-ghost use Rattle.record.specs.Keys.{noKeys, withField, headFrom};
+ghost use Rattle.record.specs.Keys.{noKeys, saying, withField, headFrom};
+ghost use Rattle.field.specs.declared.Says.the-variants.{Bytes};
 ghost use Rattle.tags.specs.Occurs.{occurs};
 ghost use Rattle.record.specs.Slot.{slotOf};
 
@@ -85,7 +86,36 @@ impl Keys {
         }
     }
 
-    // One field more, whose value stands at `at`: the last value of a key stands, and a tag that comes `again` is no field more.
+    // One value of bytes more, which stands at `at`: the last value of a key stands, and a tag that comes `again` is no field more.
+    fn with_bytes(self, kind: Kind, f: Field, at: usize, again: bool) -> Keys
+        requires { ⌜ self .others + 1 ≤ 18446744073709551615 ⌝ }
+        ensures { λ r. ⌜ r ≡ saying kind f at again self Bytes ⌝ }
+    {
+        let key = self.key;
+        let version = self.version;
+        let length = self.length;
+        let others = self.others;
+        if tags::is_key(kind, f.tag_0, f.tag_1) {
+            let place = Place { at, len: f.len };
+            return Keys {
+                key: KeyPlace::At(place),
+                version,
+                length,
+                others,
+            };
+        }
+        if again {
+            return self;
+        }
+        Keys {
+            key,
+            version,
+            length,
+            others: others + 1,
+        }
+    }
+
+    // One field more, whose value stands at `at`: what VN and LN say is a number.
     fn with(self, kind: Kind, f: Field, at: usize, again: bool) -> Keys
         requires { ⌜ self .others + 1 ≤ 18446744073709551615 ⌝ }
         ensures { λ r. ⌜ r ≡ withField kind f at again self ⌝ }
@@ -108,31 +138,7 @@ impl Keys {
                 length: KeyLength::Is(n),
                 others,
             },
-            Says::Bytes => {
-                if tags::is_key(kind, f.tag_0, f.tag_1) {
-                    let place = Place { at, len: f.len };
-                    return Keys {
-                        key: KeyPlace::At(place),
-                        version,
-                        length,
-                        others,
-                    };
-                }
-                if again {
-                    return Keys {
-                        key,
-                        version,
-                        length,
-                        others,
-                    };
-                }
-                Keys {
-                    key,
-                    version,
-                    length,
-                    others: others + 1,
-                }
-            }
+            Says::Bytes => self.with_bytes(kind, f, at, again),
         }
     }
 

@@ -8,7 +8,7 @@ use lib.ListN.{length, getD}
 use lib.Dec.{eqb}
 use Rattle.format.specs.Records.{Record, header, reference, group, program, comment, code, Line, refused, read, line}
 use Rattle.format.specs.Reading.{ofKind}
-use Rattle.format.specs.Tidy.{recordText, isWritable, text}
+use Rattle.format.specs.Tidy.{recordText, text}
 use Rattle.format.specs.declared.Kind.{Kind}
 use Rattle.format.specs.declared.Kind.the-variants.{Header, ReferenceSequence, ReadGroup, Program, Comment}
 use Rattle.accepted.specs.Sound.{kind}
@@ -17,7 +17,7 @@ use Rattle.accepted.specs.Spelled.{Accepted, kind₀, kind₁}
 use Rattle.accepted.proofs.Bools.{never}
 use Rattle.accepted.proofs.Sound.{made-kind}
 use Rattle.accepted.proofs.Spelled.{line-accepted}
-use Rattle.writer.specs.Line.{isRead, lineText, lineWritable}
+use Rattle.writer.specs.Line.{isRead, lineText}
 use Rattle.tidy_text.specs.Accepted.{onto}
 use Rattle.tidy_text.specs.Kinds.{numberOf, hasKind, kindText, textOfKind}
 
@@ -57,15 +57,6 @@ kind-number (reference p n fs) = refl
 kind-number (group p fs) = refl
 kind-number (program p fs) = refl
 kind-number (comment p) = refl
-
--- only an SQ has a name
-nameless : (r : Record) → eqb (code r) 2 ≡ false → isWritable r ≡ true
-unfolding isWritable code
-nameless (header v fs) q = refl
-nameless (reference p n fs) q = absurd (never (cc))
-nameless (group p fs) q = refl
-nameless (program p fs) q = refl
-nameless (comment p) q = refl
 
 -- ---- an accepted line
 
@@ -107,10 +98,6 @@ module _ (strict : Bool) (at : ℕ) (s : List ℕ) (h : isRead (line strict (rec
   pub kind-other : (k : Kind) → hasKind k s ≡ false → kindText k (line strict (record { at = at; bytes = s })) ≡ []
   unfolding kindText
   kind-other k e = by-record (λ l. kindText k l ≡ []) (λ r f. rw (sym (front-kind k r f) ∙ e) refl)
-
-  pub other-writable : hasKind ReferenceSequence s ≡ false → lineWritable (line strict (record { at = at; bytes = s })) ≡ true
-  unfolding lineWritable numberOf
-  other-writable e = by-record (λ l. lineWritable l ≡ true) (λ r f. nameless r (sym (front-kind ReferenceSequence r f) ∙ e))
 
 -- ---- one line before others
 

@@ -8,8 +8,6 @@ use Rattle.format.specs.Lines.{Piece, linesFrom}
 use Rattle.format.specs.Records.{Record, Line, refused, read, line}
 use Rattle.format.specs.Reading.{Reading, refuse, accept}
 use Rattle.writer.specs.Line.{isRead}
-use Rattle.tidy_text.specs.declared.Named.{Named}
-use Rattle.tidy_text.specs.declared.Named.the-variants.{Fine, Bad}
 use Rattle.tidy_text.specs.declared.Measured.{Measured}
 use Rattle.tidy_text.specs.declared.Measured.the-variants as measured
 
@@ -21,12 +19,7 @@ unfoldable pub recordsOf : Reading → List Record
 recordsOf (refuse n l) = []
 recordsOf (accept rs) = rs
 
--- every name can be written, or the line of the first SQ whose name can't
-unfoldable pub namedOf : Option ℕ → Named
-namedOf none = Fine
-namedOf (some l) = Bad (record { 0 = l })
-
--- the tidy text's length, if every name can be written
+-- the tidy text's length, or the line of the first SQ whose name can't be written
 unfoldable pub measuredOf : Option ℕ → ℕ → Measured
 measuredOf none n = measured.Is n
 measuredOf (some l) n = measured.Bad (record { 0 = l })

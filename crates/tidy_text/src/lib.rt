@@ -11,15 +11,9 @@ ghost use Rattle.format.specs.Records.{line};
 ghost use Rattle.format.specs.Reading.{announced, isStrict, readText};
 ghost use Rattle.format.specs.Tidy.{tidy, unwritable};
 ghost use Rattle.text.specs.Over.{over};
-ghost use Rattle.writer.specs.Line.{isRead, lineWritable};
-ghost use Rattle.tidy_text.specs.Accepted.{isAccepted, recordsOf, namedOf, measuredOf};
+ghost use Rattle.writer.specs.Line.{isRead};
+ghost use Rattle.tidy_text.specs.Accepted.{isAccepted, recordsOf, measuredOf};
 ghost use Rattle.tidy_text.specs.Kinds.{hasKind, kindText, textOfKind};
-
-// Every reference name can be written, or the line of the first that can't.
-pub enum Named {
-    Fine,
-    Bad(LineNo),
-}
 
 // How many bytes the tidy text has, or the line of the first SQ whose name can't be written.
 pub enum Measured {
@@ -39,18 +33,6 @@ fn is_of_kind(src: &[u8], kind: Kind) -> bool
     false
 }
 
-// Whether the record of an accepted line can be written: a line of another kind than SQ is passed by its kind bytes.
-fn is_line_writable(src: &[u8], at: usize, strict: bool) -> bool
-    requires { ⌜ isRead (line strict (record { at = at; bytes = now src })) ≡ true ⌝ }
-    requires { ⌜ at + length (now src) ≤ 16777216 ⌝ }
-    ensures { λ r. ⌜ r ≡ lineWritable (line strict (record { at = at; bytes = now (src .entry) })) ⌝ }
-{
-    if is_of_kind(src, Kind::ReferenceSequence) {
-        return writer::is_writable(src, at, strict);
-    }
-    true
-}
-
 // Writes the record of an accepted line if it is of `kind`: a line of another kind is passed by its kind bytes.
 fn put_of_kind(out: &mut [u8], o: usize, kind: Kind, src: &[u8], at: usize, strict: bool) -> usize
     requires { ⌜ isRead (line strict (record { at = at; bytes = now src })) ≡ true ⌝ }
@@ -65,42 +47,8 @@ fn put_of_kind(out: &mut [u8], o: usize, kind: Kind, src: &[u8], at: usize, stri
     o
 }
 
-// The line of the first SQ of an accepted text whose name can't be written; `strict` is what the text says of repeated tags.
-pub fn unwritable(text: &[u8], strict: bool) -> Named
-    requires { ⌜ isAccepted (readText (now text)) ≡ true ⌝ }
-    requires { ⌜ strict ≡ isStrict (announced (lines (now text))) ⌝ }
-    ensures { λ r. ⌜ r ≡ namedOf (unwritable 0 (recordsOf (readText (now (text .entry))))) ⌝ }
-{
-    let mut l: u32 = 0;
-    let mut at: usize = 0;
-    while at < text.len() {
-        let cut = text::first_line(&text[at..]);
-        if !is_line_writable(&text[at..at + cut.len], at, strict) {
-            return Named::Bad(LineNo(l));
-        }
-        l += 1;
-        at += cut.next;
-    }
-    Named::Fine
-}
-
-// How many bytes the tidy text of an accepted text has.
-pub fn tidy_len(text: &[u8], strict: bool) -> usize
-    requires { ⌜ isAccepted (readText (now text)) ≡ true ⌝ }
-    requires { ⌜ strict ≡ isStrict (announced (lines (now text))) ⌝ }
-    ensures { λ r. ⌜ r ≡ length (tidy (recordsOf (readText (now (text .entry))))) ⌝ }
-{
-    let mut n: usize = 0;
-    let mut at: usize = 0;
-    while at < text.len() {
-        let cut = text::first_line(&text[at..]);
-        n += writer::record_len(&text[at..at + cut.len], at, strict);
-        at += cut.next;
-    }
-    n
-}
-
-// Both in one pass, each line looked at once: the length of the tidy text, or the line of the first SQ whose name can't be written.
+// The length of the tidy text of an accepted text, or the line of the first SQ whose name can't be written, in one pass.
+// `strict` is what the text says of repeated tags.
 pub fn measure(text: &[u8], strict: bool) -> Measured
     requires { ⌜ isAccepted (readText (now text)) ≡ true ⌝ }
     requires { ⌜ strict ≡ isStrict (announced (lines (now text))) ⌝ }

@@ -14,7 +14,7 @@ ghost use Rattle.format.specs.Tidy.{fieldText};
 ghost use Rattle.text.specs.Over.{over};
 ghost use Rattle.accepted.specs.Spelled.{kind₀, kind₁};
 ghost use Rattle.walk.specs.Run.{AtField};
-ghost use Rattle.writer.specs.Line.{isRead, lineText, lineWritable, sizeOf};
+ghost use Rattle.writer.specs.Line.{isRead, lineText, sizeOf};
 ghost use Rattle.writer.specs.Parts.{prefixText, versionText, othersText};
 ghost use Rattle.writer.specs.Heads.{headText, headWritable, Holds};
 ghost use Rattle.writer.specs.Texts.{Inside, headerText, sequenceText, mapText, commentText};
@@ -321,27 +321,7 @@ fn is_head_writable(head: Head, line: &[u8], at: usize, strict: bool) -> bool
     }
 }
 
-// How many bytes the record of an accepted line has.
-pub fn record_len(src: &[u8], at: usize, strict: bool) -> usize
-    requires { ⌜ isRead (line strict (record { at = at; bytes = now src })) ≡ true ⌝ }
-    requires { ⌜ at + length (now src) ≤ 16777216 ⌝ }
-    ensures { λ r. ⌜ r ≡ length (lineText (line strict (record { at = at; bytes = now (src .entry) }))) ⌝ }
-{
-    let head = record::parse_record(src, at, strict);
-    head_len(head, src, at, strict)
-}
-
-// Whether the record of an accepted line can be written.
-pub fn is_writable(src: &[u8], at: usize, strict: bool) -> bool
-    requires { ⌜ isRead (line strict (record { at = at; bytes = now src })) ≡ true ⌝ }
-    requires { ⌜ at + length (now src) ≤ 16777216 ⌝ }
-    ensures { λ r. ⌜ r ≡ lineWritable (line strict (record { at = at; bytes = now (src .entry) })) ⌝ }
-{
-    let head = record::parse_record(src, at, strict);
-    is_head_writable(head, src, at, strict)
-}
-
-// Both in one look: how many bytes the record of an accepted line has, or that it can't be written.
+// How many bytes the record of an accepted line has, or that it can't be written, in one look.
 pub fn record_size(src: &[u8], at: usize, strict: bool) -> Size
     requires { ⌜ isRead (line strict (record { at = at; bytes = now src })) ≡ true ⌝ }
     requires { ⌜ at + length (now src) ≤ 16777216 ⌝ }
