@@ -4,8 +4,9 @@ use parser::Answer;
 use parser::Checked;
 ghost use mathlib.Core.Path.{_≡_};
 ghost use lib.ListN.{length};
-ghost use Rattle.format.specs.Calls.{reading, fresh, tidying};
+ghost use Rattle.format.specs.Calls.{reading, fresh, tidying, counting, rooting};
 ghost use Rattle.parser.specs.Answers.{answerOf, outputOf, checkedOf};
+ghost use Rattle.calls.specs.Answers.{countOf};
 ghost use Rattle.exports.specs.Words.{refusalWord, answerWord, checkedWord};
 
 fn refusal_word(n: u8, line: LineNo) -> u64
@@ -53,4 +54,19 @@ pub extern "C" fn sam_header_tidy(text: &[u8], out: &mut [u8]) -> u64
     ensures wrote { λ _. ⌜ now (out .exit) ≡ outputOf (tidying (now (text .entry)) (length (now (out .entry)))) (now (out .entry)) ⌝ }
 {
     answer_word(tidy::tidy(text, out))
+}
+
+#[no_mangle]
+pub extern "C" fn sam_header_count(text: &[u8], catalogue: &[u8], kind: u8) -> u64
+    ensures { λ r. ⌜ r ≡ answerWord (countOf (counting (now (text .entry)) (now (catalogue .entry)) kind)) ⌝ }
+{
+    answer_word(calls::count(text, catalogue, kind))
+}
+
+#[no_mangle]
+pub extern "C" fn sam_header_roots(text: &[u8], catalogue: &[u8], out: &mut [u32]) -> u64
+    ensures answer { λ r. ⌜ r ≡ answerWord (answerOf (rooting (now (text .entry)) (now (catalogue .entry)) (length (now (out .entry))))) ⌝ }
+    ensures wrote { λ _. ⌜ now (out .exit) ≡ outputOf (rooting (now (text .entry)) (now (catalogue .entry)) (length (now (out .entry)))) (now (out .entry)) ⌝ }
+{
+    answer_word(calls::roots(text, catalogue, out))
 }
