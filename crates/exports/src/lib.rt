@@ -1,13 +1,16 @@
 // The calls for programs in C and Rust: each answer is one number (include/sam_header.h).
+use calls::KeyAnswer;
+use calls::LeavesAnswer;
+use calls::LengthAnswer;
 use format::LineNo;
 use parser::Answer;
 use parser::Checked;
 ghost use mathlib.Core.Path.{_≡_};
 ghost use lib.ListN.{length};
-ghost use Rattle.format.specs.Calls.{reading, fresh, tidying, counting, rooting};
+ghost use Rattle.format.specs.Calls.{reading, fresh, tidying, counting, keying, sizing, rooting, leafing};
 ghost use Rattle.parser.specs.Answers.{answerOf, outputOf, checkedOf};
-ghost use Rattle.calls.specs.Answers.{countOf};
-ghost use Rattle.exports.specs.Words.{refusalWord, answerWord, checkedWord};
+ghost use Rattle.calls.specs.Answers.{countOf, keyOf, lengthOf, leavesOf, listOf};
+ghost use Rattle.exports.specs.Words.{refusalWord, answerWord, checkedWord, leavesWord, keyWord, lengthWord, lengthLeft};
 
 fn refusal_word(n: u8, line: LineNo) -> u64
     ensures { λ r. ⌜ r ≡ refusalWord n (line .0) ⌝ }
@@ -30,6 +33,24 @@ fn checked_word(checked: Checked) -> u64
     match checked {
         Checked::Refused(n, line) => refusal_word(n, line),
         Checked::Fresh => 0,
+    }
+}
+
+fn leaves_word(answer: LeavesAnswer) -> u64
+    ensures { λ r. ⌜ r ≡ leavesWord answer ⌝ }
+{
+    match answer {
+        LeavesAnswer::Refused(n, line) => refusal_word(n, line),
+        LeavesAnswer::Counted(n, hops) => (hops as u64) * 4294967296 + (n as u64) % 4294967296,
+    }
+}
+
+fn key_word(answer: KeyAnswer) -> u64
+    ensures { λ r. ⌜ r ≡ keyWord answer ⌝ }
+{
+    match answer {
+        KeyAnswer::Refused(n, line) => refusal_word(n, line),
+        KeyAnswer::At(at, len) => (at as u64) * 4294967296 + (len as u64),
     }
 }
 
@@ -69,4 +90,38 @@ pub extern "C" fn sam_header_roots(text: &[u8], catalogue: &[u8], out: &mut [u32
     ensures wrote { λ _. ⌜ now (out .exit) ≡ outputOf (rooting (now (text .entry)) (now (catalogue .entry)) (length (now (out .entry)))) (now (out .entry)) ⌝ }
 {
     answer_word(calls::roots(text, catalogue, out))
+}
+
+#[no_mangle]
+pub extern "C" fn sam_header_leaves(text: &[u8], catalogue: &[u8], out: &mut [u32]) -> u64
+    ensures answer { λ r. ⌜ r ≡ leavesWord (leavesOf (leafing (now (text .entry)) (now (catalogue .entry)) (length (now (out .entry))))) ⌝ }
+    ensures wrote { λ _. ⌜ now (out .exit) ≡ outputOf (listOf (leafing (now (text .entry)) (now (catalogue .entry)) (length (now (out .entry))))) (now (out .entry)) ⌝ }
+{
+    leaves_word(calls::leaves(text, catalogue, out))
+}
+
+#[no_mangle]
+pub extern "C" fn sam_header_key(text: &[u8], catalogue: &[u8], kind: u8, ordinal: u32) -> u64
+    ensures { λ r. ⌜ r ≡ keyWord (keyOf (keying (now (text .entry)) (now (catalogue .entry)) kind ordinal)) ⌝ }
+{
+    key_word(calls::key(text, catalogue, kind, ordinal))
+}
+
+#[no_mangle]
+pub extern "C" fn sam_header_length(
+    text: &[u8],
+    catalogue: &[u8],
+    ordinal: u32,
+    length: &mut u64,
+) -> u64
+    ensures answer { λ r. ⌜ r ≡ lengthWord (lengthOf (sizing (now (text .entry)) (now (catalogue .entry)) ordinal)) ⌝ }
+    ensures wrote { λ _. ⌜ now (length .exit) ≡ lengthLeft (lengthOf (sizing (now (text .entry)) (now (catalogue .entry)) ordinal)) (now (length .entry)) ⌝ }
+{
+    match calls::length(text, catalogue, ordinal) {
+        LengthAnswer::Refused(n, line) => refusal_word(n, line),
+        LengthAnswer::Is(n) => {
+            *length = n;
+            0
+        }
+    }
 }
