@@ -1,5 +1,5 @@
 -- Answers as one number: what is counted; or bit 63, the refusal number shifted left by 32, and the line.
-use Prim.Native.Nat.{ℕ, _+_, _*_, _^_, _%_}
+use Prim.Native.Nat.{ℕ, _+_, _*_, _^_}
 use Rattle.parser.specs.declared.Answer.{Answer}
 use Rattle.parser.specs.declared.Answer.the-variants.{Refused, Count}
 use Rattle.parser.specs.declared.Checked.{Checked}
@@ -29,7 +29,7 @@ checkedWord checked.Fresh = 0
 unfoldable pub leavesWord : LeavesAnswer → ℕ
 unfolding refusalWord
 leavesWord (leaves.Refused n l) = refusalWord n (l .0)
-leavesWord (leaves.Counted n h) = h * 2 ^ 32 + n % 2 ^ 32
+leavesWord (leaves.Counted n h) = h * 2 ^ 32 + n
 
 -- the key's offset shifted left by 32, and its length
 unfoldable pub keyWord : KeyAnswer → ℕ

@@ -36,15 +36,6 @@ fn checked_word(checked: Checked) -> u64
     }
 }
 
-fn leaves_word(answer: LeavesAnswer) -> u64
-    ensures { λ r. ⌜ r ≡ leavesWord answer ⌝ }
-{
-    match answer {
-        LeavesAnswer::Refused(n, line) => refusal_word(n, line),
-        LeavesAnswer::Counted(n, hops) => (hops as u64) * 4294967296 + (n as u64) % 4294967296,
-    }
-}
-
 fn key_word(answer: KeyAnswer) -> u64
     ensures { λ r. ⌜ r ≡ keyWord answer ⌝ }
 {
@@ -97,7 +88,10 @@ pub extern "C" fn sam_header_leaves(text: &[u8], catalogue: &[u8], out: &mut [u3
     ensures answer { λ r. ⌜ r ≡ leavesWord (leavesOf (leafing (now (text .entry)) (now (catalogue .entry)) (length (now (out .entry))))) ⌝ }
     ensures wrote { λ _. ⌜ now (out .exit) ≡ outputOf (listOf (leafing (now (text .entry)) (now (catalogue .entry)) (length (now (out .entry))))) (now (out .entry)) ⌝ }
 {
-    leaves_word(calls::leaves(text, catalogue, out))
+    match calls::leaves(text, catalogue, out) {
+        LeavesAnswer::Refused(n, line) => refusal_word(n, line),
+        LeavesAnswer::Counted(n, hops) => (hops as u64) * 4294967296 + (n as u64),
+    }
 }
 
 #[no_mangle]
