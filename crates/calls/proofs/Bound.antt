@@ -13,21 +13,22 @@ use Rattle.format.specs.Calls.{Answer, no, yes, fresh, leafing}
 use Rattle.accepted.proofs.Bools.{never, split}
 use Rattle.chains.specs.Parents.{linksOf, linkOf}
 use Rattle.chains.proofs.Bound.{hops-bound, within-below}
+use Rattle.chains.proofs.Leaf.{leaves-length}
 use Rattle.entries.specs.Entries.{entriesIn}
 use Rattle.lookup.specs.Parents.{parentsIn, strays}
 use Rattle.lookup.proofs.Numbers.{parents-count}
 use Rattle.parser.specs.Answers.{checkedOf}
 use Rattle.parser.specs.Accepted.{recordsOf}
 use Rattle.calls.proofs.Fresh.{Current, check-fresh}
-use Rattle.calls.proofs.Chained.{all-within, leaves-refused, leaves-dangling, leaves-cycle, leaves-short, leaves-fit}
+use Rattle.calls.proofs.Chained.{all-within, leaves-refused, leaves-dangling, leaves-cycle, leaves-short, leaves-fit, few-parents}
 
 -- a refusal is no answer
 refused : {A : Type 0} (n l : ℕ) (a : A) → no n l ≡ yes a → ⊥
 refused n l a e = never cc
 
-unfoldable hopsOf : Answer (List ℕ × ℕ) → ℕ
-hopsOf (no n l) = 0
-hopsOf (yes a) = a .1
+unfoldable toldOf : List ℕ × ℕ → Answer (List ℕ × ℕ) → List ℕ × ℕ
+toldOf z (no n l) = z
+toldOf z (yes a) = a
 
 abbrev bounded : List ℕ → ℕ → Type 0
 bounded t h = 2 * h ≤ length (programs (recordsOf t)) * (length (programs (recordsOf t)) - 1)
@@ -46,26 +47,46 @@ module _ (t c : List ℕ) (own : Current t c) where
       subst (λ n. 2 * hops (linksOf parents) ≤ n * (n - 1)) many
       (hops-bound (linksOf parents) e (λ k m. subst (λ n. k < n) same (within-below (length parents) parents (all-within t c own d) k m)))
 
-  bound : (room : ℕ) (xs : List ℕ) (h : ℕ) → leafing t c room ≡ yes (xs, h) → bounded t h
-  bound room xs h a = split (strays parents) (λ d. absurd (refused 22 0 (xs, h) (sym (leaves-dangling t c own room d) ∙ a))) joined
+  -- what is answered is what the parents give, where nothing is tangled
+  answered : (P : List ℕ × ℕ → Type 0) (room : ℕ) (a : List ℕ × ℕ) → leafing t c room ≡ yes a
+      → (strays parents ≡ false → loopsFrom (linksOf parents) 0 (linksOf parents) ≡ false → P (leaves (linksOf parents), hops (linksOf parents))) → P a
+  answered P room a is given = split (strays parents) (λ d. absurd (refused 22 0 a (sym (leaves-dangling t c own room d) ∙ is))) joined
     where
-      fitted : (d : strays parents ≡ false) (e : loopsFrom (linksOf parents) 0 (linksOf parents) ≡ false) → length (leaves (linksOf parents)) ≤ room → bounded t h
+      fitted : (d : strays parents ≡ false) (e : loopsFrom (linksOf parents) 0 (linksOf parents) ≡ false) → length (leaves (linksOf parents)) ≤ room → P a
       fitted d e f =
-          let z : hops (linksOf parents) ≡ h = unfold hopsOf in ap hopsOf (sym (leaves-fit t c own d room e f) ∙ a) in
-          subst (bounded t) z (summed d e)
+          let z : (leaves (linksOf parents), hops (linksOf parents)) ≡ a = unfold toldOf in ap (toldOf a) (sym (leaves-fit t c own d room e f) ∙ is) in
+          subst P z (given d e)
 
-      joined : strays parents ≡ false → bounded t h
-      joined d = split (loopsFrom (linksOf parents) 0 (linksOf parents)) (λ e. absurd (refused 23 0 (xs, h) (sym (leaves-cycle t c own d room e) ∙ a))) (λ e.
+      joined : strays parents ≡ false → P a
+      joined d = split (loopsFrom (linksOf parents) 0 (linksOf parents)) (λ e. absurd (refused 23 0 a (sym (leaves-cycle t c own d room e) ∙ is))) (λ e.
           split (ltb room (length (leaves (linksOf parents))))
-          (λ f. absurd (refused 20 0 (xs, h) (sym (leaves-short t c own d room e (ltb-true _ _ f)) ∙ a)))
+          (λ f. absurd (refused 20 0 a (sym (leaves-short t c own d room e (ltb-true _ _ f)) ∙ is)))
           (λ f. fitted d e (ltb-false _ _ f)))
+
+  few-leaves : length (leaves (linksOf parents)) ≤ 1024
+  few-leaves =
+      let same : length (linksOf parents) ≡ length parents = unfold linksOf in length-map parents linkOf in
+      omega (arith, same, leaves-length (linksOf parents), few-parents t c own)
+
+-- a refusal of the check is none of these
+module _ (t c : List ℕ) (room : ℕ) (a : List ℕ × ℕ) (is : leafing t c room ≡ yes a) where
+  current : Current t c
+  unfolding checkedOf
+  current = go (fresh t c) refl
+    where
+      go : (f : Answer (List Record)) → fresh t c ≡ f → Current t c
+      go (no n l) q = absurd (refused n l a (sym (leaves-refused t c n l q room) ∙ is))
+      go (yes rs) q = check-fresh t c (ap checkedOf q)
 
 -- whatever the text and the catalogue are
 pub leaves-bound : (t c : List ℕ) (room : ℕ) (xs : List ℕ) (h : ℕ) → leafing t c room ≡ yes (xs, h)
     → 2 * h ≤ length (programs (recordsOf t)) * (length (programs (recordsOf t)) - 1)
-unfolding checkedOf
-leaves-bound t c room xs h a = go (fresh t c) refl
-  where
-    go : (f : Answer (List Record)) → fresh t c ≡ f → bounded t h
-    go (no n l) q = absurd (refused n l (xs, h) (sym (leaves-refused t c n l q room) ∙ a))
-    go (yes rs) q = bound t c (check-fresh t c (ap checkedOf q)) room xs h a
+leaves-bound t c room xs h is =
+    let own = current t c room (xs, h) is in
+    answered t c own (λ a. bounded t (a .1)) room (xs, h) is (summed t c own)
+
+-- and there are at most 1,024 leaves
+pub leaves-few : (t c : List ℕ) (room : ℕ) (xs : List ℕ) (h : ℕ) → leafing t c room ≡ yes (xs, h) → length xs ≤ 1024
+leaves-few t c room xs h is =
+    let own = current t c room (xs, h) is in
+    answered t c own (λ a. length (a .0) ≤ 1024) room (xs, h) is (λ d e. few-leaves t c own)

@@ -4,6 +4,12 @@ use Rattle.parser.specs.declared.Answer.{Answer}
 use Rattle.parser.specs.declared.Answer.the-variants.{Refused, Count}
 use Rattle.parser.specs.declared.Checked.{Checked}
 use Rattle.parser.specs.declared.Checked.the-variants as checked
+use Rattle.calls.specs.declared.KeyAnswer.{KeyAnswer}
+use Rattle.calls.specs.declared.KeyAnswer.the-variants as key
+use Rattle.calls.specs.declared.LengthAnswer.{LengthAnswer}
+use Rattle.calls.specs.declared.LengthAnswer.the-variants as ln
+use Rattle.calls.specs.declared.LeavesAnswer.{LeavesAnswer}
+use Rattle.calls.specs.declared.LeavesAnswer.the-variants as leaves
 
 unfoldable pub refusalWord : ℕ → ℕ → ℕ
 refusalWord n l = 2 ^ 63 + n * 2 ^ 32 + l
@@ -18,3 +24,26 @@ unfoldable pub checkedWord : Checked → ℕ
 unfolding refusalWord
 checkedWord (checked.Refused n l) = refusalWord n (l .0)
 checkedWord checked.Fresh = 0
+
+-- the hops shifted left by 32, and how many leaves
+unfoldable pub leavesWord : LeavesAnswer → ℕ
+unfolding refusalWord
+leavesWord (leaves.Refused n l) = refusalWord n (l .0)
+leavesWord (leaves.Counted n h) = h * 2 ^ 32 + n
+
+-- the key's offset shifted left by 32, and its length
+unfoldable pub keyWord : KeyAnswer → ℕ
+unfolding refusalWord
+keyWord (key.Refused n l) = refusalWord n (l .0)
+keyWord (key.At at len) = at * 2 ^ 32 + len
+
+-- 0 if there is such an SQ
+unfoldable pub lengthWord : LengthAnswer → ℕ
+unfolding refusalWord
+lengthWord (ln.Refused n l) = refusalWord n (l .0)
+lengthWord (ln.Is n) = 0
+
+-- the LN takes the place of the caller's number; a refusal leaves it
+unfoldable pub lengthLeft : LengthAnswer → ℕ → ℕ
+lengthLeft (ln.Refused n l) old = old
+lengthLeft (ln.Is n) old = n

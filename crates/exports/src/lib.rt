@@ -1,12 +1,16 @@
 // The calls for programs in C and Rust: each answer is one number (include/sam_header.h).
+use calls::KeyAnswer;
+use calls::LeavesAnswer;
+use calls::LengthAnswer;
 use format::LineNo;
 use parser::Answer;
 use parser::Checked;
 ghost use mathlib.Core.Path.{_≡_};
 ghost use lib.ListN.{length};
-ghost use Rattle.format.specs.Calls.{reading, fresh, tidying};
+ghost use Rattle.format.specs.Calls.{reading, fresh, tidying, counting, keying, sizing, rooting, leafing};
 ghost use Rattle.parser.specs.Answers.{answerOf, outputOf, checkedOf};
-ghost use Rattle.exports.specs.Words.{refusalWord, answerWord, checkedWord};
+ghost use Rattle.calls.specs.Answers.{countOf, keyOf, lengthOf, leavesOf, listOf};
+ghost use Rattle.exports.specs.Words.{refusalWord, answerWord, checkedWord, leavesWord, keyWord, lengthWord, lengthLeft};
 
 fn refusal_word(n: u8, line: LineNo) -> u64
     ensures { λ r. ⌜ r ≡ refusalWord n (line .0) ⌝ }
@@ -32,6 +36,15 @@ fn checked_word(checked: Checked) -> u64
     }
 }
 
+fn key_word(answer: KeyAnswer) -> u64
+    ensures { λ r. ⌜ r ≡ keyWord answer ⌝ }
+{
+    match answer {
+        KeyAnswer::Refused(n, line) => refusal_word(n, line),
+        KeyAnswer::At(at, len) => (at as u64) * 4294967296 + (len as u64),
+    }
+}
+
 #[no_mangle]
 pub extern "C" fn sam_header_read(text: &[u8], catalogue: &mut [u8]) -> u64
     ensures answer { λ r. ⌜ r ≡ answerWord (answerOf (reading (now (text .entry)) (length (now (catalogue .entry))))) ⌝ }
@@ -53,4 +66,56 @@ pub extern "C" fn sam_header_tidy(text: &[u8], out: &mut [u8]) -> u64
     ensures wrote { λ _. ⌜ now (out .exit) ≡ outputOf (tidying (now (text .entry)) (length (now (out .entry)))) (now (out .entry)) ⌝ }
 {
     answer_word(tidy::tidy(text, out))
+}
+
+#[no_mangle]
+pub extern "C" fn sam_header_count(text: &[u8], catalogue: &[u8], kind: u8) -> u64
+    ensures { λ r. ⌜ r ≡ answerWord (countOf (counting (now (text .entry)) (now (catalogue .entry)) kind)) ⌝ }
+{
+    answer_word(calls::count(text, catalogue, kind))
+}
+
+#[no_mangle]
+pub extern "C" fn sam_header_roots(text: &[u8], catalogue: &[u8], out: &mut [u32]) -> u64
+    ensures answer { λ r. ⌜ r ≡ answerWord (answerOf (rooting (now (text .entry)) (now (catalogue .entry)) (length (now (out .entry))))) ⌝ }
+    ensures wrote { λ _. ⌜ now (out .exit) ≡ outputOf (rooting (now (text .entry)) (now (catalogue .entry)) (length (now (out .entry)))) (now (out .entry)) ⌝ }
+{
+    answer_word(calls::roots(text, catalogue, out))
+}
+
+#[no_mangle]
+pub extern "C" fn sam_header_leaves(text: &[u8], catalogue: &[u8], out: &mut [u32]) -> u64
+    ensures answer { λ r. ⌜ r ≡ leavesWord (leavesOf (leafing (now (text .entry)) (now (catalogue .entry)) (length (now (out .entry))))) ⌝ }
+    ensures wrote { λ _. ⌜ now (out .exit) ≡ outputOf (listOf (leafing (now (text .entry)) (now (catalogue .entry)) (length (now (out .entry))))) (now (out .entry)) ⌝ }
+{
+    match calls::leaves(text, catalogue, out) {
+        LeavesAnswer::Refused(n, line) => refusal_word(n, line),
+        LeavesAnswer::Counted(n, hops) => (hops as u64) * 4294967296 + (n as u64),
+    }
+}
+
+#[no_mangle]
+pub extern "C" fn sam_header_key(text: &[u8], catalogue: &[u8], kind: u8, ordinal: u32) -> u64
+    ensures { λ r. ⌜ r ≡ keyWord (keyOf (keying (now (text .entry)) (now (catalogue .entry)) kind ordinal)) ⌝ }
+{
+    key_word(calls::key(text, catalogue, kind, ordinal))
+}
+
+#[no_mangle]
+pub extern "C" fn sam_header_length(
+    text: &[u8],
+    catalogue: &[u8],
+    ordinal: u32,
+    length: &mut u64,
+) -> u64
+    ensures answer { λ r. ⌜ r ≡ lengthWord (lengthOf (sizing (now (text .entry)) (now (catalogue .entry)) ordinal)) ⌝ }
+    ensures wrote { λ _. ⌜ now (length .exit) ≡ lengthLeft (lengthOf (sizing (now (text .entry)) (now (catalogue .entry)) ordinal)) (now (length .entry)) ⌝ }
+{
+    match calls::length(text, catalogue, ordinal) {
+        LengthAnswer::Refused(n, line) => refusal_word(n, line),
+        LengthAnswer::Is(n) => {
+            *length = n;
+            0
+        }
+    }
 }
