@@ -21,4 +21,26 @@ uint64_t sam_header_check(const uint8_t *text, size_t text_len, const uint8_t *c
 /* Writes the tidy text of a header. */
 uint64_t sam_header_tidy(const uint8_t *text, size_t text_len, uint8_t *out, size_t out_len);
 
+/* ---- over a text and its catalogue: reading's own refusal comes first, then 21.
+ * Kinds are HD 1, SQ 2, RG 3, PG 4, CO 5; ordinals count from 0 within a kind. */
+
+/* How many records of a kind; 25 for another kind. */
+uint64_t sam_header_count(const uint8_t *text, size_t text_len, const uint8_t *catalogue, size_t catalogue_len, uint8_t kind);
+
+/* Where a record's key stands: its offset shifted left by 32, and its length. */
+uint64_t sam_header_key(const uint8_t *text, size_t text_len, const uint8_t *catalogue, size_t catalogue_len, uint8_t kind,
+                        uint32_t ordinal);
+
+/* The LN of an SQ in `*length`, and 0. */
+uint64_t sam_header_length(const uint8_t *text, size_t text_len, const uint8_t *catalogue, size_t catalogue_len, uint32_t ordinal,
+                           uint64_t *length);
+
+/* The ordinals of the programs without PP in `out`. */
+uint64_t sam_header_roots(const uint8_t *text, size_t text_len, const uint8_t *catalogue, size_t catalogue_len, uint32_t *out,
+                          size_t out_len);
+
+/* The ordinals of the programs that no PP names in `out`: the hops shifted left by 32, and how many; 22 for a PP that names no program, 23 for a cycle. */
+uint64_t sam_header_leaves(const uint8_t *text, size_t text_len, const uint8_t *catalogue, size_t catalogue_len, uint32_t *out,
+                           size_t out_len);
+
 #endif
