@@ -159,7 +159,7 @@ impl Keys {
             }
             Kind::ReferenceSequence => {
                 let KeyPlace::At(p) = key else {
-                    return Head::Refused(15);
+                    return Head::Refused(15); // also where LN is missing too
                 };
                 let KeyLength::Is(n) = length else {
                     return Head::Refused(16);
