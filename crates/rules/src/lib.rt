@@ -15,21 +15,25 @@ fn is_version(piece: &[u8]) -> bool
     text::starts(b"VN:", piece)
 }
 
-// The version of the first tab-parted piece of `src` that starts `VN:`: the search stops there, also where it can't be read.
+// The version of the first tab-parted piece of `src` that starts `VN:`, also where it can't be read: the search ends with that piece.
 fn first_version(src: &[u8]) -> Spelled
     ensures { λ r. ⌜ r ≡ spelledOf (firstVersion (cut 9 (now (src .entry)))) ⌝ }
 {
     let mut at: usize = 0;
+    let mut from = src.len();
+    let mut stop = src.len();
     loop {
         let end = at + text::upto(&src[at..], b'\t');
         if is_version(&src[at..end]) {
-            return field::parse_version(&src[at + 3..end]);
+            from = at + 3;
+            stop = end;
         }
-        if end == src.len() {
-            return Spelled::Invalid;
+        if end == stop {
+            break;
         }
         at = end + 1;
     }
+    field::parse_version(&src[from..stop])
 }
 
 // The version that line 0, without its ending, announces.

@@ -2,6 +2,7 @@
 use Prim.Native.Nat.{ℕ, zero, suc, _+_, _-_, _≤_, _<_}
 use mathlib.Core.Path.{_≡_, refl, sym, ap, _∙_}
 use mathlib.Core.Bool.{Bool, true, false}
+use mathlib.Core.Logic.{_⊎_, inl, inr, ⊎-elim}
 use mathlib.Core.List.{List, [], _∷_}
 use mathlib.Core.Option.{none}
 use native.Mathlib.Omega.{arith}
@@ -22,10 +23,11 @@ use Rattle.rules.proofs.first_version.Statement.{statement}
 use Rattle.rules.proofs.first_version.Tie as tie
 
 abbrev Inv-loop : tie.InvT-loop
-Inv-loop src at₀ at = (at ≤ length src) × (firstVersion (cut 9 src) ≡ firstVersion (cut 9 (drop at src)))
+Inv-loop src at₀ from₀ stop₀ at from stop =
+    (at ≤ length src) × (from ≡ length src) × (stop ≡ length src) × (firstVersion (cut 9 src) ≡ firstVersion (cut 9 (drop at src)))
 
 abbrev μ-loop : tie.MeasureT-loop
-μ-loop src at₀ at = length src - at
+μ-loop src at₀ from₀ stop₀ at from stop = length src - at
 
 -- the end of a front
 drop-take : (k m n : ℕ) (l : List ℕ) → n ≡ k + m → drop k (take n l) ≡ take m (drop k l)
@@ -33,6 +35,11 @@ drop-take zero m n l e = ap (λ j. take j l) (let q : n ≡ m = omega arith in q
 drop-take (suc k) m zero l e = absurd (omega arith)
 drop-take (suc k) m (suc n) [] e = sym (take-nil m)
 drop-take (suc k) m (suc n) (b ∷ l) e = drop-take k m n l (omega arith)
+
+-- nothing spells no version
+unspelled : version [] ≡ none
+unfolding version
+unspelled = refl
 
 -- a turn at `at`, where the next tab is `n` bytes away
 module _ (s : List ℕ) (at n : ℕ) (h : at ≤ length s) (e : n ≡ upto 9 (take (length s - at) (drop at s))) where
@@ -66,8 +73,23 @@ module _ (s : List ℕ) (at n : ℕ) (h : at ≤ length s) (e : n ≡ upto 9 (ta
         first-next (drop at s) (judged ∙ k) (omega (arith, near, length-drop at s))
         ∙ ap (λ r. firstVersion (cut 9 r)) (drop-drop (suc (upto 9 (drop at s))) at s ∙ ap (λ j. drop j s) m)
 
-    spent : t ≡ false → at + n ≡ length s → firstVersion (cut 9 (drop at s)) ≡ none
-    spent k l = first-none (drop at s) (judged ∙ k) (omega (arith, near, length-drop at s))
+    -- the search ends here: at a piece that starts `VN:`, or at the last one, and then nothing is read
+    module _ (from stop : ℕ)
+        (came : ((t ≡ true) × (from ≡ at + 3) × (stop ≡ at + n)) ⊎ ((t ≡ false) × (from ≡ length s) × (stop ≡ length s))) where
+      bounds : (from ≤ stop) × (stop ≤ length s)
+      bounds = ⊎-elim (λ h. (omega (arith, long (h .0)), omega (arith, within))) (λ h. (omega arith, omega arith)) came
+
+      ended : at + n ≡ stop → version (take (stop - from) (drop from s)) ≡ firstVersion (cut 9 (drop at s))
+      ended k = ⊎-elim (λ h. rw (h .1, h .2) (here (h .0))) (λ h. nothing h) came
+        where
+          nothing : (t ≡ false) × (from ≡ length s) × (stop ≡ length s) → version (take (stop - from) (drop from s)) ≡ firstVersion (cut 9 (drop at s))
+          nothing h =
+              let z : stop - from ≡ 0 = omega (arith, h .1, h .2) in
+              ap (λ m. version (take m (drop from s))) z ∙ unspelled ∙ sym (first-none (drop at s) (judged ∙ h .0) (omega (arith, near, length-drop at s)))
+
+      -- it goes on behind a tab, and nothing has been found
+      onward : (at + n ≡ stop → ⊥) → (at + n + 1 ≤ length s) × (from ≡ length s) × (stop ≡ length s) × (firstVersion (cut 9 (drop at s)) ≡ firstVersion (cut 9 (drop (at + n + 1) s)))
+      onward k = ⊎-elim (λ h. absurd (k (sym (h .2)))) (λ h. let l : at + n < length s = omega (arith, k, h .2, within) in (omega (arith, l), h .1, h .2, next (h .0) l)) came
 
 in-reach : (c : tie.After-upto Inv-loop μ-loop)
     → c .before .before .loop .at + c .upto .result ≤ length (c .before .before .before .before .args .src .now)
@@ -79,13 +101,47 @@ three c =
     let l = u .before .before in
     long _ (l .loop .at) (u .upto .result) (l .loop .inv .0) (u .upto .ensures) _ (c .before .is-version .ensures) (c .if1 .taken)
 
-more : (c : tie.Else2 Inv-loop μ-loop)
-    → c .before .before .before .before .before .before .loop .at + c .before .before .before .before .upto .result + 1
-    ≤ length (c .before .before .before .before .before .before .before .before .args .src .now)
-more c = omega (arith, in-reach (c .before .before .before .before), c .if2 .left)
+-- what was found in this turn
+came : (c : tie.Joined1 Inv-loop μ-loop)
+    → let u = c .before .before .before in
+    let l = u .before .before in
+    let s = l .before .before .args .src .now in
+    ((c .before .is-version .result ≡ true) × (c .if1 .from ≡ l .loop .at + 3) × (c .if1 .stop ≡ l .loop .at + u .upto .result))
+    ⊎ ((c .before .is-version .result ≡ false) × (c .if1 .from ≡ length s) × (c .if1 .stop ≡ length s))
+came c =
+    let l = c .before .before .before .before .before in
+    ⊎-elim
+    (λ h. inl (h .0 .taken, h .1, h .2))
+    (λ h. inr (h .0 .left, h .1 ∙ l .loop .inv .1, h .2 ∙ l .loop .inv .2))
+    (c .if1 .came)
+
+further : (c : tie.Else2 Inv-loop μ-loop)
+    → let u = c .before .before .before .before in
+    let l = u .before .before in
+    let s = l .before .before .args .src .now in
+    let next = l .loop .at + u .upto .result + 1 in
+    (next ≤ length s) × (c .before .if1 .from ≡ length s) × (c .before .if1 .stop ≡ length s)
+    × (firstVersion (cut 9 (drop (l .loop .at) s)) ≡ firstVersion (cut 9 (drop next s)))
+further c =
+    let v = c .before .before in
+    let u = v .before .before in
+    let l = u .before .before in
+    onward _ (l .loop .at) (u .upto .result) (l .loop .inv .0) (u .upto .ensures) _ (v .is-version .ensures) _ _ (came (c .before)) (c .if2 .left)
+
+ends : (c : tie.Then2 Inv-loop μ-loop)
+    → let l = c .before .before .before .before .before .before in
+    let s = l .before .before .args .src .now in
+    (c .before .if1 .from ≤ c .before .if1 .stop) × (c .before .if1 .stop ≤ length s)
+    × (version (take (c .before .if1 .stop - c .before .if1 .from) (drop (c .before .if1 .from) s)) ≡ firstVersion (cut 9 s))
+ends c =
+    let v = c .before .before in
+    let u = v .before .before in
+    let l = u .before .before in
+    let b = bounds _ (l .loop .at) (u .upto .result) (l .loop .inv .0) (u .upto .ensures) _ (v .is-version .ensures) _ _ (came (c .before)) in
+    (b .0, b .1, ended _ (l .loop .at) (u .upto .result) (l .loop .inv .0) (u .upto .ensures) _ (v .is-version .ensures) _ _ (came (c .before)) (c .if2 .taken) ∙ sym (l .loop .inv .3))
 
 loop-holds : tie.Need-loop-holds Inv-loop μ-loop
-loop-holds c = (omega arith, refl)
+loop-holds c = (omega arith, refl, refl, refl)
 
 sub-upto : tie.Need-sub-upto Inv-loop μ-loop
 sub-upto c = omega arith
@@ -114,57 +170,32 @@ part-is-version-end c = omega (arith, in-reach c)
 is-version-requires : tie.Need-is-version-requires Inv-loop μ-loop
 is-version-requires c κs = search needs
 
-add-parse-version : tie.Need-add-parse-version Inv-loop μ-loop
-add-parse-version c = omega (arith, in-reach (c .before .before .before), three c)
+add-from : tie.Need-add-from Inv-loop μ-loop
+add-from c = omega (arith, in-reach (c .before .before .before), three c)
+
+add-at : tie.Need-add-at Inv-loop μ-loop
+add-at c = omega (arith, further c .0)
+
+loop-less : tie.Need-loop-less Inv-loop μ-loop
+loop-less c = omega (arith, further c .0)
+
+loop-again : tie.Need-loop-again Inv-loop μ-loop
+loop-again c = let l = c .before .before .before .before .before .before in let f = further c in (f .0, f .1, f .2, l .loop .inv .3 ∙ f .3)
 
 sub-parse-version : tie.Need-sub-parse-version Inv-loop μ-loop
-sub-parse-version c = omega (arith, three c)
+sub-parse-version c = ends (c .before .before) .0
 
 part-parse-version-start : tie.Need-part-parse-version-start Inv-loop μ-loop
-part-parse-version-start c = omega (arith, three c)
+part-parse-version-start c = omega (arith, ends (c .before .before))
 
 part-parse-version-end : tie.Need-part-parse-version-end Inv-loop μ-loop
-part-parse-version-end c = omega (arith, in-reach (c .before .before .before))
+part-parse-version-end c = omega (arith, ends (c .before .before))
 
 parse-version-requires : tie.Need-parse-version-requires Inv-loop μ-loop
 parse-version-requires c κs = search needs
 
 returns : tie.Need-returns Inv-loop μ-loop
-returns c =
-    let v = c .before .before .before in
-    let u = v .before .before in
-    let l = u .before .before in
-    c .parse-version .ensures
-    ∙ ap spelledOf
-    (here _ (l .loop .at) (u .upto .result) (l .loop .inv .0) (u .upto .ensures) _ (v .is-version .ensures) (c .before .before .if1 .taken)
-    ∙ sym (l .loop .inv .1))
-
-returns-2 : tie.Need-returns-2 Inv-loop μ-loop
-unfolding spelledOf
-returns-2 c =
-    let v = c .before .before in
-    let u = v .before .before in
-    let l = u .before .before in
-    sym
-    (ap spelledOf
-    (l .loop .inv .1
-    ∙ spent _ (l .loop .at) (u .upto .result) (l .loop .inv .0) (u .upto .ensures) _ (v .is-version .ensures) (c .before .if1 .left) (c .if2 .taken)))
-
-add-at : tie.Need-add-at Inv-loop μ-loop
-add-at c = omega (arith, more c)
-
-loop-less : tie.Need-loop-less Inv-loop μ-loop
-loop-less c = omega (arith, more c)
-
-loop-again : tie.Need-loop-again Inv-loop μ-loop
-loop-again c =
-    let v = c .before .before in
-    let u = v .before .before in
-    let l = u .before .before in (
-      more c,
-      l .loop .inv .1
-          ∙ next _ (l .loop .at) (u .upto .result) (l .loop .inv .0) (u .upto .ensures) _ (v .is-version .ensures) (c .before .if1 .left) (omega (arith, more c)),
-    )
+returns c = c .parse-version .ensures ∙ ap spelledOf (ends (c .before .before .before .before) .2)
 
 pub first-version-spec : {M : Type 1} → statement M
 first-version-spec =
@@ -182,13 +213,12 @@ first-version-spec =
     part-is-version-start
     part-is-version-end
     is-version-requires
-    add-parse-version
+    add-from
+    add-at
+    loop-less
+    loop-again
     sub-parse-version
     part-parse-version-start
     part-parse-version-end
     parse-version-requires
-    returns
-    returns-2
-    add-at
-    loop-less
-    loop-again)
+    returns)
