@@ -58,8 +58,12 @@ fn judge_marked(text: &[u8], strict: bool, seen: &mut [bool]) -> Judged
     let mut line: usize = 0;
     let mut programs: usize = 0;
     let mut size: usize = 0;
-    while at < text.len() {
+    loop {
         let cut = text::first_line(&text[at..]);
+        let next = at + cut.next;
+        if at == text.len() {
+            return Judged::Accepted(size);
+        }
         let end = at + cut.len;
         let head = record::parse_record(&text[at..end], at, strict);
         let slot = marks::slot_of(text, head);
@@ -70,10 +74,9 @@ fn judge_marked(text: &[u8], strict: bool, seen: &mut [bool]) -> Judged
         seen[slot] = true;
         programs += programs_of(head);
         size += catalogue::record_size(head);
-        at += cut.next;
+        at = next;
         line += 1;
     }
-    Judged::Accepted(size)
 }
 
 // What `text` is: the first refusal, or the size of its catalogue.

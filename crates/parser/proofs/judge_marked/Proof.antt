@@ -13,7 +13,7 @@ use Rattle.format.specs.Reading.{admitted, ofKind}
 use Rattle.format.specs.Catalogue.{catalogue}
 use Rattle.text.specs.First.{firstLine}
 use Rattle.text.specs.Stands.{Stands}
-use Rattle.text.proofs.First.{first-le}
+use Rattle.text.proofs.First.{first-le, first-within}
 use Rattle.field.proofs.Before.{rest}
 use Rattle.record.specs.declared.Head.{Head}
 use Rattle.record.specs.declared.Head.the-variants as head
@@ -50,70 +50,77 @@ abbrev μ-loop : tie.MeasureT-loop
 -- ---- in a turn
 
 -- the first of the lines ahead
-cut : (c : tie.After-first-line Inv-loop μ-loop) → c .first-line .result ≡ firstLine (drop (c .before .before .before .loop .at) (c .before .before .before .before .before .before .args .text .now))
-cut c = c .first-line .ensures ∙ ap firstLine (rest (c .before .before .before .loop .at) (c .before .before .before .before .before .before .args .text .now))
+cut-at : (c : tie.After-first-line Inv-loop μ-loop) → c .first-line .result ≡ firstLine (drop (c .before .before .loop .at) (c .before .before .before .before .before .args .text .now))
+cut-at c = c .first-line .ensures ∙ ap firstLine (rest (c .before .before .loop .at) (c .before .before .before .before .before .args .text .now))
 
-inside : (c : tie.After-first-line Inv-loop μ-loop)
-    → let l = c .before .before .before in
+-- there is a line ahead
+below : (c : tie.Else1 Inv-loop μ-loop) → c .before .before .before .before .loop .at < length (c .before .before .before .before .before .before .before .args .text .now)
+below c = omega (arith, c .before .before .before .before .loop .inv .inside, c .if1 .left)
+
+cut : (c : tie.Else1 Inv-loop μ-loop) → c .before .before .first-line .result ≡ firstLine (drop (c .before .before .before .before .loop .at) (c .before .before .before .before .before .before .before .args .text .now))
+cut c = cut-at (c .before .before)
+
+inside : (c : tie.Else1 Inv-loop μ-loop)
+    → let l = c .before .before .before .before in
     let t = l .before .before .before .args .text .now in
-    (l .loop .at + c .first-line .result .len ≤ length t) × (l .loop .at + c .first-line .result .next ≤ length t) × (0 < c .first-line .result .next)
+    (l .loop .at + c .before .before .first-line .result .len ≤ length t) × (l .loop .at + c .before .before .first-line .result .next ≤ length t) × (0 < c .before .before .first-line .result .next)
 inside c =
-    let l = c .before .before .before in
+    let l = c .before .before .before .before in
     let a = l .before .before .before .args in
-    let h = c .before .before .loop-test .taken in
+    let h = below c in
     let e = cut c in (
       rw e (len-within (a .strict) (a .text .now) (l .loop .seen) (l .loop .at) (l .loop .line) (l .loop .programs) (l .loop .size) (l .loop .inv) h),
       rw e (next-within (a .strict) (a .text .now) (l .loop .seen) (l .loop .at) (l .loop .line) (l .loop .programs) (l .loop .size) (l .loop .inv) h),
       rw e (next-some (a .strict) (a .text .now) (l .loop .seen) (l .loop .at) (l .loop .line) (l .loop .programs) (l .loop .size) (l .loop .inv) h),
     )
 
-piece : tie.After-first-line Inv-loop μ-loop → Piece
+piece : tie.Else1 Inv-loop μ-loop → Piece
 piece c =
-    let l = c .before .before .before in
+    let l = c .before .before .before .before in
     let t = l .before .before .before .args .text .now in
     record { at = l .loop .at; bytes = take (firstLine (drop (l .loop .at) t) .len) (drop (l .loop .at) t) }
 
-stands : (c : tie.After-first-line Inv-loop μ-loop) → Stands (c .before .before .before .before .before .before .args .text .now) 0 (piece c)
+stands : (c : tie.Else1 Inv-loop μ-loop) → Stands (c .before .before .before .before .before .before .before .args .text .now) 0 (piece c)
 unfolding piece
 stands c =
-    let l = c .before .before .before in
+    let l = c .before .before .before .before in
     let a = l .before .before .before .args in
-    line-stands (a .strict) (a .text .now) (l .loop .seen) (l .loop .at) (l .loop .line) (l .loop .programs) (l .loop .size) (l .loop .inv) (c .before .before .loop-test .taken)
+    line-stands (a .strict) (a .text .now) (l .loop .seen) (l .loop .at) (l .loop .line) (l .loop .programs) (l .loop .size) (l .loop .inv) (below c)
 
 -- its head
 head-is : (c : tie.After-parse-record Inv-loop μ-loop)
     → let q = c .before .before .before in
-    c .parse-record .result ≡ headOf (line (q .before .before .before .before .before .before .args .strict) (piece q))
+    c .parse-record .result ≡ headOf (line (q .before .before .before .before .before .before .before .args .strict) (piece q))
 unfolding piece
 head-is c =
     let q = c .before .before .before in
-    let l = q .before .before .before in
+    let l = q .before .before .before .before in
     let a = l .before .before .before .args in
-    let n : l .loop .at + q .first-line .result .len - l .loop .at ≡ q .first-line .result .len = omega arith in
+    let n : l .loop .at + q .before .before .first-line .result .len - l .loop .at ≡ q .before .before .first-line .result .len = omega arith in
     c .parse-record .ensures ∙ ap (λ b. headOf (line (a .strict) (record { at = l .loop .at; bytes = take b (drop (l .loop .at) (a .text .now)) }))) (n ∙ ap (λ x. x .len) (cut q))
 
 within : (c : tie.After-parse-record Inv-loop μ-loop)
     → let q = c .before .before .before in
-    Within (length (q .before .before .before .before .before .before .args .text .now)) (c .parse-record .result)
+    Within (length (q .before .before .before .before .before .before .before .args .text .now)) (c .parse-record .result)
 within c =
     let q = c .before .before .before in
-    let a = q .before .before .before .before .before .before .args in
+    let a = q .before .before .before .before .before .before .before .args in
     subst (Within (length (a .text .now))) (sym (head-is c)) (head-within (a .strict) (a .text .now) (piece q) (stands q))
 
 -- its mark is one of those
-marked-place : (c : tie.After-slot-of Inv-loop μ-loop) → c .slot-of .result < length (c .before .before .before .before .before .before .before .loop .seen)
+marked-place : (c : tie.After-slot-of Inv-loop μ-loop) → c .slot-of .result < length (c .before .before .before .before .before .before .before .before .loop .seen)
 marked-place c =
-    let l = c .before .before .before .before .before .before .before in
+    let l = c .before .before .before .before .before .before .before .before in
     omega (arith, c .slot-of .ensures, slot-below (l .before .before .before .args .text .now) (c .before .parse-record .result), l .loop .inv .full)
 
 -- whether it may follow the lines before
 number : (c : tie.After-barred Inv-loop μ-loop)
     → let q = c .before .before .before .before .before .before in
-    let l = q .before .before .before in
+    let l = q .before .before .before .before in
     c .barred .result ≡ refusalOf (admitted (l .before .before .before .args .strict) (l .loop .inv .before) (piece q))
 number c =
     let q = c .before .before .before .before .before .before in
-    let l = q .before .before .before in
+    let l = q .before .before .before .before in
     let a = l .before .before .before .args in
     let j = l .loop .inv in
     c .barred .ensures
@@ -123,43 +130,43 @@ number c =
     ∙ barring-is (a .strict) (a .text .now) (j .passed) (j .before) (j .pairs) (passed-are (a .strict) (a .text .now) (l .loop .seen) (l .loop .at) (l .loop .line) (l .loop .programs) (l .loop .size) j) (piece q) (stands q)
 
 -- it is a record more
-accepted : (c : tie.Else1 Inv-loop μ-loop)
+accepted : (c : tie.Else2 Inv-loop μ-loop)
     → let q = c .before .before .before .before .before .before .before in
-    let l = q .before .before .before in
+    let l = q .before .before .before .before in
     let a = l .before .before .before .args in
     (r : Record) × (line (a .strict) (piece q) ≡ read r) × (admitted (a .strict) (l .loop .inv .before) (piece q) ≡ read r)
 accepted c =
     let q = c .before .before .before .before .before .before .before in
-    let l = q .before .before .before in
-    refusal-none (l .before .before .before .args .strict) (l .loop .inv .before) (piece q) (sym (number (c .before)) ∙ c .if1 .left)
+    let l = q .before .before .before .before in
+    refusal-none (l .before .before .before .args .strict) (l .loop .inv .before) (piece q) (sym (number (c .before)) ∙ c .if2 .left)
 
-record-is : (c : tie.Else1 Inv-loop μ-loop) → c .before .before .before .before .parse-record .result ≡ recordHead (accepted c .0)
+record-is : (c : tie.Else2 Inv-loop μ-loop) → c .before .before .before .before .parse-record .result ≡ recordHead (accepted c .0)
 unfolding headOf
 record-is c = head-is (c .before .before .before .before) ∙ ap headOf (accepted c .1)
 
 -- it has no more other fields than bytes, and its entries are within bounds
-few : (c : tie.Else1 Inv-loop μ-loop)
+few : (c : tie.Else2 Inv-loop μ-loop)
     → let q = c .before .before .before .before .before .before .before in
-    let l = q .before .before .before in
+    let l = q .before .before .before .before in
     othersOf (c .before .before .before .before .parse-record .result) ≤ firstLine (drop (l .loop .at) (l .before .before .before .args .text .now)) .len
 unfolding piece
 few c =
     let q = c .before .before .before .before .before .before .before in
-    let l = q .before .before .before in
+    let l = q .before .before .before .before in
     let a = l .before .before .before .args in
-    let n = len-is (a .strict) (a .text .now) (l .loop .seen) (l .loop .at) (l .loop .line) (l .loop .programs) (l .loop .size) (l .loop .inv) (q .before .before .loop-test .taken) in
+    let n = len-is (a .strict) (a .text .now) (l .loop .seen) (l .loop .at) (l .loop .line) (l .loop .programs) (l .loop .size) (l .loop .inv) (below q) in
     omega (arith, ap othersOf (record-is c), own-others (accepted c .0), others-few (a .strict) (piece q) (accepted c .0) (accepted c .1), n)
 
 head-most : (h : Head) → sizeOfHead h ≤ 17 + 11 * othersOf h
 unfolding sizeOfHead
 head-most h = omega (arith, size-most (ownEntry h))
 
-entry-most : (c : tie.Else1 Inv-loop μ-loop)
+entry-most : (c : tie.Else2 Inv-loop μ-loop)
     → let q = c .before .before .before .before .before .before .before in
-    sizeOfHead (c .before .before .before .before .parse-record .result) ≤ 28 * q .first-line .result .next
+    sizeOfHead (c .before .before .before .before .parse-record .result) ≤ 28 * q .before .before .first-line .result .next
 entry-most c =
     let q = c .before .before .before .before .before .before .before in
-    let l = q .before .before .before in
+    let l = q .before .before .before .before in
     let t = l .before .before .before .args .text .now in
     omega (arith, head-most (c .before .before .before .before .parse-record .result), few c, first-le (drop (l .loop .at) t), ap (λ x. x .next) (cut q), inside q .2)
 
@@ -196,6 +203,23 @@ part-first-line-end c = omega arith
 first-line-requires : tie.Need-first-line-requires Inv-loop μ-loop
 first-line-requires c κs = search needs
 
+add-next : tie.Need-add-next Inv-loop μ-loop
+add-next c =
+    let l = c .before .before .before in
+    let t = l .before .before .before .args .text .now in
+    omega (arith, ap (λ x. x .next) (cut-at (c .before)), first-within (drop (l .loop .at) t), length-drop (l .loop .at) t, l .loop .inv .inside)
+
+same-length : tie.Need-same-length Inv-loop μ-loop
+same-length c =
+    let l = c .before .before .before .before in
+    l .loop .inv .full ∙ sym (l .before .before .before .pre .1)
+
+returns : tie.Need-returns Inv-loop μ-loop
+returns c =
+    let l = c .before .before .before .before in
+    let a = l .before .before .before .args in
+    judging-end (a .strict) (a .text .now) (l .loop .seen) (l .loop .at) (l .loop .line) (l .loop .programs) (l .loop .size) (l .loop .inv) (omega (arith, c .if1 .taken))
+
 add-end : tie.Need-add-end Inv-loop μ-loop
 add-end c = omega (arith, inside (c .before))
 
@@ -211,9 +235,9 @@ part-parse-record-end c = omega (arith, inside (c .before))
 parse-record-requires : tie.Need-parse-record-requires Inv-loop μ-loop
 parse-record-requires c κs =
     let q = c .before .before in
-    let l = q .before .before .before in
+    let l = q .before .before .before .before in
     let t = l .before .before .before .args .text .now in
-    omega (arith, inside q, length-take (l .loop .at + q .first-line .result .len - l .loop .at) (drop (l .loop .at) t), l .before .before .before .pre .0)
+    omega (arith, inside q, length-take (l .loop .at + q .before .before .first-line .result .len - l .loop .at) (drop (l .loop .at) t), l .before .before .before .pre .0)
 
 slot-of-requires : tie.Need-slot-of-requires Inv-loop μ-loop
 slot-of-requires c κs = within c
@@ -224,7 +248,7 @@ slice-read-barred c = marked-place (c .before)
 barred-requires : tie.Need-barred-requires Inv-loop μ-loop
 barred-requires c κs =
     let q = c .before .before .before .before .before in
-    let l = q .before .before .before in
+    let l = q .before .before .before .before in
     let a = l .before .before .before .args in
     let j = l .loop .inv in (
       l .before .before .before .pre .0,
@@ -240,25 +264,25 @@ barred-requires c κs =
       ),
     )
 
-cast-t22 : tie.Need-cast-t22 Inv-loop μ-loop
-cast-t22 c =
+cast-t23 : tie.Need-cast-t23 Inv-loop μ-loop
+cast-t23 c =
     let q = c .before .before .before .before .before .before .before in
-    let l = q .before .before .before in
+    let l = q .before .before .before .before in
     omega (arith, l .loop .inv .slow, inside q, l .before .before .before .pre .0)
 
-same-length : tie.Need-same-length Inv-loop μ-loop
-same-length c =
-    let l = c .before .before .before .before .before .before .before .before .before .before in
+same-length-2 : tie.Need-same-length-2 Inv-loop μ-loop
+same-length-2 c =
+    let l = c .before .before .before .before .before .before .before .before .before .before .before in
     l .loop .inv .full ∙ sym (l .before .before .before .pre .1)
 
-returns : tie.Need-returns Inv-loop μ-loop
+returns-2 : tie.Need-returns-2 Inv-loop μ-loop
 unfolding piece
-returns c =
+returns-2 c =
     let q = c .before .before .before .before .before .before .before in
-    let l = q .before .before .before in
+    let l = q .before .before .before .before in
     let a = l .before .before .before .args in
-    judging-refused (a .strict) (a .text .now) (l .loop .seen) (l .loop .at) (l .loop .line) (l .loop .programs) (l .loop .size) (l .loop .inv) (q .before .before .loop-test .taken) (c .before .barred .result)
-    (refusal-some (a .strict) (l .loop .inv .before) (piece q) (c .before .barred .result) (sym (number (c .before))) (c .if1 .taken))
+    judging-refused (a .strict) (a .text .now) (l .loop .seen) (l .loop .at) (l .loop .line) (l .loop .programs) (l .loop .size) (l .loop .inv) (below q) (c .before .barred .result)
+    (refusal-some (a .strict) (l .loop .inv .before) (piece q) (c .before .barred .result) (sym (number (c .before))) (c .if2 .taken))
 
 slice-write-seen : tie.Need-slice-write-seen Inv-loop μ-loop
 slice-write-seen c = marked-place (c .before .before .before)
@@ -269,62 +293,50 @@ programs-of-requires c κs = search needs
 add-programs : tie.Need-add-programs Inv-loop μ-loop
 add-programs c =
     let q = c .before .before .before .before .before .before .before .before in
-    let l = q .before .before .before in
+    let l = q .before .before .before .before in
     let j = l .loop .inv in
     omega (arith, c .programs-of .ensures, programs-most (c .before .before .before .before .before .parse-record .result), j .told, kind-few 4 (j .before), j .counted, j .slow, inside q)
 
 record-size-requires : tie.Need-record-size-requires Inv-loop μ-loop
 record-size-requires c κs =
     let q = c .before .before .before .before .before .before .before .before in
-    let l = q .before .before .before in
+    let l = q .before .before .before .before in
     omega (arith, few (c .before), ap (λ x. x .len) (cut q), inside q .0, l .before .before .before .pre .0)
 
 add-size : tie.Need-add-size Inv-loop μ-loop
 add-size c =
     let e = c .before .before in
     let q = e .before .before .before .before .before .before .before in
-    let l = q .before .before .before in
+    let l = q .before .before .before .before in
     omega (arith, c .record-size .ensures, entry-most e, l .loop .inv .small, inside q .1, l .before .before .before .pre .0)
-
-add-at : tie.Need-add-at Inv-loop μ-loop
-add-at c = omega (arith, inside (c .before .before .before .before .before .before .before .before .before .before))
 
 add-line : tie.Need-add-line Inv-loop μ-loop
 add-line c =
-    let q = c .before .before .before .before .before .before .before .before .before .before in
-    let l = q .before .before .before in
+    let q = c .before .before .before .before .before .before .before .before .before in
+    let l = q .before .before .before .before in
     omega (arith, l .loop .inv .slow, inside q .1)
 
 loop-less : tie.Need-loop-less Inv-loop μ-loop
-loop-less c = omega (arith, inside (c .before .before .before .before .before .before .before .before .before .before))
+loop-less c = omega (arith, inside (c .before .before .before .before .before .before .before .before .before))
 
 loop-again : tie.Need-loop-again Inv-loop μ-loop
 unfolding piece
 loop-again c =
-    let e = c .before .before .before in
+    let e = c .before .before in
     let q = e .before .before .before .before .before .before .before in
-    let l = q .before .before .before in
+    let l = q .before .before .before .before in
     let a = l .before .before .before .args in
     let j = l .loop .inv in
     let r = accepted e .0 in
-    let size : c .before .record-size .result ≡ length (recordBytes (read r)) =
-    c .before .record-size .ensures ∙ ap sizeOfHead (head-is (e .before .before .before .before)) ∙ size-length (line (a .strict) (piece q)) ∙ ap (λ x. length (recordBytes x)) (accepted e .1) in
-    let bound : c .before .record-size .result ≤ 28 * firstLine (drop (l .loop .at) (a .text .now)) .next = omega (arith, c .before .record-size .ensures, entry-most e, ap (λ x. x .next) (cut q)) in
-    rw (cut q, c .before .before .programs-of .ensures, e .before .before .before .slot-of .ensures, record-is e)
-    (judging-on (a .strict) (a .text .now) (l .loop .seen) (l .loop .at) (l .loop .line) (l .loop .programs) (l .loop .size) j (q .before .before .loop-test .taken) r (accepted e .1) (accepted e .2)
+    let size : c .record-size .result ≡ length (recordBytes (read r)) =
+    c .record-size .ensures ∙ ap sizeOfHead (head-is (e .before .before .before .before)) ∙ size-length (line (a .strict) (piece q)) ∙ ap (λ x. length (recordBytes x)) (accepted e .1) in
+    let bound : c .record-size .result ≤ 28 * firstLine (drop (l .loop .at) (a .text .now)) .next = omega (arith, c .record-size .ensures, entry-most e, ap (λ x. x .next) (cut q)) in
+    rw (cut q, c .before .programs-of .ensures, e .before .before .before .slot-of .ensures, record-is e)
+    (judging-on (a .strict) (a .text .now) (l .loop .seen) (l .loop .at) (l .loop .line) (l .loop .programs) (l .loop .size) j (below q) r (accepted e .1) (accepted e .2)
     (set (l .loop .seen) (headSlot (a .text .now) (recordHead r)) true)
     (marked-more (l .loop .seen) (j .full) (j .before) (j .marks) (a .text .now) r (stood (a .strict) (a .text .now) (piece q) (stands q) r (accepted e .1)))
     (length-set (l .loop .seen) (headSlot (a .text .now) (recordHead r)) true ∙ j .full)
-    (c .before .record-size .result) (catalogue-length (j .before) r ∙ ap (λ n. length (catalogue (j .before)) + n) (sym size)) bound)
-
-same-length-2 : tie.Need-same-length-2 Inv-loop μ-loop
-same-length-2 c = c .before .loop .inv .full ∙ sym (c .before .before .before .before .pre .1)
-
-returns-2 : tie.Need-returns-2 Inv-loop μ-loop
-returns-2 c =
-    let l = c .before in
-    let a = l .before .before .before .args in
-    judging-end (a .strict) (a .text .now) (l .loop .seen) (l .loop .at) (l .loop .line) (l .loop .programs) (l .loop .size) (l .loop .inv) (c .loop-test .left)
+    (c .record-size .result) (catalogue-length (j .before) r ∙ ap (λ n. length (catalogue (j .before)) + n) (sym size)) bound)
 
 pub judge-marked-spec : {M : Type 1} → statement M
 judge-marked-spec =
@@ -337,6 +349,9 @@ judge-marked-spec =
     part-first-line-start
     part-first-line-end
     first-line-requires
+    add-next
+    same-length
+    returns
     add-end
     sub-parse-record
     part-parse-record-start
@@ -345,17 +360,14 @@ judge-marked-spec =
     slot-of-requires
     slice-read-barred
     barred-requires
-    cast-t22
-    same-length
-    returns
+    cast-t23
+    same-length-2
+    returns-2
     slice-write-seen
     programs-of-requires
     add-programs
     record-size-requires
     add-size
-    add-at
     add-line
     loop-less
-    loop-again
-    same-length-2
-    returns-2)
+    loop-again)
