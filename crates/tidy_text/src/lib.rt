@@ -71,7 +71,7 @@ pub fn measure(text: &[u8], strict: bool) -> Measured
 }
 
 // Writes the records of one kind, in text order.
-fn put_kind(text: &[u8], strict: bool, kind: Kind, out: &mut [u8], o: usize) -> usize
+pub fn put_kind(text: &[u8], strict: bool, kind: Kind, out: &mut [u8], o: usize) -> usize
     requires { ⌜ isAccepted (readText (now text)) ≡ true ⌝ }
     requires { ⌜ strict ≡ isStrict (announced (lines (now text))) ⌝ }
     requires { ⌜ o + length (textOfKind kind (recordsOf (readText (now text)))) ≤ length (now out) ⌝ }

@@ -52,7 +52,7 @@ pub fn kind_second(kind: Kind) -> u8
 }
 
 // Writes the `@` and the two bytes of a kind.
-fn put_prefix(out: &mut [u8], o: usize, kind: Kind) -> usize
+pub fn put_prefix(out: &mut [u8], o: usize, kind: Kind) -> usize
     requires { ⌜ o + 3 ≤ length (now out) ⌝ }
     ensures next { λ r. ⌜ r ≡ o + 3 ⌝ }
     ensures wrote { λ _. ⌜ now (out .exit) ≡ over (now (out .entry)) o (prefixText kind) ⌝ }
@@ -64,7 +64,7 @@ fn put_prefix(out: &mut [u8], o: usize, kind: Kind) -> usize
 }
 
 // Writes what stands before a value: a tab, a tag, a colon.
-fn put_tag(out: &mut [u8], o: usize, a: u8, b: u8) -> usize
+pub fn put_tag(out: &mut [u8], o: usize, a: u8, b: u8) -> usize
     requires { ⌜ o + 4 ≤ length (now out) ⌝ }
     ensures next { λ r. ⌜ r ≡ o + 4 ⌝ }
     ensures wrote { λ _. ⌜ now (out .exit) ≡ over (now (out .entry)) o (9 ∷ a ∷ b ∷ 58 ∷ []) ⌝ }
@@ -77,7 +77,7 @@ fn put_tag(out: &mut [u8], o: usize, a: u8, b: u8) -> usize
 }
 
 // Writes a field whose value is the `len` bytes of the line from `from` on.
-fn put_field(out: &mut [u8], o: usize, a: u8, b: u8, line: &[u8], from: usize, len: usize) -> usize
+pub fn put_field(out: &mut [u8], o: usize, a: u8, b: u8, line: &[u8], from: usize, len: usize) -> usize
     requires { ⌜ from + len ≤ length (now line) ⌝ }
     requires { ⌜ o + 4 + len ≤ length (now out) ⌝ }
     ensures next { λ r. ⌜ r ≡ o + length (fieldText a b (take len (drop from (now (line .entry))))) ⌝ }

@@ -1,0 +1,61 @@
+-- The parts of a new program's line: what they are, and how long.
+use Prim.Native.Nat.{ℕ, _+_, _≤_}
+use mathlib.Core.Path.{_≡_, refl, sym, ap, _∙_}
+use mathlib.Core.Bool.{Bool, true, false}
+use mathlib.Core.List.{List, [], _∷_, _++_}
+use native.Mathlib.Omega.{arith}
+use lib.ListN.{length, length-append}
+use Rattle.format.specs.Tidy.{fieldText}
+use Rattle.format.specs.declared.Kind.the-variants.{Program}
+use Rattle.text.proofs.Over.{over-none}
+use Rattle.writer.specs.Parts.{prefixText}
+use Rattle.writer.proofs.Wrote.{Wrote}
+use Rattle.added.specs.Line.{joining, linking, ending, newLine}
+
+pub joining-none : (alone : Bool) (id : List ℕ) → alone ≡ true → joining alone id ≡ []
+unfolding joining
+joining-none alone id e = rw e refl
+
+pub joining-some : (alone : Bool) (id : List ℕ) → alone ≡ false → joining alone id ≡ 45 ∷ id
+unfolding joining
+joining-some alone id e = rw e refl
+
+pub linking-some : (linked : Bool) (id : List ℕ) → linked ≡ true → linking linked id ≡ fieldText 80 80 id
+unfolding linking
+linking-some linked id e = rw e refl
+
+pub linking-none : (linked : Bool) (id : List ℕ) → linked ≡ false → linking linked id ≡ []
+unfolding linking
+linking-none linked id e = rw e refl
+
+pub joining-most : (alone : Bool) (id : List ℕ) → length (joining alone id) ≤ 1 + length id
+unfolding joining
+joining-most true id = omega arith
+joining-most false id = omega arith
+
+pub linking-most : (linked : Bool) (id : List ℕ) → length (linking linked id) ≤ 4 + length id
+unfolding linking fieldText
+linking-most true id = omega arith
+linking-most false id = omega arith
+
+-- nothing is written
+pub wrote-none : (out : List ℕ) (o : ℕ) (xs : List ℕ) → xs ≡ [] → Wrote out o out o xs
+wrote-none out o xs e = rw e (omega arith, sym (over-none out o))
+
+pub ending-size : (linked : Bool) (fields id : List ℕ) → length (ending linked fields id) ≡ length fields + length (linking linked id) + 1
+unfolding ending
+ending-size linked fields id = length-append (fields ++ linking linked id) (10 ∷ []) ∙ ap (λ n. n + 1) (length-append fields (linking linked id))
+
+-- the line up to its end
+front-size : (alone : Bool) (prefix id : List ℕ)
+    → length (prefixText Program ++ (9 ∷ 73 ∷ 68 ∷ 58 ∷ []) ++ prefix ++ joining alone id) ≡ 7 + length prefix + length (joining alone id)
+unfolding prefixText
+front-size alone prefix id =
+    omega (arith, length-append (prefixText Program ++ (9 ∷ 73 ∷ 68 ∷ 58 ∷ []) ++ prefix) (joining alone id), length-append (prefixText Program ++ (9 ∷ 73 ∷ 68 ∷ 58 ∷ [])) prefix)
+
+pub line-size : (alone linked : Bool) (prefix fields id : List ℕ)
+    → length (newLine alone linked prefix fields id) ≡ 8 + length prefix + length fields + length (joining alone id) + length (linking linked id)
+unfolding newLine
+line-size alone linked prefix fields id =
+    length-append (prefixText Program ++ (9 ∷ 73 ∷ 68 ∷ 58 ∷ []) ++ prefix ++ joining alone id) (ending linked fields id)
+    ∙ omega (arith, front-size alone prefix id, ending-size linked fields id)

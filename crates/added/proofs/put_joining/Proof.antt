@@ -1,0 +1,47 @@
+-- `added::put_joining` meets its contract: nothing, or `-` and the ID behind it.
+use Prim.Native.Nat.{ℕ, _+_, _≤_}
+use mathlib.Core.Path.{_≡_, refl, sym, ap, subst, _∙_}
+use mathlib.Core.List.{List, [], _∷_, _++_}
+use native.Mathlib.Omega.{arith}
+use borrow.Author.Needs.{needs}
+use lib.ListN.{length, take, drop, set, length-set, length-append}
+use Rattle.text.specs.Over.{over}
+use Rattle.writer.proofs.Wrote.{Wrote, wrote-then, wrote-one}
+use Rattle.writer.specs.Parts.{prefixText}
+use Rattle.format.specs.Tidy.{fieldText}
+use Rattle.format.specs.declared.Kind.the-variants.{Program}
+use Rattle.added.specs.Line.{joining, linking, ending, newLine}
+use Rattle.added.proofs.Lines.{joining-none, joining-some, linking-some, linking-none, wrote-none, ending-size, line-size}
+use borrow.Author.Needs.{needs}
+use Rattle.added.proofs.put_joining.Statement.{statement}
+use Rattle.added.proofs.put_joining.Tie as tie
+
+returns : tie.Need-returns
+returns c = let a = c .before .before .before .args in wrote-none (a .out .now) (a .o) _ (joining-none (a .alone) (a .id .now) (c .if1 .taken))
+
+slice-write-out : tie.Need-slice-write-out
+slice-write-out c = let s = c .before .before .before in omega (arith, s .pre, ap length (joining-some (s .args .alone) (s .args .id .now) (c .if1 .left)))
+
+add-put-slice : tie.Need-add-put-slice
+add-put-slice c = search needs
+
+put-slice-requires : tie.Need-put-slice-requires
+put-slice-requires c κs = let s = c .before .before .before .before in simp length-set (omega (arith, s .pre, ap length (joining-some (s .args .alone) (s .args .id .now) (c .before .if1 .left))))
+
+same-length : tie.Need-same-length
+same-length c = simp length-set at (c .before .before .put-slice .kept .0)
+
+returns-2 : tie.Need-returns-2
+returns-2 c =
+    let w = c .before .before in
+    let s = w .before .before .before .before .before in
+    let a = s .args in
+    let e = joining-some (a .alone) (a .id .now) (w .before .before .if1 .left) in
+    let h : a .o + length (45 ∷ a .id .now) ≤ length (a .out .now) = omega (arith, s .pre, ap length e) in
+    subst (Wrote (a .out .now) (a .o) (w .put-slice .last .0) (w .put-slice .result)) (sym e)
+    (wrote-then (a .out .now) (a .o) (set (a .out .now) (a .o) 45) (a .o + 1) _ _ (45 ∷ []) (a .id .now) (refl, wrote-one (a .out .now) (a .o) 45 (omega (arith, h))) (w .put-slice .ensures) h)
+
+pub put-joining-spec : {M : Type 1} → statement M
+put-joining-spec =
+    tie.close
+    (tie.spec returns slice-write-out add-put-slice put-slice-requires same-length returns-2)
