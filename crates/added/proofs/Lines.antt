@@ -1,15 +1,24 @@
 -- The parts of a new program's line: what they are, and how long.
-use Prim.Native.Nat.{ℕ, _+_, _≤_}
+use Prim.Native.Nat.{ℕ, _+_, _≤_, _<_}
 use mathlib.Core.Path.{_≡_, refl, sym, ap, _∙_}
 use mathlib.Core.Bool.{Bool, true, false}
 use mathlib.Core.List.{List, [], _∷_, _++_}
 use native.Mathlib.Omega.{arith}
-use lib.ListN.{length, length-append}
+use native.Mathlib.Numerals.{add-one}
+use lib.ListN.{length, take, drop, getD, length-append, length-take, length-drop, drop-of-length-le}
+use lib.Seq.{drop-cons}
 use Rattle.format.specs.Tidy.{fieldText}
 use Rattle.format.specs.declared.Kind.the-variants.{Program}
 use Rattle.text.proofs.Over.{over-none}
 use Rattle.writer.specs.Parts.{prefixText}
 use Rattle.writer.proofs.Wrote.{Wrote}
+use Rattle.entries.specs.declared.Entry.{Entry}
+use Rattle.lookup.specs.declared.Found.{Found}
+use Rattle.lookup.specs.declared.Found.the-variants.{Nothing, At}
+use Rattle.lookup.specs.Lookup.{keyIn}
+use Rattle.lookup.specs.Parents.{bytesAt}
+use Rattle.ids.specs.Taken.{foundBytes, idIn}
+use Rattle.added.specs.Lines.{newLines}
 use Rattle.added.specs.Line.{joining, linking, ending, newLine}
 
 pub joining-none : (alone : Bool) (id : List ℕ) → alone ≡ true → joining alone id ≡ []
@@ -59,3 +68,25 @@ unfolding newLine
 line-size alone linked prefix fields id =
     length-append (prefixText Program ++ (9 ∷ 73 ∷ 68 ∷ 58 ∷ []) ++ prefix ++ joining alone id) (ending linked fields id)
     ∙ omega (arith, front-size alone prefix id, ending-size linked fields id)
+
+-- ---- one after each leaf
+
+module _ (t : List ℕ) (es : List Entry) (linked : Bool) (prefix fields ks : List ℕ) where
+  pub lines-more : (first : Bool) (i : ℕ) → i < length ks
+      → newLines t es first linked prefix fields (drop i ks)
+      ≡ newLine first linked prefix fields (idIn t es (getD ks i 0)) ++ newLines t es false linked prefix fields (drop (i + 1) ks)
+  unfolding newLines
+  lines-more first i h = rw (drop-cons ks i 0 h, add-one i) refl
+
+  pub lines-done : (first : Bool) (i : ℕ) → length ks ≤ i → newLines t es first linked prefix fields (drop i ks) ≡ []
+  unfolding newLines
+  lines-done first i h = rw (drop-of-length-le ks h) refl
+
+-- an ID is no longer than the text
+pub id-most : (t : List ℕ) (es : List Entry) (k : ℕ) → length (idIn t es k) ≤ length t
+unfolding idIn foundBytes bytesAt
+id-most t es k = go (keyIn 4 k es)
+  where
+    go : (f : Found) → length (foundBytes t f) ≤ length t
+    go Nothing = omega arith
+    go (At p) = omega (arith, length-take (p .len) (drop (p .at) t), length-drop (p .at) t)

@@ -4,7 +4,11 @@ ghost use mathlib.Core.Path.{_≡_};
 ghost use Prim.Native.Nat.{_≤_, _+_};
 ghost use lib.ListN.{length};
 ghost use Rattle.text.specs.Over.{over};
+ghost use Rattle.text.specs.Stands.{Each};
+ghost use Rattle.entries.specs.Entries.{entriesIn};
+ghost use Rattle.lookup.specs.Parents.{Within};
 ghost use Rattle.added.specs.Line.{joining, linking, ending, newLine};
+ghost use Rattle.added.specs.Lines.{newLines};
 
 // Writes bytes, and answers the place after them.
 fn put_slice(out: &mut [u8], o: usize, from: &[u8]) -> usize
@@ -104,4 +108,59 @@ pub fn line_len(prefix: &[u8], fields: &[u8], id: &[u8], alone: bool, linked: bo
     let joined = joining_len(id, alone);
     let previous = linking_len(id, linked);
     8 + prefix.len() + fields.len() + joined + previous
+}
+
+// How many bytes the lines of the new programs have, one after each leaf; `alone` says that the first one's ID is the prefix.
+pub fn lines_len(
+    text: &[u8],
+    catalogue: &[u8],
+    prefix: &[u8],
+    fields: &[u8],
+    leaves: &[u32],
+    alone: bool,
+    linked: bool,
+) -> usize
+    requires { ⌜ Each (Within (length (now text))) (entriesIn (now catalogue)) ⌝ }
+    requires { ⌜ (length (now text) ≤ 16777216) × (length (now prefix) ≤ 16777216) × (length (now fields) ≤ 16777216) × (length (now leaves) ≤ 1024) ⌝ }
+    ensures { λ r. ⌜ r ≡ length (newLines (now (text .entry)) (entriesIn (now (catalogue .entry))) alone linked (now (prefix .entry)) (now (fields .entry)) (now (leaves .entry))) ⌝ }
+{
+    let mut n: usize = 0;
+    let mut first = alone;
+    let mut i: usize = 0;
+    while i < leaves.len() {
+        let id = ids::find_id(text, catalogue, leaves[i]);
+        n += line_len(prefix, fields, id, first, linked);
+        first = false;
+        i += 1;
+    }
+    n
+}
+
+// Writes the lines of the new programs, one after each leaf.
+pub fn put_lines(
+    out: &mut [u8],
+    o: usize,
+    text: &[u8],
+    catalogue: &[u8],
+    prefix: &[u8],
+    fields: &[u8],
+    leaves: &[u32],
+    alone: bool,
+    linked: bool,
+) -> usize
+    requires { ⌜ Each (Within (length (now text))) (entriesIn (now catalogue)) ⌝ }
+    requires { ⌜ o + length (newLines (now text) (entriesIn (now catalogue)) alone linked (now prefix) (now fields) (now leaves)) ≤ length (now out) ⌝ }
+    ensures next { λ r. ⌜ r ≡ o + length (newLines (now (text .entry)) (entriesIn (now (catalogue .entry))) alone linked (now (prefix .entry)) (now (fields .entry)) (now (leaves .entry))) ⌝ }
+    ensures wrote { λ _. ⌜ now (out .exit) ≡ over (now (out .entry)) o (newLines (now (text .entry)) (entriesIn (now (catalogue .entry))) alone linked (now (prefix .entry)) (now (fields .entry)) (now (leaves .entry))) ⌝ }
+{
+    let mut n = o;
+    let mut first = alone;
+    let mut i: usize = 0;
+    while i < leaves.len() {
+        let id = ids::find_id(text, catalogue, leaves[i]);
+        n = put_line(out, n, prefix, fields, id, first, linked);
+        first = false;
+        i += 1;
+    }
+    n
 }
