@@ -18,7 +18,7 @@ use Rattle.lookup.specs.declared.Found.the-variants.{Nothing, At}
 use Rattle.lookup.specs.Lookup.{keyIn}
 use Rattle.lookup.specs.Parents.{bytesAt}
 use Rattle.ids.specs.Taken.{foundBytes, idIn}
-use Rattle.added.specs.Lines.{newLines}
+use Rattle.added.specs.Lines.{newLines, addedText}
 use Rattle.added.specs.Line.{joining, linking, ending, newLine}
 
 pub joining-none : (alone : Bool) (id : List ℕ) → alone ≡ true → joining alone id ≡ []
@@ -90,3 +90,14 @@ id-most t es k = go (keyIn 4 k es)
     go : (f : Found) → length (foundBytes t f) ≤ length t
     go Nothing = omega arith
     go (At p) = omega (arith, length-take (p .len) (drop (p .at) t), length-drop (p .at) t)
+
+-- ---- all of them
+
+module _ (t : List ℕ) (es : List Entry) (empty alone linked : Bool) (prefix fields ks : List ℕ) where
+  pub added-one : empty ≡ true → addedText t es empty alone linked prefix fields ks ≡ newLine true false prefix fields []
+  unfolding addedText
+  added-one e = rw e refl
+
+  pub added-each : empty ≡ false → addedText t es empty alone linked prefix fields ks ≡ newLines t es alone linked prefix fields ks
+  unfolding addedText
+  added-each e = rw e refl

@@ -8,7 +8,7 @@ ghost use Rattle.text.specs.Stands.{Each};
 ghost use Rattle.entries.specs.Entries.{entriesIn};
 ghost use Rattle.lookup.specs.Parents.{Within};
 ghost use Rattle.added.specs.Line.{joining, linking, ending, newLine};
-ghost use Rattle.added.specs.Lines.{newLines};
+ghost use Rattle.added.specs.Lines.{newLines, addedText};
 
 // Writes bytes, and answers the place after them.
 fn put_slice(out: &mut [u8], o: usize, from: &[u8]) -> usize
@@ -163,4 +163,49 @@ pub fn put_lines(
         i += 1;
     }
     n
+}
+
+// How many bytes the new programs have: with no programs there is one, whose ID is the prefix and to which no PP is added.
+pub fn added_len(
+    text: &[u8],
+    catalogue: &[u8],
+    prefix: &[u8],
+    fields: &[u8],
+    leaves: &[u32],
+    empty: bool,
+    alone: bool,
+    linked: bool,
+) -> usize
+    requires { ⌜ Each (Within (length (now text))) (entriesIn (now catalogue)) ⌝ }
+    requires { ⌜ (length (now text) ≤ 16777216) × (length (now prefix) ≤ 16777216) × (length (now fields) ≤ 16777216) × (length (now leaves) ≤ 1024) ⌝ }
+    ensures { λ r. ⌜ r ≡ length (addedText (now (text .entry)) (entriesIn (now (catalogue .entry))) empty alone linked (now (prefix .entry)) (now (fields .entry)) (now (leaves .entry))) ⌝ }
+{
+    if empty {
+        return line_len(prefix, fields, &text[..0], true, false);
+    }
+    lines_len(text, catalogue, prefix, fields, leaves, alone, linked)
+}
+
+// Writes the new programs, and answers the place after them.
+pub fn put_added(
+    out: &mut [u8],
+    o: usize,
+    text: &[u8],
+    catalogue: &[u8],
+    prefix: &[u8],
+    fields: &[u8],
+    leaves: &[u32],
+    empty: bool,
+    alone: bool,
+    linked: bool,
+) -> usize
+    requires { ⌜ Each (Within (length (now text))) (entriesIn (now catalogue)) ⌝ }
+    requires { ⌜ o + length (addedText (now text) (entriesIn (now catalogue)) empty alone linked (now prefix) (now fields) (now leaves)) ≤ length (now out) ⌝ }
+    ensures next { λ r. ⌜ r ≡ o + length (addedText (now (text .entry)) (entriesIn (now (catalogue .entry))) empty alone linked (now (prefix .entry)) (now (fields .entry)) (now (leaves .entry))) ⌝ }
+    ensures wrote { λ _. ⌜ now (out .exit) ≡ over (now (out .entry)) o (addedText (now (text .entry)) (entriesIn (now (catalogue .entry))) empty alone linked (now (prefix .entry)) (now (fields .entry)) (now (leaves .entry))) ⌝ }
+{
+    if empty {
+        return put_line(out, o, prefix, fields, &text[..0], true, false);
+    }
+    put_lines(out, o, text, catalogue, prefix, fields, leaves, alone, linked)
 }
