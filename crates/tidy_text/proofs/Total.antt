@@ -12,7 +12,7 @@ use Rattle.format.specs.declared.Kind.{Kind}
 use Rattle.format.specs.declared.Kind.the-variants.{Header, ReferenceSequence, ReadGroup, Program, Comment}
 use Rattle.writer.specs.Line.{lineText}
 use Rattle.tidy_text.specs.Accepted.{onto, recordsOf, recordsFrom}
-use Rattle.tidy_text.specs.Kinds.{numberOf, kindText, textOfKind}
+use Rattle.tidy_text.specs.Kinds.{numberOf, kindText, textOfKind, frontText}
 use Rattle.tidy_text.proofs.OfKind.{kind-onto}
 use Rattle.tidy_text.proofs.Lines.{Opened, lent, Turn, ended}
 use Rattle.text.specs.declared.Cut.{Cut}
@@ -28,9 +28,9 @@ unfolding text
 text-append [] qs = refl
 text-append (r ∷ rs) qs = ap (λ l. recordText r ++ l) (text-append rs qs) ∙ sym (append-assoc (recordText r) (text rs) (text qs))
 
-pub tidy-kinds : (rs : List Record)
-    → tidy rs ≡ textOfKind Header rs ++ textOfKind ReferenceSequence rs ++ textOfKind ReadGroup rs ++ textOfKind Program rs ++ textOfKind Comment rs
-unfolding tidy inOrder textOfKind numberOf
+-- the comments come last
+pub tidy-kinds : (rs : List Record) → tidy rs ≡ frontText rs ++ textOfKind Comment rs
+unfolding tidy inOrder textOfKind numberOf frontText
 tidy-kinds rs =
     rw (
       text-append (ofKind 1 rs ++ ofKind 2 rs ++ ofKind 3 rs ++ ofKind 4 rs) (ofKind 5 rs),
@@ -80,15 +80,19 @@ kinds-length (r ∷ rs) =
       length-append (recordText r) (text rs),
     )
 
--- the tidy text's length, kind by kind
-pub tidy-sizes : (rs : List Record) → length (tidy rs) ≡ size Header rs + size ReferenceSequence rs + size ReadGroup rs + size Program rs + size Comment rs
-tidy-sizes rs =
+-- how long the front is, kind by kind
+pub front-sizes : (rs : List Record) → length (frontText rs) ≡ size Header rs + size ReferenceSequence rs + size ReadGroup rs + size Program rs
+unfolding frontText
+front-sizes rs =
     let a : List ℕ = textOfKind Header rs in
     let b : List ℕ = textOfKind ReferenceSequence rs in
     let c : List ℕ = textOfKind ReadGroup rs in
     let d : List ℕ = textOfKind Program rs in
-    let e : List ℕ = textOfKind Comment rs in
-    omega (arith, ap length (tidy-kinds rs), length-append (a ++ b ++ c ++ d) e, length-append (a ++ b ++ c) d, length-append (a ++ b) c, length-append a b)
+    length-append (a ++ b ++ c) d ∙ omega (arith, length-append (a ++ b) c, length-append a b)
+
+-- and the tidy text
+pub tidy-sizes : (rs : List Record) → length (tidy rs) ≡ size Header rs + size ReferenceSequence rs + size ReadGroup rs + size Program rs + size Comment rs
+tidy-sizes rs = omega (arith, ap length (tidy-kinds rs), length-append (frontText rs) (textOfKind Comment rs), front-sizes rs)
 
 -- it is as long as the records' lines in text order
 pub tidy-total : (rs : List Record) → length (tidy rs) ≡ length (text rs)

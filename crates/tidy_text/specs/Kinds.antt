@@ -1,7 +1,7 @@
 -- Kinds by their number and by their bytes, and a line's text if it is of a kind.
 use Prim.Native.Nat.{ℕ}
 use mathlib.Core.Bool.{Bool, _&&_, cond}
-use mathlib.Core.List.{List, []}
+use mathlib.Core.List.{List, [], _++_}
 use lib.ListN.{getD}
 use lib.Dec.{eqb}
 use Rattle.format.specs.Records.{Record, code, Line, refused, read}
@@ -33,3 +33,8 @@ kindText k (read r) = cond (eqb (code r) (numberOf k)) (recordText r) []
 unfoldable pub textOfKind : Kind → List Record → List ℕ
 unfolding text ofKind numberOf
 textOfKind k rs = text (ofKind (numberOf k) rs)
+
+-- all records but the comments, kind by kind
+unfoldable pub frontText : List Record → List ℕ
+unfolding textOfKind
+frontText rs = textOfKind Header rs ++ textOfKind ReferenceSequence rs ++ textOfKind ReadGroup rs ++ textOfKind Program rs

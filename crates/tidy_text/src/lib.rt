@@ -13,7 +13,7 @@ ghost use Rattle.format.specs.Tidy.{tidy, unwritable};
 ghost use Rattle.text.specs.Over.{over};
 ghost use Rattle.writer.specs.Line.{isRead};
 ghost use Rattle.tidy_text.specs.Accepted.{isAccepted, recordsOf, measuredOf};
-ghost use Rattle.tidy_text.specs.Kinds.{hasKind, kindText, textOfKind};
+ghost use Rattle.tidy_text.specs.Kinds.{hasKind, kindText, textOfKind, frontText};
 
 // How many bytes the tidy text has, or the line of the first SQ whose name can't be written.
 pub enum Measured {
@@ -88,7 +88,21 @@ pub fn put_kind(text: &[u8], strict: bool, kind: Kind, out: &mut [u8], o: usize)
     n
 }
 
-// Writes the tidy text of an accepted text, kind by kind, and answers its length.
+// Writes all records but the comments, kind by kind, and answers the place after them.
+pub fn put_records(text: &[u8], strict: bool, out: &mut [u8]) -> usize
+    requires { ⌜ isAccepted (readText (now text)) ≡ true ⌝ }
+    requires { ⌜ strict ≡ isStrict (announced (lines (now text))) ⌝ }
+    requires { ⌜ length (frontText (recordsOf (readText (now text)))) ≤ length (now out) ⌝ }
+    ensures next { λ r. ⌜ r ≡ length (frontText (recordsOf (readText (now (text .entry))))) ⌝ }
+    ensures wrote { λ _. ⌜ now (out .exit) ≡ over (now (out .entry)) 0 (frontText (recordsOf (readText (now (text .entry))))) ⌝ }
+{
+    let n = put_kind(text, strict, Kind::Header, out, 0);
+    let n = put_kind(text, strict, Kind::ReferenceSequence, out, n);
+    let n = put_kind(text, strict, Kind::ReadGroup, out, n);
+    put_kind(text, strict, Kind::Program, out, n)
+}
+
+// Writes the tidy text of an accepted text, the comments last, and answers its length.
 pub fn put_tidy(text: &[u8], strict: bool, out: &mut [u8]) -> usize
     requires { ⌜ isAccepted (readText (now text)) ≡ true ⌝ }
     requires { ⌜ strict ≡ isStrict (announced (lines (now text))) ⌝ }
@@ -96,9 +110,6 @@ pub fn put_tidy(text: &[u8], strict: bool, out: &mut [u8]) -> usize
     ensures next { λ r. ⌜ r ≡ length (tidy (recordsOf (readText (now (text .entry))))) ⌝ }
     ensures wrote { λ _. ⌜ now (out .exit) ≡ over (now (out .entry)) 0 (tidy (recordsOf (readText (now (text .entry))))) ⌝ }
 {
-    let n = put_kind(text, strict, Kind::Header, out, 0);
-    let n = put_kind(text, strict, Kind::ReferenceSequence, out, n);
-    let n = put_kind(text, strict, Kind::ReadGroup, out, n);
-    let n = put_kind(text, strict, Kind::Program, out, n);
+    let n = put_records(text, strict, out);
     put_kind(text, strict, Kind::Comment, out, n)
 }
