@@ -4,6 +4,7 @@ pub mod Bound
 pub mod Leaf
 pub mod Pairs
 pub mod Paths
+pub mod Some
 pub mod Swaps
 pub mod Times
 pub mod Walks
