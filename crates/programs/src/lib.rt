@@ -1,0 +1,114 @@
+// Adding programs: one after each leaf, and then the tidy text with the new programs behind the old ones.
+use format::Kind;
+use format::LineNo;
+use given::Given;
+use lookup::Named;
+use parser::Answer;
+use parser::Checked;
+use tidy_text::Measured;
+ghost use mathlib.Core.Path.{_≡_};
+ghost use mathlib.Core.Bool.{true, false, not, _||_, cond};
+ghost use mathlib.Core.List.{List, _++_};
+ghost use Prim.Native.Nat.{_≤_, _<_, _+_};
+ghost use lib.ListN.{length, drop};
+ghost use lib.Dec.{ltb};
+ghost use Rattle.format.specs.Bytes.{none?};
+ghost use Rattle.format.specs.Fields.{lastOf};
+ghost use Rattle.format.specs.Lines.{lines};
+ghost use Rattle.format.specs.Reading.{announced, isStrict, readText};
+ghost use Rattle.format.specs.Catalogue.{catalogue};
+ghost use Rattle.format.specs.Programs.{programs, links, leaves, link, isDangling, ordinalFrom};
+ghost use Rattle.format.specs.Tidy.{unwritable};
+ghost use Rattle.format.specs.Adding.{given, misformed, isKnown};
+ghost use Rattle.format.specs.Calls.{writing, adding};
+ghost use Rattle.text.specs.Over.{over};
+ghost use Rattle.text.specs.Stands.{Each};
+ghost use Rattle.entries.specs.Entries.{entriesIn};
+ghost use Rattle.lookup.specs.Parents.{Within};
+ghost use Rattle.parser.specs.Answers.{answerOf, outputOf};
+ghost use Rattle.tidy_text.specs.Accepted.{isAccepted, recordsOf};
+ghost use Rattle.added.specs.Lines.{addedText};
+ghost use Rattle.programs.specs.Added.{withAdded, isNone, addingOn};
+
+// Writes the tidy text with the new programs behind the old ones, and answers its length.
+fn put_all(
+    text: &[u8],
+    kept: &[u8],
+    strict: bool,
+    prefix: &[u8],
+    fields: &[u8],
+    leaves: &[u32],
+    empty: bool,
+    alone: bool,
+    linked: bool,
+    out: &mut [u8],
+) -> usize
+    requires { ⌜ isAccepted (readText (now text)) ≡ true ⌝ }
+    requires { ⌜ strict ≡ isStrict (announced (lines (now text))) ⌝ }
+    requires { ⌜ Each (Within (length (now text))) (entriesIn (now kept)) ⌝ }
+    requires { ⌜ length (withAdded (recordsOf (readText (now text))) (addedText (now text) (entriesIn (now kept)) empty alone linked (now prefix) (now fields) (now leaves))) ≤ length (now out) ⌝ }
+    ensures next { λ r. ⌜ r ≡ length (withAdded (recordsOf (readText (now (text .entry)))) (addedText (now (text .entry)) (entriesIn (now (kept .entry))) empty alone linked (now (prefix .entry)) (now (fields .entry)) (now (leaves .entry)))) ⌝ }
+    ensures wrote { λ _. ⌜ now (out .exit) ≡ over (now (out .entry)) 0 (withAdded (recordsOf (readText (now (text .entry)))) (addedText (now (text .entry)) (entriesIn (now (kept .entry))) empty alone linked (now (prefix .entry)) (now (fields .entry)) (now (leaves .entry)))) ⌝ }
+{
+    let n = tidy_text::put_records(text, strict, out);
+    let n = added::put_added(
+        out,
+        n,
+        text,
+        kept,
+        prefix,
+        fields,
+        leaves,
+        empty,
+        alone,
+        linked,
+    );
+    tidy_text::put_kind(text, strict, Kind::Comment, out, n)
+}
+
+// Whether a prefix or fields alone are longer than a text may be.
+fn is_too_long(prefix: &[u8], fields: &[u8]) -> bool
+    ensures { λ r. ⌜ r ≡ (ltb 16777216 (length (now (prefix .entry))) || ltb 16777216 (length (now (fields .entry)))) ⌝ }
+{
+    16777216 < prefix.len() || 16777216 < fields.len()
+}
+
+// Writes the tidy text with the new programs: 24, then 1, then 20.
+fn write_added(
+    text: &[u8],
+    kept: &[u8],
+    prefix: &[u8],
+    fields: &[u8],
+    leaves: &[u32],
+    empty: bool,
+    alone: bool,
+    linked: bool,
+    out: &mut [u8],
+) -> Answer
+    requires { ⌜ isAccepted (readText (now text)) ≡ true ⌝ }
+    requires { ⌜ Each (Within (length (now text))) (entriesIn (now kept)) ⌝ }
+    requires { ⌜ (length (now leaves) ≤ 1024) × (empty ≡ false → 0 < length (now leaves)) ⌝ }
+    ensures answer { λ r. ⌜ r ≡ answerOf (writing (length (now (out .entry))) (unwritable 0 (recordsOf (readText (now (text .entry))))) (withAdded (recordsOf (readText (now (text .entry)))) (addedText (now (text .entry)) (entriesIn (now (kept .entry))) empty alone linked (now (prefix .entry)) (now (fields .entry)) (now (leaves .entry))))) ⌝ }
+    ensures wrote { λ _. ⌜ now (out .exit) ≡ outputOf (writing (length (now (out .entry))) (unwritable 0 (recordsOf (readText (now (text .entry))))) (withAdded (recordsOf (readText (now (text .entry)))) (addedText (now (text .entry)) (entriesIn (now (kept .entry))) empty alone linked (now (prefix .entry)) (now (fields .entry)) (now (leaves .entry))))) (now (out .entry)) ⌝ }
+{
+    let strict = rules::is_strict(text);
+    match tidy_text::measure(text, strict) {
+        Measured::Bad(line) => Answer::Refused(24, line),
+        Measured::Is(n) => {
+            if is_too_long(prefix, fields) {
+                return Answer::Refused(1, LineNo(0));
+            }
+            let more = added::added_len(text, kept, prefix, fields, leaves, empty, alone, linked);
+            if 16777216 < n + more {
+                return Answer::Refused(1, LineNo(0));
+            }
+            if out.len() < n + more {
+                return Answer::Refused(20, LineNo(0));
+            }
+            let n = put_all(
+                text, kept, strict, prefix, fields, leaves, empty, alone, linked, out,
+            );
+            Answer::Count(n)
+        }
+    }
+}
