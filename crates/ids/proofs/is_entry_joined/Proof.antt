@@ -8,9 +8,6 @@ use Rattle.ids.specs.Taken.{joined, known}
 use Rattle.ids.proofs.Search.{known-program, program-inside, known-other}
 use Rattle.ids.proofs.is_entry_joined.Statement.{statement}
 use Rattle.ids.proofs.is_entry_joined.Tie as tie
-use Rattle.ids.proofs.is_entry_joined.Reads as reads
-use Rattle.ids.proofs.is_entry_joined.Lts as lts
-use Rattle.ids.proofs.is_joined.Reads as is-joined-reads
 
 enum-known-e : tie.Need-enum-known-e
 enum-known-e c = search needs

@@ -6,10 +6,6 @@ use borrow.Author.Tests.{not-true, not-false}
 use Rattle.ids.proofs.Joined.{joined-other, joined-dash, joined-front, joined-rest}
 use Rattle.ids.proofs.is_joined.Statement.{statement}
 use Rattle.ids.proofs.is_joined.Tie as tie
-use Rattle.ids.proofs.is_joined.Reads as reads
-use Rattle.ids.proofs.is_joined.Lts as lts
-use Rattle.text.proofs.same.Reads as same-reads
-use Rattle.text.proofs.starts.Reads as starts-reads
 
 returns : tie.Need-returns
 returns c = sym (joined-other _ _ _ (λ e. omega (arith, c .if1 .taken)))

@@ -9,11 +9,6 @@ use Rattle.ids.specs.Taken.{joined}
 use Rattle.ids.proofs.Search.{Ahead, ahead-none, ahead-within, ahead-here, ahead-on}
 use Rattle.ids.proofs.is_known.Statement.{statement}
 use Rattle.ids.proofs.is_known.Tie as tie
-use Rattle.ids.proofs.is_known.Reads as reads
-use Rattle.ids.proofs.is_known.Lts as lts
-use Rattle.entries.proofs.entry_at.Reads as entry-at-reads
-use Rattle.entries.proofs.size.Reads as size-reads
-use Rattle.ids.proofs.is_entry_joined.Reads as is-entry-joined-reads
 
 abbrev Inv-loop : tie.InvT-loop
 Inv-loop text catalogue prefix other at₀ at = Ahead text (joined prefix other) catalogue at
