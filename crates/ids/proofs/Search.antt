@@ -3,7 +3,7 @@ use Prim.Native.Nat.{ℕ, _+_, _-_}
 use mathlib.Core.Path.{_≡_, refl, sym, ap, _∙_}
 use mathlib.Core.Bool.{Bool, true, false, _||_, cond}
 use mathlib.Core.List.{List, [], _∷_}
-use mathlib.Core.Option.{Option, none, some}
+use mathlib.Core.Option.{none, some}
 use native.Mathlib.Omega.{arith}
 use lib.ListN.{length, take, drop}
 use denote.Enum.Declared.{tagOf}
@@ -11,7 +11,6 @@ use types.Run.{OneOf, miss}
 use Rattle.format.specs.Bytes.{same}
 use Rattle.format.specs.Adding.{isKnown}
 use Rattle.text.specs.Stands.{Each}
-use Rattle.accepted.proofs.Bools.{or-false}
 use Rattle.entries.proofs.Entry.{the-type}
 use Rattle.entries.proofs.Walk.{turn-end, turn-on}
 use Rattle.entries.specs.declared.Place.{Place}
