@@ -27,8 +27,9 @@ fn is_joined(id: &[u8], prefix: &[u8], other: &[u8]) -> bool
     if !text::starts(prefix, id) {
         return false;
     }
-    let rest = dash + 1;
-    text::same(other, &id[rest..])
+    let from = dash + 1;
+    let rest = &id[from..];
+    text::same(other, rest)
 }
 
 // Whether an entry is that of a program whose ID is the prefix, `-` and another ID.

@@ -35,17 +35,17 @@ returns-4 c =
     let a = c .before .before .before .before .before .before .before .before .before .args in
     sym (joined-front (a .prefix .now) (a .other .now) (a .id .now) (c .before .before .before .before .before .if1 .left) (sym (c .before .starts .ensures) ∙ not-true (c .before .starts .result) (c .if4 .taken)))
 
-add-rest : tie.Need-add-rest
-add-rest c = search needs
+add-from : tie.Need-add-from
+add-from c = search needs
 
-sub-same : tie.Need-sub-same
-sub-same c = search needs
+sub-rest : tie.Need-sub-rest
+sub-rest c = search needs
 
-part-same-start : tie.Need-part-same-start
-part-same-start c = search needs
+part-rest-start : tie.Need-part-rest-start
+part-rest-start c = search needs
 
-part-same-end : tie.Need-part-same-end
-part-same-end c = search needs
+part-rest-end : tie.Need-part-rest-end
+part-rest-end c = search needs
 
 same-requires : tie.Need-same-requires
 same-requires c κs = search needs
@@ -69,9 +69,9 @@ is-joined-spec =
     returns-3
     starts-requires
     returns-4
-    add-rest
-    sub-same
-    part-same-start
-    part-same-end
+    add-from
+    sub-rest
+    part-rest-start
+    part-rest-end
     same-requires
     returns-5)
