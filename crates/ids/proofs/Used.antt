@@ -6,7 +6,7 @@ use mathlib.Core.List.{List, [], _∷_, _++_}
 use mathlib.Core.Option.{none, some}
 use lib.ListN.{length, drop, getD, length-map}
 use lib.Dec.{eqb, ltb}
-use borrow.Author.Tests.{ltb-true, eqb-false, eq-eqb}
+use borrow.Author.Tests.{ltb-true, eqb-false, eq-eqb, not-true}
 use Rattle.format.specs.Bytes.{same, any, none?}
 use Rattle.format.specs.Fields.{Field}
 use Rattle.format.specs.Records.{Record, program, code, key, others}
@@ -57,10 +57,6 @@ unfolding any Each
 some-each P [] h = tt
 some-each P (x ∷ xs) h = (h x (rw (eq-eqb x x refl) refl), some-each P xs (λ y e. h y (rw e (or-true (eqb y x)))))
 
-not-right : (b : Bool) → not b ≡ true → b ≡ false
-not-right true h = sym h
-not-right false h = refl
-
 -- ---- an accepted text
 
 module _ (t : List ℕ) (rs : List Record) (h : readText t ≡ accept rs) (prefix : List ℕ) (fs : List Field) where
@@ -99,7 +95,7 @@ module _ (t : List ℕ) (rs : List Record) (h : readText t ≡ accept rs) (prefi
       let p : Program = programOf (program (unplaced (made k)) (chained (getD ps k nobody .id) fs)) in
       let others : Each (λ j. Says old j × (Below j × (eqb k j ≡ false))) ks =
       each-both (Says old) (λ j. Below j × (eqb k j ≡ false)) ks (s .1)
-      (each-both Below (λ j. eqb k j ≡ false) ks (b .1) (none-each k ks (not-right (any (eqb k) ks) (and-left (not (any (eqb k) ks)) (distinct ks) d)))) in
+      (each-both Below (λ j. eqb k j ≡ false) ks (b .1) (none-each k ks (not-true (any (eqb k) ks) (and-left (not (any (eqb k) ks)) (distinct ks) d)))) in
       let on : Each (Says (old ++ (p ∷ []))) ks =
       each-map (λ j. Says old j × (Below j × (eqb k j ≡ false))) (Says (old ++ (p ∷ [])))
       (λ j x. says-snoc old p j (made-apart j k (x .1 .0) (b .0) (λ e. eqb-false k j (x .1 .1) (sym e))) (x .0)) ks others in
