@@ -1,0 +1,5 @@
+pub mod Joined
+pub mod Search
+pub mod Keys
+pub mod Apart
+pub mod Used
