@@ -3,3 +3,4 @@ pub mod Front
 pub mod Text
 pub mod InForm
 pub mod Judged
+pub mod Last
