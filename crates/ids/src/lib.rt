@@ -66,17 +66,17 @@ fn is_known(text: &[u8], catalogue: &[u8], prefix: &[u8], other: &[u8]) -> bool
     }
 }
 
-// Whether some program's ID is the prefix, `-` and the ID of the program with an ordinal.
-fn is_known_after(text: &[u8], catalogue: &[u8], prefix: &[u8], ordinal: u32) -> bool
+// The ID of the program with an ordinal, as a part of the text: no bytes where there is none.
+pub fn find_id<'a>(text: &'a [u8], catalogue: &[u8], ordinal: u32) -> &'a [u8]
     requires { ⌜ Each (Within (length (now text))) (entriesIn (now catalogue)) ⌝ }
-    ensures { λ r. ⌜ r ≡ known (now (text .entry)) (joined (now (prefix .entry)) (idIn (now (text .entry)) (entriesIn (now (catalogue .entry))) ordinal)) (entriesIn (now (catalogue .entry))) ⌝ }
+    ensures { λ r. ⌜ now r ≡ idIn (now (text .entry)) (entriesIn (now (catalogue .entry))) ordinal ⌝ }
 {
     match lookup::find_key(catalogue, 4, ordinal) {
-        Found::Nothing => is_known(text, catalogue, prefix, &text[0..0]),
+        Found::Nothing => &text[..0],
         Found::At(p) => {
             let start = p.at as usize;
             let end = start + p.len as usize;
-            is_known(text, catalogue, prefix, &text[start..end])
+            &text[start..end]
         }
     }
 }
@@ -88,7 +88,8 @@ pub fn is_taken(text: &[u8], catalogue: &[u8], prefix: &[u8], leaves: &[u32]) ->
 {
     let mut i: usize = 0;
     while i < leaves.len() {
-        if is_known_after(text, catalogue, prefix, leaves[i]) {
+        let id = find_id(text, catalogue, leaves[i]);
+        if is_known(text, catalogue, prefix, id) {
             return true;
         }
         i += 1;

@@ -1,11 +1,11 @@
 -- `ids::is_taken` meets its contract: what the leaves from `i` on say is the answer.
 use Prim.Native.Nat.{_-_}
-use mathlib.Core.Path.{_≡_, refl, sym, _∙_}
+use mathlib.Core.Path.{_≡_, refl, sym, ap, _∙_}
 use native.Mathlib.Omega.{arith}
-use lib.ListN.{length, drop}
+use lib.ListN.{length, drop, getD}
 use borrow.Author.Needs.{needs}
 use Rattle.entries.specs.Entries.{entriesIn}
-use Rattle.ids.specs.Taken.{taken}
+use Rattle.ids.specs.Taken.{joined, known, idIn, taken}
 use Rattle.ids.proofs.Keys.{taken-end, taken-here, taken-on}
 use Rattle.ids.proofs.is_taken.Statement.{statement}
 use Rattle.ids.proofs.is_taken.Tie as tie
@@ -19,20 +19,33 @@ abbrev μ-loop : tie.MeasureT-loop
 loop-holds : tie.Need-loop-holds Inv-loop μ-loop
 loop-holds c = refl
 
-mul-is-known-after : tie.Need-mul-is-known-after Inv-loop μ-loop
-mul-is-known-after c = omega arith
+mul-find-id : tie.Need-mul-find-id Inv-loop μ-loop
+mul-find-id c = omega arith
 
-shared-slice-read-is-known-after : tie.Need-shared-slice-read-is-known-after Inv-loop μ-loop
-shared-slice-read-is-known-after c = omega arith
+shared-slice-read-find-id : tie.Need-shared-slice-read-find-id Inv-loop μ-loop
+shared-slice-read-find-id c = omega arith
 
-is-known-after-requires : tie.Need-is-known-after-requires Inv-loop μ-loop
-is-known-after-requires c κs = search needs
+find-id-requires : tie.Need-find-id-requires Inv-loop μ-loop
+find-id-requires c κs = search needs
+
+is-known-requires : tie.Need-is-known-requires Inv-loop μ-loop
+is-known-requires c κs = search needs
+
+-- the made ID, by its leaf's ordinal
+told : (c : tie.After-is-known Inv-loop μ-loop)
+    → let a = c .before .before .before .before .before .before .before .before .before .args in
+    let es = entriesIn (a .catalogue .now) in
+    known (a .text .now) (joined (a .prefix .now) (idIn (a .text .now) es (getD (a .leaves .now) (c .before .before .before .before .loop .i) 0))) es ≡ c .is-known .result
+told c =
+    let a = c .before .before .before .before .before .before .before .before .before .args in
+    let es = entriesIn (a .catalogue .now) in
+    sym (c .is-known .ensures ∙ ap (λ id. known (a .text .now) (joined (a .prefix .now) id) es) (c .before .find-id .ensures))
 
 returns : tie.Need-returns Inv-loop μ-loop
 returns c =
-    let a = c .before .before .before .before .before .before .before .before .before .args in
-    let l = c .before .before .before .before .loop in
-    sym (l .inv ∙ taken-here (a .text .now) (entriesIn (a .catalogue .now)) (a .prefix .now) (a .leaves .now) (l .i) (omega arith) (sym (c .before .is-known-after .ensures) ∙ c .if1 .taken))
+    let a = c .before .before .before .before .before .before .before .before .before .before .args in
+    let l = c .before .before .before .before .before .loop in
+    sym (l .inv ∙ taken-here (a .text .now) (entriesIn (a .catalogue .now)) (a .prefix .now) (a .leaves .now) (l .i) (omega arith) (told (c .before) ∙ c .if1 .taken))
 
 add-i : tie.Need-add-i Inv-loop μ-loop
 add-i c = omega arith
@@ -42,9 +55,9 @@ loop-less c = omega arith
 
 loop-again : tie.Need-loop-again Inv-loop μ-loop
 loop-again c =
-    let a = c .before .before .before .before .before .before .before .before .before .args in
-    let l = c .before .before .before .before .loop in
-    l .inv ∙ taken-on (a .text .now) (entriesIn (a .catalogue .now)) (a .prefix .now) (a .leaves .now) (l .i) (omega arith) (sym (c .before .is-known-after .ensures) ∙ c .if1 .left)
+    let a = c .before .before .before .before .before .before .before .before .before .before .args in
+    let l = c .before .before .before .before .before .loop in
+    l .inv ∙ taken-on (a .text .now) (entriesIn (a .catalogue .now)) (a .prefix .now) (a .leaves .now) (l .i) (omega arith) (told (c .before) ∙ c .if1 .left)
 
 returns-2 : tie.Need-returns-2 Inv-loop μ-loop
 returns-2 c =
@@ -59,9 +72,10 @@ is-taken-spec =
     Inv-loop
     μ-loop
     loop-holds
-    mul-is-known-after
-    shared-slice-read-is-known-after
-    is-known-after-requires
+    mul-find-id
+    shared-slice-read-find-id
+    find-id-requires
+    is-known-requires
     returns
     add-i
     loop-less
