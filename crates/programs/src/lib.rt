@@ -73,6 +73,16 @@ fn is_too_long(prefix: &[u8], fields: &[u8]) -> bool
     16777216 < prefix.len() || 16777216 < fields.len()
 }
 
+// Whether two lengths together are more than a text may have.
+fn is_over(n: usize, more: usize) -> bool
+    ensures { λ r. ⌜ r ≡ ltb 16777216 (n + more) ⌝ }
+{
+    if 16777216 < n {
+        return true;
+    }
+    16777216 - n < more
+}
+
 // Writes the tidy text with the new programs: 24, then 1, then 20.
 fn write_added(
     text: &[u8],
@@ -99,7 +109,7 @@ fn write_added(
                 return Answer::Refused(1, LineNo(0));
             }
             let more = added::added_len(text, kept, prefix, fields, leaves, empty, alone, linked);
-            if 16777216 < n + more {
+            if is_over(n, more) {
                 return Answer::Refused(1, LineNo(0));
             }
             if out.len() < n + more {
