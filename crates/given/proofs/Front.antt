@@ -1,15 +1,14 @@
 -- What stands at the front of given fields: nothing, a field, or a refusal.
-use Prim.Native.Nat.{ℕ, suc, _+_, _-_, _≤_, _<_}
+use Prim.Native.Nat.{ℕ, suc, _+_, _-_, _<_}
 use mathlib.Core.Path.{_≡_, refl, sym, ap, subst, _∙_}
-use mathlib.Core.Bool.{Bool, true, false, cond}
+use mathlib.Core.Bool.{true}
 use mathlib.Core.List.{List, [], _∷_, _++_, append-nil}
 use native.Mathlib.Omega.{arith}
-use lib.ListN.{length, take, drop, getD, take-append-drop}
+use lib.ListN.{length, take, drop, take-append-drop}
 use lib.Seq.{drop-cons}
 use lib.Dec.{eqb, ltb}
 use borrow.Author.Tests.{eqb-true, ne-eqb, ltb-true, ltb-false}
-use Rattle.format.specs.Lines.{cut, placed}
-use Rattle.format.specs.Fields.{Field, Scan, scan, field}
+use Rattle.format.specs.Fields.{Field, field}
 use Rattle.format.specs.Adding.{given}
 use Rattle.format.specs.Tidy.{fieldText}
 use Rattle.format.specs.declared.Kind.the-variants.{Program}
@@ -55,11 +54,11 @@ front at (b ∷ s) = split (eqb b 9) tab (λ n. stops 6 (λ e. omega arith) (rw 
 -- ---- a field
 
 module _ (at : ℕ) (s : List ℕ) (g : code.Field) (t : Turned Program at s g) where
-  -- how many bytes it has
+  -- how many bytes it has after its tab
   abbrev pub size : ℕ
   size = 3 + length (t .field .value .bytes)
 
-  pub field-size : fieldLength (t .field) ≡ suc size
+  field-size : fieldLength (t .field) ≡ suc size
   unfolding fieldLength fieldText
   field-size = omega arith
 

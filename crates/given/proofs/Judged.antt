@@ -1,8 +1,8 @@
 -- Given fields judged one after another: what holds at a place, and one turn from there.
-use Prim.Native.Nat.{ℕ, zero, suc, _+_, _-_, _≤_, _<_}
+use Prim.Native.Nat.{ℕ, suc, _+_, _≤_, _<_}
 use mathlib.Core.Path.{_≡_, refl, sym, ap, subst, _∙_}
-use mathlib.Core.Bool.{Bool, true, false, not, _||_, cond}
-use mathlib.Core.List.{List, [], _∷_, _++_, append-nil, append-assoc}
+use mathlib.Core.Bool.{Bool, true, false, not, _||_}
+use mathlib.Core.List.{List, [], _∷_, _++_, append-nil}
 use native.Mathlib.Omega.{arith}
 use native.Mathlib.Numerals.{add-one}
 use lib.ListN.{length, take, drop, getD, length-drop, drop-of-length-le}
@@ -13,11 +13,10 @@ use Rattle.format.specs.Bytes.{any}
 use Rattle.format.specs.Fields.{Field, tagged, Scan, repeats}
 use Rattle.format.specs.Adding.{given}
 use Rattle.format.specs.declared.Kind.the-variants.{Program}
-use Rattle.text.specs.Upto.{upto}
 use Rattle.text.proofs.Lines.{upto-le}
 use Rattle.field.specs.declared.Field as code
 use Rattle.accepted.specs.Sound.{isKey}
-use Rattle.accepted.proofs.Bools.{any-append, any-snoc, or-true, or-false, or-left, or-right, or-split}
+use Rattle.accepted.proofs.Bools.{any-append, any-snoc, or-true, or-left, or-right, or-split}
 use Rattle.accepted.proofs.Tags.{repeats-snoc, repeats-more}
 use Rattle.tags.specs.Occurs.{occurs}
 use Rattle.tags.proofs.Region.{occurs-fields}

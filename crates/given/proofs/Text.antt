@@ -1,26 +1,22 @@
 -- Given fields that are in form are written as they came, and their values stand in them.
 use Prim.Native.Nat.{ℕ, suc, _+_, _-_, _≤_, _<_}
 use mathlib.Core.Path.{_≡_, refl, sym, ap, subst, _∙_}
-use mathlib.Core.List.{List, [], _∷_, _++_}
+use mathlib.Core.List.{List, _∷_}
 use mathlib.Core.Option.{some}
 use native.Mathlib.Omega.{arith}
-use lib.ListN.{length, take, drop, take-append-drop}
+use lib.ListN.{length, take, drop}
 use Rattle.format.specs.Lines.{Piece}
-use Rattle.format.specs.Fields.{Field, lastOf}
+use Rattle.format.specs.Fields.{lastOf}
 use Rattle.format.specs.Adding.{given}
 use Rattle.format.specs.Tidy.{fieldsText}
 use Rattle.format.specs.declared.Kind.the-variants.{Program}
 use Rattle.text.specs.Stands.{Stands, Each}
 use Rattle.text.proofs.Stands.{by-parts, each-map, stands-onward}
 use Rattle.text.proofs.Lines.{upto-le}
-use Rattle.field.specs.declared.Field as code
 use Rattle.accepted.proofs.Fields.{Of, lastOf-of}
 use Rattle.record.proofs.Turn.{tailScan, prepend}
-use Rattle.record.proofs.Walked.{Turned}
-use Rattle.record.proofs.Step.{clean-field, spelled-text}
 use Rattle.walk.specs.Run.{Runs}
-use Rattle.walk.specs.Next.{fieldLength}
-use Rattle.walk.proofs.Runs.{bytesOf, runs-none, runs-more, runs-stand}
+use Rattle.walk.proofs.Runs.{runs-none}
 use Rattle.given.proofs.Front as fr
 use Rattle.given.proofs.Front.{Front, front, given-tail, size, onward, more-run, own-stands}
 
@@ -30,7 +26,7 @@ use Rattle.given.proofs.Front.{Front, front, given-tail, size, onward, 
 abbrev Run : ℕ → List ℕ → Type 0
 Run at s = tailScan Program at s .stop ≡ 0 → Runs at s (tailScan Program at s .fields)
 
-pub fields-run : (at : ℕ) (s : List ℕ) → Run at s
+fields-run : (at : ℕ) (s : List ℕ) → Run at s
 unfolding tailScan prepend
 fields-run = by-parts Run (λ at s. go at s (front at s))
   where
@@ -71,8 +67,8 @@ fields-stand = by-parts Stand (λ at s. go at s (front at s))
         subst (λ z. Each (λ f. Stands (9 ∷ r) at (f .value)) (z .fields)) (sym (onward at r g t)) (
           own-stands at r g t,
           each-map (λ f. Stands (drop (suc n) (9 ∷ r)) (at + suc n) (f .value)) (λ f. Stands (9 ∷ r) at (f .value))
-          (λ f k. stands-onward (9 ∷ r) at (suc n) w (f .value) k)
-          (tailScan Program (at + suc n) (drop n r) .fields) (ih (suc n) p w),
+              (λ f k. stands-onward (9 ∷ r) at (suc n) w (f .value) k)
+              (tailScan Program (at + suc n) (drop n r) .fields) (ih (suc n) p w),
         )
 
 -- the given PP stands among the given fields

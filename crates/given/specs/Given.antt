@@ -1,5 +1,4 @@
 -- What is asked of the given fields, and where the given PP stands.
-use Prim.Native.Nat.{ℕ}
 use mathlib.Core.Bool.{Bool, not, _||_}
 use mathlib.Core.Option.{Option, none, some}
 use lib.ListN.{length}

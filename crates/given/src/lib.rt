@@ -4,7 +4,6 @@ use field::Taken;
 use format::Kind;
 ghost use mathlib.Core.Path.{_≡_};
 ghost use mathlib.Core.Bool.{not, _||_};
-ghost use lib.Dec.{eqb};
 ghost use Rattle.format.specs.Fields.{isValue, lastOf};
 ghost use Rattle.format.specs.Adding.{given, misformed};
 ghost use Rattle.tags.specs.Occurs.{occurs};

@@ -1,12 +1,10 @@
 -- `given::find_previous` meets its contract: the last PP so far, or else that of the fields which are left, stays.
-use Prim.Native.Nat.{ℕ, _+_, _-_, _≤_, _<_}
+use Prim.Native.Nat.{_+_, _-_, _≤_}
 use mathlib.Core.Path.{_≡_, sym, ap, _∙_}
-use mathlib.Core.List.{List}
 use native.Mathlib.Omega.{arith}
-use lib.ListN.{length, drop, length-drop}
+use lib.ListN.{length, drop}
 use borrow.Author.Needs.{needs}
 use Rattle.text.specs.Upto.{upto}
-use Rattle.text.proofs.Lines.{upto-le}
 use Rattle.field.proofs.Before.{rest}
 use Rattle.given.proofs.Last.{Seeking, seeking-start, seeking-end, bounds, seeking-same, seeking-other}
 use Rattle.given.proofs.find_previous.Statement.{statement}

@@ -1,5 +1,5 @@
 -- `given::is_barred` meets its contract: the tag is ID, or else it is looked for. Assumes nothing.
-use mathlib.Core.Path.{_≡_, sym, ap, _∙_}
+use mathlib.Core.Path.{sym, ap, _∙_}
 use mathlib.Core.Bool.{_||_}
 use borrow.Author.Needs.{needs}
 use Rattle.tags.specs.Occurs.{occurs}

@@ -1,5 +1,5 @@
 -- `given::is_in_form` meets its contract: the fields are judged where the prefix is a value.
-use mathlib.Core.Path.{_≡_, sym, ap, _∙_}
+use mathlib.Core.Path.{sym, ap, _∙_}
 use mathlib.Core.Bool.{not, _||_}
 use borrow.Author.Needs.{needs}
 use Rattle.format.specs.Adding.{given}

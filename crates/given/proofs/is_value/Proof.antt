@@ -1,5 +1,5 @@
 -- `given::is_value` meets its contract: what is taken up to a tab is a value, and is all of it.
-use mathlib.Core.Path.{_≡_, sym, _∙_}
+use mathlib.Core.Path.{sym, _∙_}
 use borrow.Author.Needs.{needs}
 use Rattle.given.proofs.Value.{value-wrong, value-taken}
 use Rattle.given.proofs.is_value.Statement.{statement}
