@@ -122,3 +122,4 @@ fn write_added(
         }
     }
 }
+

@@ -23,7 +23,7 @@ unfolding text onto lineText
 text-onto (refused n) rs = refl
 text-onto (read r) rs = refl
 
-text-append : (rs qs : List Record) → text (rs ++ qs) ≡ text rs ++ text qs
+pub text-append : (rs qs : List Record) → text (rs ++ qs) ≡ text rs ++ text qs
 unfolding text
 text-append [] qs = refl
 text-append (r ∷ rs) qs = ap (λ l. recordText r ++ l) (text-append rs qs) ∙ sym (append-assoc (recordText r) (text rs) (text qs))
