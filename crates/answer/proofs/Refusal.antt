@@ -21,8 +21,9 @@ refusal-size n l =
       length-append refusedWord (written n),
     )
 
-pub refusal-short : (n l : ℕ) → length (refusal n l) ≤ 55
-refusal-short n l = omega (arith, refusal-size n l, written-short n, written-short l)
+-- any refusal fits 55 bytes
+pub refusal-fits : (n l room : ℕ) → 55 ≤ room → length (refusal n l) ≤ room
+refusal-fits n l room h = omega (arith, refusal-size n l, written-short n, written-short l)
 
 -- the word, the number, the word, the line and the LF, each written behind the one before
 module _ (out : List ℕ) (n l : ℕ) (room : length (refusal n l) ≤ length out) where

@@ -6,14 +6,14 @@ use lib.ListN.{length}
 use Rattle.format.specs.Calls.{tidying}
 use Rattle.text.specs.Over.{over}
 use Rattle.answer.specs.Program.{refusal, said, program}
-use Rattle.answer.proofs.Refusal.{refusal-short}
+use Rattle.answer.proofs.Refusal.{refusal-fits}
 use Rattle.answer.proofs.Told.{program-long, program-taken, told-refused, told-count}
 use borrow.Author.Needs.{needs}
 use Rattle.answer.proofs.answer.Statement.{statement}
 use Rattle.answer.proofs.answer.Tie as tie
 
 put-refusal-requires : tie.Need-put-refusal-requires
-put-refusal-requires c κs = omega (arith, refusal-short 1 0)
+put-refusal-requires c κs = refusal-fits _ _ _ (omega arith)
 
 returns : tie.Need-returns
 returns c =
@@ -34,7 +34,7 @@ cast-put-refusal : tie.Need-cast-put-refusal
 cast-put-refusal c = search needs
 
 put-refusal-requires-2 : tie.Need-put-refusal-requires-2
-put-refusal-requires-2 c κs = let r = c .before .before .n2 .given .0 in omega (arith, refusal-short (r .0) (r .1 .0 .0))
+put-refusal-requires-2 c κs = refusal-fits _ _ _ (omega arith)
 
 -- what the program writes is what the tidying call answered
 taken : (c : tie.After-tidy) → (let a = c .before .before .before .before .args in
