@@ -65,7 +65,7 @@ pub extern "C" fn sam_header_tidy(text: &[u8], out: &mut [u8]) -> u64
     ensures answer { λ r. ⌜ r ≡ answerWord (answerOf (tidying (now (text .entry)) (length (now (out .entry))))) ⌝ }
     ensures wrote { λ _. ⌜ now (out .exit) ≡ outputOf (tidying (now (text .entry)) (length (now (out .entry)))) (now (out .entry)) ⌝ }
 {
-    answer_word(tidy::tidy(text, out))
+    answer_word(tidying::tidy(text, out))
 }
 
 #[no_mangle]

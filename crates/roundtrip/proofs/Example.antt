@@ -10,11 +10,12 @@ use Rattle.format.specs.Tidy.{unwritable}
 use Rattle.format.specs.Calls.{Answer, no, yes, records}
 use Rattle.roundtrip.specs.Faithful.{Allowed, tidied}
 
-pub ascii : String → List ℕ
+unfoldable pub ascii : String → List ℕ
 ascii nil = []
 ascii (cons c s) = code c ∷ ascii s
 
-pub given : List ℕ
+unfoldable pub given : List ℕ
+unfolding ascii
 given = ascii "@HD\tSO:unsorted\tVN:01.6\n@PG\tID:a\n@SQ\tLN:08\tSN:s1\n@CO\tx"
 
 -- the records that are answered

@@ -26,8 +26,9 @@ fn is_of_kind(src: &[u8], kind: Kind) -> bool
     requires { ⌜ 3 ≤ length (now src) ⌝ }
     ensures { λ r. ⌜ r ≡ hasKind kind (now (src .entry)) ⌝ }
 {
+    let a = src[1];
     let b = src[2];
-    if src[1] == writer::kind_first(kind) {
+    if a == writer::kind_first(kind) {
         return b == writer::kind_second(kind);
     }
     false

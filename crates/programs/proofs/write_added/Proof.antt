@@ -16,7 +16,7 @@ use Rattle.entries.specs.Entries.{entriesIn}
 use Rattle.parser.proofs.Told.{refused-answer, written-answer}
 use Rattle.tidy_text.specs.Accepted.{recordsOf}
 use Rattle.tidy_text.proofs.Lines.{opened}
-use Rattle.tidy.proofs.Writing.{measured-bad, measured-is, write-bad, write-long, write-short, write-fits}
+use Rattle.tidying.proofs.Writing.{measured-bad, measured-is, write-bad, write-long, write-short, write-fits}
 use Rattle.added.specs.Lines.{addedText}
 use Rattle.programs.specs.Added.{withAdded}
 use Rattle.programs.proofs.Sizes.{with-size, added-long, both-short}

@@ -9,11 +9,11 @@ use borrow.Author.Needs.{needs}
 use Rattle.tidy_text.proofs.is_of_kind.Statement.{statement}
 use Rattle.tidy_text.proofs.is_of_kind.Tie as tie
 
+shared-slice-read-a : tie.Need-shared-slice-read-a
+shared-slice-read-a c = search needs
+
 shared-slice-read-b : tie.Need-shared-slice-read-b
 shared-slice-read-b c = search needs
-
-shared-slice-read-if1 : tie.Need-shared-slice-read-if1
-shared-slice-read-if1 c = search needs
 
 kind-first-requires : tie.Need-kind-first-requires
 kind-first-requires c κs = search needs
@@ -39,8 +39,8 @@ pub is-of-kind-spec : {M : Type 1} → statement M
 is-of-kind-spec =
     tie.close
     (tie.spec
+    shared-slice-read-a
     shared-slice-read-b
-    shared-slice-read-if1
     kind-first-requires
     kind-second-requires
     returns

@@ -1,4 +1,4 @@
--- `tidy::write_accepted` meets its contract: the tidy text is measured, then written.
+-- `tidying::write_accepted` meets its contract: the tidy text is measured, then written.
 use Prim.Native.Nat.{ℕ, _≤_, _<_}
 use mathlib.Core.Path.{_≡_, refl, sym, ap, _∙_}
 use mathlib.Core.Option.{Option, none, some}
@@ -9,12 +9,12 @@ use Rattle.format.specs.Tidy.{tidy, unwritable}
 use Rattle.format.specs.Calls.{writing}
 use Rattle.parser.proofs.Told.{refused-answer, written-answer}
 use Rattle.tidy_text.specs.Accepted.{recordsOf}
-use Rattle.tidy.proofs.Writing.{measured-bad, measured-is, write-bad, write-long, write-short, write-fits}
+use Rattle.tidying.proofs.Writing.{measured-bad, measured-is, write-bad, write-long, write-short, write-fits}
 use borrow.Author.Needs.{needs}
-use Rattle.tidy.proofs.write_accepted.Statement.{statement}
-use Rattle.tidy.proofs.write_accepted.Tie as tie
-use Rattle.tidy.proofs.write_accepted.Reads as reads
-use Rattle.tidy.proofs.write_accepted.Lts as lts
+use Rattle.tidying.proofs.write_accepted.Statement.{statement}
+use Rattle.tidying.proofs.write_accepted.Tie as tie
+use Rattle.tidying.proofs.write_accepted.Reads as reads
+use Rattle.tidying.proofs.write_accepted.Lts as lts
 use Rattle.tidy_text.proofs.measure.Reads as measure-reads
 use Rattle.tidy_text.proofs.put_tidy.Reads as put-tidy-reads
 

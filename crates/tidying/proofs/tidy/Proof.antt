@@ -1,4 +1,4 @@
--- `tidy::tidy` meets its contract: the text is judged, then its tidy text written.
+-- `tidying::tidy` meets its contract: the text is judged, then its tidy text written.
 use Prim.Native.Nat.{ℕ, _≤_, _<_}
 use mathlib.Core.Path.{_≡_, refl, sym, ap, _∙_}
 use native.Mathlib.Omega.{arith}
@@ -9,15 +9,15 @@ use Rattle.format.specs.Calls.{tidying}
 use Rattle.parser.specs.Answers.{answerOf, outputOf}
 use Rattle.parser.proofs.Told.{too-long, text-refused, text-accepted, refused-answer}
 use Rattle.tidy_text.specs.Accepted.{isAccepted}
-use Rattle.tidy.proofs.Writing.{tidy-refused, tidy-accepted}
+use Rattle.tidying.proofs.Writing.{tidy-refused, tidy-accepted}
 use borrow.Author.Needs.{needs}
-use Rattle.tidy.proofs.tidy.Statement.{statement}
-use Rattle.tidy.proofs.tidy.Tie as tie
-use Rattle.tidy.proofs.tidy.Reads as reads
-use Rattle.tidy.proofs.tidy.Lts as lts
+use Rattle.tidying.proofs.tidy.Statement.{statement}
+use Rattle.tidying.proofs.tidy.Tie as tie
+use Rattle.tidying.proofs.tidy.Reads as reads
+use Rattle.tidying.proofs.tidy.Lts as lts
 use Rattle.parser.proofs.judge.Reads as judge-reads
 use Rattle.rules.proofs.is_strict.Reads as is-strict-reads
-use Rattle.tidy.proofs.write_accepted.Reads as write-accepted-reads
+use Rattle.tidying.proofs.write_accepted.Reads as write-accepted-reads
 
 -- the text is accepted
 accepted : (c : tie.After-enum-told)

@@ -1,0 +1,33 @@
+-- What the program on standard input writes, for every input.
+use Prim.Native.Nat.{ℕ}
+use mathlib.Core.Bool.{cond}
+use mathlib.Core.List.{List, [], _∷_, _++_}
+use lib.ListN.{length}
+use lib.Dec.{ltb}
+use Rattle.format.specs.Decimal.{written}
+use Rattle.format.specs.Reading.{longest}
+use Rattle.format.specs.Calls.{Answer, no, yes, tidying}
+
+-- `refused `
+unfoldable pub refusedWord : List ℕ
+refusedWord = 114 ∷ 101 ∷ 102 ∷ 117 ∷ 115 ∷ 101 ∷ 100 ∷ 32 ∷ []
+
+-- ` line `
+unfoldable pub lineWord : List ℕ
+lineWord = 32 ∷ 108 ∷ 105 ∷ 110 ∷ 101 ∷ 32 ∷ []
+
+-- `refused N line L` and LF, both numbers in decimal
+unfoldable pub refusal : ℕ → ℕ → List ℕ
+unfolding refusedWord lineWord written
+refusal n l = refusedWord ++ written n ++ lineWord ++ written l ++ (10 ∷ [])
+
+-- an answer as a text
+unfoldable pub said : Answer (List ℕ) → List ℕ
+unfolding refusal
+said (no n l) = refusal n l
+said (yes t) = t
+
+-- at most 65,535 bytes are taken; what is written has no limit of its own
+unfoldable pub program : List ℕ → List ℕ
+unfolding refusal said tidying longest
+program text = cond (ltb 65535 (length text)) (refusal 1 0) (said (tidying text longest))
