@@ -1,6 +1,6 @@
 -- The tidy text with new programs, and why nothing is added once the leaves are known.
 use Prim.Native.Nat.{ℕ, _+_}
-use mathlib.Core.Bool.{Bool, true, false, cond}
+use mathlib.Core.Bool.{Bool, true, false, not, cond}
 use mathlib.Core.List.{List, [], _∷_, _++_}
 use mathlib.Core.Option.{Option, none, some}
 use lib.ListN.{length}
@@ -15,6 +15,9 @@ use Rattle.format.specs.Calls.{Answer, then, untangled, writing}
 use Rattle.format.specs.declared.Kind.the-variants.{Comment}
 use Rattle.entries.specs.declared.Entry.{Entry}
 use Rattle.tidy_text.specs.Kinds.{textOfKind, frontText}
+use Rattle.ids.specs.Taken.{known}
+use Rattle.given.specs.declared.Given.{Given}
+use Rattle.given.specs.declared.Given.the-variants as given
 use Rattle.added.specs.Lines.{addedText}
 
 -- the new programs stand behind the old ones, and the comments last
@@ -26,6 +29,17 @@ withAdded rs new = frontText rs ++ new ++ textOfKind Comment rs
 unfoldable pub isNone : Option Piece → Bool
 isNone none = true
 isNone (some p) = false
+
+-- the same of where a given PP stands
+unfoldable pub isNothing : Given → Bool
+isNothing given.Nothing = true
+isNothing (given.At at len) = false
+
+-- a given PP that equals no ID
+unfoldable pub stray : List ℕ → List Entry → Option Piece → Bool
+unfolding known
+stray t es none = false
+stray t es (some p) = not (known t (p .bytes) es)
 
 -- 0, or 18, or 19
 unfoldable pub crowded : List Program → List Record → ℕ

@@ -11,6 +11,7 @@ ghost use mathlib.Core.Bool.{true, false, not, _||_, cond};
 ghost use mathlib.Core.List.{List, _++_};
 ghost use Prim.Native.Nat.{_≤_, _<_, _+_};
 ghost use lib.ListN.{length, drop};
+ghost use Prim.Native.Nat.{min};
 ghost use lib.Dec.{ltb};
 ghost use Rattle.format.specs.Bytes.{none?};
 ghost use Rattle.format.specs.Fields.{lastOf};
@@ -23,12 +24,14 @@ ghost use Rattle.format.specs.Adding.{given, misformed, isKnown};
 ghost use Rattle.format.specs.Calls.{writing, adding};
 ghost use Rattle.text.specs.Over.{over};
 ghost use Rattle.text.specs.Stands.{Each};
-ghost use Rattle.entries.specs.Entries.{entriesIn};
+ghost use Rattle.entries.specs.Entries.{entriesIn, counted};
 ghost use Rattle.lookup.specs.Parents.{Within};
 ghost use Rattle.parser.specs.Answers.{answerOf, outputOf};
 ghost use Rattle.tidy_text.specs.Accepted.{isAccepted, recordsOf};
+ghost use Rattle.ids.specs.Taken.{known};
+ghost use Rattle.given.specs.Given.{givenOf};
 ghost use Rattle.added.specs.Lines.{addedText};
-ghost use Rattle.programs.specs.Added.{withAdded, isNone, addingOn};
+ghost use Rattle.programs.specs.Added.{withAdded, isNothing, stray};
 
 // Writes the tidy text with the new programs behind the old ones, and answers its length.
 fn put_all(
@@ -123,3 +126,61 @@ fn write_added(
     }
 }
 
+
+// Whether an ID is no program's yet.
+fn is_free(text: &[u8], kept: &[u8], id: &[u8]) -> bool
+    requires { ⌜ Each (Within (length (now text))) (entriesIn (now kept)) ⌝ }
+    requires { ⌜ counted 4 (entriesIn (now kept)) ≤ 1024 ⌝ }
+    ensures { λ r. ⌜ r ≡ not (known (now (text .entry)) (now (id .entry)) (entriesIn (now (kept .entry)))) ⌝ }
+{
+    match lookup::find_program(text, kept, id) {
+        Named::Nobody => true,
+        Named::Is(_) => false,
+    }
+}
+
+// Whether no PP is given, so that a new program's PP is its leaf's ID.
+fn is_linked(previous: Given) -> bool
+    ensures { λ r. ⌜ r ≡ isNothing previous ⌝ }
+{
+    match previous {
+        Given::Nothing => true,
+        Given::At(_, _) => false,
+    }
+}
+
+// Whether a PP is given that equals no ID.
+fn is_stray(text: &[u8], kept: &[u8], fields: &[u8], previous: Given) -> bool
+    requires { ⌜ Each (Within (length (now text))) (entriesIn (now kept)) ⌝ }
+    requires { ⌜ counted 4 (entriesIn (now kept)) ≤ 1024 ⌝ }
+    requires { ⌜ previous ≡ givenOf (lastOf 80 80 (given (now fields) .fields)) ⌝ }
+    ensures { λ r. ⌜ r ≡ stray (now (text .entry)) (entriesIn (now (kept .entry))) (lastOf 80 80 (given (now (fields .entry)) .fields)) ⌝ }
+{
+    match previous {
+        Given::Nothing => false,
+        Given::At(at, len) => is_free(text, kept, &fields[at..at + len]),
+    }
+}
+
+// Which leaves' IDs are joined to the prefix: all from here on, since the first one's is the prefix alone where that is free.
+fn first_joined(count: usize, alone: bool) -> usize
+    ensures { λ r. ⌜ r ≡ cond alone (min 1 count) 0 ⌝ }
+{
+    if !alone {
+        return 0;
+    }
+    if count == 0 {
+        return 0;
+    }
+    1
+}
+
+// How many programs are added: one after each leaf, or one where there is none.
+fn new_count(leaves: usize, empty: bool) -> usize
+    ensures { λ r. ⌜ r ≡ cond empty 1 leaves ⌝ }
+{
+    if empty {
+        return 1;
+    }
+    leaves
+}
