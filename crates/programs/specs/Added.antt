@@ -8,7 +8,7 @@ use lib.Dec.{ltb}
 use Rattle.format.specs.Lines.{Piece}
 use Rattle.format.specs.Fields.{Field}
 use Rattle.format.specs.Records.{Record}
-use Rattle.format.specs.Programs.{Program, programs}
+use Rattle.format.specs.Programs.{Program, programs, links, leaves}
 use Rattle.format.specs.Tidy.{tidy, unwritable}
 use Rattle.format.specs.Adding.{added, used}
 use Rattle.format.specs.Calls.{Answer, then, untangled, writing}
@@ -40,6 +40,11 @@ unfoldable pub stray : List ℕ → List Entry → Option Piece → Bool
 unfolding known
 stray t es none = false
 stray t es (some p) = not (known t (p .bytes) es)
+
+-- the leaves of the programs that are there
+unfoldable pub leavesOf : List Record → List ℕ
+unfolding leaves links programs
+leavesOf rs = leaves (links (programs rs))
 
 -- 0, or 18, or 19
 unfoldable pub crowded : List Program → List Record → ℕ

@@ -31,7 +31,7 @@ ghost use Rattle.tidy_text.specs.Accepted.{isAccepted, recordsOf};
 ghost use Rattle.ids.specs.Taken.{known};
 ghost use Rattle.given.specs.Given.{givenOf};
 ghost use Rattle.added.specs.Lines.{addedText};
-ghost use Rattle.programs.specs.Added.{withAdded, isNothing, stray};
+ghost use Rattle.programs.specs.Added.{withAdded, isNone, isNothing, stray, leavesOf, addingOn};
 
 // Writes the tidy text with the new programs behind the old ones, and answers its length.
 fn put_all(
@@ -183,4 +183,37 @@ fn new_count(leaves: usize, empty: bool) -> usize
         return 1;
     }
     leaves
+}
+
+// What is left to do once the leaves are known: 18, 19, 24, 1, 20, and then the text.
+fn add_after(
+    text: &[u8],
+    kept: &[u8],
+    prefix: &[u8],
+    fields: &[u8],
+    leaves: &[u32],
+    count: usize,
+    linked: bool,
+    out: &mut [u8],
+) -> Answer
+    requires { ⌜ isAccepted (readText (now text)) ≡ true ⌝ }
+    requires { ⌜ now kept ≡ catalogue (recordsOf (readText (now text))) ⌝ }
+    requires { ⌜ given (now fields) .stop ≡ 0 ⌝ }
+    requires { ⌜ now leaves ≡ leavesOf (recordsOf (readText (now text))) ⌝ }
+    requires { ⌜ count ≡ length (programs (recordsOf (readText (now text)))) ⌝ }
+    requires { ⌜ linked ≡ isNone (lastOf 80 80 (given (now fields) .fields)) ⌝ }
+    requires { ⌜ (0 < count → 0 < length (now leaves)) ⌝ }
+    ensures answer { λ r. ⌜ r ≡ answerOf (addingOn (recordsOf (readText (now (text .entry)))) (now (prefix .entry)) (given (now (fields .entry)) .fields) (length (now (out .entry)))) ⌝ }
+    ensures wrote { λ _. ⌜ now (out .exit) ≡ outputOf (addingOn (recordsOf (readText (now (text .entry)))) (now (prefix .entry)) (given (now (fields .entry)) .fields) (length (now (out .entry)))) (now (out .entry)) ⌝ }
+{
+    let alone = is_free(text, kept, prefix);
+    let first = first_joined(leaves.len(), alone);
+    if ids::is_taken(text, kept, prefix, &leaves[first..]) {
+        return Answer::Refused(18, LineNo(0));
+    }
+    let empty = count == 0;
+    if 1024 < count + new_count(leaves.len(), empty) {
+        return Answer::Refused(19, LineNo(0));
+    }
+    write_added(text, kept, prefix, fields, leaves, empty, alone, linked, out)
 }
