@@ -207,5 +207,15 @@ pub fn put_added(
     if empty {
         return put_line(out, o, prefix, fields, &text[..0], true, false);
     }
-    put_lines(out, o, text, catalogue, prefix, fields, leaves, alone, linked)
+    put_lines(
+        out,
+        o,
+        text,
+        catalogue,
+        prefix,
+        fields,
+        leaves,
+        alone,
+        linked,
+    )
 }

@@ -18,7 +18,7 @@ use Rattle.chains.specs.Parents.{linksOf, within, inArray}
 use Rattle.entries.specs.Entries.{entriesIn, counted}
 use Rattle.lookup.specs.Parents.{Within, parentsIn, strays}
 use Rattle.lookup.proofs.Kept.{text-inside, text-few}
-use Rattle.lookup.proofs.Numbers.{array-front, parents-few, parents-dangling, parents-roots, parents-links, parents-within}
+use Rattle.lookup.proofs.Numbers.{array-front, parents-few, parents-count, parents-dangling, parents-roots, parents-links, parents-within}
 use Rattle.parser.specs.Accepted.{recordsOf}
 use Rattle.parser.specs.Answers.{outputOf}
 use Rattle.parser.proofs.Told.{refused-answer, written-answer}
@@ -82,6 +82,9 @@ module _ (t c : List ℕ) (own : Current t c) where
   pub few-parents : length parents ≤ 1024
   few-parents = omega (arith, ap length found, parents-few t rs (own .reads))
 
+  pub parents-programs : length parents ≡ length (programs rs)
+  parents-programs = ap length found ∙ parents-count t rs (own .reads)
+
   pub rooted : (room : ℕ) → rooting t c room ≡ fitting room (roots (linksOf parents))
   unfolding rooting
   rooted room =
@@ -93,7 +96,7 @@ module _ (t c : List ℕ) (own : Current t c) where
   abbrev own-links : List Link
   own-links = links (programs rs)
 
-  dangles : strays parents ≡ any isDangling own-links
+  pub dangles : strays parents ≡ any isDangling own-links
   dangles = ap strays found ∙ parents-dangling t rs (own .reads)
 
   leaved : (room n : ℕ) → tangled own-links ≡ n
@@ -108,18 +111,18 @@ module _ (t c : List ℕ) (own : Current t c) where
   leaves-dangling room d = leaved room 22 (rw (sym dangles ∙ d) refl)
 
   module _ (d : strays parents ≡ false) where
-    none : any isDangling own-links ≡ false
-    none = sym dangles ∙ d
+    pub none-dangle : any isDangling own-links ≡ false
+    none-dangle = sym dangles ∙ d
 
     pub same-links : linksOf parents ≡ own-links
-    same-links = ap linksOf found ∙ parents-links t rs (own .reads) none
+    same-links = ap linksOf found ∙ parents-links t rs (own .reads) none-dangle
 
     pub all-within : within (length parents) parents ≡ true
-    all-within = subst (λ ps. within (length ps) ps ≡ true) (sym found) (parents-within t rs (own .reads) none)
+    all-within = subst (λ ps. within (length ps) ps ≡ true) (sym found) (parents-within t rs (own .reads) none-dangle)
 
-    loops : (b : Bool) → loopsFrom (linksOf parents) 0 (linksOf parents) ≡ b → tangled own-links ≡ cond b 23 0
+    pub loops : (b : Bool) → loopsFrom (linksOf parents) 0 (linksOf parents) ≡ b → tangled own-links ≡ cond b 23 0
     unfolding tangled
-    loops b e = rw (none, sym (ap (λ ls. loopsFrom ls 0 ls) same-links) ∙ e) refl
+    loops b e = rw (none-dangle, sym (ap (λ ls. loopsFrom ls 0 ls) same-links) ∙ e) refl
 
     pub leaves-cycle : (room : ℕ) → loopsFrom (linksOf parents) 0 (linksOf parents) ≡ true → leafing t c room ≡ no 23 0
     unfolding untangled then

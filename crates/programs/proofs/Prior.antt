@@ -85,8 +85,7 @@ module _ (t : List ℕ) (es : List Entry) (fields : List ℕ) where
       go (some p) q f =
           let h = previous-stands fields p q in
           let x = some-at p a n f in
-          let z : a + n - a ≡ length (p .bytes) = omega (arith, x .1) in
-          (
+          let z : a + n - a ≡ length (p .bytes) = omega (arith, x .1) in (
             omega (arith, h .0, x),
             ap (λ b. not (known t b es)) (ap (λ m. take m (drop a fields)) z ∙ ap (λ m. take (length (p .bytes)) (drop m fields)) (sym (x .0)) ∙ sym (h .1)) ∙ some-stray t es p,
           )

@@ -5,7 +5,6 @@ use mathlib.Core.Bool.{Bool, true, false, not, cond}
 use mathlib.Core.List.{List, [], _∷_, _++_, append-assoc, append-nil}
 use mathlib.Core.Option.{Option, none, some}
 use lib.ListN.{length, getD}
-
 use lib.Dec.{eqb}
 use Rattle.format.specs.Bytes.{none?}
 use Rattle.format.specs.Lines.{Piece}

@@ -119,13 +119,21 @@ fn write_added(
                 return Answer::Refused(20, LineNo(0));
             }
             let n = put_all(
-                text, kept, strict, prefix, fields, leaves, empty, alone, linked, out,
+                text,
+                kept,
+                strict,
+                prefix,
+                fields,
+                leaves,
+                empty,
+                alone,
+                linked,
+                out,
             );
             Answer::Count(n)
         }
     }
 }
-
 
 // Whether an ID is no program's yet.
 fn is_free(text: &[u8], kept: &[u8], id: &[u8]) -> bool
@@ -215,5 +223,57 @@ fn add_after(
     if 1024 < count + new_count(leaves.len(), empty) {
         return Answer::Refused(19, LineNo(0));
     }
-    write_added(text, kept, prefix, fields, leaves, empty, alone, linked, out)
+    write_added(
+        text,
+        kept,
+        prefix,
+        fields,
+        leaves,
+        empty,
+        alone,
+        linked,
+        out,
+    )
+}
+
+// Adds a program after each leaf, and writes the tidy text to the front of `out`: reading's refusals, 21, 26, 22, 23, 18, 19, 24, 1, 20.
+pub fn add(text: &[u8], kept: &[u8], prefix: &[u8], fields: &[u8], out: &mut [u8]) -> Answer
+    ensures answer { λ r. ⌜ r ≡ answerOf (adding (now (text .entry)) (now (kept .entry)) (now (prefix .entry)) (now (fields .entry)) (length (now (out .entry)))) ⌝ }
+    ensures wrote { λ _. ⌜ now (out .exit) ≡ outputOf (adding (now (text .entry)) (now (kept .entry)) (now (prefix .entry)) (now (fields .entry)) (length (now (out .entry)))) (now (out .entry)) ⌝ }
+{
+    match parser::check(text, kept) {
+        Checked::Refused(n, line) => Answer::Refused(n, line),
+        Checked::Fresh => {
+            if !given::is_in_form(prefix, fields) {
+                return Answer::Refused(26, LineNo(0));
+            }
+            let previous = given::find_previous(fields);
+            if is_stray(text, kept, fields, previous) {
+                return Answer::Refused(22, LineNo(0));
+            }
+            let parents = lookup::find_parents(text, kept);
+            if parents.dangling {
+                return Answer::Refused(22, LineNo(0));
+            }
+            let count = parents.count;
+            let list = parents.list;
+            let links = &list[..count];
+            if chains::has_cycle(links) {
+                return Answer::Refused(23, LineNo(0));
+            }
+            let found = chains::leaves(links);
+            let ordinals = found.list;
+            let leaves = &ordinals[..found.count];
+            add_after(
+                text,
+                kept,
+                prefix,
+                fields,
+                leaves,
+                count,
+                is_linked(previous),
+                out,
+            )
+        }
+    }
 }

@@ -77,7 +77,15 @@ pub fn put_tag(out: &mut [u8], o: usize, a: u8, b: u8) -> usize
 }
 
 // Writes a field whose value is the `len` bytes of the line from `from` on.
-pub fn put_field(out: &mut [u8], o: usize, a: u8, b: u8, line: &[u8], from: usize, len: usize) -> usize
+pub fn put_field(
+    out: &mut [u8],
+    o: usize,
+    a: u8,
+    b: u8,
+    line: &[u8],
+    from: usize,
+    len: usize,
+) -> usize
     requires { ⌜ from + len ≤ length (now line) ⌝ }
     requires { ⌜ o + 4 + len ≤ length (now out) ⌝ }
     ensures next { λ r. ⌜ r ≡ o + length (fieldText a b (take len (drop from (now (line .entry))))) ⌝ }

@@ -68,7 +68,7 @@ returns c =
     let tagged = wrote-then (a .out .now) (a .o) _ _ _ _ (prefixText Program) tag (p .put-prefix .ensures) (t .put-tag .ensures) (omega (arith, size s)) in
     let named = wrote-then (a .out .now) (a .o) _ _ _ _ (prefixText Program ++ tag) (a .prefix .now) tagged (x .put-slice .ensures) (omega (arith, size s, length-append (prefixText Program ++ tag) (a .prefix .now))) in
     let front = wrote-then (a .out .now) (a .o) _ _ _ _ (prefixText Program ++ tag ++ a .prefix .now) id named (j .put-joining .ensures)
-        (omega (arith, size s, length-append (prefixText Program ++ tag) (a .prefix .now), length-append (prefixText Program ++ tag ++ a .prefix .now) id)) in
+    (omega (arith, size s, length-append (prefixText Program ++ tag) (a .prefix .now), length-append (prefixText Program ++ tag ++ a .prefix .now) id)) in
     wrote-then (a .out .now) (a .o) _ _ _ _ (prefixText Program ++ tag ++ a .prefix .now ++ id) (ending (a .linked) (a .fields .now) (a .id .now)) front (e .put-ending .ensures) (s .pre)
 
 pub put-line-spec : {M : Type 1} → statement M

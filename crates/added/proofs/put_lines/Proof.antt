@@ -56,8 +56,8 @@ more c =
     let ys = newLines (a .text .now) es false (a .linked) (a .prefix .now) (a .fields .now) (drop (l .i + 1) (a .leaves .now)) in
     let h : l .i < length (a .leaves .now) = omega arith in
     let e : newLines (a .text .now) es (l .first) (a .linked) (a .prefix .now) (a .fields .now) (drop (l .i) (a .leaves .now)) ≡ xs ++ ys =
-        lines-more (a .text .now) es (a .linked) (a .prefix .now) (a .fields .now) (a .leaves .now) (l .first) (l .i) h
-        ∙ ap (λ i. newLine (l .first) (a .linked) (a .prefix .now) (a .fields .now) i ++ ys) (sym (c .find-id .ensures)) in
+    lines-more (a .text .now) es (a .linked) (a .prefix .now) (a .fields .now) (a .leaves .now) (l .first) (l .i) h
+    ∙ ap (λ i. newLine (l .first) (a .linked) (a .prefix .now) (a .fields .now) i ++ ys) (sym (c .find-id .ensures)) in
     (e, omega (arith, l .inv .1, ap length e, length-append xs ys))
 
 put-line-requires : tie.Need-put-line-requires Inv-loop μ-loop

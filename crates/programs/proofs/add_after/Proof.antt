@@ -170,12 +170,12 @@ returns-3 c =
     let rs = records s in
     let alone = n .before .before .before .before .before .is-free .result in
     let whole : withAdded rs (addedText (a .text .now) (entriesIn (a .kept .now)) (eqb (a .count) 0) alone (a .linked) (a .prefix .now) (a .fields .now) (a .leaves .now)) ≡ tidy (rs ++ added (a .prefix .now) (fieldsOf s) (programs rs)) =
-        ap (λ k. withAdded rs (addedText (a .text .now) (entriesIn k) (eqb (a .count) 0) alone (a .linked) (a .prefix .now) (a .fields .now) (a .leaves .now))) (s .pre .1 .0)
-        ∙ ap (λ xs. withAdded rs (addedText (a .text .now) (entriesIn (catalogue rs)) (eqb (a .count) 0) alone (a .linked) (a .prefix .now) (a .fields .now) xs)) (leaves-are s)
-        ∙ written-is (a .text .now) rs (reads s) (a .prefix .now) (a .fields .now) (fieldsOf s) (given-text (a .fields .now) (s .pre .1 .1 .0)) (eqb (a .count) 0) alone (a .linked) (ap (λ m. eqb m 0) (s .pre .1 .1 .1 .1 .0)) (free (n .before .before .before .before .before)) (s .pre .1 .1 .1 .1 .1 .0) in
+    ap (λ k. withAdded rs (addedText (a .text .now) (entriesIn k) (eqb (a .count) 0) alone (a .linked) (a .prefix .now) (a .fields .now) (a .leaves .now))) (s .pre .1 .0)
+    ∙ ap (λ xs. withAdded rs (addedText (a .text .now) (entriesIn (catalogue rs)) (eqb (a .count) 0) alone (a .linked) (a .prefix .now) (a .fields .now) xs)) (leaves-are s)
+    ∙ written-is (a .text .now) rs (reads s) (a .prefix .now) (a .fields .now) (fieldsOf s) (given-text (a .fields .now) (s .pre .1 .1 .0)) (eqb (a .count) 0) alone (a .linked) (ap (λ m. eqb m 0) (s .pre .1 .1 .1 .1 .0)) (free (n .before .before .before .before .before)) (s .pre .1 .1 .1 .1 .1 .0) in
     let on : writing room (unwritable 0 rs) (withAdded rs (addedText (a .text .now) (entriesIn (a .kept .now)) (eqb (a .count) 0) alone (a .linked) (a .prefix .now) (a .fields .now) (a .leaves .now))) ≡ addingOn rs (a .prefix .now) (fieldsOf s) room =
-        ap (writing room (unwritable 0 rs)) whole
-        ∙ sym (on-few rs (a .prefix .now) (fieldsOf s) room (sym (used-is (n .before .before)) ∙ n .before .if1 .left) (omega (arith, e .if2 .left, new-is n, s .pre .1 .1 .1 .1 .0))) in
+    ap (writing room (unwritable 0 rs)) whole
+    ∙ sym (on-few rs (a .prefix .now) (fieldsOf s) room (sym (used-is (n .before .before)) ∙ n .before .if1 .left) (omega (arith, e .if2 .left, new-is n, s .pre .1 .1 .1 .1 .0))) in
     (w .write-added .ensures .0 ∙ ap answerOf on, w .write-added .ensures .1 ∙ ap (λ x. outputOf x (a .out .now)) on)
 
 pub add-after-spec : {M : Type 1} → statement M
