@@ -1,18 +1,23 @@
--- `readings::is_untouched` is safe and ends at the length. Assumes nothing.
-use Prim.Native.Nat.{_≤_, _-_}
-use borrow.Author.Needs.{needs}
+-- `cases::is_unlisted` is safe and ends. Assumes nothing.
+use Prim.Native.Nat.{_≤_, _<_, _-_}
+use mathlib.Core.Path.{_≡_}
+use native.Mathlib.Omega.{arith}
 use lib.ListN.{length}
-use Rattle.readings.proofs.is_untouched.Statement.{statement}
-use Rattle.readings.proofs.is_untouched.Tie as tie
+use borrow.Author.Needs.{needs}
+use Rattle.cases.proofs.is_unlisted.Statement.{statement}
+use Rattle.cases.proofs.is_unlisted.Tie as tie
 
 abbrev Inv-loop : tie.InvT-loop
-Inv-loop kept i₀ i = i ≤ length kept
+Inv-loop list i₀ i = i ≤ length list
 
 abbrev μ-loop : tie.MeasureT-loop
-μ-loop kept i₀ i = length kept - i
+μ-loop list i₀ i = length list - i
 
 loop-holds : tie.Need-loop-holds Inv-loop μ-loop
 loop-holds c = search needs
+
+mul-if1 : tie.Need-mul-if1 Inv-loop μ-loop
+mul-if1 c = search needs
 
 shared-slice-read-if1 : tie.Need-shared-slice-read-if1 Inv-loop μ-loop
 shared-slice-read-if1 c = search needs
@@ -32,13 +37,14 @@ loop-again c = search needs
 returns-2 : tie.Need-returns-2 Inv-loop μ-loop
 returns-2 c = search needs
 
-pub is-untouched-spec : {M : Type 1} → statement M
-is-untouched-spec =
+pub is-unlisted-spec : {M : Type 1} → statement M
+is-unlisted-spec =
     tie.close
     (tie.spec
     Inv-loop
     μ-loop
     loop-holds
+    mul-if1
     shared-slice-read-if1
     returns
     add-i

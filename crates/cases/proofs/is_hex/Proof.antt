@@ -1,19 +1,28 @@
--- `readings::decode` meets its contract: the bytes written are within the buffer and have two digits each. Assumes nothing.
+-- `cases::is_hex` is safe and ends. Assumes nothing.
 use Prim.Native.Nat.{_≤_, _-_, _/_}
 use mathlib.Core.Path.{_≡_}
-use borrow.Author.Needs.{needs}
 use lib.ListN.{length}
-use Rattle.readings.proofs.decode.Statement.{statement}
-use Rattle.readings.proofs.decode.Tie as tie
+use borrow.Author.Needs.{needs}
+use Rattle.cases.proofs.is_hex.Statement.{statement}
+use Rattle.cases.proofs.is_hex.Tie as tie
 
 abbrev Inv-loop : tie.InvT-loop
-Inv-loop hex text₀ n i₀ text i = (i ≤ n) × (n ≤ length text₀) × (n ≤ length hex / 2) × (length text ≡ length text₀)
+Inv-loop s bytes i₀ i = (i ≤ length bytes) × (length s / 2 ≡ length bytes)
 
 abbrev μ-loop : tie.MeasureT-loop
-μ-loop hex text₀ n i₀ text i = n - i
+μ-loop s bytes i₀ i = length bytes - i
 
-least-requires : tie.Need-least-requires Inv-loop μ-loop
-least-requires c κs = search needs
+slice-aggregate-same : tie.Need-slice-aggregate-same Inv-loop μ-loop
+slice-aggregate-same c = search needs
+
+same-requires : tie.Need-same-requires Inv-loop μ-loop
+same-requires c κs = search needs
+
+returns : tie.Need-returns Inv-loop μ-loop
+returns c = search needs
+
+returns-2 : tie.Need-returns-2 Inv-loop μ-loop
+returns-2 c = search needs
 
 loop-holds : tie.Need-loop-holds Inv-loop μ-loop
 loop-holds c = search needs
@@ -27,8 +36,8 @@ shared-slice-read-digit c = search needs
 digit-requires : tie.Need-digit-requires Inv-loop μ-loop
 digit-requires c κs = search needs
 
-mul-text : tie.Need-mul-text Inv-loop μ-loop
-mul-text c = search needs
+mul-if3 : tie.Need-mul-if3 Inv-loop μ-loop
+mul-if3 c = search needs
 
 mul-digit-2 : tie.Need-mul-digit-2 Inv-loop μ-loop
 mul-digit-2 c = search needs
@@ -42,11 +51,14 @@ shared-slice-read-digit-2 c = search needs
 digit-requires-2 : tie.Need-digit-requires-2 Inv-loop μ-loop
 digit-requires-2 c κs = search needs
 
-add-text : tie.Need-add-text Inv-loop μ-loop
-add-text c = search needs
+add-if3 : tie.Need-add-if3 Inv-loop μ-loop
+add-if3 c = search needs
 
-slice-write-text : tie.Need-slice-write-text Inv-loop μ-loop
-slice-write-text c = search needs
+shared-slice-read-if3 : tie.Need-shared-slice-read-if3 Inv-loop μ-loop
+shared-slice-read-if3 c = search needs
+
+returns-3 : tie.Need-returns-3 Inv-loop μ-loop
+returns-3 c = search needs
 
 add-i : tie.Need-add-i Inv-loop μ-loop
 add-i c = search needs
@@ -57,32 +69,32 @@ loop-less c = search needs
 loop-again : tie.Need-loop-again Inv-loop μ-loop
 loop-again c = search needs
 
-same-length : tie.Need-same-length Inv-loop μ-loop
-same-length c = search needs
+returns-4 : tie.Need-returns-4 Inv-loop μ-loop
+returns-4 c = search needs
 
-returns : tie.Need-returns Inv-loop μ-loop
-returns c = search needs
-
-pub decode-spec : {M : Type 1} → statement M
-decode-spec =
+pub is-hex-spec : {M : Type 1} → statement M
+is-hex-spec =
     tie.close
     (tie.spec
     Inv-loop
     μ-loop
-    least-requires
+    slice-aggregate-same
+    same-requires
+    returns
+    returns-2
     loop-holds
     mul-digit
     shared-slice-read-digit
     digit-requires
-    mul-text
+    mul-if3
     mul-digit-2
     add-digit
     shared-slice-read-digit-2
     digit-requires-2
-    add-text
-    slice-write-text
+    add-if3
+    shared-slice-read-if3
+    returns-3
     add-i
     loop-less
     loop-again
-    same-length
-    returns)
+    returns-4)

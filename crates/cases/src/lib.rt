@@ -1,0 +1,191 @@
+// Cases that stand in files: their words, numbers and bytes in hex, and a filler that shows what a call has written.
+ghost use mathlib.Core.Path.{_≡_};
+ghost use Prim.Native.Nat.{_<_, _≤_, _+_};
+ghost use lib.ListN.{length, take};
+
+// What an output of bytes holds before a call.
+pub const FILLER: u8 = 0xa5;
+
+// What an output of ordinals holds before a call: no program has this ordinal.
+pub const NO_ORDINAL: u32 = 0xa5a5a5a5;
+
+// The smaller of two.
+pub fn least(a: usize, b: usize) -> usize
+    ensures { λ r. ⌜ (r ≤ a) × (r ≤ b) ⌝ }
+{
+    if a < b { a } else { b }
+}
+
+// The value of a digit, decimal or hex, and 0 for any other byte.
+fn digit(b: u8) -> u8
+    ensures { λ r. ⌜ r < 16 ⌝ }
+{
+    if b < b'0' {
+        return 0;
+    }
+    if b <= b'9' {
+        return b - b'0';
+    }
+    if b < b'a' {
+        return 0;
+    }
+    if b <= b'f' {
+        return b - b'a' + 10;
+    }
+    0
+}
+
+// The number that `s` spells, by its last ten digits.
+pub fn number(s: &[u8]) -> usize
+    ensures { λ r. ⌜ r < 10000000016 ⌝ }
+{
+    let mut n: usize = 0;
+    let mut i: usize = 0;
+    while i < s.len() {
+        n = n % 1000000000 * 10 + digit(s[i]) as usize;
+        i += 1;
+    }
+    n
+}
+
+// Puts the bytes that `hex` spells at the front of `text`, as many as fit, and answers how many.
+pub fn decode(hex: &[u8], text: &mut [u8]) -> usize
+    ensures { λ r. ⌜ (r ≤ length (now (text .exit))) × (r ≡ length (take r (now (text .exit)))) × (length (now (text .exit)) ≡ length (now (text .entry))) ⌝ }
+{
+    let n = least(hex.len() / 2, text.len());
+    let mut i: usize = 0;
+    while i < n {
+        text[i] = digit(hex[2 * i]) * 16 + digit(hex[2 * i + 1]);
+        i += 1;
+    }
+    n
+}
+
+// Fills `kept`, so that a byte that is written shows.
+pub fn fill(kept: &mut [u8])
+    ensures { λ _. ⌜ length (now (kept .exit)) ≡ length (now (kept .entry)) ⌝ }
+{
+    let mut i: usize = 0;
+    while i < kept.len() {
+        kept[i] = FILLER;
+        i += 1;
+    }
+}
+
+// Whether no byte has been written over.
+pub fn is_untouched(kept: &[u8]) -> bool {
+    let mut i: usize = 0;
+    while i < kept.len() {
+        if kept[i] != FILLER {
+            return false;
+        }
+        i += 1;
+    }
+    true
+}
+
+// Whether no ordinal has been written over.
+pub fn is_unlisted(list: &[u32]) -> bool {
+    let mut i: usize = 0;
+    while i < list.len() {
+        if list[i] != NO_ORDINAL {
+            return false;
+        }
+        i += 1;
+    }
+    true
+}
+
+// Where the piece of `s` from `at` on ends: at the next `d`, or at the end.
+pub fn until(s: &[u8], at: usize, d: u8) -> usize
+    requires { ⌜ at ≤ length (now s) ⌝ }
+    ensures { λ r. ⌜ (at ≤ r) × (r ≤ length (now (s .entry))) ⌝ }
+{
+    at + text::upto(&s[at..], d)
+}
+
+// Where word `k` of a line starts, counted from 0: words are parted by one space. The line's end where there is none.
+fn word_start(line: &[u8], k: usize) -> usize
+    ensures { λ r. ⌜ r ≤ length (now (line .entry)) ⌝ }
+{
+    let mut at: usize = 0;
+    let mut left = k;
+    while 0 < left {
+        at = until(line, at, b' ');
+        if at == line.len() {
+            return at;
+        }
+        at += 1;
+        left -= 1;
+    }
+    at
+}
+
+// Word `k` of a line: empty where there is none.
+pub fn word(line: &[u8], k: usize) -> &[u8] {
+    let start = word_start(line, k);
+    let end = until(line, start, b' ');
+    &line[start..end]
+}
+
+// Whether `s` is `n` in decimal.
+pub fn is_number(s: &[u8], n: u64) -> bool {
+    let mut rest = n;
+    let mut i = s.len();
+    while 0 < i {
+        i -= 1;
+        if s[i] != b'0' + (rest % 10) as u8 {
+            return false;
+        }
+        rest /= 10;
+    }
+    if s.len() == 0 {
+        return false;
+    }
+    rest == 0
+}
+
+// Whether `s` is these bytes in hex, `-` for none.
+pub fn is_hex(s: &[u8], bytes: &[u8]) -> bool {
+    if bytes.len() == 0 {
+        return text::same(s, b"-");
+    }
+    if s.len() / 2 != bytes.len() {
+        return false;
+    }
+    let mut i: usize = 0;
+    while i < bytes.len() {
+        if digit(s[2 * i]) * 16 + digit(s[2 * i + 1]) != bytes[i] {
+            return false;
+        }
+        i += 1;
+    }
+    true
+}
+
+// The number of four hex digits.
+fn four(s: &[u8], at: usize) -> u32
+    requires { ⌜ at + 4 ≤ length (now s) ⌝ }
+{
+    let high = digit(s[at]) as u32 * 16 + digit(s[at + 1]) as u32;
+    let low = digit(s[at + 2]) as u32 * 16 + digit(s[at + 3]) as u32;
+    high * 256 + low
+}
+
+// Whether `s` is these ordinals in hex, four digits each, `-` for none.
+pub fn is_ordinals(s: &[u8], list: &[u32]) -> bool {
+    if list.len() == 0 {
+        return text::same(s, b"-");
+    }
+    if s.len() / 4 != list.len() {
+        return false;
+    }
+    let mut i: usize = 0;
+    while i < list.len() {
+        if four(s, 4 * i) != list[i] {
+            return false;
+        }
+        i += 1;
+    }
+    true
+}
