@@ -9,6 +9,13 @@ pub const FILLER: u8 = 0xa5;
 // What an output of ordinals holds before a call: no program has this ordinal.
 pub const NO_ORDINAL: u32 = 0xa5a5a5a5;
 
+// 131,072 zeros, for a file or a part of one.
+pub fn space() -> [u8; 131072]
+    ensures { λ r. ⌜ 131072 ≡ length r ⌝ }
+{
+    [0; 131072]
+}
+
 // The smaller of two.
 pub fn least(a: usize, b: usize) -> usize
     ensures { λ r. ⌜ (r ≤ a) × (r ≤ b) ⌝ }
@@ -128,7 +135,7 @@ pub fn word(line: &[u8], k: usize) -> &[u8] {
     &line[start..end]
 }
 
-// Whether `s` is `n` in decimal.
+// Whether `s` is `n` in decimal, without leading zeros.
 pub fn is_number(s: &[u8], n: u64) -> bool {
     let mut rest = n;
     let mut i = s.len();
@@ -138,11 +145,11 @@ pub fn is_number(s: &[u8], n: u64) -> bool {
             return false;
         }
         rest /= 10;
+        if rest == 0 {
+            return i == 0;
+        }
     }
-    if s.len() == 0 {
-        return false;
-    }
-    rest == 0
+    false
 }
 
 // Whether `s` is these bytes in hex, `-` for none.

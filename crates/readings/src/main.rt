@@ -17,13 +17,6 @@ ghost use mathlib.Core.Path.{_≡_};
 ghost use Prim.Native.Nat.{_≤_};
 ghost use lib.ListN.{length};
 
-// 131,072 zeros, which hold the whole input.
-fn space() -> [u8; 131072]
-    ensures { λ r. ⌜ 131072 ≡ length r ⌝ }
-{
-    [0; 131072]
-}
-
 fn print_kept(rest: &[u8]) {
     if cases::is_untouched(rest) {
         io::write_all(STDOUT_FILENO, b" kept");
@@ -125,7 +118,7 @@ fn cases(input: &[u8], text: &mut [u8], kept: &mut [u8]) {
 }
 
 fn main() {
-    let mut input = space();
+    let mut input = cases::space();
     let n = io::read_full(0, &mut input);
     let mut text = io::large_buffer();
     let mut kept = io::large_buffer();
