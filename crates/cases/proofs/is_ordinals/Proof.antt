@@ -24,23 +24,26 @@ returns c = search needs
 returns-2 : tie.Need-returns-2 Inv-loop μ-loop
 returns-2 c = search needs
 
+returns-3 : tie.Need-returns-3 Inv-loop μ-loop
+returns-3 c = search needs
+
 loop-holds : tie.Need-loop-holds Inv-loop μ-loop
 loop-holds c = search needs
 
-mul-four : tie.Need-mul-four Inv-loop μ-loop
-mul-four c = search needs
+mul-is-four : tie.Need-mul-is-four Inv-loop μ-loop
+mul-is-four c = search needs
 
-four-requires : tie.Need-four-requires Inv-loop μ-loop
-four-requires c κs = search needs
+mul-is-four-2 : tie.Need-mul-is-four-2 Inv-loop μ-loop
+mul-is-four-2 c = search needs
 
-mul-if3 : tie.Need-mul-if3 Inv-loop μ-loop
-mul-if3 c = search needs
+shared-slice-read-is-four : tie.Need-shared-slice-read-is-four Inv-loop μ-loop
+shared-slice-read-is-four c = search needs
 
-shared-slice-read-if3 : tie.Need-shared-slice-read-if3 Inv-loop μ-loop
-shared-slice-read-if3 c = search needs
+is-four-requires : tie.Need-is-four-requires Inv-loop μ-loop
+is-four-requires c κs = search needs
 
-returns-3 : tie.Need-returns-3 Inv-loop μ-loop
-returns-3 c = search needs
+returns-4 : tie.Need-returns-4 Inv-loop μ-loop
+returns-4 c = search needs
 
 add-i : tie.Need-add-i Inv-loop μ-loop
 add-i c = search needs
@@ -51,8 +54,8 @@ loop-less c = search needs
 loop-again : tie.Need-loop-again Inv-loop μ-loop
 loop-again c = search needs
 
-returns-4 : tie.Need-returns-4 Inv-loop μ-loop
-returns-4 c = search needs
+returns-5 : tie.Need-returns-5 Inv-loop μ-loop
+returns-5 c = search needs
 
 pub is-ordinals-spec : {M : Type 1} → statement M
 is-ordinals-spec =
@@ -64,13 +67,14 @@ is-ordinals-spec =
     same-requires
     returns
     returns-2
-    loop-holds
-    mul-four
-    four-requires
-    mul-if3
-    shared-slice-read-if3
     returns-3
+    loop-holds
+    mul-is-four
+    mul-is-four-2
+    shared-slice-read-is-four
+    is-four-requires
+    returns-4
     add-i
     loop-less
     loop-again
-    returns-4)
+    returns-5)
