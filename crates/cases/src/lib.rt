@@ -1,7 +1,11 @@
 // Cases that stand in files: their words, numbers and bytes in hex, and a filler that shows what a call has written.
 ghost use mathlib.Core.Path.{_≡_};
 ghost use Prim.Native.Nat.{_<_, _≤_, _+_};
-ghost use lib.ListN.{length, take};
+ghost use mathlib.Core.Bool.{cond};
+ghost use lib.ListN.{length, take, drop};
+ghost use lib.Dec.{eqb, ltb};
+ghost use Rattle.format.specs.Bytes.{all};
+ghost use Rattle.text.specs.Upto.{upto};
 
 // What an output of bytes holds before a call.
 pub const FILLER: u8 = 0xa5;
@@ -18,7 +22,7 @@ pub fn space() -> [u8; 131072]
 
 // The smaller of two.
 pub fn least(a: usize, b: usize) -> usize
-    ensures { λ r. ⌜ (r ≤ a) × (r ≤ b) ⌝ }
+    ensures { λ r. ⌜ (r ≤ a) × (r ≤ b) × (r ≡ cond (ltb a b) a b) ⌝ }
 {
     if a < b { a } else { b }
 }
@@ -80,10 +84,12 @@ pub fn fill(kept: &mut [u8])
 }
 
 // Whether no byte has been written over.
-pub fn is_untouched(kept: &[u8]) -> bool {
+pub fn is_untouched(kept: &[u8]) -> bool
+    ensures { λ r. ⌜ r ≡ all (eqb 165) (now (kept .entry)) ⌝ }
+{
     let mut i: usize = 0;
     while i < kept.len() {
-        if kept[i] != FILLER {
+        if FILLER != kept[i] {
             return false;
         }
         i += 1;
@@ -92,10 +98,12 @@ pub fn is_untouched(kept: &[u8]) -> bool {
 }
 
 // Whether no ordinal has been written over.
-pub fn is_unlisted(list: &[u32]) -> bool {
+pub fn is_unlisted(list: &[u32]) -> bool
+    ensures { λ r. ⌜ r ≡ all (eqb 2779096485) (now (list .entry)) ⌝ }
+{
     let mut i: usize = 0;
     while i < list.len() {
-        if list[i] != NO_ORDINAL {
+        if NO_ORDINAL != list[i] {
             return false;
         }
         i += 1;
@@ -106,7 +114,7 @@ pub fn is_unlisted(list: &[u32]) -> bool {
 // Where the piece of `s` from `at` on ends: at the next `d`, or at the end.
 pub fn until(s: &[u8], at: usize, d: u8) -> usize
     requires { ⌜ at ≤ length (now s) ⌝ }
-    ensures { λ r. ⌜ (at ≤ r) × (r ≤ length (now (s .entry))) ⌝ }
+    ensures { λ r. ⌜ (at ≤ r) × (r ≤ length (now (s .entry))) × (r ≡ at + upto d (drop at (now (s .entry)))) ⌝ }
 {
     at + text::upto(&s[at..], d)
 }

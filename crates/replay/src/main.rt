@@ -106,6 +106,7 @@ fn is_list(word: &[u8], out: &[u32], n: usize) -> bool {
     cases::is_ordinals(word, &out[..n]) && cases::is_unlisted(&out[n..])
 }
 
+// Whether the count is the line's.
 fn is_count(line: &[u8], text: &[u8], kept: &[u8]) -> bool {
     match calls::count(text, kept, byte_of(cases::word(line, 3))) {
         Answer::Refused(n, no) => is_refusal(line, 4, n, no),
@@ -113,6 +114,7 @@ fn is_count(line: &[u8], text: &[u8], kept: &[u8]) -> bool {
     }
 }
 
+// Whether the place of a key is the line's.
 fn is_key(line: &[u8], text: &[u8], kept: &[u8]) -> bool {
     let kind = byte_of(cases::word(line, 3));
     match calls::key(text, kept, kind, ordinal_of(cases::word(line, 4))) {
@@ -125,6 +127,7 @@ fn is_key(line: &[u8], text: &[u8], kept: &[u8]) -> bool {
     }
 }
 
+// Whether an LN is the line's, by its decimal digits.
 fn is_length(line: &[u8], text: &[u8], kept: &[u8]) -> bool {
     match calls::length(text, kept, ordinal_of(cases::word(line, 3))) {
         LengthAnswer::Refused(n, no) => is_refusal(line, 4, n, no),
@@ -132,6 +135,7 @@ fn is_length(line: &[u8], text: &[u8], kept: &[u8]) -> bool {
     }
 }
 
+// Whether a field, or the stand-in, is the line's.
 fn is_field(line: &[u8], text: &[u8], kept: &[u8]) -> bool {
     let mut tag = io::buffer();
     cases::decode(cases::word(line, 5), &mut tag);
@@ -143,6 +147,7 @@ fn is_field(line: &[u8], text: &[u8], kept: &[u8]) -> bool {
     cases::is_hex(cases::word(line, 7), value) && cases::word(line, 8).len() == 0
 }
 
+// Whether the roots are the line's, in an output of as many elements as it says.
 fn is_roots(line: &[u8], text: &[u8], kept: &[u8], out: &mut [u32]) -> bool {
     let room = cases::least(cases::number(cases::word(line, 3)), out.len());
     match calls::roots(text, kept, &mut out[..room]) {
@@ -151,6 +156,7 @@ fn is_roots(line: &[u8], text: &[u8], kept: &[u8], out: &mut [u32]) -> bool {
     }
 }
 
+// Whether the leaves and the hops are the line's, in an output of as many elements as it says.
 fn is_leaves(line: &[u8], text: &[u8], kept: &[u8], out: &mut [u32]) -> bool {
     let room = cases::least(cases::number(cases::word(line, 3)), out.len());
     match calls::leaves(text, kept, &mut out[..room]) {
@@ -176,6 +182,7 @@ fn keep(word: &[u8], text: &[u8], kept: &mut [u8]) -> usize
     }
 }
 
+// The comparison for each call.
 fn is_call(line: &[u8], asked: usize, text: &[u8], kept: &[u8], out: &mut [u32]) -> bool {
     match asked {
         COUNT => is_count(line, text, kept),
@@ -196,12 +203,14 @@ fn is_answer(line: &[u8], asked: usize, text: &[u8]) -> bool {
     is_call(line, asked, text, &kept[..n], &mut out)
 }
 
+// The tidy call, named in this place alone.
 fn tidied(text: &[u8], out: &mut [u8]) -> Answer
     ensures { λ _. ⌜ length (now (out .exit)) ≡ length (now (out .entry)) ⌝ }
 {
     tidy::tidy(text, out)
 }
 
+// Whether reading refuses a text as the crate does, and writes nothing.
 fn is_read_refused(line: &[u8], text: &[u8], out: &mut [u8]) -> bool {
     match parser::read(text, out) {
         Answer::Refused(n, no) => is_refusal(line, 1, n, no) && cases::is_untouched(out),
@@ -209,6 +218,7 @@ fn is_read_refused(line: &[u8], text: &[u8], out: &mut [u8]) -> bool {
     }
 }
 
+// Whether tidying refuses a text as reading does, and writes nothing.
 fn is_tidy_refused(line: &[u8], text: &[u8], out: &mut [u8]) -> bool {
     match tidied(text, out) {
         Answer::Refused(n, no) => is_refusal(line, 1, n, no) && cases::is_untouched(out),
@@ -224,6 +234,7 @@ fn is_text(word: &[u8], out: &[u8], n: usize) -> bool {
     cases::is_hex(word, &out[..n]) && cases::is_untouched(&out[n..])
 }
 
+// Whether the tidy text is the crate's.
 fn is_tidy(word: &[u8], text: &[u8], out: &mut [u8]) -> bool {
     match tidied(text, out) {
         Answer::Refused(_, _) => false,
@@ -231,6 +242,7 @@ fn is_tidy(word: &[u8], text: &[u8], out: &mut [u8]) -> bool {
     }
 }
 
+// Whether tidying refuses a name, on this line, and writes nothing.
 fn is_unwritable(word: &[u8], text: &[u8], out: &mut [u8]) -> bool {
     match tidied(text, out) {
         Answer::Refused(n, no) => {
@@ -240,6 +252,7 @@ fn is_unwritable(word: &[u8], text: &[u8], out: &mut [u8]) -> bool {
     }
 }
 
+// Whether the roots are the crate's.
 fn are_roots(word: &[u8], text: &[u8], kept: &[u8], out: &mut [u32]) -> bool {
     match calls::roots(text, kept, out) {
         Answer::Refused(_, _) => false,
@@ -247,6 +260,7 @@ fn are_roots(word: &[u8], text: &[u8], kept: &[u8], out: &mut [u32]) -> bool {
     }
 }
 
+// Whether the leaves are the crate's, or it found a cycle and the answer is 23.
 fn are_leaves(word: &[u8], text: &[u8], kept: &[u8], out: &mut [u32]) -> bool {
     match calls::leaves(text, kept, out) {
         LeavesAnswer::Refused(n, no) => {
@@ -317,6 +331,7 @@ fn asked_by(line: &[u8]) -> usize {
     judged_by(cases::word(line, 1))
 }
 
+// What the crate makes of a text, by its name.
 fn judged_by(word: &[u8]) -> usize {
     if text::same(word, b"refused") {
         return REFUSED;
@@ -457,6 +472,7 @@ fn print_count(name: &[u8], n: u32) {
     }
 }
 
+// Writes how many lines of each kind there were.
 fn print_asked(tally: &[u32])
     requires { ⌜ length (now tally) ≡ 13 ⌝ }
 {
@@ -472,6 +488,7 @@ fn print_asked(tally: &[u32])
     print_count(b" unknown ", tally[UNKNOWN]);
 }
 
+// Writes how many answers were wrong, and how many of the marked lines were found.
 fn print_found(tally: &[u32])
     requires { ⌜ length (now tally) ≡ 13 ⌝ }
 {
@@ -499,6 +516,7 @@ fn replay(place: usize) {
     print_found(&tally);
 }
 
+// Each argument is a file.
 fn main() {
     let count = os::arg_count();
     let mut place: usize = 1;
