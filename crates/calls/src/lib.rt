@@ -138,7 +138,7 @@ pub fn leaves(text: &[u8], kept: &[u8], out: &mut [u32]) -> LeavesAnswer
     ensures answer { λ r. ⌜ r ≡ leavesOf (leafing (now (text .entry)) (now (kept .entry)) (length (now (out .entry)))) ⌝ }
     ensures wrote { λ _. ⌜ now (out .exit) ≡ outputOf (listOf (leafing (now (text .entry)) (now (kept .entry)) (length (now (out .entry))))) (now (out .entry)) ⌝ }
 {
-    match parser::check(text, kept) {
+    match parser::check(text, kept) { // 21 comes before 22
         Checked::Refused(n, line) => LeavesAnswer::Refused(n, line),
         Checked::Fresh => {
             let parents = lookup::find_parents(text, kept);

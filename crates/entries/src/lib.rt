@@ -140,7 +140,7 @@ pub fn find_record(catalogue: &[u8], kind: u8, ordinal: usize) -> usize
         if len == 0 {
             return at;
         }
-        if kind_of(e) == kind {
+        if kind_of(e) == kind { // no other record takes an ordinal
             if left == 0 {
                 return at;
             }

@@ -14,93 +14,11 @@ use libc::STDOUT_FILENO;
 use parser::Answer;
 use parser::Checked;
 ghost use mathlib.Core.Path.{_≡_};
-ghost use Prim.Native.Nat.{_<_, _≤_};
+ghost use Prim.Native.Nat.{_≤_};
 ghost use lib.ListN.{length};
 
-// What the room holds before a call.
-const FILLER: u8 = 0xa5;
-
-// 131,072 zeros, which hold the whole input.
-fn space() -> [u8; 131072]
-    ensures { λ r. ⌜ 131072 ≡ length r ⌝ }
-{
-    [0; 131072]
-}
-
-fn least(a: usize, b: usize) -> usize
-    ensures { λ r. ⌜ (r ≤ a) × (r ≤ b) ⌝ }
-{
-    if a < b { a } else { b }
-}
-
-// The value of a digit, decimal or hex, and 0 for any other byte.
-fn digit(b: u8) -> u8
-    ensures { λ r. ⌜ r < 16 ⌝ }
-{
-    if b < b'0' {
-        return 0;
-    }
-    if b <= b'9' {
-        return b - b'0';
-    }
-    if b < b'a' {
-        return 0;
-    }
-    if b <= b'f' {
-        return b - b'a' + 10;
-    }
-    0
-}
-
-// The number that `s` spells, by its last six digits.
-fn number(s: &[u8]) -> usize {
-    let mut n: usize = 0;
-    let mut i: usize = 0;
-    while i < s.len() {
-        n = n % 100000 * 10 + digit(s[i]) as usize;
-        i += 1;
-    }
-    n
-}
-
-// Puts the bytes that `hex` spells at the front of `text`, as many as fit, and answers how many.
-fn decode(hex: &[u8], text: &mut [u8]) -> usize
-    ensures { λ r. ⌜ (r ≤ length (now (text .exit))) × (length (now (text .exit)) ≡ length (now (text .entry))) ⌝ }
-{
-    let n = least(hex.len() / 2, text.len());
-    let mut i: usize = 0;
-    while i < n {
-        text[i] = digit(hex[2 * i]) * 16 + digit(hex[2 * i + 1]);
-        i += 1;
-    }
-    n
-}
-
-// Fills `kept`, so that a byte that is written shows.
-fn fill(kept: &mut [u8])
-    ensures { λ _. ⌜ length (now (kept .exit)) ≡ length (now (kept .entry)) ⌝ }
-{
-    let mut i: usize = 0;
-    while i < kept.len() {
-        kept[i] = FILLER;
-        i += 1;
-    }
-}
-
-// Whether no byte has been written over.
-fn is_untouched(kept: &[u8]) -> bool {
-    let mut i: usize = 0;
-    while i < kept.len() {
-        if kept[i] != FILLER {
-            return false;
-        }
-        i += 1;
-    }
-    true
-}
-
 fn print_kept(rest: &[u8]) {
-    if is_untouched(rest) {
+    if cases::is_untouched(rest) {
         io::write_all(STDOUT_FILENO, b" kept");
     } else {
         io::write_all(STDOUT_FILENO, b" spoiled");
@@ -184,24 +102,23 @@ fn answer(text: &[u8], kept: &mut [u8], room: usize)
 
 // One line of the input.
 fn case(line: &[u8], text: &mut [u8], kept: &mut [u8]) {
-    let gap = text::upto(line, b' ');
-    let room = least(number(&line[gap..]), kept.len());
-    let n = decode(&line[..gap], text);
-    fill(kept);
+    let room = cases::least(cases::number(cases::word(line, 1)), kept.len());
+    let n = cases::decode(cases::word(line, 0), text);
+    cases::fill(kept);
     answer(&text[..n], kept, room);
 }
 
 fn cases(input: &[u8], text: &mut [u8], kept: &mut [u8]) {
     let mut at: usize = 0;
     while at < input.len() {
-        let n = text::upto(&input[at..], b'\n');
-        case(&input[at..at + n], text, kept);
-        at += n + 1;
+        let end = cases::until(input, at, b'\n');
+        case(&input[at..end], text, kept);
+        at = end + 1;
     }
 }
 
 fn main() {
-    let mut input = space();
+    let mut input = cases::space();
     let n = io::read_full(0, &mut input);
     let mut text = io::large_buffer();
     let mut kept = io::large_buffer();

@@ -1,11 +1,11 @@
--- `readings::fill` meets its contract: a store keeps the length. Assumes nothing.
+-- `cases::fill` meets its contract: a store keeps the length. Assumes nothing.
 use Prim.Native.Nat.{_≤_, _-_}
 use mathlib.Core.Path.{_≡_}
 use native.Mathlib.Omega.{arith}
 use borrow.Author.Needs.{needs}
 use lib.ListN.{length-set, length}
-use Rattle.readings.proofs.fill.Statement.{statement}
-use Rattle.readings.proofs.fill.Tie as tie
+use Rattle.cases.proofs.fill.Statement.{statement}
+use Rattle.cases.proofs.fill.Tie as tie
 
 abbrev Inv-loop : tie.InvT-loop
 Inv-loop kept₀ i₀ kept i = (i ≤ length kept) × (length kept ≡ length kept₀)

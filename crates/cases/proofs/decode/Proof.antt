@@ -1,10 +1,12 @@
--- `readings::decode` meets its contract: the bytes written are within the buffer and have two digits each. Assumes nothing.
+-- `cases::decode` meets its contract: the bytes written are within the buffer and have two digits each. Assumes nothing.
 use Prim.Native.Nat.{_≤_, _-_, _/_}
-use mathlib.Core.Path.{_≡_}
+use mathlib.Core.Path.{_≡_, sym}
+use native.Mathlib.Omega.{arith}
 use borrow.Author.Needs.{needs}
 use lib.ListN.{length}
-use Rattle.readings.proofs.decode.Statement.{statement}
-use Rattle.readings.proofs.decode.Tie as tie
+use lib.Seq.{length-take-le}
+use Rattle.cases.proofs.decode.Statement.{statement}
+use Rattle.cases.proofs.decode.Tie as tie
 
 abbrev Inv-loop : tie.InvT-loop
 Inv-loop hex text₀ n i₀ text i = (i ≤ n) × (n ≤ length text₀) × (n ≤ length hex / 2) × (length text ≡ length text₀)
@@ -61,7 +63,7 @@ same-length : tie.Need-same-length Inv-loop μ-loop
 same-length c = search needs
 
 returns : tie.Need-returns Inv-loop μ-loop
-returns c = search needs
+returns c = (omega arith, sym (length-take-le _ _ (omega arith)), search needs)
 
 pub decode-spec : {M : Type 1} → statement M
 decode-spec =

@@ -1,12 +1,12 @@
--- `readings::number` is safe: five digits and one more fit. Assumes nothing.
+-- `cases::number` is safe: nine digits and one more fit. Assumes nothing.
 use Prim.Native.Nat.{_≤_, _<_, _-_}
 use borrow.Author.Needs.{needs}
 use lib.ListN.{length}
-use Rattle.readings.proofs.number.Statement.{statement}
-use Rattle.readings.proofs.number.Tie as tie
+use Rattle.cases.proofs.number.Statement.{statement}
+use Rattle.cases.proofs.number.Tie as tie
 
 abbrev Inv-loop : tie.InvT-loop
-Inv-loop s n₀ i₀ n i = (i ≤ length s) × (n < 1000016)
+Inv-loop s n₀ i₀ n i = (i ≤ length s) × (n < 10000000016)
 
 abbrev μ-loop : tie.MeasureT-loop
 μ-loop s n₀ i₀ n i = length s - i

@@ -1,0 +1,2 @@
+-- The laws that several functions of this crate share.
+pub mod Whole

@@ -1,0 +1,233 @@
+// Cases that stand in files: their words, numbers and bytes in hex, and a filler that shows what a call has written.
+ghost use mathlib.Core.Path.{_≡_};
+ghost use Prim.Native.Nat.{_<_, _≤_, _+_};
+ghost use mathlib.Core.Bool.{cond};
+ghost use lib.ListN.{length, take, drop};
+ghost use lib.Dec.{eqb, ltb};
+ghost use Rattle.format.specs.Bytes.{all};
+ghost use Rattle.text.specs.Upto.{upto};
+
+// What an output of bytes holds before a call.
+pub const FILLER: u8 = 0xa5;
+
+// What an output of ordinals holds before a call: no program has this ordinal.
+pub const NO_ORDINAL: u32 = 0xa5a5a5a5;
+
+// 131,072 zeros, for a file or a part of one.
+pub fn space() -> [u8; 131072]
+    ensures { λ r. ⌜ 131072 ≡ length r ⌝ }
+{
+    [0; 131072]
+}
+
+// The smaller of two.
+pub fn least(a: usize, b: usize) -> usize
+    ensures { λ r. ⌜ (r ≤ a) × (r ≤ b) × (r ≡ cond (ltb a b) a b) ⌝ }
+{
+    if a < b { a } else { b }
+}
+
+// The value of a digit, decimal or hex, and 0 for any other byte.
+fn digit(b: u8) -> u8
+    ensures { λ r. ⌜ r < 16 ⌝ }
+{
+    if b < b'0' {
+        return 0;
+    }
+    if b <= b'9' {
+        return b - b'0';
+    }
+    if b < b'a' {
+        return 0;
+    }
+    if b <= b'f' {
+        return b - b'a' + 10;
+    }
+    0
+}
+
+// The number that `s` spells, by its last ten digits.
+pub fn number(s: &[u8]) -> usize
+    ensures { λ r. ⌜ r < 10000000016 ⌝ }
+{
+    let mut n: usize = 0;
+    let mut i: usize = 0;
+    while i < s.len() {
+        n = n % 1000000000 * 10 + digit(s[i]) as usize;
+        i += 1;
+    }
+    n
+}
+
+// Puts the bytes that `hex` spells at the front of `text`, as many as fit, and answers how many.
+pub fn decode(hex: &[u8], text: &mut [u8]) -> usize
+    ensures { λ r. ⌜ (r ≤ length (now (text .exit))) × (r ≡ length (take r (now (text .exit)))) × (length (now (text .exit)) ≡ length (now (text .entry))) ⌝ }
+{
+    let n = least(hex.len() / 2, text.len());
+    let mut i: usize = 0;
+    while i < n {
+        text[i] = digit(hex[2 * i]) * 16 + digit(hex[2 * i + 1]);
+        i += 1;
+    }
+    n
+}
+
+// Fills `kept`, so that a byte that is written shows.
+pub fn fill(kept: &mut [u8])
+    ensures { λ _. ⌜ length (now (kept .exit)) ≡ length (now (kept .entry)) ⌝ }
+{
+    let mut i: usize = 0;
+    while i < kept.len() {
+        kept[i] = FILLER;
+        i += 1;
+    }
+}
+
+// Whether no byte has been written over.
+pub fn is_untouched(kept: &[u8]) -> bool
+    ensures { λ r. ⌜ r ≡ all (eqb 165) (now (kept .entry)) ⌝ }
+{
+    let mut i: usize = 0;
+    while i < kept.len() {
+        if FILLER != kept[i] {
+            return false;
+        }
+        i += 1;
+    }
+    true
+}
+
+// Whether no ordinal has been written over.
+pub fn is_unlisted(list: &[u32]) -> bool
+    ensures { λ r. ⌜ r ≡ all (eqb 2779096485) (now (list .entry)) ⌝ }
+{
+    let mut i: usize = 0;
+    while i < list.len() {
+        if NO_ORDINAL != list[i] {
+            return false;
+        }
+        i += 1;
+    }
+    true
+}
+
+// Where the piece of `s` from `at` on ends: at the next `d`, or at the end.
+pub fn until(s: &[u8], at: usize, d: u8) -> usize
+    requires { ⌜ at ≤ length (now s) ⌝ }
+    ensures { λ r. ⌜ (at ≤ r) × (r ≤ length (now (s .entry))) × (r ≡ at + upto d (drop at (now (s .entry)))) ⌝ }
+{
+    at + text::upto(&s[at..], d)
+}
+
+// Where word `k` of a line starts, counted from 0: words are parted by one space. The line's end where there is none.
+fn word_start(line: &[u8], k: usize) -> usize
+    ensures { λ r. ⌜ r ≤ length (now (line .entry)) ⌝ }
+{
+    let mut at: usize = 0;
+    let mut left = k;
+    while 0 < left {
+        at = until(line, at, b' ');
+        if at == line.len() {
+            return at;
+        }
+        at += 1;
+        left -= 1;
+    }
+    at
+}
+
+// Word `k` of a line: empty where there is none.
+pub fn word(line: &[u8], k: usize) -> &[u8] {
+    let start = word_start(line, k);
+    let end = until(line, start, b' ');
+    &line[start..end]
+}
+
+// Whether `s` is `n` in decimal, without leading zeros.
+pub fn is_number(s: &[u8], n: u64) -> bool {
+    let mut rest = n;
+    let mut i = s.len();
+    while 0 < i {
+        i -= 1;
+        if s[i] != b'0' + (rest % 10) as u8 {
+            return false;
+        }
+        rest /= 10;
+        if rest == 0 {
+            return i == 0;
+        }
+    }
+    false
+}
+
+// The digit of a value below 16.
+fn letter(n: u8) -> u8
+    requires { ⌜ n < 16 ⌝ }
+{
+    if n < 10 { b'0' + n } else { b'a' + (n - 10) }
+}
+
+// Whether the two digits at `at` are a byte's.
+fn is_pair(s: &[u8], at: usize, b: u8) -> bool
+    requires { ⌜ at + 2 ≤ length (now s) ⌝ }
+{
+    if s[at] != letter(b / 16) {
+        return false;
+    }
+    s[at + 1] == letter(b % 16)
+}
+
+// Whether `s` is these bytes in hex, `-` for none.
+pub fn is_hex(s: &[u8], bytes: &[u8]) -> bool {
+    if bytes.len() == 0 {
+        return text::same(s, b"-");
+    }
+    if s.len() % 2 != 0 {
+        return false;
+    }
+    if s.len() / 2 != bytes.len() {
+        return false;
+    }
+    let mut i: usize = 0;
+    while i < bytes.len() {
+        if !is_pair(s, 2 * i, bytes[i]) {
+            return false;
+        }
+        i += 1;
+    }
+    true
+}
+
+// Whether the four digits at `at` are an ordinal's.
+fn is_four(s: &[u8], at: usize, n: u32) -> bool
+    requires { ⌜ at + 4 ≤ length (now s) ⌝ }
+{
+    if 65535 < n {
+        return false;
+    }
+    if !is_pair(s, at, (n / 256) as u8) {
+        return false;
+    }
+    is_pair(s, at + 2, (n % 256) as u8)
+}
+
+// Whether `s` is these ordinals in hex, four digits each, `-` for none.
+pub fn is_ordinals(s: &[u8], list: &[u32]) -> bool {
+    if list.len() == 0 {
+        return text::same(s, b"-");
+    }
+    if s.len() % 4 != 0 {
+        return false;
+    }
+    if s.len() / 4 != list.len() {
+        return false;
+    }
+    let mut i: usize = 0;
+    while i < list.len() {
+        if !is_four(s, 4 * i, list[i]) {
+            return false;
+        }
+        i += 1;
+    }
+    true
+}

@@ -1,0 +1,527 @@
+// Replays stored answers: each line of the files that its arguments name is a question with its answer, and what the library answers is
+// compared with it. One line of counts is written for each file.
+//
+// `vectors.txt`: 642 questions to `count`, `key`, `length`, `field`, `roots` and `leaves`, answered by a model written from document 01 alone.
+// `chains.txt`: chains, forests, dangling and looping headers, stale catalogues and the corners of each call, written by `oracle/chains` from
+// document 01's rules; no answer in it comes from this library or from the crate.
+// `oracle.txt`: 546 texts, answered by noodles-sam 0.93.0 (`oracle/README.md`, "The fixed sample").
+//
+// Words are parted by one space; byte strings are in hex, `-` for none. A line is a call, its text, its catalogue (`=` for the one that
+// `parser::read` gives), its other arguments, and the answer:
+//     count TEXT KEPT KIND ok COUNT
+//     key TEXT KEPT KIND ORDINAL ok OFFSET LENGTH
+//     ln TEXT KEPT ORDINAL ok LN
+//     field TEXT KEPT KIND ORDINAL TAG STAND-IN BYTES
+//     roots TEXT KEPT ROOM ok ORDINALS
+//     leaves TEXT KEPT ROOM ok ORDINALS HOPS
+// or `refused NUMBER LINE` in place of `ok ..`. ORDINALS have four hex digits each. A line of the oracle has its text first; each such text is
+// read, tidied, and asked for its roots and leaves. Of an output that is lent every element is looked at: what is not the answer must be as
+// it was. Where the field call's answer stands no program can see: its contract says it.
+//
+// A line that starts with `!` holds a wrong answer, and the program must find it wrong: so it is seen that each comparison can fail. One that
+// starts with `#` is a note.
+use calls::KeyAnswer;
+use calls::LeavesAnswer;
+use calls::LengthAnswer;
+use format::LineNo;
+use libc::STDOUT_FILENO;
+use parser::Answer;
+ghost use mathlib.Core.Path.{_≡_};
+ghost use Prim.Native.Nat.{_<_, _≤_};
+ghost use lib.ListN.{length, take};
+
+// What a line asks, as the place of its count; behind these what went wrong.
+const COUNT: usize = 0;
+
+const KEY: usize = 1;
+
+const LENGTH: usize = 2;
+
+const FIELD: usize = 3;
+
+const ROOTS: usize = 4;
+
+const LEAVES: usize = 5;
+
+const REFUSED: usize = 6;
+
+const ACCEPTED: usize = 7;
+
+const UNWRITABLE: usize = 8;
+
+const UNKNOWN: usize = 9;
+
+const WRONG: usize = 10;
+
+const MARKED: usize = 11;
+
+const FOUND: usize = 12;
+
+// An output of bytes, as it is before a call.
+fn bytes() -> [u8; 65536]
+    ensures { λ r. ⌜ 65536 ≡ length r ⌝ }
+{
+    [cases::FILLER; 65536]
+}
+
+// An output of ordinals, as it is before a call.
+fn ordinals() -> [u32; 2048]
+    ensures { λ r. ⌜ 2048 ≡ length r ⌝ }
+{
+    [cases::NO_ORDINAL; 2048]
+}
+
+// A number of a line as a byte: 255 for any that is larger.
+fn byte_of(word: &[u8]) -> u8 {
+    cases::least(cases::number(word), 255) as u8
+}
+
+// A number of a line as an ordinal: the largest for any that is larger.
+fn ordinal_of(word: &[u8]) -> u32 {
+    cases::least(cases::number(word), 4294967295) as u32
+}
+
+// Whether the answer at word `at` is this refusal.
+fn is_refusal(line: &[u8], at: usize, n: u8, no: LineNo) -> bool
+    requires { ⌜ at < 8 ⌝ }
+{
+    text::same(cases::word(line, at), b"refused")
+        && cases::is_number(cases::word(line, at + 1), n as u64)
+        && cases::is_number(cases::word(line, at + 2), no.0 as u64)
+        && cases::word(line, at + 3).len() == 0
+}
+
+// Whether the answer at word `at` is `ok` and `n` words more.
+fn is_ok(line: &[u8], at: usize, n: usize) -> bool
+    requires { ⌜ (at < 8) × (n < 3) ⌝ }
+{
+    text::same(cases::word(line, at), b"ok") && cases::word(line, at + n + 1).len() == 0
+}
+
+// Whether the first `n` ordinals of an output are these and the others as they were.
+fn is_list(word: &[u8], out: &[u32], n: usize) -> bool {
+    if out.len() < n {
+        return false;
+    }
+    cases::is_ordinals(word, &out[..n]) && cases::is_unlisted(&out[n..])
+}
+
+// Whether the count is the line's.
+fn is_count(line: &[u8], text: &[u8], kept: &[u8]) -> bool {
+    match calls::count(text, kept, byte_of(cases::word(line, 3))) {
+        Answer::Refused(n, no) => is_refusal(line, 4, n, no),
+        Answer::Count(n) => is_ok(line, 4, 1) && cases::is_number(cases::word(line, 5), n as u64),
+    }
+}
+
+// Whether the place of a key is the line's.
+fn is_key(line: &[u8], text: &[u8], kept: &[u8]) -> bool {
+    let kind = byte_of(cases::word(line, 3));
+    match calls::key(text, kept, kind, ordinal_of(cases::word(line, 4))) {
+        KeyAnswer::Refused(n, no) => is_refusal(line, 5, n, no),
+        KeyAnswer::At(at, len) => {
+            is_ok(line, 5, 2)
+                && cases::is_number(cases::word(line, 6), at as u64)
+                && cases::is_number(cases::word(line, 7), len as u64)
+        }
+    }
+}
+
+// Whether an LN is the line's, by its decimal digits.
+fn is_length(line: &[u8], text: &[u8], kept: &[u8]) -> bool {
+    match calls::length(text, kept, ordinal_of(cases::word(line, 3))) {
+        LengthAnswer::Refused(n, no) => is_refusal(line, 4, n, no),
+        LengthAnswer::Is(n) => is_ok(line, 4, 1) && cases::is_number(cases::word(line, 5), n),
+    }
+}
+
+// Whether a field, or the stand-in, is the line's.
+fn is_field(line: &[u8], text: &[u8], kept: &[u8]) -> bool {
+    let mut tag = io::buffer();
+    cases::decode(cases::word(line, 5), &mut tag);
+    let mut stand_in = io::buffer();
+    let n = cases::decode(cases::word(line, 6), &mut stand_in);
+    let kind = byte_of(cases::word(line, 3));
+    let ordinal = ordinal_of(cases::word(line, 4));
+    let value = calls::field(text, kept, kind, ordinal, tag[0], tag[1], &stand_in[..n]);
+    cases::is_hex(cases::word(line, 7), value) && cases::word(line, 8).len() == 0
+}
+
+// Whether the roots are the line's, in an output of as many elements as it says.
+fn is_roots(line: &[u8], text: &[u8], kept: &[u8], out: &mut [u32]) -> bool {
+    let room = cases::least(cases::number(cases::word(line, 3)), out.len());
+    match calls::roots(text, kept, &mut out[..room]) {
+        Answer::Refused(n, no) => is_refusal(line, 4, n, no) && cases::is_unlisted(out),
+        Answer::Count(n) => is_ok(line, 4, 1) && is_list(cases::word(line, 5), out, n),
+    }
+}
+
+// Whether the leaves and the hops are the line's, in an output of as many elements as it says.
+fn is_leaves(line: &[u8], text: &[u8], kept: &[u8], out: &mut [u32]) -> bool {
+    let room = cases::least(cases::number(cases::word(line, 3)), out.len());
+    match calls::leaves(text, kept, &mut out[..room]) {
+        LeavesAnswer::Refused(n, no) => is_refusal(line, 4, n, no) && cases::is_unlisted(out),
+        LeavesAnswer::Counted(n, hops) => {
+            is_ok(line, 4, 2)
+                && is_list(cases::word(line, 5), out, n)
+                && cases::is_number(cases::word(line, 6), hops as u64)
+        }
+    }
+}
+
+// Puts the catalogue that a word names to the front of `kept` and answers its length: `=` is the text's own.
+fn keep(word: &[u8], text: &[u8], kept: &mut [u8]) -> usize
+    ensures { λ r. ⌜ (r ≤ length (now (kept .exit))) × (r ≡ length (take r (now (kept .exit)))) × (length (now (kept .exit)) ≡ length (now (kept .entry))) ⌝ }
+{
+    if !text::same(word, b"=") {
+        return cases::decode(word, kept);
+    }
+    match parser::read(text, kept) {
+        Answer::Refused(_, _) => 0,
+        Answer::Count(n) => cases::least(n, kept.len()),
+    }
+}
+
+// The comparison for each call.
+fn is_call(line: &[u8], asked: usize, text: &[u8], kept: &[u8], out: &mut [u32]) -> bool {
+    match asked {
+        COUNT => is_count(line, text, kept),
+        KEY => is_key(line, text, kept),
+        LENGTH => is_length(line, text, kept),
+        FIELD => is_field(line, text, kept),
+        ROOTS => is_roots(line, text, kept, out),
+        LEAVES => is_leaves(line, text, kept, out),
+        _ => false,
+    }
+}
+
+// Whether a call answers as the line says.
+fn is_answer(line: &[u8], asked: usize, text: &[u8]) -> bool {
+    let mut kept = io::large_buffer();
+    let n = keep(cases::word(line, 2), text, &mut kept);
+    let mut out = ordinals();
+    is_call(line, asked, text, &kept[..n], &mut out)
+}
+
+// The tidy call, named in this place alone.
+fn tidied(text: &[u8], out: &mut [u8]) -> Answer
+    ensures { λ _. ⌜ length (now (out .exit)) ≡ length (now (out .entry)) ⌝ }
+{
+    tidying::tidy(text, out)
+}
+
+// Whether reading refuses a text as the crate does, and writes nothing.
+fn is_read_refused(line: &[u8], text: &[u8], out: &mut [u8]) -> bool {
+    match parser::read(text, out) {
+        Answer::Refused(n, no) => is_refusal(line, 1, n, no) && cases::is_untouched(out),
+        Answer::Count(_) => false,
+    }
+}
+
+// Whether tidying refuses a text as reading does, and writes nothing.
+fn is_tidy_refused(line: &[u8], text: &[u8], out: &mut [u8]) -> bool {
+    match tidied(text, out) {
+        Answer::Refused(n, no) => is_refusal(line, 1, n, no) && cases::is_untouched(out),
+        Answer::Count(_) => false,
+    }
+}
+
+// Whether the first `n` bytes of an output are these and the others as they were.
+fn is_text(word: &[u8], out: &[u8], n: usize) -> bool {
+    if out.len() < n {
+        return false;
+    }
+    cases::is_hex(word, &out[..n]) && cases::is_untouched(&out[n..])
+}
+
+// Whether the tidy text is the crate's.
+fn is_tidy(word: &[u8], text: &[u8], out: &mut [u8]) -> bool {
+    match tidied(text, out) {
+        Answer::Refused(_, _) => false,
+        Answer::Count(n) => is_text(word, out, n),
+    }
+}
+
+// Whether tidying refuses a name, on this line, and writes nothing.
+fn is_unwritable(word: &[u8], text: &[u8], out: &mut [u8]) -> bool {
+    match tidied(text, out) {
+        Answer::Refused(n, no) => {
+            n == 24 && cases::is_number(word, no.0 as u64) && cases::is_untouched(out)
+        }
+        Answer::Count(_) => false,
+    }
+}
+
+// Whether the roots are the crate's.
+fn are_roots(word: &[u8], text: &[u8], kept: &[u8], out: &mut [u32]) -> bool {
+    match calls::roots(text, kept, out) {
+        Answer::Refused(_, _) => false,
+        Answer::Count(n) => is_list(word, out, n),
+    }
+}
+
+// Whether the leaves are the crate's, or it found a cycle and the answer is 23.
+fn are_leaves(word: &[u8], text: &[u8], kept: &[u8], out: &mut [u32]) -> bool {
+    match calls::leaves(text, kept, out) {
+        LeavesAnswer::Refused(n, no) => {
+            text::same(word, b"cycle") && n == 23 && no.0 == 0 && cases::is_unlisted(out)
+        }
+        LeavesAnswer::Counted(n, _) => is_list(word, out, n),
+    }
+}
+
+// Whether roots and leaves are words 3 and 4, over the catalogue that is the first `n` bytes of `kept`.
+fn is_graph(line: &[u8], text: &[u8], kept: &[u8], n: usize) -> bool {
+    if kept.len() < n {
+        return false;
+    }
+    let mut first = ordinals();
+    let mut second = ordinals();
+    cases::is_untouched(&kept[n..])
+        && are_roots(cases::word(line, 3), text, &kept[..n], &mut first)
+        && are_leaves(cases::word(line, 4), text, &kept[..n], &mut second)
+        && cases::word(line, 5).len() == 0
+}
+
+// Whether a text is read, and its roots and leaves are the line's.
+fn is_read(line: &[u8], text: &[u8], kept: &mut [u8]) -> bool {
+    match parser::read(text, kept) {
+        Answer::Refused(_, _) => false,
+        Answer::Count(n) => is_graph(line, text, kept, n),
+    }
+}
+
+// Whether the library says of a text what the crate says.
+fn is_sample(line: &[u8], asked: usize, text: &[u8]) -> bool {
+    let mut kept = bytes();
+    let mut out = bytes();
+    match asked {
+        REFUSED => is_read_refused(line, text, &mut kept) && is_tidy_refused(line, text, &mut out),
+        ACCEPTED => {
+            is_read(line, text, &mut kept) && is_tidy(cases::word(line, 2), text, &mut out)
+        }
+        UNWRITABLE => {
+            is_read(line, text, &mut kept) && is_unwritable(cases::word(line, 2), text, &mut out)
+        }
+        _ => false,
+    }
+}
+
+// What a line asks: its first word is a call, or its second what the crate makes of the text.
+fn asked_by(line: &[u8]) -> usize {
+    let call = cases::word(line, 0);
+    if text::same(call, b"count") {
+        return COUNT;
+    }
+    if text::same(call, b"key") {
+        return KEY;
+    }
+    if text::same(call, b"ln") {
+        return LENGTH;
+    }
+    if text::same(call, b"field") {
+        return FIELD;
+    }
+    if text::same(call, b"roots") {
+        return ROOTS;
+    }
+    if text::same(call, b"leaves") {
+        return LEAVES;
+    }
+    judged_by(cases::word(line, 1))
+}
+
+// What the crate makes of a text, by its name.
+fn judged_by(word: &[u8]) -> usize {
+    if text::same(word, b"refused") {
+        return REFUSED;
+    }
+    if text::same(word, b"accepted") {
+        return ACCEPTED;
+    }
+    if text::same(word, b"unwritable") {
+        return UNWRITABLE;
+    }
+    UNKNOWN
+}
+
+// Whether the library's answer is the one that stands in the line.
+fn is_right(line: &[u8], asked: usize) -> bool {
+    let mut text = io::large_buffer();
+    if asked < REFUSED {
+        let n = cases::decode(cases::word(line, 1), &mut text);
+        return is_answer(line, asked, &text[..n]);
+    }
+    let n = cases::decode(cases::word(line, 0), &mut text);
+    is_sample(line, asked, &text[..n])
+}
+
+// Adds one to a count.
+fn add(tally: &mut [u32], at: usize)
+    ensures { λ _. ⌜ length (now (tally .exit)) ≡ length (now (tally .entry)) ⌝ }
+{
+    if at < tally.len() {
+        if tally[at] < 1000000 {
+            tally[at] += 1;
+        }
+    }
+}
+
+// One line of a file.
+fn case(line: &[u8], tally: &mut [u32])
+    ensures { λ _. ⌜ length (now (tally .exit)) ≡ length (now (tally .entry)) ⌝ }
+{
+    let asked = asked_by(line);
+    add(tally, asked);
+    if !is_right(line, asked) {
+        add(tally, WRONG);
+    }
+}
+
+// One line that is marked: it asks something, and its answer must be found wrong.
+fn marked_case(line: &[u8], tally: &mut [u32])
+    ensures { λ _. ⌜ length (now (tally .exit)) ≡ length (now (tally .entry)) ⌝ }
+{
+    add(tally, MARKED);
+    let asked = asked_by(line);
+    if asked == UNKNOWN {
+        return;
+    }
+    if !is_right(line, asked) {
+        add(tally, FOUND);
+    }
+}
+
+// A line of a file: a case, a marked one, or a note.
+fn any_case(line: &[u8], tally: &mut [u32])
+    ensures { λ _. ⌜ length (now (tally .exit)) ≡ length (now (tally .entry)) ⌝ }
+{
+    if line.len() == 0 {
+        case(line, tally);
+        return;
+    }
+    if line[0] == b'#' {
+        return;
+    }
+    if line[0] == b'!' {
+        marked_case(&line[1..], tally);
+        return;
+    }
+    case(line, tally);
+}
+
+// The whole lines of `input`. Answers how many bytes they are.
+fn block(input: &[u8], tally: &mut [u32]) -> usize
+    ensures { λ r. ⌜ (r ≤ length (now (input .entry))) × (length (now (tally .exit)) ≡ length (now (tally .entry))) ⌝ }
+{
+    let mut at: usize = 0;
+    while at < input.len() {
+        let end = cases::until(input, at, b'\n');
+        if end == input.len() {
+            return at;
+        }
+        any_case(&input[at..end], tally);
+        at = end + 1;
+    }
+    at
+}
+
+// Replays the whole lines of the part of a file that starts at `at`, and answers how many bytes they are: 0 at the file's end. A last line
+// without LF, and a line that is longer than the space, is counted as wrong.
+fn next_block(fd: i32, at: usize, tally: &mut [u32]) -> usize
+    requires { ⌜ at < 16777216 ⌝ }
+    ensures { λ r. ⌜ (r ≤ 131072) × (length (now (tally .exit)) ≡ length (now (tally .entry))) ⌝ }
+{
+    libc::lseek(fd, at as i64, libc::SEEK_SET);
+    let mut input = cases::space();
+    let n = io::read_full(fd, &mut input);
+    if n == 0 {
+        return 0;
+    }
+    let done = block(&input[..n], tally);
+    if done == 0 {
+        add(tally, WRONG);
+    }
+    done
+}
+
+// All lines of a file of less than 16,777,216 bytes: nothing says that a file ends, and a proved loop has to.
+fn all_blocks(fd: i32, tally: &mut [u32])
+    ensures { λ _. ⌜ length (now (tally .exit)) ≡ length (now (tally .entry)) ⌝ }
+{
+    let mut at: usize = 0;
+    while at < 16777216 {
+        let done = next_block(fd, at, tally);
+        if done == 0 {
+            return;
+        }
+        at += done;
+    }
+}
+
+// Writes a count with its name.
+fn print_number(name: &[u8], n: u32) {
+    io::write_all(STDOUT_FILENO, name);
+    io::print_decimal(STDOUT_FILENO, n as u64);
+}
+
+// Writes a count with its name, if it is not 0.
+fn print_count(name: &[u8], n: u32) {
+    if n != 0 {
+        print_number(name, n);
+    }
+}
+
+// Writes how many lines of each kind there were.
+fn print_asked(tally: &[u32])
+    requires { ⌜ length (now tally) ≡ 13 ⌝ }
+{
+    print_count(b" count ", tally[COUNT]);
+    print_count(b" key ", tally[KEY]);
+    print_count(b" ln ", tally[LENGTH]);
+    print_count(b" field ", tally[FIELD]);
+    print_count(b" roots ", tally[ROOTS]);
+    print_count(b" leaves ", tally[LEAVES]);
+    print_count(b" refused ", tally[REFUSED]);
+    print_count(b" accepted ", tally[ACCEPTED]);
+    print_count(b" unwritable ", tally[UNWRITABLE]);
+    print_count(b" unknown ", tally[UNKNOWN]);
+}
+
+// Writes how many answers were wrong, and how many of the marked lines were found.
+fn print_found(tally: &[u32])
+    requires { ⌜ length (now tally) ≡ 13 ⌝ }
+{
+    print_number(b" wrong ", tally[WRONG]);
+    print_number(b", known wrong found ", tally[FOUND]);
+    print_number(b" of ", tally[MARKED]);
+    io::write_all(STDOUT_FILENO, b"\n");
+}
+
+// One file: the argument at a place names it.
+fn replay(place: usize) {
+    let mut name = io::buffer();
+    let n = os::arg(place, &mut name);
+    let fd = os::open_read(&name[..n]);
+    if fd < 0 {
+        os::fail(&name[..n]);
+        return;
+    }
+    let mut tally: [u32; 13] = [0; 13];
+    all_blocks(fd, &mut tally);
+    libc::close(fd);
+    io::write_all(STDOUT_FILENO, &name[..n]);
+    io::write_all(STDOUT_FILENO, b":");
+    print_asked(&tally);
+    print_found(&tally);
+}
+
+// Each argument is a file.
+fn main() {
+    let count = os::arg_count();
+    let mut place: usize = 1;
+    while place < count {
+        replay(place);
+        place += 1;
+    }
+}
