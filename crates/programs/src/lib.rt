@@ -249,7 +249,7 @@ pub fn add(text: &[u8], kept: &[u8], prefix: &[u8], fields: &[u8], out: &mut [u8
             }
             let previous = given::find_previous(fields);
             if is_stray(text, kept, fields, previous) {
-                return Answer::Refused(22, LineNo(0));
+                return Answer::Refused(22, LineNo(0)); // the given PP
             }
             let parents = lookup::find_parents(text, kept);
             if parents.dangling {
