@@ -12,3 +12,4 @@ pub mod OfKind
 pub mod Apart
 pub mod Text
 pub mod Onward
+pub mod Read

@@ -3,3 +3,4 @@ pub mod Sound
 pub mod Spelled
 pub mod Clean
 pub mod Admits
+pub mod Read

@@ -11,6 +11,7 @@ use Rattle.format.specs.Records.{Record}
 use Rattle.format.specs.Programs.{programs, hops, leaves, loopsFrom}
 use Rattle.format.specs.Calls.{Answer, no, yes, fresh, leafing}
 use Rattle.accepted.proofs.Bools.{never, split}
+use Rattle.accepted.specs.Read.{recordsOf}
 use Rattle.chains.specs.Parents.{linksOf, linkOf}
 use Rattle.chains.proofs.Bound.{hops-bound, within-below}
 use Rattle.chains.proofs.Leaf.{leaves-length}
@@ -18,7 +19,6 @@ use Rattle.entries.specs.Entries.{entriesIn}
 use Rattle.lookup.specs.Parents.{parentsIn, strays}
 use Rattle.lookup.proofs.Numbers.{parents-count}
 use Rattle.parser.specs.Answers.{checkedOf}
-use Rattle.parser.specs.Accepted.{recordsOf}
 use Rattle.calls.proofs.Fresh.{Current, check-fresh}
 use Rattle.calls.proofs.Chained.{all-within, leaves-refused, leaves-dangling, leaves-cycle, leaves-short, leaves-fit, few-parents}
 

@@ -14,12 +14,12 @@ use Rattle.format.specs.Calls.{Answer, no, yes, then, fitting, untangled, fresh
 use Rattle.format.specs.declared.LineNo.{LineNo}
 use Rattle.text.specs.Over.{over}
 use Rattle.text.specs.Stands.{Each}
+use Rattle.accepted.specs.Read.{recordsOf}
 use Rattle.chains.specs.Parents.{linksOf, within, inArray}
 use Rattle.entries.specs.Entries.{entriesIn, counted}
 use Rattle.lookup.specs.Parents.{Within, parentsIn, strays}
 use Rattle.lookup.proofs.Kept.{text-inside, text-few}
 use Rattle.lookup.proofs.Numbers.{array-front, parents-few, parents-count, parents-dangling, parents-roots, parents-links, parents-within}
-use Rattle.parser.specs.Accepted.{recordsOf}
 use Rattle.parser.specs.Answers.{outputOf}
 use Rattle.parser.proofs.Told.{refused-answer, written-answer}
 use Rattle.calls.specs.declared.LeavesAnswer.the-variants.{Refused, Counted}

@@ -11,9 +11,9 @@ use Rattle.format.specs.Catalogue.{catalogue}
 use Rattle.format.specs.Calls.{Answer, no, yes, then, fresh}
 use Rattle.format.specs.declared.LineNo.{LineNo}
 use Rattle.text.proofs.Equal.{same-equal}
+use Rattle.accepted.specs.Read.{kept, recordsOf}
 use Rattle.parser.specs.declared.Checked.the-variants.{Refused, Fresh}
 use Rattle.parser.specs.Answers.{checkedOf}
-use Rattle.parser.specs.Accepted.{kept, recordsOf}
 use Rattle.parser.proofs.Told.{fresh-refused, fresh-reads}
 
 -- the text is read, and the catalogue is its own

@@ -14,6 +14,7 @@ use Rattle.format.specs.Reading.{ofKind}
 use Rattle.format.specs.Catalogue.{catalogue}
 use Rattle.format.specs.Calls.{Answer, no, yes, there, keyed, sized, valued, orStand, fresh, counting, keying, sizing, looking}
 use Rattle.accepted.proofs.Bools.{never}
+use Rattle.accepted.specs.Read.{recordsOf}
 use Rattle.entries.specs.declared.Place.{Place}
 use Rattle.entries.specs.Entries.{pieceAt, entriesIn, counted}
 use Rattle.lookup.specs.declared.Found.the-variants.{Nothing, At}
@@ -22,7 +23,6 @@ use Rattle.lookup.specs.Lookup.{foundOf, sizedOf, keyIn, lengthIn, fieldIn}
 use Rattle.lookup.specs.Parents.{Inside, bytesAt}
 use Rattle.lookup.proofs.Kept.{text-counted, text-valued, stands-inside, stands-bytes}
 use Rattle.lookup.proofs.Answers.{text-key, text-ln, text-field}
-use Rattle.parser.specs.Accepted.{recordsOf}
 use Rattle.calls.specs.declared.KeyAnswer.the-variants as key
 use Rattle.calls.specs.Answers.{keyOf, valuing, standing}
 use Rattle.calls.proofs.Fresh.{Current, goes-on, stops}

@@ -14,13 +14,14 @@ use Rattle.accepted.specs.Spelled as sp
 use Rattle.accepted.specs.Spelled.{Accepted}
 use Rattle.accepted.proofs.Bools.{never}
 use Rattle.accepted.proofs.Spelled.{line-accepted}
+use Rattle.accepted.specs.Read.{isRead}
 use Rattle.record.specs.declared.Head.{Head}
 use Rattle.record.specs.Head.{recordHead, headOf}
 use Rattle.walk.specs.Run.{fieldsOf, AtField}
 use Rattle.walk.proofs.Start.{accepted-start, accepted-others}
 use Rattle.entries.specs.declared.Entry.{Entry}
 use Rattle.entries.specs.Entries.{entryBytes, Fits}
-use Rattle.catalogue.specs.Line.{recordBytes, isRead}
+use Rattle.catalogue.specs.Line.{recordBytes}
 use Rattle.catalogue.specs.Parts.{ownEntry, othersOf, kindOfHead, fieldBytes}
 use Rattle.catalogue.proofs.Records.{own-entry, own-bytes, own-others}
 use Rattle.catalogue.proofs.Fitting.{head-fits}

@@ -1,6 +1,5 @@
 -- The bytes of one line in the catalogue.
 use Prim.Native.Nat.{ℕ}
-use mathlib.Core.Bool.{Bool, true, false}
 use mathlib.Core.List.{List, [], _++_}
 use Rattle.format.specs.Records.{Line, refused, read, others}
 use Rattle.format.specs.Catalogue.{head, tails}
@@ -10,8 +9,3 @@ unfoldable pub recordBytes : Line → List ℕ
 unfolding head tails others
 recordBytes (refused n) = []
 recordBytes (read r) = head r ++ tails (others r)
-
--- is the line accepted?
-unfoldable pub isRead : Line → Bool
-isRead (refused n) = false
-isRead (read r) = true

@@ -12,9 +12,10 @@ ghost use lib.ListN.{length, drop};
 ghost use Rattle.format.specs.Bytes.{starts};
 ghost use Rattle.format.specs.Records.{line};
 ghost use Rattle.text.specs.Over.{over};
+ghost use Rattle.accepted.specs.Read.{isRead};
 ghost use Rattle.walk.specs.Run.{AtField};
 ghost use Rattle.entries.specs.Entries.{sizeOf, entryBytes, Fits};
-ghost use Rattle.catalogue.specs.Line.{recordBytes, isRead};
+ghost use Rattle.catalogue.specs.Line.{recordBytes};
 ghost use Rattle.catalogue.specs.Parts.{ownEntry, othersOf, kindOfHead, sizeOfHead, otherEntry, fieldBytes};
 ghost use Rattle.catalogue.specs.Matched.{matched};
 

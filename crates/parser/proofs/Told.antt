@@ -19,10 +19,10 @@ use Rattle.parser.specs.declared.Judged.{Judged}
 use Rattle.parser.specs.declared.Judged.the-variants.{Refused, Accepted}
 use Rattle.parser.specs.Judged.{judgedOf}
 use Rattle.text.specs.Over.{over}
+use Rattle.accepted.specs.Read.{kept, recordsOf}
 use Rattle.parser.specs.declared.Answer.the-variants as answer
 use Rattle.parser.specs.Answers.{answerOf, outputOf}
 use Rattle.parser.specs.Accepted as accepted
-use Rattle.parser.specs.Accepted.{kept, recordsOf}
 
 -- ---- reading by judging
 

@@ -16,7 +16,8 @@ use Rattle.text.proofs.First.{lines-first, first-le, first-within, first-some}
 use Rattle.accepted.specs.Pieces.{Pairs}
 use Rattle.accepted.specs.Admits.{strictly}
 use Rattle.accepted.proofs.Text.{text-lines, text-fits}
-use Rattle.parser.specs.Accepted.{recordsOf, Accepted}
+use Rattle.accepted.specs.Read.{recordsOf}
+use Rattle.parser.specs.Accepted.{Accepted}
 
 -- at the line that starts at `at`
 pub record Walking (strict : Bool) (t : List ℕ) (at : ℕ) : Type 0 where

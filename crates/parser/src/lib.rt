@@ -13,7 +13,8 @@ ghost use Rattle.format.specs.Bytes.{same};
 ghost use Rattle.format.specs.Catalogue.{catalogue};
 ghost use Rattle.format.specs.Calls.{reading, fresh};
 ghost use Rattle.text.specs.Over.{over};
-ghost use Rattle.parser.specs.Accepted.{Accepted, recordsOf};
+ghost use Rattle.accepted.specs.Read.{recordsOf};
+ghost use Rattle.parser.specs.Accepted.{Accepted};
 ghost use Rattle.parser.specs.Judged.{judgedOf, programsOf};
 ghost use Rattle.parser.specs.Answers.{answerOf, outputOf, checkedOf};
 

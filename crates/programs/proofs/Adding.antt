@@ -11,21 +11,19 @@ use Rattle.format.specs.Bytes.{any}
 use Rattle.format.specs.Lines.{Piece}
 use Rattle.format.specs.Fields.{Field, lastOf}
 use Rattle.format.specs.Records.{Record}
-use Rattle.format.specs.Reading.{Reading, refuse, accept, readText}
-use Rattle.format.specs.Catalogue.{catalogue}
+use Rattle.format.specs.Reading.{readText}
 use Rattle.format.specs.Programs.{Program, Link, programs, link, links, leaves, found, isDangling, ordinalFrom, loopsFrom, tangled}
 use Rattle.format.specs.Tidy.{tidy, unwritable}
 use Rattle.format.specs.Adding.{given, misformed, isKnown, added, used, unaddable}
 use Rattle.format.specs.Calls.{no, then, fresh, untangled, writing, adding}
+use Rattle.accepted.specs.Read.{isAccepted, recordsOf}
 use Rattle.entries.specs.declared.Entry.{Entry}
 use Rattle.entries.specs.Entries.{entriesIn}
 use Rattle.chains.specs.Parents.{linksOf}
 use Rattle.lookup.specs.Parents.{parentsIn, strays, ordinalIn}
 use Rattle.lookup.proofs.Links.{text-ordinal}
-use Rattle.parser.specs.Accepted.{kept, recordsOf}
 use Rattle.calls.proofs.Fresh.{Current, goes-on, stops}
 use Rattle.calls.proofs.Chained.{dangles, none-dangle, loops}
-use Rattle.tidy_text.specs.Accepted as own
 use Rattle.ids.specs.Taken.{known}
 use Rattle.programs.specs.Added.{stray, crowded, addingOn}
 
@@ -44,21 +42,9 @@ module _ (t c : List ℕ) (k : Current t c) where
   abbrev rs : List Record
   rs = recordsOf t
 
-  -- the same records, as the writer of the tidy text has them
-  pub own-records : own.recordsOf (readText t) ≡ rs
-  unfolding recordsOf
-  own-records = go (readText t)
-    where
-      go : (r : Reading) → own.recordsOf r ≡ kept r
-      go (refuse n l) = unfold own.recordsOf kept in refl
-      go (accept qs) = unfold own.recordsOf kept in refl
-
-  pub own-accepted : own.isAccepted (readText t) ≡ true
-  unfolding own.isAccepted
-  own-accepted = ap own.isAccepted (k .reads)
-
-  pub own-catalogue : c ≡ catalogue (own.recordsOf (readText t))
-  own-catalogue = k .own ∙ ap catalogue (sym own-records)
+  pub own-accepted : isAccepted (readText t) ≡ true
+  unfolding isAccepted
+  own-accepted = ap isAccepted (k .reads)
 
   -- the given PP dangles exactly if it is a stray
   pub stray-is : (o : Option Piece) → stray t (entriesIn c) o ≡ isDangling (link (programs rs) o)

@@ -1,7 +1,7 @@
 -- Adding once the leaves are known: 18, 19, and then what is written.
 use Prim.Native.Nat.{ℕ, _+_, _≤_, _<_, min}
 use mathlib.Core.Path.{_≡_, refl, sym, ap, ap₂, _∙_}
-use mathlib.Core.Bool.{Bool, true, false, not, cond, false≢true}
+use mathlib.Core.Bool.{Bool, true, false, not, cond}
 use mathlib.Core.List.{List, [], _∷_, _++_}
 use native.Mathlib.Omega.{arith}
 use lib.ListN.{length, drop}
@@ -10,7 +10,7 @@ use borrow.Author.Tests.{lt-ltb, le-ltb, ne-eqb}
 use Rattle.format.specs.Bytes.{none?}
 use Rattle.format.specs.Fields.{Field, lastOf}
 use Rattle.format.specs.Records.{Record}
-use Rattle.format.specs.Reading.{Reading, refuse, accept, readText}
+use Rattle.format.specs.Reading.{accept, readText}
 use Rattle.format.specs.Catalogue.{catalogue}
 use Rattle.format.specs.Programs.{Program, programs, links, leaves, ordinalFrom}
 use Rattle.format.specs.Tidy.{tidy, unwritable, fieldsText}
@@ -19,18 +19,11 @@ use Rattle.format.specs.Calls.{no, then, untangled, writing}
 use Rattle.entries.specs.Entries.{entriesIn}
 use Rattle.lookup.specs.Parents.{ordinalIn}
 use Rattle.lookup.proofs.Links.{text-ordinal}
-use Rattle.tidy_text.specs.Accepted.{isAccepted, recordsOf}
 use Rattle.ids.specs.Taken.{known, taken}
 use Rattle.ids.proofs.Used.{used-added, added-count}
 use Rattle.added.specs.Lines.{addedText}
 use Rattle.programs.specs.Added.{withAdded, isNone, crowded, addingOn}
 use Rattle.programs.proofs.Texts.{added-text, tidy-added}
-
--- an accepted text is read as its records
-pub accepted-reads : (r : Reading) → isAccepted r ≡ true → r ≡ accept (recordsOf r)
-unfolding isAccepted recordsOf
-accepted-reads (refuse n l) e = absurd (false≢true e)
-accepted-reads (accept rs) e = refl
 
 -- what `first_joined` leaves
 pub joined-on : (ks : List ℕ) (alone : Bool) → drop (cond alone (min 1 (length ks)) 0) ks ≡ cond alone (drop 1 ks) ks

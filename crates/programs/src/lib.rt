@@ -24,10 +24,10 @@ ghost use Rattle.format.specs.Adding.{given, misformed, isKnown};
 ghost use Rattle.format.specs.Calls.{writing, adding};
 ghost use Rattle.text.specs.Over.{over};
 ghost use Rattle.text.specs.Stands.{Each};
+ghost use Rattle.accepted.specs.Read.{isAccepted, recordsOf};
 ghost use Rattle.entries.specs.Entries.{entriesIn, counted};
 ghost use Rattle.lookup.specs.Parents.{Within};
 ghost use Rattle.parser.specs.Answers.{answerOf, outputOf};
-ghost use Rattle.tidy_text.specs.Accepted.{isAccepted, recordsOf};
 ghost use Rattle.ids.specs.Taken.{known};
 ghost use Rattle.given.specs.Given.{givenOf};
 ghost use Rattle.added.specs.Lines.{addedText};
@@ -49,9 +49,9 @@ fn put_all(
     requires { ⌜ isAccepted (readText (now text)) ≡ true ⌝ }
     requires { ⌜ strict ≡ isStrict (announced (lines (now text))) ⌝ }
     requires { ⌜ Each (Within (length (now text))) (entriesIn (now kept)) ⌝ }
-    requires { ⌜ length (withAdded (recordsOf (readText (now text))) (addedText (now text) (entriesIn (now kept)) empty alone linked (now prefix) (now fields) (now leaves))) ≤ length (now out) ⌝ }
-    ensures next { λ r. ⌜ r ≡ length (withAdded (recordsOf (readText (now (text .entry)))) (addedText (now (text .entry)) (entriesIn (now (kept .entry))) empty alone linked (now (prefix .entry)) (now (fields .entry)) (now (leaves .entry)))) ⌝ }
-    ensures wrote { λ _. ⌜ now (out .exit) ≡ over (now (out .entry)) 0 (withAdded (recordsOf (readText (now (text .entry)))) (addedText (now (text .entry)) (entriesIn (now (kept .entry))) empty alone linked (now (prefix .entry)) (now (fields .entry)) (now (leaves .entry)))) ⌝ }
+    requires { ⌜ length (withAdded (recordsOf (now text)) (addedText (now text) (entriesIn (now kept)) empty alone linked (now prefix) (now fields) (now leaves))) ≤ length (now out) ⌝ }
+    ensures next { λ r. ⌜ r ≡ length (withAdded (recordsOf (now (text .entry))) (addedText (now (text .entry)) (entriesIn (now (kept .entry))) empty alone linked (now (prefix .entry)) (now (fields .entry)) (now (leaves .entry)))) ⌝ }
+    ensures wrote { λ _. ⌜ now (out .exit) ≡ over (now (out .entry)) 0 (withAdded (recordsOf (now (text .entry))) (addedText (now (text .entry)) (entriesIn (now (kept .entry))) empty alone linked (now (prefix .entry)) (now (fields .entry)) (now (leaves .entry)))) ⌝ }
 {
     let n = tidy_text::put_records(text, strict, out);
     let n = added::put_added(
@@ -101,8 +101,8 @@ fn write_added(
     requires { ⌜ isAccepted (readText (now text)) ≡ true ⌝ }
     requires { ⌜ Each (Within (length (now text))) (entriesIn (now kept)) ⌝ }
     requires { ⌜ (length (now leaves) ≤ 1024) × (empty ≡ false → 0 < length (now leaves)) ⌝ }
-    ensures answer { λ r. ⌜ r ≡ answerOf (writing (length (now (out .entry))) (unwritable 0 (recordsOf (readText (now (text .entry))))) (withAdded (recordsOf (readText (now (text .entry)))) (addedText (now (text .entry)) (entriesIn (now (kept .entry))) empty alone linked (now (prefix .entry)) (now (fields .entry)) (now (leaves .entry))))) ⌝ }
-    ensures wrote { λ _. ⌜ now (out .exit) ≡ outputOf (writing (length (now (out .entry))) (unwritable 0 (recordsOf (readText (now (text .entry))))) (withAdded (recordsOf (readText (now (text .entry)))) (addedText (now (text .entry)) (entriesIn (now (kept .entry))) empty alone linked (now (prefix .entry)) (now (fields .entry)) (now (leaves .entry))))) (now (out .entry)) ⌝ }
+    ensures answer { λ r. ⌜ r ≡ answerOf (writing (length (now (out .entry))) (unwritable 0 (recordsOf (now (text .entry)))) (withAdded (recordsOf (now (text .entry))) (addedText (now (text .entry)) (entriesIn (now (kept .entry))) empty alone linked (now (prefix .entry)) (now (fields .entry)) (now (leaves .entry))))) ⌝ }
+    ensures wrote { λ _. ⌜ now (out .exit) ≡ outputOf (writing (length (now (out .entry))) (unwritable 0 (recordsOf (now (text .entry)))) (withAdded (recordsOf (now (text .entry))) (addedText (now (text .entry)) (entriesIn (now (kept .entry))) empty alone linked (now (prefix .entry)) (now (fields .entry)) (now (leaves .entry))))) (now (out .entry)) ⌝ }
 {
     let strict = rules::is_strict(text);
     match tidy_text::measure(text, strict) {
@@ -205,14 +205,14 @@ fn add_after(
     out: &mut [u8],
 ) -> Answer
     requires { ⌜ isAccepted (readText (now text)) ≡ true ⌝ }
-    requires { ⌜ now kept ≡ catalogue (recordsOf (readText (now text))) ⌝ }
+    requires { ⌜ now kept ≡ catalogue (recordsOf (now text)) ⌝ }
     requires { ⌜ given (now fields) .stop ≡ 0 ⌝ }
-    requires { ⌜ now leaves ≡ leavesOf (recordsOf (readText (now text))) ⌝ }
-    requires { ⌜ count ≡ length (programs (recordsOf (readText (now text)))) ⌝ }
+    requires { ⌜ now leaves ≡ leavesOf (recordsOf (now text)) ⌝ }
+    requires { ⌜ count ≡ length (programs (recordsOf (now text))) ⌝ }
     requires { ⌜ linked ≡ isNone (lastOf 80 80 (given (now fields) .fields)) ⌝ }
     requires { ⌜ (0 < count → 0 < length (now leaves)) ⌝ }
-    ensures answer { λ r. ⌜ r ≡ answerOf (addingOn (recordsOf (readText (now (text .entry)))) (now (prefix .entry)) (given (now (fields .entry)) .fields) (length (now (out .entry)))) ⌝ }
-    ensures wrote { λ _. ⌜ now (out .exit) ≡ outputOf (addingOn (recordsOf (readText (now (text .entry)))) (now (prefix .entry)) (given (now (fields .entry)) .fields) (length (now (out .entry)))) (now (out .entry)) ⌝ }
+    ensures answer { λ r. ⌜ r ≡ answerOf (addingOn (recordsOf (now (text .entry))) (now (prefix .entry)) (given (now (fields .entry)) .fields) (length (now (out .entry)))) ⌝ }
+    ensures wrote { λ _. ⌜ now (out .exit) ≡ outputOf (addingOn (recordsOf (now (text .entry))) (now (prefix .entry)) (given (now (fields .entry)) .fields) (length (now (out .entry)))) (now (out .entry)) ⌝ }
 {
     let alone = is_free(text, kept, prefix);
     let first = first_joined(leaves.len(), alone);

@@ -205,7 +205,7 @@ kinds-length (group p fs ∷ rs) = omega (arith, text-more (group p fs) (ofKind 
 kinds-length (program p fs ∷ rs) = omega (arith, text-more (program p fs) (ofKind 4 rs), text-more (program p fs) rs, kinds-length rs)
 kinds-length (comment p ∷ rs) = omega (arith, text-more (comment p) (ofKind 5 rs), text-more (comment p) rs, kinds-length rs)
 
-order-length : (rs : List Record) → length (text (inOrder rs)) ≡ length (text rs)
+pub order-length : (rs : List Record) → length (text (inOrder rs)) ≡ length (text rs)
 unfolding inOrder size
 order-length rs =
     let a : List Record = ofKind 1 rs in

@@ -17,8 +17,9 @@ use Rattle.accepted.specs.Admits.{strictly}
 use Rattle.accepted.specs.Pieces.{Pairs}
 use Rattle.accepted.proofs.Bools.{never, and-left, and-right}
 use Rattle.accepted.proofs.Text.{text-fits, text-lines}
-use Rattle.writer.specs.Line.{isRead}
-use Rattle.tidy_text.specs.Accepted.{isAccepted, recordsOf, onto, lineRecords, allRead, recordsFrom}
+use Rattle.accepted.proofs.Read.{accepted-reads}
+use Rattle.accepted.specs.Read.{isAccepted, isRead, recordsOf}
+use Rattle.tidy_text.specs.Accepted.{onto, lineRecords, allRead, recordsFrom}
 
 -- ---- all lines
 
@@ -31,24 +32,19 @@ pairs-records strict (p ∷ ps) (r ∷ rs) h =
     let i = pairs-records strict ps rs (h .1) in
     (rw (h .0) (ap (λ l. r ∷ l) (i .0)), rw (h .0) (i .1))
 
-reading : (g : Reading) → isAccepted g ≡ true → g ≡ accept (recordsOf g)
-unfolding isAccepted recordsOf
-reading (refuse n l) q = absurd (never (cc))
-reading (accept rs) q = refl
-
 -- before the first turn
 pub record Opened (strict : Bool) (t : List ℕ) : Type 0 where
   pub fits : length t ≤ 16777216
-  pub reads : readText t ≡ accept (recordsOf (readText t))
-  pub records : recordsFrom strict t 0 ≡ recordsOf (readText t)
+  pub reads : readText t ≡ accept (recordsOf t)
+  pub records : recordsFrom strict t 0 ≡ recordsOf t
   pub lines : allRead strict (linesFrom 0 (drop 0 t)) ≡ true
 
 pub opened : (strict : Bool) (t : List ℕ) → isAccepted (readText t) ≡ true → strict ≡ isStrict (announced (lines t)) → Opened strict t
 unfolding lines strictly
 opened strict t h s =
-    let e = reading (readText t) h in
-    let p = pairs-records (strictly t) (lines t) (recordsOf (readText t)) (text-lines t (recordsOf (readText t)) e) in
-    rw s (record { fits = text-fits t (recordsOf (readText t)) e; reads = e; records = p .0; lines = p .1 })
+    let e = accepted-reads t h in
+    let p = pairs-records (strictly t) (lines t) (recordsOf t) (text-lines t (recordsOf t) e) in
+    rw s (record { fits = text-fits t (recordsOf t) e; reads = e; records = p .0; lines = p .1 })
 
 -- ---- one turn
 

@@ -8,11 +8,12 @@ use lib.ListN.{length}
 use Rattle.format.specs.Records.{Record, Line, refused, read, line}
 use Rattle.format.specs.Tidy.{unwritable}
 use Rattle.accepted.proofs.Bools.{never}
-use Rattle.writer.specs.Line.{isRead, lineText, lineWritable, sizeOf}
+use Rattle.writer.specs.Line.{lineText, lineWritable, sizeOf}
 use Rattle.writer.specs.declared.Size.the-variants.{Unwritable, Is}
 use Rattle.tidy_text.specs.Accepted.{onto, recordsFrom}
 use Rattle.tidy_text.proofs.Lines.{lent, Turn, ended}
 use Rattle.text.specs.declared.Cut.{Cut}
+use Rattle.accepted.specs.Read.{isRead}
 
 -- a choice once its flag is known
 pub cond-is : {A : Type 0} (b d : Bool) (x y : A) → b ≡ d → cond b x y ≡ cond d x y

@@ -17,7 +17,8 @@ use Rattle.accepted.specs.Spelled.{Accepted, kind₀, kind₁}
 use Rattle.accepted.proofs.Bools.{never}
 use Rattle.accepted.proofs.Sound.{made-kind}
 use Rattle.accepted.proofs.Spelled.{line-accepted}
-use Rattle.writer.specs.Line.{isRead, lineText}
+use Rattle.accepted.specs.Read.{isRead}
+use Rattle.writer.specs.Line.{lineText}
 use Rattle.tidy_text.specs.Accepted.{onto}
 use Rattle.tidy_text.specs.Kinds.{numberOf, hasKind, kindText, textOfKind}
 

@@ -1,22 +1,23 @@
--- The tidy text kind by kind, and its length line by line: each record is of one kind.
+-- The tidy text kind by kind, and its length line by line.
 use Prim.Native.Nat.{ℕ, _+_, _≤_}
 use mathlib.Core.Bool.{Bool}
 use mathlib.Core.Path.{_≡_, refl, sym, ap, _∙_}
 use mathlib.Core.List.{List, [], _∷_, _++_, append-assoc}
 use native.Mathlib.Omega.{arith}
 use lib.ListN.{length, length-append}
-use Rattle.format.specs.Records.{Record, header, reference, group, program, comment, code, Line, refused, read, line}
+use Rattle.format.specs.Records.{Record, Line, refused, read, line}
 use Rattle.format.specs.Reading.{ofKind, readText}
 use Rattle.format.specs.Tidy.{recordText, text, inOrder, tidy}
 use Rattle.format.specs.declared.Kind.{Kind}
 use Rattle.format.specs.declared.Kind.the-variants.{Header, ReferenceSequence, ReadGroup, Program, Comment}
 use Rattle.writer.specs.Line.{lineText}
-use Rattle.tidy_text.specs.Accepted.{onto, recordsOf, recordsFrom}
+use Rattle.tidy_text.specs.Accepted.{onto, recordsFrom}
 use Rattle.tidy_text.specs.Kinds.{numberOf, kindText, textOfKind, frontText}
 use Rattle.tidy_text.proofs.OfKind.{kind-onto}
 use Rattle.tidy_text.proofs.Lines.{Opened, lent, Turn, ended}
 use Rattle.text.specs.declared.Cut.{Cut}
-use Rattle.roundtrip.proofs.Total.{tidy-length}
+use Rattle.accepted.specs.Read.{recordsOf}
+use Rattle.roundtrip.proofs.Total.{order-length, tidy-length}
 
 pub text-onto : (l : Line) (rs : List Record) → text (onto l rs) ≡ lineText l ++ text rs
 unfolding text onto lineText
@@ -39,46 +40,11 @@ tidy-kinds rs =
       text-append (ofKind 1 rs) (ofKind 2 rs),
     ) refl
 
--- ---- the order does not matter for the sum
+-- ---- how long it is
 
 -- how long the records of a kind are
 abbrev pub size : Kind → List Record → ℕ
 size k rs = length (textOfKind k rs)
-
--- one record more
-size-more : (k : Kind) (r : Record) (rs : List Record) → size k (r ∷ rs) ≡ length (kindText k (read r)) + size k rs
-unfolding onto
-size-more k r rs = ap length (kind-onto k (read r) rs) ∙ length-append (kindText k (read r)) (textOfKind k rs)
-
-one-kind : (r : Record)
-    → length (kindText Header (read r)) + length (kindText ReferenceSequence (read r)) + length (kindText ReadGroup (read r)) + length (kindText Program (read r)) + length (kindText Comment (read r))
-    ≡ length (recordText r)
-unfolding kindText code numberOf
-one-kind (header v fs) = omega arith
-one-kind (reference p n fs) = omega arith
-one-kind (group p fs) = omega arith
-one-kind (program p fs) = omega arith
-one-kind (comment p) = omega arith
-
-none : size Header [] + size ReferenceSequence [] + size ReadGroup [] + size Program [] + size Comment [] ≡ 0
-unfolding textOfKind ofKind text
-none = refl
-
-kinds-length : (rs : List Record) → size Header rs + size ReferenceSequence rs + size ReadGroup rs + size Program rs + size Comment rs ≡ length (text rs)
-unfolding text
-kinds-length [] = none
-kinds-length (r ∷ rs) =
-    omega (
-      arith,
-      size-more Header r rs,
-      size-more ReferenceSequence r rs,
-      size-more ReadGroup r rs,
-      size-more Program r rs,
-      size-more Comment r rs,
-      one-kind r,
-      kinds-length rs,
-      length-append (recordText r) (text rs),
-    )
 
 -- how long the front is, kind by kind
 pub front-sizes : (rs : List Record) → length (frontText rs) ≡ size Header rs + size ReferenceSequence rs + size ReadGroup rs + size Program rs
@@ -96,7 +62,8 @@ tidy-sizes rs = omega (arith, ap length (tidy-kinds rs), length-append (frontTex
 
 -- it is as long as the records' lines in text order
 pub tidy-total : (rs : List Record) → length (tidy rs) ≡ length (text rs)
-tidy-total rs = tidy-sizes rs ∙ kinds-length rs
+unfolding tidy
+tidy-total rs = order-length rs
 
 -- ---- a turn
 
@@ -117,8 +84,8 @@ text-ended strict t at h = ap (λ rs. length (text rs)) (ended strict t at h)
 
 -- the whole, a byte longer than the text at most
 pub tidy-small : (strict : Bool) (t : List ℕ) → Opened strict t
-    → (length (text (recordsFrom strict t 0)) ≡ length (tidy (recordsOf (readText t)))) × (length (tidy (recordsOf (readText t))) ≤ 16777217)
+    → (length (text (recordsFrom strict t 0)) ≡ length (tidy (recordsOf t))) × (length (tidy (recordsOf t)) ≤ 16777217)
 tidy-small strict t o = (
-  ap (λ rs. length (text rs)) (o .records) ∙ sym (tidy-total (recordsOf (readText t))),
-  omega (arith, tidy-length t (recordsOf (readText t)) (o .reads), o .fits),
+  ap (λ rs. length (text rs)) (o .records) ∙ sym (tidy-total (recordsOf t)),
+  omega (arith, tidy-length t (recordsOf t) (o .reads), o .fits),
 )

@@ -6,18 +6,9 @@ use mathlib.Core.Option.{Option, none, some}
 use lib.ListN.{drop}
 use Rattle.format.specs.Lines.{Piece, linesFrom}
 use Rattle.format.specs.Records.{Record, Line, refused, read, line}
-use Rattle.format.specs.Reading.{Reading, refuse, accept}
-use Rattle.writer.specs.Line.{isRead}
+use Rattle.accepted.specs.Read.{isRead}
 use Rattle.tidy_text.specs.declared.Measured.{Measured}
 use Rattle.tidy_text.specs.declared.Measured.the-variants as measured
-
-unfoldable pub isAccepted : Reading → Bool
-isAccepted (refuse n l) = false
-isAccepted (accept rs) = true
-
-unfoldable pub recordsOf : Reading → List Record
-recordsOf (refuse n l) = []
-recordsOf (accept rs) = rs
 
 -- the tidy text's length, or the line of the first SQ whose name can't be written
 unfoldable pub measuredOf : Option ℕ → ℕ → Measured

@@ -11,8 +11,8 @@ ghost use Rattle.format.specs.Records.{line};
 ghost use Rattle.format.specs.Reading.{announced, isStrict, readText};
 ghost use Rattle.format.specs.Tidy.{tidy, unwritable};
 ghost use Rattle.text.specs.Over.{over};
-ghost use Rattle.writer.specs.Line.{isRead};
-ghost use Rattle.tidy_text.specs.Accepted.{isAccepted, recordsOf, measuredOf};
+ghost use Rattle.accepted.specs.Read.{isAccepted, isRead, recordsOf};
+ghost use Rattle.tidy_text.specs.Accepted.{measuredOf};
 ghost use Rattle.tidy_text.specs.Kinds.{hasKind, kindText, textOfKind, frontText};
 
 // How many bytes the tidy text has, or the line of the first SQ whose name can't be written.
@@ -53,7 +53,7 @@ fn put_of_kind(out: &mut [u8], o: usize, kind: Kind, src: &[u8], at: usize, stri
 pub fn measure(text: &[u8], strict: bool) -> Measured
     requires { ⌜ isAccepted (readText (now text)) ≡ true ⌝ }
     requires { ⌜ strict ≡ isStrict (announced (lines (now text))) ⌝ }
-    ensures { λ r. ⌜ r ≡ measuredOf (unwritable 0 (recordsOf (readText (now (text .entry))))) (length (tidy (recordsOf (readText (now (text .entry)))))) ⌝ }
+    ensures { λ r. ⌜ r ≡ measuredOf (unwritable 0 (recordsOf (now (text .entry)))) (length (tidy (recordsOf (now (text .entry))))) ⌝ }
 {
     let mut l: u32 = 0;
     let mut n: usize = 0;
@@ -75,9 +75,9 @@ pub fn measure(text: &[u8], strict: bool) -> Measured
 pub fn put_kind(text: &[u8], strict: bool, kind: Kind, out: &mut [u8], o: usize) -> usize
     requires { ⌜ isAccepted (readText (now text)) ≡ true ⌝ }
     requires { ⌜ strict ≡ isStrict (announced (lines (now text))) ⌝ }
-    requires { ⌜ o + length (textOfKind kind (recordsOf (readText (now text)))) ≤ length (now out) ⌝ }
-    ensures next { λ r. ⌜ r ≡ o + length (textOfKind kind (recordsOf (readText (now (text .entry))))) ⌝ }
-    ensures wrote { λ _. ⌜ now (out .exit) ≡ over (now (out .entry)) o (textOfKind kind (recordsOf (readText (now (text .entry))))) ⌝ }
+    requires { ⌜ o + length (textOfKind kind (recordsOf (now text))) ≤ length (now out) ⌝ }
+    ensures next { λ r. ⌜ r ≡ o + length (textOfKind kind (recordsOf (now (text .entry)))) ⌝ }
+    ensures wrote { λ _. ⌜ now (out .exit) ≡ over (now (out .entry)) o (textOfKind kind (recordsOf (now (text .entry)))) ⌝ }
 {
     let mut n = o;
     let mut at: usize = 0;
@@ -93,9 +93,9 @@ pub fn put_kind(text: &[u8], strict: bool, kind: Kind, out: &mut [u8], o: usize)
 pub fn put_records(text: &[u8], strict: bool, out: &mut [u8]) -> usize
     requires { ⌜ isAccepted (readText (now text)) ≡ true ⌝ }
     requires { ⌜ strict ≡ isStrict (announced (lines (now text))) ⌝ }
-    requires { ⌜ length (frontText (recordsOf (readText (now text)))) ≤ length (now out) ⌝ }
-    ensures next { λ r. ⌜ r ≡ length (frontText (recordsOf (readText (now (text .entry))))) ⌝ }
-    ensures wrote { λ _. ⌜ now (out .exit) ≡ over (now (out .entry)) 0 (frontText (recordsOf (readText (now (text .entry))))) ⌝ }
+    requires { ⌜ length (frontText (recordsOf (now text))) ≤ length (now out) ⌝ }
+    ensures next { λ r. ⌜ r ≡ length (frontText (recordsOf (now (text .entry)))) ⌝ }
+    ensures wrote { λ _. ⌜ now (out .exit) ≡ over (now (out .entry)) 0 (frontText (recordsOf (now (text .entry)))) ⌝ }
 {
     let n = put_kind(text, strict, Kind::Header, out, 0);
     let n = put_kind(text, strict, Kind::ReferenceSequence, out, n);
@@ -107,9 +107,9 @@ pub fn put_records(text: &[u8], strict: bool, out: &mut [u8]) -> usize
 pub fn put_tidy(text: &[u8], strict: bool, out: &mut [u8]) -> usize
     requires { ⌜ isAccepted (readText (now text)) ≡ true ⌝ }
     requires { ⌜ strict ≡ isStrict (announced (lines (now text))) ⌝ }
-    requires { ⌜ length (tidy (recordsOf (readText (now text)))) ≤ length (now out) ⌝ }
-    ensures next { λ r. ⌜ r ≡ length (tidy (recordsOf (readText (now (text .entry))))) ⌝ }
-    ensures wrote { λ _. ⌜ now (out .exit) ≡ over (now (out .entry)) 0 (tidy (recordsOf (readText (now (text .entry))))) ⌝ }
+    requires { ⌜ length (tidy (recordsOf (now text))) ≤ length (now out) ⌝ }
+    ensures next { λ r. ⌜ r ≡ length (tidy (recordsOf (now (text .entry)))) ⌝ }
+    ensures wrote { λ _. ⌜ now (out .exit) ≡ over (now (out .entry)) 0 (tidy (recordsOf (now (text .entry)))) ⌝ }
 {
     let n = put_records(text, strict, out);
     put_kind(text, strict, Kind::Comment, out, n)

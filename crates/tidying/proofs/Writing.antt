@@ -11,7 +11,9 @@ use Rattle.format.specs.Reading.{Reading, refuse, accept, readText, longest}
 use Rattle.format.specs.Tidy.{tidy, unwritable}
 use Rattle.format.specs.Calls.{Answer, no, yes, then, readAnswer, records, fitting, writing, tidying}
 use Rattle.format.specs.declared.LineNo.{LineNo}
-use Rattle.tidy_text.specs.Accepted.{isAccepted, recordsOf, measuredOf}
+use Rattle.accepted.proofs.Read.{accepted-reads}
+use Rattle.accepted.specs.Read.{isAccepted, recordsOf}
+use Rattle.tidy_text.specs.Accepted.{measuredOf}
 use Rattle.tidy_text.specs.declared.Measured.the-variants.{Bad, Is}
 
 -- ---- by what was measured
@@ -58,10 +60,6 @@ module _ (t : List ℕ) (room : ℕ) where
   unfolding tidying then records readAnswer
   tidy-refused n l e = rw e refl
 
-  pub tidy-accepted : isAccepted (readText t) ≡ true → tidying t room ≡ writing room (unwritable 0 (recordsOf (readText t))) (tidy (recordsOf (readText t)))
-  unfolding tidying then records isAccepted recordsOf readAnswer
-  tidy-accepted h = go (readText t) h
-    where
-      go : (r : Reading) → isAccepted r ≡ true → then (readAnswer r) (λ rs. writing room (unwritable 0 rs) (tidy rs)) ≡ writing room (unwritable 0 (recordsOf r)) (tidy (recordsOf r))
-      go (refuse n l) h = absurd (let z : _≡_ {A = ℕ} 0 1 = cc in omega arith)
-      go (accept rs) h = refl
+  pub tidy-accepted : isAccepted (readText t) ≡ true → tidying t room ≡ writing room (unwritable 0 (recordsOf t)) (tidy (recordsOf t))
+  unfolding tidying then records readAnswer
+  tidy-accepted h = rw (accepted-reads t h) refl

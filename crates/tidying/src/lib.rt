@@ -10,15 +10,15 @@ ghost use Rattle.format.specs.Lines.{lines};
 ghost use Rattle.format.specs.Reading.{announced, isStrict, readText};
 ghost use Rattle.format.specs.Tidy.{tidy, unwritable};
 ghost use Rattle.format.specs.Calls.{writing, tidying};
+ghost use Rattle.accepted.specs.Read.{isAccepted, recordsOf};
 ghost use Rattle.parser.specs.Answers.{answerOf, outputOf};
-ghost use Rattle.tidy_text.specs.Accepted.{isAccepted, recordsOf};
 
 // Writes the tidy text of an accepted text: 24, then 1, then 20.
 fn write_accepted(text: &[u8], strict: bool, out: &mut [u8]) -> Answer
     requires { ⌜ isAccepted (readText (now text)) ≡ true ⌝ }
     requires { ⌜ strict ≡ isStrict (announced (lines (now text))) ⌝ }
-    ensures answer { λ r. ⌜ r ≡ answerOf (writing (length (now (out .entry))) (unwritable 0 (recordsOf (readText (now (text .entry))))) (tidy (recordsOf (readText (now (text .entry)))))) ⌝ }
-    ensures wrote { λ _. ⌜ now (out .exit) ≡ outputOf (writing (length (now (out .entry))) (unwritable 0 (recordsOf (readText (now (text .entry))))) (tidy (recordsOf (readText (now (text .entry)))))) (now (out .entry)) ⌝ }
+    ensures answer { λ r. ⌜ r ≡ answerOf (writing (length (now (out .entry))) (unwritable 0 (recordsOf (now (text .entry)))) (tidy (recordsOf (now (text .entry))))) ⌝ }
+    ensures wrote { λ _. ⌜ now (out .exit) ≡ outputOf (writing (length (now (out .entry))) (unwritable 0 (recordsOf (now (text .entry)))) (tidy (recordsOf (now (text .entry))))) (now (out .entry)) ⌝ }
 {
     match tidy_text::measure(text, strict) {
         Measured::Bad(line) => Answer::Refused(24, line),

@@ -17,11 +17,12 @@ use Rattle.accepted.specs.Spelled.{Spelled, Accepted, kind₀, kind₁}
 use Rattle.accepted.proofs.Bools.{never}
 use Rattle.accepted.proofs.Spelled.{line-accepted}
 use Rattle.accepted.proofs.Stands.{line-stand}
+use Rattle.accepted.specs.Read.{isRead}
 use Rattle.record.specs.Head.{placeOf, recordHead, headOf}
 use Rattle.record.specs.declared.Head.{Head}
 use Rattle.walk.specs.Run.{AtField}
 use Rattle.walk.proofs.Start.{accepted-start, accepted-others}
-use Rattle.writer.specs.Line.{isRead, lineText, lineWritable}
+use Rattle.writer.specs.Line.{lineText, lineWritable}
 use Rattle.writer.specs.Parts.{prefixText, versionText, othersText}
 use Rattle.writer.specs.Texts.{Inside, placeText, headerText, sequenceText, mapText, commentText}
 use Rattle.writer.specs.Heads.{headText, headWritable, Holds}

@@ -8,11 +8,6 @@ use Rattle.format.specs.Tidy.{recordText, isWritable}
 use Rattle.writer.specs.declared.Size.{Size}
 use Rattle.writer.specs.declared.Size.the-variants.{Unwritable, Is}
 
--- is it accepted?
-unfoldable pub isRead : Line → Bool
-isRead (refused n) = false
-isRead (read r) = true
-
 -- the record's line, with its LF
 unfoldable pub lineText : Line → List ℕ
 unfolding recordText

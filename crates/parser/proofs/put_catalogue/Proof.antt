@@ -12,12 +12,11 @@ use Rattle.text.specs.First.{firstLine}
 use Rattle.text.specs.Over.{over}
 use Rattle.text.proofs.Over.{over-none, over-over, over-length}
 use Rattle.field.proofs.Before.{rest}
-use Rattle.catalogue.specs.Line.{recordBytes, isRead}
+use Rattle.catalogue.specs.Line.{recordBytes}
 use Rattle.catalogue.specs.Matched.{matched, Reached}
 use Rattle.catalogue.specs.declared.Matched.the-variants.{Differs, Upto}
 use Rattle.catalogue.proofs.Records.{catalogue-length, catalogue-more, catalogue-append}
 use Rattle.catalogue.proofs.Reached.{reached-start, reached-within, reached-on, reached-off, reached-end}
-use Rattle.parser.specs.Accepted.{recordsOf}
 use Rattle.parser.proofs.Walking.{Walking, text-size, walking-start, walking-end, Turn, walking-turn, next-in, len-in, next-more, lent}
 use Rattle.parser.proofs.put_catalogue.Statement.{statement}
 use Rattle.parser.proofs.put_catalogue.Tie as tie
@@ -25,6 +24,7 @@ use Rattle.parser.proofs.put_catalogue.Reads as reads
 use Rattle.parser.proofs.put_catalogue.Lts as lts
 use Rattle.catalogue.proofs.put_record.Reads as put-record-reads
 use Rattle.text.proofs.first_line.Reads as first-line-reads
+use Rattle.accepted.specs.Read.{isRead, recordsOf}
 
 abbrev Inv-loop : tie.InvT-loop
 Inv-loop text strict out₀ at₀ o₀ out at o =

@@ -10,7 +10,8 @@ use Rattle.format.specs.Bytes.{same}
 use Rattle.format.specs.Catalogue.{catalogue}
 use Rattle.format.specs.Calls.{reading, fresh, no, yes}
 use Rattle.text.proofs.Equal.{same-other}
-use Rattle.parser.specs.Accepted.{Accepted, recordsOf}
+use Rattle.accepted.specs.Read.{recordsOf}
+use Rattle.parser.specs.Accepted.{Accepted}
 use Rattle.parser.specs.Answers.{answerOf, outputOf, checkedOf}
 use Rattle.parser.proofs.Told.{too-long, text-refused, text-accepted, read-refused, read-short, read-fits, fresh-refused, fresh-reads, refused-answer, written-answer}
 use Rattle.parser.proofs.read.Statement.{statement}

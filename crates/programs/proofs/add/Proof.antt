@@ -11,6 +11,7 @@ use Rattle.format.specs.Programs.{Link, programs, links, leaves, loopsFrom}
 use Rattle.format.specs.Reading.{readText}
 use Rattle.format.specs.Adding.{given, misformed}
 use Rattle.format.specs.Calls.{adding}
+use Rattle.accepted.specs.Read.{recordsOf}
 use Rattle.entries.specs.Entries.{entriesIn}
 use Rattle.chains.specs.Parents.{linkOf, linksOf, within, inArray}
 use Rattle.chains.proofs.Bound.{within-below}
@@ -20,11 +21,10 @@ use Rattle.parser.specs.Answers.{answerOf, outputOf}
 use Rattle.parser.proofs.Told.{refused-answer}
 use Rattle.calls.proofs.Fresh.{Current, check-refused, check-fresh}
 use Rattle.calls.proofs.Chained.{front, front-counted, front-within, inside, few, few-parents, same-links, all-within, parents-programs}
-use Rattle.tidy_text.specs.Accepted.{recordsOf}
 use Rattle.given.proofs.InForm.{in-form}
 use Rattle.programs.specs.Added.{isNothing, stray, leavesOf, addingOn}
 use Rattle.programs.proofs.Prior.{nothing-none}
-use Rattle.programs.proofs.Adding.{add-refused, own-records, own-accepted, own-catalogue, add-misformed, add-stray, add-dangling, add-cycle, add-on}
+use Rattle.programs.proofs.Adding.{add-refused, own-accepted, add-misformed, add-stray, add-dangling, add-cycle, add-on}
 use borrow.Author.Needs.{needs}
 use Rattle.programs.proofs.add.Statement.{statement}
 use Rattle.programs.proofs.add.Tie as tie
@@ -77,14 +77,13 @@ found c =
 
 -- they are the leaves of the records
 leaves-are : (c : tie.After-leaves)
-    → take (c .leaves .result .count) (c .leaves .result .list) ≡ leavesOf (recordsOf (readText (c .before .before .before .before .before .before .before .before .before .before .before .before .before .before .before .before .before .before .before .before .args .text .now)))
+    → take (c .leaves .result .count) (c .leaves .result .list) ≡ leavesOf (recordsOf (c .before .before .before .before .before .before .before .before .before .before .before .before .before .before .before .before .before .before .before .before .args .text .now))
 unfolding leavesOf
 leaves-are c =
     let e = c .before .before .before .before .before .before .before .before .before .before .before .before in
     let a = e .before .before .before .before .before .before .before .before .args in
     front (leaves (linksOf (parents e))) (c .leaves .result .list) (c .leaves .result .count) (found c .0) (found c .1)
     ∙ ap leaves (same-links (a .text .now) (a .kept .now) (own e) (joined (c .before .before .before .before .before)))
-    ∙ ap (λ rs. leaves (links (programs rs))) (sym (own-records (a .text .now) (a .kept .now) (own e)))
 
 -- there are some where there are programs
 some : (c : tie.After-leaves) → 0 < c .before .before .before .before .before .before .find-parents .result .count → 0 < length (take (c .leaves .result .count) (c .leaves .result .list))
@@ -191,11 +190,11 @@ add-after-requires c κs =
     let e = r .before .before .before .before .before .before .before .before .before .before .before .before in
     let a = e .before .before .before .before .before .before .before .before .args in
     let p = r .before .before .before .before .before .before in
-    let n : p .find-parents .result .count ≡ length (programs (recordsOf (readText (a .text .now)))) =
-    p .find-parents .ensures .1 ∙ parents-programs (a .text .now) (a .kept .now) (own e) ∙ ap (λ rs. length (programs rs)) (sym (own-records (a .text .now) (a .kept .now) (own e))) in (
+    let n : p .find-parents .result .count ≡ length (programs (recordsOf (a .text .now))) =
+    p .find-parents .ensures .1 ∙ parents-programs (a .text .now) (a .kept .now) (own e) in (
       own-accepted (a .text .now) (a .kept .now) (own e),
       (
-        own-catalogue (a .text .now) (a .kept .now) (own e),
+        own e .own,
         (
           in-form (a .prefix .now) (given (a .fields .now)) (formed (r .before .before .before .before .before .before .before .before .before .before)) .stop,
           (leaves-are r, (n, (c .before .is-linked .ensures ∙ ap isNothing (r .before .before .before .before .before .before .before .before .before .find-previous .ensures) ∙ nothing-none (lastOf 80 80 (given (a .fields .now) .fields)), some r))),
@@ -222,9 +221,8 @@ returns-6 c =
     let e = r .before .before .before .before .before .before .before .before .before .before .before .before in
     let a = e .before .before .before .before .before .before .before .before .args in
     let room = length (a .out .now) in
-    let on : addingOn (recordsOf (readText (a .text .now))) (a .prefix .now) (given (a .fields .now) .fields) room ≡ adding (a .text .now) (a .kept .now) (a .prefix .now) (a .fields .now) room =
-    ap (λ rs. addingOn rs (a .prefix .now) (given (a .fields .now) .fields) room) (own-records (a .text .now) (a .kept .now) (own e))
-    ∙ sym (add-on (a .text .now) (a .kept .now) (own e) (a .prefix .now) (a .fields .now) room (formed (r .before .before .before .before .before .before .before .before .before .before)) (known-prior (r .before .before .before .before .before .before .before)) (joined (r .before .before .before .before .before)) (looped (r .before .before) ∙ r .before .if4 .left)) in
+    let on : addingOn (recordsOf (a .text .now)) (a .prefix .now) (given (a .fields .now) .fields) room ≡ adding (a .text .now) (a .kept .now) (a .prefix .now) (a .fields .now) room =
+    sym (add-on (a .text .now) (a .kept .now) (own e) (a .prefix .now) (a .fields .now) room (formed (r .before .before .before .before .before .before .before .before .before .before)) (known-prior (r .before .before .before .before .before .before .before)) (joined (r .before .before .before .before .before)) (looped (r .before .before) ∙ r .before .if4 .left)) in
     (w .add-after .ensures .0 ∙ ap answerOf on, w .add-after .ensures .1 ∙ ap (λ x. outputOf x (a .out .now)) on)
 
 pub add-spec : {M : Type 1} → statement M

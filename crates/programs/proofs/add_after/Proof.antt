@@ -16,6 +16,8 @@ use Rattle.format.specs.Tidy.{tidy, unwritable}
 use Rattle.format.specs.Adding.{given, isKnown, added, used}
 use Rattle.format.specs.Calls.{writing}
 use Rattle.text.specs.Stands.{Each}
+use Rattle.accepted.specs.Read.{recordsOf}
+use Rattle.accepted.proofs.Read.{accepted-reads}
 use Rattle.field.proofs.Before.{rest}
 use Rattle.entries.specs.Entries.{entriesIn, counted}
 use Rattle.lookup.specs.Parents.{Within}
@@ -23,26 +25,25 @@ use Rattle.lookup.proofs.Kept.{text-inside, text-few}
 use Rattle.lookup.proofs.Numbers.{parents-count, parents-few}
 use Rattle.parser.specs.Answers.{answerOf, outputOf}
 use Rattle.parser.proofs.Told.{refused-answer}
-use Rattle.tidy_text.specs.Accepted.{recordsOf}
 use Rattle.chains.proofs.Leaf.{leaves-length}
 use Rattle.ids.specs.Taken.{known, taken}
 use Rattle.given.proofs.Text.{given-text}
 use Rattle.added.specs.Lines.{addedText}
 use Rattle.programs.specs.Added.{withAdded, leavesOf, addingOn}
-use Rattle.programs.proofs.On.{accepted-reads, joined-on, joined-within, free-is, taken-is, count-is, on-used, on-many, on-few, written-is}
+use Rattle.programs.proofs.On.{joined-on, joined-within, free-is, taken-is, count-is, on-used, on-many, on-few, written-is}
 use borrow.Author.Needs.{needs}
 use Rattle.programs.proofs.add_after.Statement.{statement}
 use Rattle.programs.proofs.add_after.Tie as tie
 
 -- the records, and what is given
 abbrev records : tie.Start → List Record
-records s = recordsOf (readText (s .args .text .now))
+records s = recordsOf (s .args .text .now)
 
 abbrev fieldsOf : tie.Start → List Field
 fieldsOf s = given (s .args .fields .now) .fields
 
 reads : (s : tie.Start) → readText (s .args .text .now) ≡ accept (records s)
-reads s = accepted-reads (readText (s .args .text .now)) (s .pre .0)
+reads s = accepted-reads (s .args .text .now) (s .pre .0)
 
 inside : (s : tie.Start) → Each (Within (length (s .args .text .now))) (entriesIn (s .args .kept .now))
 inside s = subst (λ k. Each (Within (length (s .args .text .now))) (entriesIn k)) (sym (s .pre .1 .0)) (text-inside (s .args .text .now) (records s) (reads s))

@@ -7,9 +7,9 @@ use lib.ListN.{length, length-append}
 use Rattle.format.specs.Records.{Record}
 use Rattle.format.specs.Reading.{readText}
 use Rattle.format.specs.declared.Kind.the-variants.{Comment}
+use Rattle.accepted.specs.Read.{recordsOf}
 use Rattle.entries.specs.Entries.{entriesIn}
 use Rattle.writer.proofs.Wrote.{Wrote, wrote-then}
-use Rattle.tidy_text.specs.Accepted.{recordsOf}
 use Rattle.tidy_text.specs.Kinds.{textOfKind, frontText}
 use Rattle.added.specs.Lines.{addedText}
 use Rattle.programs.specs.Added.{withAdded}
@@ -20,7 +20,7 @@ use Rattle.programs.proofs.put_all.Tie as tie
 
 -- the records of the text, and what is added
 abbrev records : tie.Start → List Record
-records s = recordsOf (readText (s .args .text .now))
+records s = recordsOf (s .args .text .now)
 
 abbrev new : tie.Start → List ℕ
 new s = let a = s .args in addedText (a .text .now) (entriesIn (a .kept .now)) (a .empty) (a .alone) (a .linked) (a .prefix .now) (a .fields .now) (a .leaves .now)

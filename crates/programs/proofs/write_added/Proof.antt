@@ -12,9 +12,9 @@ use Rattle.format.specs.Records.{Record}
 use Rattle.format.specs.Reading.{readText}
 use Rattle.format.specs.Tidy.{tidy, unwritable}
 use Rattle.format.specs.Calls.{writing}
+use Rattle.accepted.specs.Read.{recordsOf}
 use Rattle.entries.specs.Entries.{entriesIn}
 use Rattle.parser.proofs.Told.{refused-answer, written-answer}
-use Rattle.tidy_text.specs.Accepted.{recordsOf}
 use Rattle.tidy_text.proofs.Lines.{opened}
 use Rattle.tidying.proofs.Writing.{measured-bad, measured-is, write-bad, write-long, write-short, write-fits}
 use Rattle.added.specs.Lines.{addedText}
@@ -26,7 +26,7 @@ use Rattle.programs.proofs.write_added.Tie as tie
 
 -- the records of the text, what is added, and the whole
 abbrev records : tie.Start → List Record
-records s = recordsOf (readText (s .args .text .now))
+records s = recordsOf (s .args .text .now)
 
 abbrev new : tie.Start → List ℕ
 new s = let a = s .args in addedText (a .text .now) (entriesIn (a .kept .now)) (a .empty) (a .alone) (a .linked) (a .prefix .now) (a .fields .now) (a .leaves .now)

@@ -9,8 +9,9 @@ use Rattle.format.specs.Lines.{linesFrom}
 use Rattle.format.specs.Records.{Line, line}
 use Rattle.format.specs.Reading.{readText}
 use Rattle.format.specs.Tidy.{text, tidy, unwritable}
+use Rattle.accepted.specs.Read.{recordsOf}
 use Rattle.writer.specs.Line.{lineText, lineWritable}
-use Rattle.tidy_text.specs.Accepted.{recordsOf, measuredOf, allRead, recordsFrom}
+use Rattle.tidy_text.specs.Accepted.{measuredOf, allRead, recordsFrom}
 use Rattle.tidy_text.specs.declared.Measured.the-variants as measured
 use Rattle.tidy_text.proofs.Lines.{Opened, opened, lent, Turn, turn}
 use Rattle.tidy_text.proofs.Total.{text-turn, text-ended, tidy-small}
@@ -24,8 +25,8 @@ Inv-loop t strict l₀ n₀ at₀ l n at =
     (at ≤ length t)
     × (l ≤ at)
     × (allRead strict (linesFrom at (drop at t)) ≡ true)
-    × (unwritable 0 (recordsOf (readText t)) ≡ unwritable l (recordsFrom strict t at))
-    × (n + length (text (recordsFrom strict t at)) ≡ length (tidy (recordsOf (readText t))))
+    × (unwritable 0 (recordsOf t) ≡ unwritable l (recordsFrom strict t at))
+    × (n + length (text (recordsFrom strict t at)) ≡ length (tidy (recordsOf t)))
 
 abbrev μ-loop : tie.MeasureT-loop
 μ-loop t strict l₀ n₀ at₀ l n at = length t - at
@@ -49,7 +50,7 @@ line-of c =
 -- what is asked, by whether the line can be written
 asked : (c : tie.After-first-line Inv-loop μ-loop)
     → (let l = c .before .before .before in let a = l .before .before .args in
-    unwritable 0 (recordsOf (readText (a .text .now)))
+    unwritable 0 (recordsOf (a .text .now))
     ≡ cond (lineWritable (line-of c)) (unwritable (l .loop .l + 1) (recordsFrom (a .strict) (a .text .now) (l .loop .at + c .first-line .result .next))) (some (l .loop .l)))
 asked c =
     let l = c .before .before .before in
@@ -59,8 +60,8 @@ asked c =
 -- what is counted with the line, and with those after it
 counted : (c : tie.After-first-line Inv-loop μ-loop)
     → (let l = c .before .before .before in let a = l .before .before .args in
-    (l .loop .n + length (lineText (line-of c)) + length (text (recordsFrom (a .strict) (a .text .now) (l .loop .at + c .first-line .result .next))) ≡ length (tidy (recordsOf (readText (a .text .now)))))
-    × (length (tidy (recordsOf (readText (a .text .now)))) ≤ 16777217))
+    (l .loop .n + length (lineText (line-of c)) + length (text (recordsFrom (a .strict) (a .text .now) (l .loop .at + c .first-line .result .next))) ≡ length (tidy (recordsOf (a .text .now))))
+    × (length (tidy (recordsOf (a .text .now))) ≤ 16777217))
 counted c =
     let l = c .before .before .before in
     let s = l .before .before in
@@ -119,7 +120,7 @@ returns c =
     let w = c .before .before in
     let f = w .before .before .before in
     let bad = size-bad (line-of f) (sym (w .record-size .ensures) ∙ c .enum-told .given .1) in
-    sym (ap (λ o. measuredOf o (length (tidy (recordsOf (readText (f .before .before .before .before .before .args .text .now)))))) (asked f ∙ cond-is (lineWritable (line-of f)) false _ _ bad))
+    sym (ap (λ o. measuredOf o (length (tidy (recordsOf (f .before .before .before .before .before .args .text .now))))) (asked f ∙ cond-is (lineWritable (line-of f)) false _ _ bad))
 
 add-l : tie.Need-add-l Inv-loop μ-loop
 add-l c =
@@ -149,8 +150,8 @@ returns-2 c =
     let l = c .before in
     let a = l .before .before .args in
     let none = unwritable-ended (a .strict) (a .text .now) (l .loop .at) (c .loop-test .left) (l .loop .l) in
-    let all : l .loop .n ≡ length (tidy (recordsOf (readText (a .text .now)))) = omega (arith, l .loop .inv .4, text-ended (a .strict) (a .text .now) (l .loop .at) (c .loop-test .left)) in
-    ap measured.Is all ∙ sym (ap (λ o. measuredOf o (length (tidy (recordsOf (readText (a .text .now)))))) (l .loop .inv .3 ∙ none))
+    let all : l .loop .n ≡ length (tidy (recordsOf (a .text .now))) = omega (arith, l .loop .inv .4, text-ended (a .strict) (a .text .now) (l .loop .at) (c .loop-test .left)) in
+    ap measured.Is all ∙ sym (ap (λ o. measuredOf o (length (tidy (recordsOf (a .text .now))))) (l .loop .inv .3 ∙ none))
 
 pub measure-spec : {M : Type 1} → statement M
 measure-spec =

@@ -12,8 +12,9 @@ use Rattle.format.specs.Tidy.{text}
 use Rattle.format.specs.declared.Kind.{Kind}
 use Rattle.text.specs.Over.{over}
 use Rattle.text.proofs.Over.{over-none}
+use Rattle.accepted.specs.Read.{recordsOf}
 use Rattle.writer.proofs.Wrote.{wrote-onward}
-use Rattle.tidy_text.specs.Accepted.{recordsOf, allRead, recordsFrom}
+use Rattle.tidy_text.specs.Accepted.{allRead, recordsFrom}
 use Rattle.tidy_text.specs.Kinds.{kindText, textOfKind}
 use Rattle.tidy_text.proofs.Lines.{Opened, opened, lent, Turn, turn, ended}
 use Rattle.tidy_text.proofs.OfKind.{kind-onto}
@@ -25,8 +26,8 @@ abbrev Inv-loop : tie.InvT-loop
 Inv-loop t strict kind out₀ o n₀ at₀ out n at =
     (at ≤ length t)
     × (allRead strict (linesFrom at (drop at t)) ≡ true)
-    × (n + length (textOfKind kind (recordsFrom strict t at)) ≡ o + length (textOfKind kind (recordsOf (readText t))))
-    × (over out n (textOfKind kind (recordsFrom strict t at)) ≡ over out₀ o (textOfKind kind (recordsOf (readText t))))
+    × (n + length (textOfKind kind (recordsFrom strict t at)) ≡ o + length (textOfKind kind (recordsOf t)))
+    × (over out n (textOfKind kind (recordsFrom strict t at)) ≡ over out₀ o (textOfKind kind (recordsOf t)))
     × (length out ≡ length out₀)
 
 abbrev μ-loop : tie.MeasureT-loop
@@ -59,8 +60,8 @@ sizes : (c : tie.After-first-line Inv-loop μ-loop)
     → (let l = c .before .before .before in let a = l .before .before .before .args in
     (l .loop .n + length (kindText (a .kind) (line (a .strict) (record { at = l .loop .at; bytes = lent (a .text .now) (l .loop .at) (c .first-line .result .len) })))
     + length (textOfKind (a .kind) (recordsFrom (a .strict) (a .text .now) (l .loop .at + c .first-line .result .next)))
-    ≡ a .o + length (textOfKind (a .kind) (recordsOf (readText (a .text .now)))))
-    × (a .o + length (textOfKind (a .kind) (recordsOf (readText (a .text .now)))) ≤ length (l .loop .out)))
+    ≡ a .o + length (textOfKind (a .kind) (recordsOf (a .text .now))))
+    × (a .o + length (textOfKind (a .kind) (recordsOf (a .text .now))) ≤ length (l .loop .out)))
 sizes c =
     let l = c .before .before .before in
     let s = l .before .before .before in

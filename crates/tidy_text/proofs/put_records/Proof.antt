@@ -5,8 +5,8 @@ use native.Mathlib.Omega.{arith}
 use lib.ListN.{length, length-append}
 use Rattle.format.specs.Reading.{readText}
 use Rattle.format.specs.declared.Kind.the-variants.{Header, ReferenceSequence, ReadGroup, Program}
+use Rattle.accepted.specs.Read.{recordsOf}
 use Rattle.writer.proofs.Wrote.{wrote-then}
-use Rattle.tidy_text.specs.Accepted.{recordsOf}
 use Rattle.tidy_text.specs.Kinds.{textOfKind, frontText}
 use Rattle.tidy_text.proofs.Total.{front-sizes}
 use borrow.Author.Needs.{needs}
@@ -14,16 +14,16 @@ use Rattle.tidy_text.proofs.put_records.Statement.{statement}
 use Rattle.tidy_text.proofs.put_records.Tie as tie
 
 put-kind-requires : tie.Need-put-kind-requires
-put-kind-requires c κs = let s = c .before .before .before in (s .pre .0, (s .pre .1 .0, omega (arith, s .pre .1 .1, front-sizes (recordsOf (readText (s .args .text .now))))))
+put-kind-requires c κs = let s = c .before .before .before in (s .pre .0, (s .pre .1 .0, omega (arith, s .pre .1 .1, front-sizes (recordsOf (s .args .text .now)))))
 
 put-kind-requires-2 : tie.Need-put-kind-requires-2
-put-kind-requires-2 c κs = let s = c .before .before .before .before .before .before .before in (s .pre .0, (s .pre .1 .0, omega (arith, s .pre .1 .1, front-sizes (recordsOf (readText (s .args .text .now))))))
+put-kind-requires-2 c κs = let s = c .before .before .before .before .before .before .before in (s .pre .0, (s .pre .1 .0, omega (arith, s .pre .1 .1, front-sizes (recordsOf (s .args .text .now)))))
 
 put-kind-requires-3 : tie.Need-put-kind-requires-3
-put-kind-requires-3 c κs = let s = c .before .before .before .before .before .before .before .before .before .before .before in (s .pre .0, (s .pre .1 .0, omega (arith, s .pre .1 .1, front-sizes (recordsOf (readText (s .args .text .now))))))
+put-kind-requires-3 c κs = let s = c .before .before .before .before .before .before .before .before .before .before .before in (s .pre .0, (s .pre .1 .0, omega (arith, s .pre .1 .1, front-sizes (recordsOf (s .args .text .now)))))
 
 put-kind-requires-4 : tie.Need-put-kind-requires-4
-put-kind-requires-4 c κs = let s = c .before .before .before .before .before .before .before .before .before .before .before .before .before .before .before in (s .pre .0, (s .pre .1 .0, omega (arith, s .pre .1 .1, front-sizes (recordsOf (readText (s .args .text .now))))))
+put-kind-requires-4 c κs = let s = c .before .before .before .before .before .before .before .before .before .before .before .before .before .before .before in (s .pre .0, (s .pre .1 .0, omega (arith, s .pre .1 .1, front-sizes (recordsOf (s .args .text .now)))))
 
 same-length : tie.Need-same-length
 same-length c = search needs
@@ -37,7 +37,7 @@ returns c =
     let w1 = w2 .before .before .before .before in
     let s = w1 .before .before .before .before in
     let out = s .args .out .now in
-    let rs = recordsOf (readText (s .args .text .now)) in
+    let rs = recordsOf (s .args .text .now) in
     let size = front-sizes rs in
     let a = textOfKind Header rs in
     let b = textOfKind ReferenceSequence rs in

@@ -6,9 +6,9 @@ use mathlib.Core.Bool.{true}
 use lib.ListN.{length}
 use Rattle.format.specs.Reading.{readText}
 use Rattle.format.specs.Calls.{tidying}
+use Rattle.accepted.specs.Read.{isAccepted}
 use Rattle.parser.specs.Answers.{answerOf, outputOf}
 use Rattle.parser.proofs.Told.{too-long, text-refused, text-accepted, refused-answer}
-use Rattle.tidy_text.specs.Accepted.{isAccepted}
 use Rattle.tidying.proofs.Writing.{tidy-refused, tidy-accepted}
 use borrow.Author.Needs.{needs}
 use Rattle.tidying.proofs.tidy.Statement.{statement}

@@ -7,8 +7,8 @@ use lib.ListN.{length}
 use Rattle.format.specs.Reading.{readText}
 use Rattle.format.specs.Tidy.{tidy, unwritable}
 use Rattle.format.specs.Calls.{writing}
+use Rattle.accepted.specs.Read.{recordsOf}
 use Rattle.parser.proofs.Told.{refused-answer, written-answer}
-use Rattle.tidy_text.specs.Accepted.{recordsOf}
 use Rattle.tidying.proofs.Writing.{measured-bad, measured-is, write-bad, write-long, write-short, write-fits}
 use borrow.Author.Needs.{needs}
 use Rattle.tidying.proofs.write_accepted.Statement.{statement}
@@ -21,11 +21,11 @@ use Rattle.tidy_text.proofs.put_tidy.Reads as put-tidy-reads
 -- every name can be written, and `n` is the tidy text's length
 measured : (c : tie.After-n)
     → let t = c .before .before .before .before .before .args .text .now in
-    (unwritable 0 (recordsOf (readText t)) ≡ none) × (length (tidy (recordsOf (readText t))) ≡ c .n .given .0 .0)
+    (unwritable 0 (recordsOf t) ≡ none) × (length (tidy (recordsOf t)) ≡ c .n .given .0 .0)
 measured c =
     let m = c .before .before in
     let t = m .before .before .before .args .text .now in
-    measured-is (unwritable 0 (recordsOf (readText t))) (length (tidy (recordsOf (readText t)))) (c .n .given .0 .0) (sym (m .measure .ensures) ∙ c .n .given .1)
+    measured-is (unwritable 0 (recordsOf t)) (length (tidy (recordsOf t))) (c .n .given .0 .0) (sym (m .measure .ensures) ∙ c .n .given .1)
 
 measure-requires : tie.Need-measure-requires
 measure-requires c κs = search needs
@@ -40,7 +40,7 @@ returns : tie.Need-returns
 returns c =
     let z = c .before .before in
     let a = z .before .before .before .before .before .args in
-    let rs = recordsOf (readText (a .text .now)) in
+    let rs = recordsOf (a .text .now) in
     let room = length (a .out .now) in
     refused-answer (writing room (unwritable 0 rs) (tidy rs)) (a .out .now) 1 (record { 0 = 0 })
     (write-long room (unwritable 0 rs) (tidy rs) (measured z .0) (omega (arith, measured z .1, c .if1 .taken)))
@@ -50,7 +50,7 @@ returns-2 c =
     let f = c .before in
     let z = f .before .before in
     let a = z .before .before .before .before .before .args in
-    let rs = recordsOf (readText (a .text .now)) in
+    let rs = recordsOf (a .text .now) in
     let room = length (a .out .now) in
     refused-answer (writing room (unwritable 0 rs) (tidy rs)) (a .out .now) 20 (record { 0 = 0 })
     (write-short room (unwritable 0 rs) (tidy rs) (measured z .0) (omega (arith, measured z .1, f .if1 .left)) (omega (arith, measured z .1, c .if2 .taken)))
@@ -65,7 +65,7 @@ returns-3 : tie.Need-returns-3
 returns-3 c =
     let m = c .before .before .before in
     let a = m .before .before .before .args in
-    let rs = recordsOf (readText (a .text .now)) in
+    let rs = recordsOf (a .text .now) in
     let room = length (a .out .now) in
     let l = c .before .line .given .0 .0 in
     refused-answer (writing room (unwritable 0 rs) (tidy rs)) (a .out .now) 24 l
@@ -80,7 +80,7 @@ returns-4 c =
     let f = w .before .before .before in
     let z = f .before .before in
     let a = z .before .before .before .before .before .args in
-    let rs = recordsOf (readText (a .text .now)) in
+    let rs = recordsOf (a .text .now) in
     let room = length (a .out .now) in
     written-answer (writing room (unwritable 0 rs) (tidy rs)) (a .out .now) (tidy rs) (w .put-tidy .last .1 .1 .0) (w .put-tidy .result)
     (write-fits room (unwritable 0 rs) (tidy rs) (measured z .0) (omega (arith, measured z .1, f .if1 .left)) (omega (arith, measured z .1, w .before .before .if2 .left)))

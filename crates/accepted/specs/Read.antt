@@ -1,0 +1,25 @@
+-- What reading accepts: a line, a text, and the records of a text.
+use Prim.Native.Nat.{ℕ}
+use mathlib.Core.Bool.{Bool, true, false}
+use mathlib.Core.List.{List, []}
+use Rattle.format.specs.Records.{Record, Line, refused, read}
+use Rattle.format.specs.Reading.{Reading, refuse, accept, readText}
+
+-- is the line accepted?
+unfoldable pub isRead : Line → Bool
+isRead (refused n) = false
+isRead (read r) = true
+
+-- is the text?
+unfoldable pub isAccepted : Reading → Bool
+isAccepted (refuse n l) = false
+isAccepted (accept rs) = true
+
+unfoldable pub kept : Reading → List Record
+kept (refuse n l) = []
+kept (accept rs) = rs
+
+-- the records that reading gives
+unfoldable pub recordsOf : List ℕ → List Record
+unfolding kept readText
+recordsOf t = kept (readText t)
