@@ -10,6 +10,13 @@ ghost use Rattle.lookup.specs.Parents.{Within};
 ghost use Rattle.added.specs.Line.{joining, linking, ending, newLine};
 ghost use Rattle.added.specs.Lines.{newLines, addedText};
 
+// How new programs look: there are none yet; the first one's ID is the prefix alone; PP with the leaf's ID is added.
+pub struct Shape {
+    pub empty: bool,
+    pub alone: bool,
+    pub linked: bool,
+}
+
 // Writes bytes, and answers the place after them.
 fn put_slice(out: &mut [u8], o: usize, from: &[u8]) -> usize
     requires { ⌜ o + length (now from) ≤ length (now out) ⌝ }
@@ -172,18 +179,24 @@ pub fn added_len(
     prefix: &[u8],
     fields: &[u8],
     leaves: &[u32],
-    empty: bool,
-    alone: bool,
-    linked: bool,
+    shape: Shape,
 ) -> usize
     requires { ⌜ Each (Within (length (now text))) (entriesIn (now catalogue)) ⌝ }
     requires { ⌜ (length (now text) ≤ 16777216) × (length (now prefix) ≤ 16777216) × (length (now fields) ≤ 16777216) × (length (now leaves) ≤ 1024) ⌝ }
-    ensures { λ r. ⌜ r ≡ length (addedText (now (text .entry)) (entriesIn (now (catalogue .entry))) empty alone linked (now (prefix .entry)) (now (fields .entry)) (now (leaves .entry))) ⌝ }
+    ensures { λ r. ⌜ r ≡ length (addedText (now (text .entry)) (entriesIn (now (catalogue .entry))) (shape .empty) (shape .alone) (shape .linked) (now (prefix .entry)) (now (fields .entry)) (now (leaves .entry))) ⌝ }
 {
-    if empty {
+    if shape.empty {
         return line_len(prefix, fields, &text[..0], true, false);
     }
-    lines_len(text, catalogue, prefix, fields, leaves, alone, linked)
+    lines_len(
+        text,
+        catalogue,
+        prefix,
+        fields,
+        leaves,
+        shape.alone,
+        shape.linked,
+    )
 }
 
 // Writes the new programs, and answers the place after them.
@@ -195,16 +208,14 @@ pub fn put_added(
     prefix: &[u8],
     fields: &[u8],
     leaves: &[u32],
-    empty: bool,
-    alone: bool,
-    linked: bool,
+    shape: Shape,
 ) -> usize
     requires { ⌜ Each (Within (length (now text))) (entriesIn (now catalogue)) ⌝ }
-    requires { ⌜ o + length (addedText (now text) (entriesIn (now catalogue)) empty alone linked (now prefix) (now fields) (now leaves)) ≤ length (now out) ⌝ }
-    ensures next { λ r. ⌜ r ≡ o + length (addedText (now (text .entry)) (entriesIn (now (catalogue .entry))) empty alone linked (now (prefix .entry)) (now (fields .entry)) (now (leaves .entry))) ⌝ }
-    ensures wrote { λ _. ⌜ now (out .exit) ≡ over (now (out .entry)) o (addedText (now (text .entry)) (entriesIn (now (catalogue .entry))) empty alone linked (now (prefix .entry)) (now (fields .entry)) (now (leaves .entry))) ⌝ }
+    requires { ⌜ o + length (addedText (now text) (entriesIn (now catalogue)) (shape .empty) (shape .alone) (shape .linked) (now prefix) (now fields) (now leaves)) ≤ length (now out) ⌝ }
+    ensures next { λ r. ⌜ r ≡ o + length (addedText (now (text .entry)) (entriesIn (now (catalogue .entry))) (shape .empty) (shape .alone) (shape .linked) (now (prefix .entry)) (now (fields .entry)) (now (leaves .entry))) ⌝ }
+    ensures wrote { λ _. ⌜ now (out .exit) ≡ over (now (out .entry)) o (addedText (now (text .entry)) (entriesIn (now (catalogue .entry))) (shape .empty) (shape .alone) (shape .linked) (now (prefix .entry)) (now (fields .entry)) (now (leaves .entry))) ⌝ }
 {
-    if empty {
+    if shape.empty {
         return put_line(out, o, prefix, fields, &text[..0], true, false);
     }
     put_lines(
@@ -215,7 +226,7 @@ pub fn put_added(
         prefix,
         fields,
         leaves,
-        alone,
-        linked,
+        shape.alone,
+        shape.linked,
     )
 }

@@ -1,4 +1,5 @@
 // Adding programs: one after each leaf, and then the tidy text with the new programs behind the old ones.
+use added::Shape;
 use format::Kind;
 use format::LineNo;
 use given::Given;
@@ -41,31 +42,18 @@ fn put_all(
     prefix: &[u8],
     fields: &[u8],
     leaves: &[u32],
-    empty: bool,
-    alone: bool,
-    linked: bool,
+    shape: Shape,
     out: &mut [u8],
 ) -> usize
     requires { ⌜ isAccepted (readText (now text)) ≡ true ⌝ }
     requires { ⌜ strict ≡ isStrict (announced (lines (now text))) ⌝ }
     requires { ⌜ Each (Within (length (now text))) (entriesIn (now kept)) ⌝ }
-    requires { ⌜ length (withAdded (recordsOf (now text)) (addedText (now text) (entriesIn (now kept)) empty alone linked (now prefix) (now fields) (now leaves))) ≤ length (now out) ⌝ }
-    ensures next { λ r. ⌜ r ≡ length (withAdded (recordsOf (now (text .entry))) (addedText (now (text .entry)) (entriesIn (now (kept .entry))) empty alone linked (now (prefix .entry)) (now (fields .entry)) (now (leaves .entry)))) ⌝ }
-    ensures wrote { λ _. ⌜ now (out .exit) ≡ over (now (out .entry)) 0 (withAdded (recordsOf (now (text .entry))) (addedText (now (text .entry)) (entriesIn (now (kept .entry))) empty alone linked (now (prefix .entry)) (now (fields .entry)) (now (leaves .entry)))) ⌝ }
+    requires { ⌜ length (withAdded (recordsOf (now text)) (addedText (now text) (entriesIn (now kept)) (shape .empty) (shape .alone) (shape .linked) (now prefix) (now fields) (now leaves))) ≤ length (now out) ⌝ }
+    ensures next { λ r. ⌜ r ≡ length (withAdded (recordsOf (now (text .entry))) (addedText (now (text .entry)) (entriesIn (now (kept .entry))) (shape .empty) (shape .alone) (shape .linked) (now (prefix .entry)) (now (fields .entry)) (now (leaves .entry)))) ⌝ }
+    ensures wrote { λ _. ⌜ now (out .exit) ≡ over (now (out .entry)) 0 (withAdded (recordsOf (now (text .entry))) (addedText (now (text .entry)) (entriesIn (now (kept .entry))) (shape .empty) (shape .alone) (shape .linked) (now (prefix .entry)) (now (fields .entry)) (now (leaves .entry)))) ⌝ }
 {
     let n = tidy_text::put_records(text, strict, out);
-    let n = added::put_added(
-        out,
-        n,
-        text,
-        kept,
-        prefix,
-        fields,
-        leaves,
-        empty,
-        alone,
-        linked,
-    );
+    let n = added::put_added(out, n, text, kept, prefix, fields, leaves, shape);
     tidy_text::put_kind(text, strict, Kind::Comment, out, n)
 }
 
@@ -93,16 +81,14 @@ fn write_added(
     prefix: &[u8],
     fields: &[u8],
     leaves: &[u32],
-    empty: bool,
-    alone: bool,
-    linked: bool,
+    shape: Shape,
     out: &mut [u8],
 ) -> Answer
     requires { ⌜ isAccepted (readText (now text)) ≡ true ⌝ }
     requires { ⌜ Each (Within (length (now text))) (entriesIn (now kept)) ⌝ }
-    requires { ⌜ (length (now leaves) ≤ 1024) × (empty ≡ false → 0 < length (now leaves)) ⌝ }
-    ensures answer { λ r. ⌜ r ≡ answerOf (writing (length (now (out .entry))) (unwritable 0 (recordsOf (now (text .entry)))) (withAdded (recordsOf (now (text .entry))) (addedText (now (text .entry)) (entriesIn (now (kept .entry))) empty alone linked (now (prefix .entry)) (now (fields .entry)) (now (leaves .entry))))) ⌝ }
-    ensures wrote { λ _. ⌜ now (out .exit) ≡ outputOf (writing (length (now (out .entry))) (unwritable 0 (recordsOf (now (text .entry)))) (withAdded (recordsOf (now (text .entry))) (addedText (now (text .entry)) (entriesIn (now (kept .entry))) empty alone linked (now (prefix .entry)) (now (fields .entry)) (now (leaves .entry))))) (now (out .entry)) ⌝ }
+    requires { ⌜ (length (now leaves) ≤ 1024) × (shape .empty ≡ false → 0 < length (now leaves)) ⌝ }
+    ensures answer { λ r. ⌜ r ≡ answerOf (writing (length (now (out .entry))) (unwritable 0 (recordsOf (now (text .entry)))) (withAdded (recordsOf (now (text .entry))) (addedText (now (text .entry)) (entriesIn (now (kept .entry))) (shape .empty) (shape .alone) (shape .linked) (now (prefix .entry)) (now (fields .entry)) (now (leaves .entry))))) ⌝ }
+    ensures wrote { λ _. ⌜ now (out .exit) ≡ outputOf (writing (length (now (out .entry))) (unwritable 0 (recordsOf (now (text .entry)))) (withAdded (recordsOf (now (text .entry))) (addedText (now (text .entry)) (entriesIn (now (kept .entry))) (shape .empty) (shape .alone) (shape .linked) (now (prefix .entry)) (now (fields .entry)) (now (leaves .entry))))) (now (out .entry)) ⌝ }
 {
     let strict = rules::is_strict(text);
     match tidy_text::measure(text, strict) {
@@ -111,25 +97,14 @@ fn write_added(
             if is_too_long(prefix, fields) {
                 return Answer::Refused(1, LineNo(0));
             }
-            let more = added::added_len(text, kept, prefix, fields, leaves, empty, alone, linked);
+            let more = added::added_len(text, kept, prefix, fields, leaves, shape);
             if is_over(n, more) {
                 return Answer::Refused(1, LineNo(0));
             }
             if out.len() < n + more {
                 return Answer::Refused(20, LineNo(0));
             }
-            let n = put_all(
-                text,
-                kept,
-                strict,
-                prefix,
-                fields,
-                leaves,
-                empty,
-                alone,
-                linked,
-                out,
-            );
+            let n = put_all(text, kept, strict, prefix, fields, leaves, shape, out);
             Answer::Count(n)
         }
     }
@@ -206,11 +181,9 @@ fn add_after(
 ) -> Answer
     requires { ⌜ isAccepted (readText (now text)) ≡ true ⌝ }
     requires { ⌜ now kept ≡ catalogue (recordsOf (now text)) ⌝ }
-    requires { ⌜ given (now fields) .stop ≡ 0 ⌝ }
-    requires { ⌜ now leaves ≡ leavesOf (recordsOf (now text)) ⌝ }
+    requires { ⌜ (given (now fields) .stop ≡ 0) × (linked ≡ isNone (lastOf 80 80 (given (now fields) .fields))) ⌝ }
+    requires { ⌜ (now leaves ≡ leavesOf (recordsOf (now text))) × (0 < count → 0 < length (now leaves)) ⌝ }
     requires { ⌜ count ≡ length (programs (recordsOf (now text))) ⌝ }
-    requires { ⌜ linked ≡ isNone (lastOf 80 80 (given (now fields) .fields)) ⌝ }
-    requires { ⌜ (0 < count → 0 < length (now leaves)) ⌝ }
     ensures answer { λ r. ⌜ r ≡ answerOf (addingOn (recordsOf (now (text .entry))) (now (prefix .entry)) (given (now (fields .entry)) .fields) (length (now (out .entry)))) ⌝ }
     ensures wrote { λ _. ⌜ now (out .exit) ≡ outputOf (addingOn (recordsOf (now (text .entry))) (now (prefix .entry)) (given (now (fields .entry)) .fields) (length (now (out .entry)))) (now (out .entry)) ⌝ }
 {
@@ -223,17 +196,12 @@ fn add_after(
     if 1024 < count + new_count(leaves.len(), empty) {
         return Answer::Refused(19, LineNo(0));
     }
-    write_added(
-        text,
-        kept,
-        prefix,
-        fields,
-        leaves,
+    let shape = Shape {
         empty,
         alone,
         linked,
-        out,
-    )
+    };
+    write_added(text, kept, prefix, fields, leaves, shape, out)
 }
 
 // Adds a program after each leaf, and writes the tidy text to the front of `out`: reading's refusals, 21, 26, 22, 23, 18, 19, 24, 1, 20.

@@ -18,13 +18,13 @@ line-len-requires : tie.Need-line-len-requires
 line-len-requires c κs = search needs
 
 returns : tie.Need-returns
-returns c = let a = c .before .before .before .before .before .before .before .before .args in c .line-len .ensures ∙ sym (ap length (added-one (a .text .now) (entriesIn (a .catalogue .now)) (a .empty) (a .alone) (a .linked) (a .prefix .now) (a .fields .now) (a .leaves .now) (c .before .before .if1 .taken)))
+returns c = let a = c .before .before .before .before .before .before .before .before .args in c .line-len .ensures ∙ sym (ap length (added-one (a .text .now) (entriesIn (a .catalogue .now)) (a .shape .empty) (a .shape .alone) (a .shape .linked) (a .prefix .now) (a .fields .now) (a .leaves .now) (c .before .before .if1 .taken)))
 
 lines-len-requires : tie.Need-lines-len-requires
 lines-len-requires c κs = search needs
 
 returns-2 : tie.Need-returns-2
-returns-2 c = let a = c .before .before .before .before .before .before .before .args in c .lines-len .ensures ∙ sym (ap length (added-each (a .text .now) (entriesIn (a .catalogue .now)) (a .empty) (a .alone) (a .linked) (a .prefix .now) (a .fields .now) (a .leaves .now) (c .before .if1 .left)))
+returns-2 c = let a = c .before .before .before .before .before .before .before .args in c .lines-len .ensures ∙ sym (ap length (added-each (a .text .now) (entriesIn (a .catalogue .now)) (a .shape .empty) (a .shape .alone) (a .shape .linked) (a .prefix .now) (a .fields .now) (a .leaves .now) (c .before .if1 .left)))
 
 pub added-len-spec : {M : Type 1} → statement M
 added-len-spec =

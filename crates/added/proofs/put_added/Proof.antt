@@ -15,7 +15,7 @@ slice-aggregate-put-line : tie.Need-slice-aggregate-put-line
 slice-aggregate-put-line c = search needs
 
 put-line-requires : tie.Need-put-line-requires
-put-line-requires c κs = let s = c .before .before .before .before .before .before .before .before .before in let a = s .args in omega (arith, s .pre .1, ap length (added-one (a .text .now) (entriesIn (a .catalogue .now)) (a .empty) (a .alone) (a .linked) (a .prefix .now) (a .fields .now) (a .leaves .now) (c .before .before .if1 .taken)))
+put-line-requires c κs = let s = c .before .before .before .before .before .before .before .before .before in let a = s .args in omega (arith, s .pre .1, ap length (added-one (a .text .now) (entriesIn (a .catalogue .now)) (a .shape .empty) (a .shape .alone) (a .shape .linked) (a .prefix .now) (a .fields .now) (a .leaves .now) (c .before .before .if1 .taken)))
 
 same-length : tie.Need-same-length
 same-length c = search needs
@@ -24,10 +24,10 @@ returns : tie.Need-returns
 returns c =
     let w = c .before .before in
     let a = w .before .before .before .before .before .before .before .before .before .before .args in
-    subst (Wrote (a .out .now) (a .o) (w .put-line .last .0) (w .put-line .result)) (sym (added-one (a .text .now) (entriesIn (a .catalogue .now)) (a .empty) (a .alone) (a .linked) (a .prefix .now) (a .fields .now) (a .leaves .now) (w .before .before .before .if1 .taken))) (w .put-line .ensures)
+    subst (Wrote (a .out .now) (a .o) (w .put-line .last .0) (w .put-line .result)) (sym (added-one (a .text .now) (entriesIn (a .catalogue .now)) (a .shape .empty) (a .shape .alone) (a .shape .linked) (a .prefix .now) (a .fields .now) (a .leaves .now) (w .before .before .before .if1 .taken))) (w .put-line .ensures)
 
 put-lines-requires : tie.Need-put-lines-requires
-put-lines-requires c κs = let s = c .before .before .before .before .before .before .before .before in let a = s .args in (s .pre .0, omega (arith, s .pre .1, ap length (added-each (a .text .now) (entriesIn (a .catalogue .now)) (a .empty) (a .alone) (a .linked) (a .prefix .now) (a .fields .now) (a .leaves .now) (c .before .if1 .left))))
+put-lines-requires c κs = let s = c .before .before .before .before .before .before .before .before in let a = s .args in (s .pre .0, omega (arith, s .pre .1, ap length (added-each (a .text .now) (entriesIn (a .catalogue .now)) (a .shape .empty) (a .shape .alone) (a .shape .linked) (a .prefix .now) (a .fields .now) (a .leaves .now) (c .before .if1 .left))))
 
 same-length-2 : tie.Need-same-length-2
 same-length-2 c = search needs
@@ -36,7 +36,7 @@ returns-2 : tie.Need-returns-2
 returns-2 c =
     let w = c .before .before in
     let a = w .before .before .before .before .before .before .before .before .before .args in
-    subst (Wrote (a .out .now) (a .o) (w .put-lines .last .0) (w .put-lines .result)) (sym (added-each (a .text .now) (entriesIn (a .catalogue .now)) (a .empty) (a .alone) (a .linked) (a .prefix .now) (a .fields .now) (a .leaves .now) (w .before .before .if1 .left))) (w .put-lines .ensures)
+    subst (Wrote (a .out .now) (a .o) (w .put-lines .last .0) (w .put-lines .result)) (sym (added-each (a .text .now) (entriesIn (a .catalogue .now)) (a .shape .empty) (a .shape .alone) (a .shape .linked) (a .prefix .now) (a .fields .now) (a .leaves .now) (w .before .before .if1 .left))) (w .put-lines .ensures)
 
 pub put-added-spec : {M : Type 1} → statement M
 put-added-spec =

@@ -196,8 +196,11 @@ add-after-requires c κs =
       (
         own e .own,
         (
-          in-form (a .prefix .now) (given (a .fields .now)) (formed (r .before .before .before .before .before .before .before .before .before .before)) .stop,
-          (leaves-are r, (n, (c .before .is-linked .ensures ∙ ap isNothing (r .before .before .before .before .before .before .before .before .before .find-previous .ensures) ∙ nothing-none (lastOf 80 80 (given (a .fields .now) .fields)), some r))),
+          (
+            in-form (a .prefix .now) (given (a .fields .now)) (formed (r .before .before .before .before .before .before .before .before .before .before)) .stop,
+            c .before .is-linked .ensures ∙ ap isNothing (r .before .before .before .before .before .before .before .before .before .find-previous .ensures) ∙ nothing-none (lastOf 80 80 (given (a .fields .now) .fields)),
+          ),
+          ((leaves-are r, some r), n),
         ),
       ),
     )

@@ -54,14 +54,14 @@ few s = subst (λ k. counted 4 (entriesIn k) ≤ 1024) (sym (s .pre .1 .0)) (tex
 -- the leaves, no more than the programs
 leaves-are : (s : tie.Start) → s .args .leaves .now ≡ leaves (links (programs (records s)))
 unfolding leavesOf
-leaves-are s = s .pre .1 .1 .1 .0
+leaves-are s = s .pre .1 .1 .1 .0 .0
 
 counts : (s : tie.Start) → (s .args .count ≤ 1024) × (length (s .args .leaves .now) ≤ 1024)
 unfolding links
 counts s =
     let ps = programs (records s) in
     let n : length ps ≤ 1024 = omega (arith, parents-few (s .args .text .now) (records s) (reads s), parents-count (s .args .text .now) (records s) (reads s)) in
-    (omega (arith, n, s .pre .1 .1 .1 .1 .0), omega (arith, n, ap length (leaves-are s), leaves-length (links ps), length-map ps (λ p. link ps (p .previous))))
+    (omega (arith, n, s .pre .1 .1 .1 .1), omega (arith, n, ap length (leaves-are s), leaves-length (links ps), length-map ps (λ p. link ps (p .previous))))
 
 -- the prefix is free
 free : (c : tie.After-is-free) → let s = c .before .before .before .before .before .before .before in c .is-free .result ≡ not (isKnown (ordinalFrom 0 (s .args .prefix .now) (programs (records s))))
@@ -97,7 +97,7 @@ new-is : (c : tie.After-new-count)
 new-is c =
     let s = c .before .before .before .before .before .before .before .before .before .before .before .before in
     c .new-count .ensures
-    ∙ ap (λ n. cond (eqb n 0) 1 (length (s .args .leaves .now))) (s .pre .1 .1 .1 .1 .0)
+    ∙ ap (λ n. cond (eqb n 0) 1 (length (s .args .leaves .now))) (s .pre .1 .1 .1 .1)
     ∙ ap (λ xs. cond (eqb (length (programs (records s))) 0) 1 (length xs)) (leaves-are s)
     ∙ count-is (s .args .text .now) (records s) (reads s) (s .args .prefix .now) (fieldsOf s)
 
@@ -150,12 +150,12 @@ returns-2 c =
     let a = s .args in
     let room = length (a .out .now) in
     refused-answer (addingOn (records s) (a .prefix .now) (fieldsOf s) room) (a .out .now) 19 (record { 0 = 0 })
-    (on-many (records s) (a .prefix .now) (fieldsOf s) room (sym (used-is (n .before .before)) ∙ n .before .if1 .left) (omega (arith, c .if2 .taken, new-is n, s .pre .1 .1 .1 .1 .0)))
+    (on-many (records s) (a .prefix .now) (fieldsOf s) room (sym (used-is (n .before .before)) ∙ n .before .if1 .left) (omega (arith, c .if2 .taken, new-is n, s .pre .1 .1 .1 .1)))
 
 write-added-requires : tie.Need-write-added-requires
 write-added-requires c κs =
     let s = c .before .before .before .before .before .before .before .before .before .before .before .before .before .before in
-    (s .pre .0, (inside s, (counts s .1, λ e. s .pre .1 .1 .1 .1 .1 .1 (omega (arith, eqb-false (s .args .count) 0 e)))))
+    (s .pre .0, (inside s, (counts s .1, λ e. s .pre .1 .1 .1 .0 .1 (omega (arith, eqb-false (s .args .count) 0 e)))))
 
 same-length : tie.Need-same-length
 same-length c = search needs
@@ -173,10 +173,10 @@ returns-3 c =
     let whole : withAdded rs (addedText (a .text .now) (entriesIn (a .kept .now)) (eqb (a .count) 0) alone (a .linked) (a .prefix .now) (a .fields .now) (a .leaves .now)) ≡ tidy (rs ++ added (a .prefix .now) (fieldsOf s) (programs rs)) =
     ap (λ k. withAdded rs (addedText (a .text .now) (entriesIn k) (eqb (a .count) 0) alone (a .linked) (a .prefix .now) (a .fields .now) (a .leaves .now))) (s .pre .1 .0)
     ∙ ap (λ xs. withAdded rs (addedText (a .text .now) (entriesIn (catalogue rs)) (eqb (a .count) 0) alone (a .linked) (a .prefix .now) (a .fields .now) xs)) (leaves-are s)
-    ∙ written-is (a .text .now) rs (reads s) (a .prefix .now) (a .fields .now) (fieldsOf s) (given-text (a .fields .now) (s .pre .1 .1 .0)) (eqb (a .count) 0) alone (a .linked) (ap (λ m. eqb m 0) (s .pre .1 .1 .1 .1 .0)) (free (n .before .before .before .before .before)) (s .pre .1 .1 .1 .1 .1 .0) in
+    ∙ written-is (a .text .now) rs (reads s) (a .prefix .now) (a .fields .now) (fieldsOf s) (given-text (a .fields .now) (s .pre .1 .1 .0 .0)) (eqb (a .count) 0) alone (a .linked) (ap (λ m. eqb m 0) (s .pre .1 .1 .1 .1)) (free (n .before .before .before .before .before)) (s .pre .1 .1 .0 .1) in
     let on : writing room (unwritable 0 rs) (withAdded rs (addedText (a .text .now) (entriesIn (a .kept .now)) (eqb (a .count) 0) alone (a .linked) (a .prefix .now) (a .fields .now) (a .leaves .now))) ≡ addingOn rs (a .prefix .now) (fieldsOf s) room =
     ap (writing room (unwritable 0 rs)) whole
-    ∙ sym (on-few rs (a .prefix .now) (fieldsOf s) room (sym (used-is (n .before .before)) ∙ n .before .if1 .left) (omega (arith, e .if2 .left, new-is n, s .pre .1 .1 .1 .1 .0))) in
+    ∙ sym (on-few rs (a .prefix .now) (fieldsOf s) room (sym (used-is (n .before .before)) ∙ n .before .if1 .left) (omega (arith, e .if2 .left, new-is n, s .pre .1 .1 .1 .1))) in
     (w .write-added .ensures .0 ∙ ap answerOf on, w .write-added .ensures .1 ∙ ap (λ x. outputOf x (a .out .now)) on)
 
 pub add-after-spec : {M : Type 1} → statement M

@@ -23,7 +23,7 @@ abbrev records : tie.Start → List Record
 records s = recordsOf (s .args .text .now)
 
 abbrev new : tie.Start → List ℕ
-new s = let a = s .args in addedText (a .text .now) (entriesIn (a .kept .now)) (a .empty) (a .alone) (a .linked) (a .prefix .now) (a .fields .now) (a .leaves .now)
+new s = let a = s .args in addedText (a .text .now) (entriesIn (a .kept .now)) (a .shape .empty) (a .shape .alone) (a .shape .linked) (a .prefix .now) (a .fields .now) (a .leaves .now)
 
 put-records-requires : tie.Need-put-records-requires
 put-records-requires c κs = let s = c .before .before .before .before .before .before .before in (s .pre .0, (s .pre .1 .0, omega (arith, s .pre .1 .1 .1, with-parts (records s) (new s))))

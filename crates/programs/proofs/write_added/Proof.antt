@@ -29,7 +29,7 @@ abbrev records : tie.Start → List Record
 records s = recordsOf (s .args .text .now)
 
 abbrev new : tie.Start → List ℕ
-new s = let a = s .args in addedText (a .text .now) (entriesIn (a .kept .now)) (a .empty) (a .alone) (a .linked) (a .prefix .now) (a .fields .now) (a .leaves .now)
+new s = let a = s .args in addedText (a .text .now) (entriesIn (a .kept .now)) (a .shape .empty) (a .shape .alone) (a .shape .linked) (a .prefix .now) (a .fields .now) (a .leaves .now)
 
 abbrev whole : tie.Start → List ℕ
 whole s = withAdded (records s) (new s)
@@ -72,7 +72,7 @@ returns c =
     let s = c .before .before .before .before .before .before .before .before .before .before .before .before .before in
     let a = s .args in
     let room = length (a .out .now) in
-    let long = added-long (a .text .now) (entriesIn (a .kept .now)) (a .linked) (a .prefix .now) (a .fields .now) (a .empty) (a .alone) (a .leaves .now) (s .pre .1 .1 .1) (sym (c .before .is-too-long .ensures) ∙ c .if1 .taken) in
+    let long = added-long (a .text .now) (entriesIn (a .kept .now)) (a .shape .linked) (a .prefix .now) (a .fields .now) (a .shape .empty) (a .shape .alone) (a .leaves .now) (s .pre .1 .1 .1) (sym (c .before .is-too-long .ensures) ∙ c .if1 .taken) in
     refused-answer (writing room (unwritable 0 (records s)) (whole s)) (a .out .now) 1 (record { 0 = 0 })
     (write-long room (unwritable 0 (records s)) (whole s) (measured z .0) (omega (arith, with-size (records s) (new s), long)))
 
@@ -134,7 +134,7 @@ returns-5 c =
     let z = e .before .before .before .before .before .before .before in
     let s = c .before .before .before .before .before .before .before .before .before .before .before .before .before .before .before .before .before .before .before .before .before in
     let room = length (s .args .out .now) in
-    written-answer (writing room (unwritable 0 (records s)) (whole s)) (s .args .out .now) (whole s) (w .put-all .last .1 .1 .1 .1 .1 .1 .1 .1 .1 .0) (w .put-all .result)
+    written-answer (writing room (unwritable 0 (records s)) (whole s)) (s .args .out .now) (whole s) (w .put-all .last .1 .1 .1 .1 .1 .1 .1 .0) (w .put-all .result)
     (write-fits room (unwritable 0 (records s)) (whole s) (measured z .0) (short (e .before)) (omega (arith, size (e .before .before .before), e .if3 .left)))
     (w .put-all .ensures .0) (w .put-all .ensures .1)
 
