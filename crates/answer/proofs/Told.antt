@@ -76,11 +76,15 @@ program-fits t = go (ltb 65535 (length t)) refl
     go true e = refusal-fits 1 0 65536 (omega arith)
     go false e = subst (λ x. length (said x) ≤ 65536) (sym (room-enough t (ltb-false 65535 (length t) e))) (tidied t)
 
--- the program writes 65,536 bytes at most: they stand within the output
-pub program-within : (t out last : List ℕ) (n : ℕ) → n ≡ length (program t) → last ≡ over out 0 (program t) → 65536 ≤ length out → n ≤ length last
-program-within t out last n e w h =
+-- so that the output keeps its length
+pub program-length : (t out last : List ℕ) → last ≡ over out 0 (program t) → 65536 ≤ length out → length last ≡ length out
+program-length t out last w h =
     let short : 0 + length (program t) ≤ length out = omega (arith, program-fits t) in
     omega (arith, ap length w, over-length out 0 (program t) short)
+
+-- the program writes 65,536 bytes at most: they stand within the output
+pub program-within : (t out last : List ℕ) (n : ℕ) → n ≡ length (program t) → last ≡ over out 0 (program t) → 65536 ≤ length out → n ≤ length last
+program-within t out last n e w h = omega (arith, program-fits t, program-length t out last w h)
 
 -- ---- by what the call answered
 

@@ -1,9 +1,10 @@
 // Replays stored answers: each line of the files that its arguments name is a question with its answer, and what the library answers is
 // compared with it. One line of counts is written for each file.
 //
-// `vectors.txt`: 642 questions to `count`, `key`, `length`, `field`, `roots` and `leaves`, answered by a model written from document 01 alone.
-// `chains.txt`: chains, forests, dangling and looping headers, stale catalogues and the corners of each call, written by `oracle/chains` from
-// document 01's rules; no answer in it comes from this library or from the crate.
+// `vectors.txt`: 856 questions to `count`, `key`, `length`, `field`, `roots`, `leaves`, `add` and `answer`, answered by a model written from
+// document 01 alone.
+// `chains.txt`: chains, forests, dangling and looping headers, stale catalogues, the corners of each call and of adding, written by
+// `oracle/chains` from document 01's rules; no answer in it comes from this library or from the crate.
 // `oracle.txt`: 546 texts, answered by noodles-sam 0.93.0 (`oracle/README.md`, "The fixed sample").
 //
 // Words are parted by one space; byte strings are in hex, `-` for none. A line is a call, its text, its catalogue (`=` for the one that
@@ -14,7 +15,9 @@
 //     field TEXT KEPT KIND ORDINAL TAG STAND-IN BYTES
 //     roots TEXT KEPT ROOM ok ORDINALS
 //     leaves TEXT KEPT ROOM ok ORDINALS HOPS
-// or `refused NUMBER LINE` in place of `ok ..`. ORDINALS have four hex digits each. A line of the oracle has its text first; each such text is
+//     add TEXT KEPT ROOM PREFIX FIELDS ok BYTES
+// or `refused NUMBER LINE` in place of `ok ..`. ORDINALS have four hex digits each. `program TEXT BYTES` has what the program on standard
+// input writes. A line of the oracle has its text first; each such text is
 // read, tidied, and asked for its roots and leaves. Of an output that is lent every element is looked at: what is not the answer must be as
 // it was. Where the field call's answer stands no program can see: its contract says it.
 //
@@ -43,19 +46,23 @@ const ROOTS: usize = 4;
 
 const LEAVES: usize = 5;
 
-const REFUSED: usize = 6;
+const ADDED: usize = 6;
 
-const ACCEPTED: usize = 7;
+const PROGRAM: usize = 7;
 
-const UNWRITABLE: usize = 8;
+const REFUSED: usize = 8;
 
-const UNKNOWN: usize = 9;
+const ACCEPTED: usize = 9;
 
-const WRONG: usize = 10;
+const UNWRITABLE: usize = 10;
 
-const MARKED: usize = 11;
+const UNKNOWN: usize = 11;
 
-const FOUND: usize = 12;
+const WRONG: usize = 12;
+
+const MARKED: usize = 13;
+
+const FOUND: usize = 14;
 
 // An output of bytes, as it is before a call.
 fn bytes() -> [u8; 65536]
@@ -169,6 +176,26 @@ fn is_leaves(line: &[u8], text: &[u8], kept: &[u8], out: &mut [u32]) -> bool {
     }
 }
 
+// Whether the text with programs added is the line's, in an output of as many bytes as it says.
+fn is_added(line: &[u8], text: &[u8], kept: &[u8], out: &mut [u8]) -> bool {
+    let mut prefix = io::buffer();
+    let p = cases::decode(cases::word(line, 4), &mut prefix);
+    let mut fields = io::buffer();
+    let f = cases::decode(cases::word(line, 5), &mut fields);
+    let room = cases::least(cases::number(cases::word(line, 3)), out.len());
+    match programs::add(text, kept, &prefix[..p], &fields[..f], &mut out[..room]) {
+        Answer::Refused(n, no) => is_refusal(line, 6, n, no) && cases::is_untouched(out),
+        Answer::Count(n) => is_ok(line, 6, 1) && is_text(cases::word(line, 7), out, n),
+    }
+}
+
+// Whether the program on standard input would write the line's bytes.
+fn is_program(line: &[u8], text: &[u8]) -> bool {
+    let mut out = bytes();
+    let n = answer::answer(text, &mut out);
+    is_text(cases::word(line, 2), &out, n) && cases::word(line, 3).len() == 0
+}
+
 // Puts the catalogue that a word names to the front of `kept` and answers its length: `=` is the text's own.
 fn keep(word: &[u8], text: &[u8], kept: &mut [u8]) -> usize
     ensures { λ r. ⌜ (r ≤ length (now (kept .exit))) × (r ≡ length (take r (now (kept .exit)))) × (length (now (kept .exit)) ≡ length (now (kept .entry))) ⌝ }
@@ -199,6 +226,10 @@ fn is_call(line: &[u8], asked: usize, text: &[u8], kept: &[u8], out: &mut [u32])
 fn is_answer(line: &[u8], asked: usize, text: &[u8]) -> bool {
     let mut kept = io::large_buffer();
     let n = keep(cases::word(line, 2), text, &mut kept);
+    if asked == ADDED {
+        let mut out = bytes();
+        return is_added(line, text, &kept[..n], &mut out);
+    }
     let mut out = ordinals();
     is_call(line, asked, text, &kept[..n], &mut out)
 }
@@ -328,6 +359,12 @@ fn asked_by(line: &[u8]) -> usize {
     if text::same(call, b"leaves") {
         return LEAVES;
     }
+    if text::same(call, b"add") {
+        return ADDED;
+    }
+    if text::same(call, b"program") {
+        return PROGRAM;
+    }
     judged_by(cases::word(line, 1))
 }
 
@@ -348,9 +385,13 @@ fn judged_by(word: &[u8]) -> usize {
 // Whether the library's answer is the one that stands in the line.
 fn is_right(line: &[u8], asked: usize) -> bool {
     let mut text = io::large_buffer();
-    if asked < REFUSED {
+    if asked < PROGRAM {
         let n = cases::decode(cases::word(line, 1), &mut text);
         return is_answer(line, asked, &text[..n]);
+    }
+    if asked == PROGRAM {
+        let n = cases::decode(cases::word(line, 1), &mut text);
+        return is_program(line, &text[..n]);
     }
     let n = cases::decode(cases::word(line, 0), &mut text);
     is_sample(line, asked, &text[..n])
@@ -472,9 +513,9 @@ fn print_count(name: &[u8], n: u32) {
     }
 }
 
-// Writes how many lines of each kind there were.
+// Writes how many lines ask each call.
 fn print_asked(tally: &[u32])
-    requires { ⌜ length (now tally) ≡ 13 ⌝ }
+    requires { ⌜ length (now tally) ≡ 15 ⌝ }
 {
     print_count(b" count ", tally[COUNT]);
     print_count(b" key ", tally[KEY]);
@@ -482,6 +523,14 @@ fn print_asked(tally: &[u32])
     print_count(b" field ", tally[FIELD]);
     print_count(b" roots ", tally[ROOTS]);
     print_count(b" leaves ", tally[LEAVES]);
+    print_count(b" add ", tally[ADDED]);
+    print_count(b" program ", tally[PROGRAM]);
+}
+
+// Writes how many texts the crate judged in each way, and how many lines ask nothing.
+fn print_judged(tally: &[u32])
+    requires { ⌜ length (now tally) ≡ 15 ⌝ }
+{
     print_count(b" refused ", tally[REFUSED]);
     print_count(b" accepted ", tally[ACCEPTED]);
     print_count(b" unwritable ", tally[UNWRITABLE]);
@@ -490,7 +539,7 @@ fn print_asked(tally: &[u32])
 
 // Writes how many answers were wrong, and how many of the marked lines were found.
 fn print_found(tally: &[u32])
-    requires { ⌜ length (now tally) ≡ 13 ⌝ }
+    requires { ⌜ length (now tally) ≡ 15 ⌝ }
 {
     print_number(b" wrong ", tally[WRONG]);
     print_number(b", known wrong found ", tally[FOUND]);
@@ -507,12 +556,13 @@ fn replay(place: usize) {
         os::fail(&name[..n]);
         return;
     }
-    let mut tally: [u32; 13] = [0; 13];
+    let mut tally: [u32; 15] = [0; 15];
     all_blocks(fd, &mut tally);
     libc::close(fd);
     io::write_all(STDOUT_FILENO, &name[..n]);
     io::write_all(STDOUT_FILENO, b":");
     print_asked(&tally);
+    print_judged(&tally);
     print_found(&tally);
 }
 
