@@ -43,4 +43,10 @@ uint64_t sam_header_roots(const uint8_t *text, size_t text_len, const uint8_t *c
 uint64_t sam_header_leaves(const uint8_t *text, size_t text_len, const uint8_t *catalogue, size_t catalogue_len, uint32_t *out,
                            size_t out_len);
 
+/* Writes the tidy text of the header with new programs after the old ones: one after each leaf, its ID made from `prefix`, with `fields`, which are
+ * a PG line's from the first tab on, or none, and PP. 26 for a prefix or fields that are not in form, 22 for a PP that names no program, a given one
+ * too, 23 for a cycle, 18 for an ID that is used already, 19 for more than 1,024 programs; then as tidy. */
+uint64_t sam_header_add(const uint8_t *text, size_t text_len, const uint8_t *catalogue, size_t catalogue_len, const uint8_t *prefix,
+                        size_t prefix_len, const uint8_t *fields, size_t fields_len, uint8_t *out, size_t out_len);
+
 #endif

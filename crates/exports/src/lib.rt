@@ -7,7 +7,7 @@ use parser::Answer;
 use parser::Checked;
 ghost use mathlib.Core.Path.{_≡_};
 ghost use lib.ListN.{length};
-ghost use Rattle.format.specs.Calls.{reading, fresh, tidying, counting, keying, sizing, rooting, leafing};
+ghost use Rattle.format.specs.Calls.{reading, fresh, tidying, counting, keying, sizing, rooting, leafing, adding};
 ghost use Rattle.parser.specs.Answers.{answerOf, outputOf, checkedOf};
 ghost use Rattle.calls.specs.Answers.{countOf, keyOf, lengthOf, leavesOf, listOf};
 ghost use Rattle.exports.specs.Words.{refusalWord, answerWord, checkedWord, leavesWord, keyWord, lengthWord, lengthLeft};
@@ -118,4 +118,18 @@ pub extern "C" fn sam_header_length(
             0
         }
     }
+}
+
+#[no_mangle]
+pub extern "C" fn sam_header_add(
+    text: &[u8],
+    catalogue: &[u8],
+    prefix: &[u8],
+    fields: &[u8],
+    out: &mut [u8],
+) -> u64
+    ensures answer { λ r. ⌜ r ≡ answerWord (answerOf (adding (now (text .entry)) (now (catalogue .entry)) (now (prefix .entry)) (now (fields .entry)) (length (now (out .entry))))) ⌝ }
+    ensures wrote { λ _. ⌜ now (out .exit) ≡ outputOf (adding (now (text .entry)) (now (catalogue .entry)) (now (prefix .entry)) (now (fields .entry)) (length (now (out .entry)))) (now (out .entry)) ⌝ }
+{
+    answer_word(programs::add(text, catalogue, prefix, fields, out))
 }
