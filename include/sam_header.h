@@ -1,7 +1,8 @@
 /* The header library for C: link libexports.a (`rt staticlib exports`).
  *
  * Any bytes may be lent. No two slices that a call is lent may overlap where one of them is written. An empty slice needs a pointer that is not NULL.
- * An answer below 2^63 counts what was written at the front of the output. Any other is a refusal, which changes no byte. */
+ * An answer of 2^63 or more is a refusal, which changes no byte. Any other counts what was written at the front of the output, where a call says
+ * nothing else. */
 #ifndef SAM_HEADER_H
 #define SAM_HEADER_H
 
@@ -11,6 +12,9 @@
 #define SAM_HEADER_IS_REFUSAL(answer) ((answer) >> 63)
 #define SAM_HEADER_NUMBER(answer) ((uint32_t)((answer) >> 32) & 255)
 #define SAM_HEADER_LINE(answer) ((uint32_t)(answer))
+
+/* Field's answer where the caller's stand-in takes the value's place: all ones. It has no number and no line. */
+#define SAM_HEADER_STAND_IN UINT64_MAX
 
 /* Reads a header: its catalogue in `catalogue`. */
 uint64_t sam_header_read(const uint8_t *text, size_t text_len, uint8_t *catalogue, size_t catalogue_len);
@@ -34,6 +38,11 @@ uint64_t sam_header_key(const uint8_t *text, size_t text_len, const uint8_t *cat
 /* The LN of an SQ in `*length`, and 0. */
 uint64_t sam_header_length(const uint8_t *text, size_t text_len, const uint8_t *catalogue, size_t catalogue_len, uint32_t ordinal,
                            uint64_t *length);
+
+/* Where the value of a record's field stands, by the two bytes of its tag: its offset shifted left by 32, and its length; a key is no field.
+ * SAM_HEADER_STAND_IN, in place of any refusal, where there is no such field or anything is amiss. */
+uint64_t sam_header_field(const uint8_t *text, size_t text_len, const uint8_t *catalogue, size_t catalogue_len, uint8_t kind,
+                          uint32_t ordinal, uint8_t tag_0, uint8_t tag_1);
 
 /* The ordinals of the programs without PP in `out`. */
 uint64_t sam_header_roots(const uint8_t *text, size_t text_len, const uint8_t *catalogue, size_t catalogue_len, uint32_t *out,
