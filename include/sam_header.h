@@ -1,7 +1,8 @@
 /* The header library for C: link libexports.a (`rt staticlib exports`).
  *
  * Any bytes may be lent. No two slices that a call is lent may overlap where one of them is written. An empty slice needs a pointer that is not NULL.
- * An answer below 2^63 counts what was written at the front of the output. Any other is a refusal, which changes no byte. */
+ * An answer of 2^63 or more is a refusal, which changes no byte. Any other counts what was written at the front of the output, where a call says
+ * nothing else. */
 #ifndef SAM_HEADER_H
 #define SAM_HEADER_H
 
@@ -11,6 +12,9 @@
 #define SAM_HEADER_IS_REFUSAL(answer) ((answer) >> 63)
 #define SAM_HEADER_NUMBER(answer) ((uint32_t)((answer) >> 32) & 255)
 #define SAM_HEADER_LINE(answer) ((uint32_t)(answer))
+
+/* Field's answer where the caller's stand-in takes the value's place: all ones. It has no number and no line. */
+#define SAM_HEADER_STAND_IN UINT64_MAX
 
 /* Reads a header: its catalogue in `catalogue`. */
 uint64_t sam_header_read(const uint8_t *text, size_t text_len, uint8_t *catalogue, size_t catalogue_len);
@@ -35,6 +39,11 @@ uint64_t sam_header_key(const uint8_t *text, size_t text_len, const uint8_t *cat
 uint64_t sam_header_length(const uint8_t *text, size_t text_len, const uint8_t *catalogue, size_t catalogue_len, uint32_t ordinal,
                            uint64_t *length);
 
+/* Where the value of a record's field stands, by the two bytes of its tag: its offset shifted left by 32, and its length; a key is no field.
+ * SAM_HEADER_STAND_IN, in place of any refusal, where there is no such field or anything is amiss. */
+uint64_t sam_header_field(const uint8_t *text, size_t text_len, const uint8_t *catalogue, size_t catalogue_len, uint8_t kind,
+                          uint32_t ordinal, uint8_t tag_0, uint8_t tag_1);
+
 /* The ordinals of the programs without PP in `out`. */
 uint64_t sam_header_roots(const uint8_t *text, size_t text_len, const uint8_t *catalogue, size_t catalogue_len, uint32_t *out,
                           size_t out_len);
@@ -42,5 +51,11 @@ uint64_t sam_header_roots(const uint8_t *text, size_t text_len, const uint8_t *c
 /* The ordinals of the programs that no PP names in `out`: the hops shifted left by 32, and how many; 22 for a PP that names no program, 23 for a cycle. */
 uint64_t sam_header_leaves(const uint8_t *text, size_t text_len, const uint8_t *catalogue, size_t catalogue_len, uint32_t *out,
                            size_t out_len);
+
+/* Writes the tidy text of the header with new programs after the old ones: one after each leaf, its ID made from `prefix`, with `fields`, which are
+ * a PG line's from the first tab on, or none, and PP. 26 for a prefix or fields that are not in form, 22 for a PP that names no program, a given one
+ * too, 23 for a cycle, 18 for an ID that is used already, 19 for more than 1,024 programs; then as tidy. */
+uint64_t sam_header_add(const uint8_t *text, size_t text_len, const uint8_t *catalogue, size_t catalogue_len, const uint8_t *prefix,
+                        size_t prefix_len, const uint8_t *fields, size_t fields_len, uint8_t *out, size_t out_len);
 
 #endif

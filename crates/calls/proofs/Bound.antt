@@ -1,16 +1,18 @@
 -- The hops that leaves answers are at most n(n-1)/2, where n is how many programs the text has.
 use Prim.Native.Nat.{ℕ, _*_, _-_, _≤_, _<_}
-use mathlib.Core.Path.{_≡_, refl, sym, ap, subst, _∙_}
+use mathlib.Core.Path.{_≡_, sym, ap, subst, _∙_}
 use mathlib.Core.Bool.{Bool, true, false}
 use mathlib.Core.List.{List}
 use native.Mathlib.Omega.{arith}
+use native.Mathlib.Nat.{mul-le-mul-right}
 use lib.ListN.{length, length-map}
 use lib.Dec.{ltb}
 use borrow.Author.Tests.{ltb-true, ltb-false}
-use Rattle.format.specs.Records.{Record}
-use Rattle.format.specs.Programs.{programs, hops, leaves, loopsFrom}
-use Rattle.format.specs.Calls.{Answer, no, yes, fresh, leafing}
-use Rattle.accepted.proofs.Bools.{never, split}
+use Rattle.format.specs.Reading.{ofKind}
+use Rattle.format.specs.Programs.{programs, programOf, hops, leaves, loopsFrom}
+use Rattle.format.specs.Calls.{Answer, no, yes, leafing}
+use Rattle.accepted.proofs.Bools.{split}
+use Rattle.accepted.proofs.Text.{text-programs}
 use Rattle.accepted.specs.Read.{recordsOf}
 use Rattle.chains.specs.Parents.{linksOf, linkOf}
 use Rattle.chains.proofs.Bound.{hops-bound, within-below}
@@ -18,13 +20,8 @@ use Rattle.chains.proofs.Leaf.{leaves-length}
 use Rattle.entries.specs.Entries.{entriesIn}
 use Rattle.lookup.specs.Parents.{parentsIn, strays}
 use Rattle.lookup.proofs.Numbers.{parents-count}
-use Rattle.parser.specs.Answers.{checkedOf}
-use Rattle.calls.proofs.Fresh.{Current, check-fresh}
+use Rattle.calls.proofs.Fresh.{Current, refused, passed}
 use Rattle.calls.proofs.Chained.{all-within, leaves-refused, leaves-dangling, leaves-cycle, leaves-short, leaves-fit, few-parents}
-
--- a refusal is no answer
-refused : {A : Type 0} (n l : ℕ) (a : A) → no n l ≡ yes a → ⊥
-refused n l a e = never cc
 
 unfoldable toldOf : List ℕ × ℕ → Answer (List ℕ × ℕ) → List ℕ × ℕ
 toldOf z (no n l) = z
@@ -68,15 +65,10 @@ module _ (t c : List ℕ) (own : Current t c) where
       let same : length (linksOf parents) ≡ length parents = unfold linksOf in length-map parents linkOf in
       omega (arith, same, leaves-length (linksOf parents), few-parents t c own)
 
--- a refusal of the check is none of these
-module _ (t c : List ℕ) (room : ℕ) (a : List ℕ × ℕ) (is : leafing t c room ≡ yes a) where
-  current : Current t c
-  unfolding checkedOf
-  current = go (fresh t c) refl
-    where
-      go : (f : Answer (List Record)) → fresh t c ≡ f → Current t c
-      go (no n l) q = absurd (refused n l a (sym (leaves-refused t c n l q room) ∙ is))
-      go (yes rs) q = check-fresh t c (ap checkedOf q)
+-- leaves that are answered are of the text's own catalogue
+current : (t c : List ℕ) (room : ℕ) (a : List ℕ × ℕ) → leafing t c room ≡ yes a → Current t c
+unfolding leafing
+current t c room a is = passed t c _ a is
 
 -- whatever the text and the catalogue are
 pub leaves-bound : (t c : List ℕ) (room : ℕ) (xs : List ℕ) (h : ℕ) → leafing t c room ≡ yes (xs, h)
@@ -90,3 +82,12 @@ pub leaves-few : (t c : List ℕ) (room : ℕ) (xs : List ℕ) (h : ℕ) → lea
 leaves-few t c room xs h is =
     let own = current t c room (xs, h) is in
     answered t c own (λ a. length (a .0) ≤ 1024) room (xs, h) is (λ d e. few-leaves t c own)
+
+-- so that the hops are at most 523,776
+pub hops-few : (t c : List ℕ) (room : ℕ) (xs : List ℕ) (h : ℕ) → leafing t c room ≡ yes (xs, h) → h ≤ 523776
+unfolding programs
+hops-few t c room xs h is =
+    let own = current t c room (xs, h) is in
+    let n = length (programs (recordsOf t)) in
+    let few : n ≤ 1024 = rw (length-map (ofKind 4 (recordsOf t)) programOf) (text-programs t (recordsOf t) (own .reads)) in
+    omega (arith, few, leaves-bound t c room xs h is, mul-le-mul-right (n - 1) few)

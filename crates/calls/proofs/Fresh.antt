@@ -11,10 +11,15 @@ use Rattle.format.specs.Catalogue.{catalogue}
 use Rattle.format.specs.Calls.{Answer, no, yes, then, fresh}
 use Rattle.format.specs.declared.LineNo.{LineNo}
 use Rattle.text.proofs.Equal.{same-equal}
+use Rattle.accepted.proofs.Bools.{never}
 use Rattle.accepted.specs.Read.{kept, recordsOf}
 use Rattle.parser.specs.declared.Checked.the-variants.{Refused, Fresh}
 use Rattle.parser.specs.Answers.{checkedOf}
 use Rattle.parser.proofs.Told.{fresh-refused, fresh-reads}
+
+-- a refusal is no answer
+pub refused : {A : Type 0} (n l : ℕ) (a : A) → no n l ≡ yes a → ⊥
+refused n l a e = never cc
 
 -- the text is read, and the catalogue is its own
 pub record Current (t c : List ℕ) : Type 0 where
@@ -68,3 +73,12 @@ module _ (t c : List ℕ) where
     pub stops : (n l : ℕ) → fresh t c ≡ no n l → then (fresh t c) f ≡ no n l
     unfolding then
     stops n l e = ap (λ a. then a f) e
+
+    -- what is answered is answered over the text's own catalogue
+    pub passed : (a : A) → then (fresh t c) f ≡ yes a → Current t c
+    unfolding checkedOf
+    passed a e = go (fresh t c) refl
+      where
+        go : (x : Answer (List Record)) → fresh t c ≡ x → Current t c
+        go (no n l) q = absurd (refused n l a (sym (stops n l q) ∙ e))
+        go (yes rs) q = check-fresh (ap checkedOf q)

@@ -1,31 +1,33 @@
 -- What each call answers over a catalogue that is the text's own.
-use Prim.Native.Nat.{ℕ, _+_, _≤_, _<_}
+use Prim.Native.Nat.{ℕ, _+_, _-_, _≤_, _<_}
 use mathlib.Core.Path.{_≡_, refl, sym, ap, subst, _∙_}
 use mathlib.Core.Bool.{_&&_, cond, and-false}
 use mathlib.Core.List.{List}
 use mathlib.Core.Option.{Option, none, some}
 use native.Mathlib.Omega.{arith}
-use lib.ListN.{length, getElem?}
+use lib.ListN.{length, getElem?, take, drop}
 use lib.Dec.{leb}
 use borrow.Author.Tests.{le-leb, lt-leb}
 use Rattle.format.specs.Lines.{Piece}
 use Rattle.format.specs.Records.{Record}
 use Rattle.format.specs.Reading.{ofKind}
 use Rattle.format.specs.Catalogue.{catalogue}
-use Rattle.format.specs.Calls.{Answer, no, yes, there, keyed, sized, valued, orStand, fresh, counting, keying, sizing, looking}
+use Rattle.format.specs.Calls.{Answer, no, yes, there, keyed, sized, valued, orStand, fresh, counting, keying, sizing, valuing, looking}
+use Rattle.text.specs.Stands.{Stands}
 use Rattle.accepted.proofs.Bools.{never}
+use Rattle.accepted.proofs.Text.{text-fits}
 use Rattle.accepted.specs.Read.{recordsOf}
 use Rattle.entries.specs.declared.Place.{Place}
 use Rattle.entries.specs.Entries.{pieceAt, entriesIn, counted}
 use Rattle.lookup.specs.declared.Found.the-variants.{Nothing, At}
 use Rattle.lookup.specs.declared.Sized.the-variants as ln
 use Rattle.lookup.specs.Lookup.{foundOf, sizedOf, keyIn, lengthIn, fieldIn}
-use Rattle.lookup.specs.Parents.{Inside, bytesAt}
-use Rattle.lookup.proofs.Kept.{text-counted, text-valued, stands-inside, stands-bytes}
+use Rattle.lookup.proofs.Kept.{text-counted, text-keyed, text-valued}
 use Rattle.lookup.proofs.Answers.{text-key, text-ln, text-field}
 use Rattle.calls.specs.declared.KeyAnswer.the-variants as key
-use Rattle.calls.specs.Answers.{keyOf, valuing, standing}
-use Rattle.calls.proofs.Fresh.{Current, goes-on, stops}
+use Rattle.calls.specs.declared.ValuePlace.the-variants as place
+use Rattle.calls.specs.Answers.{keyOf, placeOf, standing}
+use Rattle.calls.proofs.Fresh.{Current, passed, goes-on, stops}
 
 -- ---- what is found, as an answer
 
@@ -33,6 +35,11 @@ found-none : (o : Option Piece) → foundOf o ≡ Nothing → there o ≡ no 25 
 unfolding foundOf there
 found-none none e = refl
 found-none (some p) e = absurd (never cc)
+
+there-some : {A : Type 0} (o : Option A) (x : A) → there o ≡ yes x → o ≡ some x
+unfolding there
+there-some none x e = absurd (never cc)
+there-some (some y) x e = let z : y ≡ x = cc in ap some z
 
 -- it is a piece, and that is where it stands
 pub record Piece-at (o : Option Piece) (q : Place) : Type 0 where
@@ -54,29 +61,6 @@ sized-some : (o : Option ℕ) (n : ℕ) → sizedOf o ≡ ln.Is n → there o �
 unfolding sizedOf there
 sized-some none n e = absurd (never cc)
 sized-some (some m) n e = let z : m ≡ n = cc in ap yes z
-
--- the answer is a piece of the text, and that is where it stands
-pub record Found-at (t : List ℕ) (answer : Answer Piece) (q : Place) : Type 0 where
-  pub piece : Piece
-  pub is : answer ≡ yes piece
-  pub at : piece .at ≡ q .at
-  pub bytes : piece .bytes ≡ bytesAt t q
-
--- ---- the answer of a lookup: bytes and where they stand
-
-module _ (t c : List ℕ) (k i a b : ℕ) (stand : List ℕ) (at-text at-stand : ℕ × ℕ) where
-  pub stood : (n l : ℕ) → valuing t c k i a b ≡ no n l
-      → (stand ≡ looking t c k i a b stand) × (at-stand ≡ standing (valuing t c k i a b) at-text at-stand)
-  unfolding looking valuing orStand standing
-  stood n l e = (sym (ap (orStand stand) e), sym (ap (λ v. standing v at-text at-stand) e))
-
-  pub valued-at : (q : Place) → Found-at t (valuing t c k i a b) q
-      → (bytesAt t q ≡ looking t c k i a b stand) × (_≡_ {A = ℕ × ℕ} (at-text .0, q .at + at-text .1) (standing (valuing t c k i a b) at-text at-stand))
-  unfolding looking valuing orStand standing
-  valued-at q f = (
-    sym (ap (orStand stand) (f .is) ∙ f .bytes),
-    sym (ap (λ v. standing v at-text at-stand) (f .is) ∙ ap (λ x. (at-text .0, x + at-text .1)) (f .at)),
-  )
 
 -- ---- a refusal of the check is every call's
 
@@ -173,19 +157,70 @@ module _ (t c : List ℕ) (own : Current t c) where
     pub field-none : fieldIn k i a b (entriesIn c) ≡ Nothing → valuing t c k i a b ≡ no 25 0
     field-none e = values ∙ found-none value (value-told ∙ e)
 
-    -- the value's place is within the text, and its bytes are there
-    pub field-inside : (q : Place) → fieldIn k i a b (entriesIn c) ≡ At q → Inside (length t) q
-    field-inside q e =
-        let s : Piece-at value q = found-some value q (value-told ∙ e) in
-        subst (Inside (length t)) (s .place) (stands-inside t (s .piece) (text-valued t rs (own .reads) k i a b (s .piece) (s .is)))
-
-    pub field-found : (q : Place) → fieldIn k i a b (entriesIn c) ≡ At q → Found-at t (valuing t c k i a b) q
-    unfolding there pieceAt
+    pub field-found : (q : Place) → fieldIn k i a b (entriesIn c) ≡ At q → placeOf (valuing t c k i a b) ≡ place.At (q .at) (q .len)
+    unfolding placeOf there pieceAt
     field-found q e =
         let s : Piece-at value q = found-some value q (value-told ∙ e) in
-        record {
-          piece = s .piece;
-          is = values ∙ ap there (s .is);
-          at = ap (λ (p : Place). p .at) (s .place);
-          bytes = sym (stands-bytes t (s .piece) (text-valued t rs (own .reads) k i a b (s .piece) (s .is))) ∙ ap (bytesAt t) (s .place);
-        }
+        ap placeOf (values ∙ ap there (s .is)) ∙ ap (λ (p : Place). place.At (p .at) (p .len)) (s .place)
+
+-- ---- what is answered stands in a text that is not too long, whatever the text and the catalogue are
+
+module _ (t c : List ℕ) (k i : ℕ) where
+  pub key-short : (p : Piece) → keying t c k i ≡ yes p → p .at + length (p .bytes) ≤ 16777216
+  unfolding keying
+  key-short p e =
+      let own = passed t c (λ rs. there (keyed (getElem? (ofKind k rs) i))) p e in
+      let s = text-keyed t (recordsOf t) (own .reads) k i p (there-some (keyed (getElem? (ofKind k (recordsOf t)) i)) p (sym (keys t c own k i) ∙ e)) in
+      omega (arith, s .within, text-fits t (recordsOf t) (own .reads))
+
+module _ (t c : List ℕ) (k i a b : ℕ) where
+  -- a value that is answered stands in the text
+  pub value-stands : (p : Piece) → valuing t c k i a b ≡ yes p → Stands t 0 p
+  unfolding valuing
+  value-stands p e =
+      let own = passed t c (λ rs. there (valued a b (getElem? (ofKind k rs) i))) p e in
+      text-valued t (recordsOf t) (own .reads) k i a b p (there-some (value t c own k i a b) p (sym (values t c own k i a b) ∙ e))
+
+  pub value-short : (p : Piece) → valuing t c k i a b ≡ yes p → p .at + length (p .bytes) ≤ 16777216
+  unfolding valuing
+  value-short p e =
+      let own = passed t c (λ rs. there (valued a b (getElem? (ofKind k rs) i))) p e in
+      omega (arith, value-stands p e .within, text-fits t (recordsOf t) (own .reads))
+
+  -- the place that is answered is within the text
+  pub place-inside : (at len : ℕ) → placeOf (valuing t c k i a b) ≡ place.At at len → at + len ≤ length t
+  unfolding placeOf
+  place-inside at len e = go (valuing t c k i a b) refl e
+    where
+      go : (v : Answer Piece) → valuing t c k i a b ≡ v → placeOf v ≡ place.At at len → at + len ≤ length t
+      go (no n l) is e = absurd (never cc)
+      go (yes p) is e =
+          let x : p .at ≡ at = cc in
+          let y : length (p .bytes) ≡ len = cc in
+          omega (arith, x, y, value-stands p is .within)
+
+  -- ---- the bytes that a lookup answers with, and where they stand
+
+  module _ (stand : List ℕ) (at-text at-stand : ℕ × ℕ) where
+    pub stood : placeOf (valuing t c k i a b) ≡ place.StandIn
+        → (stand ≡ looking t c k i a b stand) × (at-stand ≡ standing (valuing t c k i a b) at-text at-stand)
+    unfolding placeOf looking orStand standing
+    stood e = go (valuing t c k i a b) e
+      where
+        go : (v : Answer Piece) → placeOf v ≡ place.StandIn → (stand ≡ orStand stand v) × (at-stand ≡ standing v at-text at-stand)
+        go (no n l) e = (refl, refl)
+        go (yes p) e = absurd (never cc)
+
+    pub valued-at : (at len : ℕ) → placeOf (valuing t c k i a b) ≡ place.At at len
+        → (take len (drop at t) ≡ looking t c k i a b stand) × (_≡_ {A = ℕ × ℕ} (at-text .0, at + at-text .1) (standing (valuing t c k i a b) at-text at-stand))
+    unfolding placeOf looking orStand standing
+    valued-at at len e = go (valuing t c k i a b) refl e
+      where
+        go : (v : Answer Piece) → valuing t c k i a b ≡ v → placeOf v ≡ place.At at len
+            → (take len (drop at t) ≡ orStand stand v) × (_≡_ {A = ℕ × ℕ} (at-text .0, at + at-text .1) (standing v at-text at-stand))
+        go (no n l) is e = absurd (never cc)
+        go (yes p) is e =
+            let x : p .at ≡ at = cc in
+            let y : length (p .bytes) ≡ len = cc in
+            let z : p .at - 0 ≡ at = omega (arith, x) in
+            (sym (value-stands p is .bytes ∙ rw (y, z) refl), ap (λ n. (at-text .0, n + at-text .1)) (sym x))

@@ -1,10 +1,9 @@
 -- The answers of the calls over text and catalogue in the code's numbers.
 use Prim.Native.Nat.{ℕ, _+_}
 use mathlib.Core.List.{List}
-use lib.ListN.{length, getElem?}
+use lib.ListN.{length}
 use Rattle.format.specs.Lines.{Piece}
-use Rattle.format.specs.Reading.{ofKind}
-use Rattle.format.specs.Calls.{Answer, no, yes, then, fresh, there, valued}
+use Rattle.format.specs.Calls.{Answer, no, yes}
 use Rattle.parser.specs.declared.Answer as parser
 use Rattle.parser.specs.declared.Answer.the-variants.{Refused, Count}
 use Rattle.calls.specs.declared.KeyAnswer.{KeyAnswer}
@@ -13,6 +12,8 @@ use Rattle.calls.specs.declared.LengthAnswer.{LengthAnswer}
 use Rattle.calls.specs.declared.LengthAnswer.the-variants as ln
 use Rattle.calls.specs.declared.LeavesAnswer.{LeavesAnswer}
 use Rattle.calls.specs.declared.LeavesAnswer.the-variants as leaves
+use Rattle.calls.specs.declared.ValuePlace.{ValuePlace}
+use Rattle.calls.specs.declared.ValuePlace.the-variants as place
 
 -- a refusal and its line, or how many
 unfoldable pub countOf : Answer ℕ → parser.Answer
@@ -39,10 +40,10 @@ unfoldable pub listOf : Answer (List ℕ × ℕ) → Answer (List ℕ)
 listOf (no n l) = no n l
 listOf (yes a) = yes (a .0)
 
--- the value that a lookup answers with, or why there is none
-unfoldable pub valuing : List ℕ → List ℕ → ℕ → ℕ → ℕ → ℕ → Answer Piece
-unfolding then fresh there valued ofKind
-valuing text c k i a b = then (fresh text c) (λ rs. there (valued a b (getElem? (ofKind k rs) i)))
+-- where the value of a field stands and how long it is, or that the stand-in takes its place
+unfoldable pub placeOf : Answer Piece → ValuePlace
+placeOf (no n l) = place.StandIn
+placeOf (yes p) = place.At (p .at) (length (p .bytes))
 
 -- where a lookup's answer stands: in the text, from the value's offset on, or where the stand-in stands
 unfoldable pub standing : Answer Piece → ℕ × ℕ → ℕ × ℕ → ℕ × ℕ

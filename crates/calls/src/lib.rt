@@ -7,10 +7,10 @@ use parser::Checked;
 ghost use mathlib.Core.Path.{_≡_};
 ghost use Prim.Native.Nat.{_≤_};
 ghost use lib.ListN.{length};
-ghost use Rattle.format.specs.Calls.{counting, keying, sizing, looking, rooting, leafing};
+ghost use Rattle.format.specs.Calls.{counting, keying, sizing, valuing, looking, rooting, leafing};
 ghost use Rattle.text.specs.Over.{over};
 ghost use Rattle.parser.specs.Answers.{answerOf, outputOf};
-ghost use Rattle.calls.specs.Answers.{countOf, keyOf, lengthOf, leavesOf, listOf, valuing, standing};
+ghost use Rattle.calls.specs.Answers.{countOf, keyOf, lengthOf, leavesOf, listOf, placeOf, standing};
 
 // A refusal and its line, or the key's offset and length.
 pub enum KeyAnswer {
@@ -28,6 +28,12 @@ pub enum LengthAnswer {
 pub enum LeavesAnswer {
     Refused(u8, LineNo),
     Counted(usize, u32),
+}
+
+// The stand-in takes the value's place, or the value's offset and length.
+pub enum ValuePlace {
+    StandIn,
+    At(u32, u32),
 }
 
 // How many records of a kind, 1 to 5, the text has.
@@ -74,6 +80,19 @@ pub fn length(text: &[u8], kept: &[u8], ordinal: u32) -> LengthAnswer
     }
 }
 
+// Where the value of a field stands in the text: nowhere if anything is amiss or there is no such field.
+pub fn place(text: &[u8], kept: &[u8], kind: u8, ordinal: u32, a: u8, b: u8) -> ValuePlace
+    ensures { λ r. ⌜ r ≡ placeOf (valuing (now (text .entry)) (now (kept .entry)) kind ordinal a b) ⌝ }
+{
+    match parser::check(text, kept) {
+        Checked::Refused(_, _) => ValuePlace::StandIn,
+        Checked::Fresh => match lookup::find_field(kept, kind, ordinal, a, b) {
+            Found::Nothing => ValuePlace::StandIn,
+            Found::At(p) => ValuePlace::At(p.at, p.len),
+        },
+    }
+}
+
 // The value of a field as a part of the text, or the whole stand-in where anything is amiss or there is no such field.
 pub fn field<'a>(
     text: &'a [u8],
@@ -87,16 +106,13 @@ pub fn field<'a>(
     ensures value { λ r. ⌜ now r ≡ looking (now (text .entry)) (now (kept .entry)) kind ordinal a b (now (stand_in .entry)) ⌝ }
     ensures place { λ r. ⌜ r .ptr ≡ standing (valuing (now (text .entry)) (now (kept .entry)) kind ordinal a b) (text .entry .ptr) (stand_in .entry .ptr) ⌝ }
 {
-    match parser::check(text, kept) {
-        Checked::Refused(_, _) => stand_in,
-        Checked::Fresh => match lookup::find_field(kept, kind, ordinal, a, b) {
-            Found::Nothing => stand_in,
-            Found::At(p) => {
-                let start = p.at as usize;
-                let end = start + p.len as usize;
-                &text[start..end]
-            }
-        },
+    match place(text, kept, kind, ordinal, a, b) {
+        ValuePlace::StandIn => stand_in,
+        ValuePlace::At(at, len) => {
+            let start = at as usize;
+            let end = start + len as usize;
+            &text[start..end]
+        }
     }
 }
 

@@ -6,6 +6,8 @@ use Rattle.parser.specs.declared.Checked.{Checked}
 use Rattle.parser.specs.declared.Checked.the-variants as checked
 use Rattle.calls.specs.declared.KeyAnswer.{KeyAnswer}
 use Rattle.calls.specs.declared.KeyAnswer.the-variants as key
+use Rattle.calls.specs.declared.ValuePlace.{ValuePlace}
+use Rattle.calls.specs.declared.ValuePlace.the-variants as field
 use Rattle.calls.specs.declared.LengthAnswer.{LengthAnswer}
 use Rattle.calls.specs.declared.LengthAnswer.the-variants as ln
 use Rattle.calls.specs.declared.LeavesAnswer.{LeavesAnswer}
@@ -31,11 +33,21 @@ unfolding refusalWord
 leavesWord (leaves.Refused n l) = refusalWord n (l .0)
 leavesWord (leaves.Counted n h) = h * 2 ^ 32 + n
 
--- the key's offset shifted left by 32, and its length
+-- a place in the text: the offset shifted left by 32, and the length
+unfoldable pub placeWord : ℕ → ℕ → ℕ
+placeWord at len = at * 2 ^ 32 + len
+
+-- the key's place
 unfoldable pub keyWord : KeyAnswer → ℕ
-unfolding refusalWord
+unfolding refusalWord placeWord
 keyWord (key.Refused n l) = refusalWord n (l .0)
-keyWord (key.At at len) = at * 2 ^ 32 + len
+keyWord (key.At at len) = placeWord at len
+
+-- the value's place, or all ones where the stand-in takes it
+unfoldable pub fieldWord : ValuePlace → ℕ
+unfolding placeWord
+fieldWord field.StandIn = 18446744073709551615
+fieldWord (field.At at len) = placeWord at len
 
 -- 0 if there is such an SQ
 unfoldable pub lengthWord : LengthAnswer → ℕ

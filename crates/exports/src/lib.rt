@@ -2,15 +2,16 @@
 use calls::KeyAnswer;
 use calls::LeavesAnswer;
 use calls::LengthAnswer;
+use calls::ValuePlace;
 use format::LineNo;
 use parser::Answer;
 use parser::Checked;
 ghost use mathlib.Core.Path.{_≡_};
 ghost use lib.ListN.{length};
-ghost use Rattle.format.specs.Calls.{reading, fresh, tidying, counting, keying, sizing, rooting, leafing};
+ghost use Rattle.format.specs.Calls.{reading, fresh, tidying, counting, keying, sizing, valuing, rooting, leafing, adding};
 ghost use Rattle.parser.specs.Answers.{answerOf, outputOf, checkedOf};
-ghost use Rattle.calls.specs.Answers.{countOf, keyOf, lengthOf, leavesOf, listOf};
-ghost use Rattle.exports.specs.Words.{refusalWord, answerWord, checkedWord, leavesWord, keyWord, lengthWord, lengthLeft};
+ghost use Rattle.calls.specs.Answers.{countOf, keyOf, lengthOf, leavesOf, listOf, placeOf};
+ghost use Rattle.exports.specs.Words.{refusalWord, answerWord, checkedWord, leavesWord, placeWord, keyWord, fieldWord, lengthWord, lengthLeft};
 
 fn refusal_word(n: u8, line: LineNo) -> u64
     ensures { λ r. ⌜ r ≡ refusalWord n (line .0) ⌝ }
@@ -36,12 +37,27 @@ fn checked_word(checked: Checked) -> u64
     }
 }
 
+fn place_word(at: u32, len: u32) -> u64
+    ensures { λ r. ⌜ r ≡ placeWord at len ⌝ }
+{
+    (at as u64) * 4294967296 + (len as u64)
+}
+
 fn key_word(answer: KeyAnswer) -> u64
     ensures { λ r. ⌜ r ≡ keyWord answer ⌝ }
 {
     match answer {
         KeyAnswer::Refused(n, line) => refusal_word(n, line),
-        KeyAnswer::At(at, len) => (at as u64) * 4294967296 + (len as u64),
+        KeyAnswer::At(at, len) => place_word(at, len),
+    }
+}
+
+fn field_word(place: ValuePlace) -> u64
+    ensures { λ r. ⌜ r ≡ fieldWord place ⌝ }
+{
+    match place {
+        ValuePlace::StandIn => 18446744073709551615, // all ones
+        ValuePlace::At(at, len) => place_word(at, len),
     }
 }
 
@@ -118,4 +134,32 @@ pub extern "C" fn sam_header_length(
             0
         }
     }
+}
+
+#[no_mangle]
+pub extern "C" fn sam_header_field(
+    text: &[u8],
+    catalogue: &[u8],
+    kind: u8,
+    ordinal: u32,
+    tag_0: u8,
+    tag_1: u8,
+) -> u64
+    ensures { λ r. ⌜ r ≡ fieldWord (placeOf (valuing (now (text .entry)) (now (catalogue .entry)) kind ordinal tag_0 tag_1)) ⌝ }
+{
+    field_word(calls::place(text, catalogue, kind, ordinal, tag_0, tag_1))
+}
+
+#[no_mangle]
+pub extern "C" fn sam_header_add(
+    text: &[u8],
+    catalogue: &[u8],
+    prefix: &[u8],
+    fields: &[u8],
+    out: &mut [u8],
+) -> u64
+    ensures answer { λ r. ⌜ r ≡ answerWord (answerOf (adding (now (text .entry)) (now (catalogue .entry)) (now (prefix .entry)) (now (fields .entry)) (length (now (out .entry))))) ⌝ }
+    ensures wrote { λ _. ⌜ now (out .exit) ≡ outputOf (adding (now (text .entry)) (now (catalogue .entry)) (now (prefix .entry)) (now (fields .entry)) (length (now (out .entry)))) (now (out .entry)) ⌝ }
+{
+    answer_word(programs::add(text, catalogue, prefix, fields, out))
 }

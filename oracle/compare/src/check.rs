@@ -84,6 +84,32 @@ fn catalogue_len(header: &Header) -> usize {
         + 9 * header.comments().len()
 }
 
+/// The bytes of a value. Its place must be the last field of its line with this tag, from its colon to a tab or the line's end.
+fn valued<'a>(
+    text: &'a [u8],
+    (start, end): (usize, usize),
+    tag: &[u8; 2],
+    (offset, len): (usize, usize),
+) -> Result<&'a [u8], String> {
+    let wrong = |why: &str| Err(format!("the place of {} at {offset} and {len}: {why}", tag.escape_ascii()));
+    if offset < start + 4 || offset + len > end {
+        return wrong("it is not in its line");
+    }
+    let whole = &text[start..end];
+    let (at, last) = (offset - start, offset - start + len);
+    let front = [b'\t', tag[0], tag[1], b':'];
+    if whole[at - 4..at] != front {
+        return wrong("its tag is not before it");
+    }
+    if whole[at..last].contains(&b'\t') || last < whole.len() && whole[last] != b'\t' {
+        return wrong("it does not end where its field does");
+    }
+    if whole[last..].windows(4).any(|w| w == front) {
+        return wrong("a later field has the tag");
+    }
+    Ok(&whole[at..last])
+}
+
 /// A catalogue's entries, taken one after the other.
 struct Entries<'a> {
     text: &'a [u8],
@@ -111,24 +137,10 @@ impl<'a> Entries<'a> {
         Ok((offset, len))
     }
 
-    // A value's place: the last field of its line with this tag, from its colon to a tab or the line's end.
+    // A value's place, and the bytes there.
     fn value(&mut self, tag: &[u8; 2]) -> Result<&'a [u8], String> {
-        let (offset, len) = self.place()?;
-        let (start, end) = self.line;
-        let whole = &self.text[start..end];
-        let (offset, last) = (offset - start, offset - start + len);
-        let front = [b'\t', tag[0], tag[1], b':'];
-        let wrong = |why: &str| Err(format!("the place of {} at {offset} and {len}: {why}", tag.escape_ascii()));
-        if whole[offset - 4..offset] != front {
-            return wrong("its tag is not before it");
-        }
-        if whole[offset..last].contains(&b'\t') || last < whole.len() && whole[last] != b'\t' {
-            return wrong("it does not end where its field does");
-        }
-        if whole[last..].windows(4).any(|w| w == front) {
-            return wrong("a later field has the tag");
-        }
-        Ok(&whole[offset..last])
+        let place = self.place()?;
+        valued(self.text, self.line, tag, place)
     }
 
     fn fields<'b, K, V>(&mut self, fields: impl Iterator<Item = (&'b K, &'b V)>) -> Result<(), String>
@@ -216,6 +228,47 @@ fn records(text: &[u8], catalogue: &[u8], header: &Header) -> Result<(), String>
         return Err("the crate has other records, or there are entries left".into());
     }
     Ok(())
+}
+
+/// A record by kind and ordinal: its line, and its other fields in the crate's table.
+#[cfg(feature = "lookup")]
+struct Listed<'a> {
+    kind: u8,
+    ordinal: usize,
+    line: (usize, usize),
+    fields: Vec<([u8; 2], &'a [u8])>,
+}
+
+/// The records of the crate's tables, kind by kind.
+#[cfg(feature = "lookup")]
+fn listed<'a>(text: &[u8], header: &'a Header) -> Vec<Listed<'a>> {
+    fn pairs<'a, K, V>(fields: impl Iterator<Item = (&'a K, &'a V)>) -> Vec<([u8; 2], &'a [u8])>
+    where
+        K: AsRef<[u8; 2]> + 'a,
+        V: AsRef<[u8]> + 'a,
+    {
+        fields.map(|(tag, value)| (*tag.as_ref(), value.as_ref())).collect()
+    }
+    let tables: [(&[u8; 3], Vec<_>); 5] = [
+        (b"@HD", header.header().iter().map(|m| pairs(m.other_fields().iter())).collect()),
+        (b"@SQ", header.reference_sequences().values().map(|m| pairs(m.other_fields().iter())).collect()),
+        (b"@RG", header.read_groups().values().map(|m| pairs(m.other_fields().iter())).collect()),
+        (b"@PG", header.programs().as_ref().values().map(|m| pairs(m.other_fields().iter())).collect()),
+        (b"@CO", vec![Vec::new(); header.comments().len()]),
+    ];
+    let mut all = Vec::new();
+    for (kind, (front, table)) in (1..).zip(tables) {
+        let lines = oracle::spans(text).filter(|&(a, b)| text[a..b].starts_with(front));
+        let records = lines.zip(table).enumerate();
+        all.extend(records.map(|(ordinal, (line, fields))| Listed { kind, ordinal, line, fields }));
+    }
+    all
+}
+
+/// All of the first numbers, or four of them where they are many.
+#[cfg(feature = "lookup")]
+fn some(n: usize, rng: &mut Rng) -> Vec<usize> {
+    if n <= 12 { (0..n).collect() } else { (0..4).map(|_| rng.below(n)).collect() }
 }
 
 /// Asks and compares. Buffers are kept from case to case.
@@ -318,6 +371,10 @@ impl Checker {
                 if ln != 0x5a5a {
                     self.differ(Call::Length, None, "a refusal changed the number".into());
                 }
+                for (kind, tag) in [(1, *b"SO"), (2, *b"M5"), (4, *b"PP")] {
+                    let got = library::field(text, catalogue, kind, 0, tag);
+                    self.held(Call::Field, got.map(|place| format!("on a refused text: kind {kind} at {place:?}")));
+                }
             }
             #[cfg(feature = "graph")]
             {
@@ -373,7 +430,10 @@ impl Checker {
 
         self.tidy(text, header);
         #[cfg(feature = "lookup")]
-        self.lookup(text, &catalogue, &damaged, header, &mut rng);
+        {
+            self.lookup(text, &catalogue, &damaged, header, &mut rng);
+            self.fields(text, &catalogue, &damaged, header, &mut rng);
+        }
         #[cfg(feature = "graph")]
         self.graph(text, &catalogue, &damaged, header, &mut rng);
         #[cfg(feature = "add")]
@@ -467,6 +527,61 @@ impl Checker {
         if ln != 7 {
             self.differ(Call::Length, None, "a refusal changed the number".into());
         }
+    }
+
+    // Fields by kind, ordinal and tag. The value of every other field is answered, or of some where there are many. The stand-in takes
+    // the place of a key, of a tag that the record lacks, and of all where no such record is there or the catalogue is damaged.
+    #[cfg(feature = "lookup")]
+    fn fields(&mut self, text: &[u8], catalogue: &[u8], damaged: &[Vec<u8>], header: &Header, rng: &mut Rng) {
+        let all = listed(text, header);
+        let tags: Vec<[u8; 2]> = all.iter().flat_map(|r| r.fields.iter().map(|f| f.0)).chain([*b"PP"]).collect();
+        for i in some(all.len(), rng) {
+            let r = &all[i];
+            for j in some(r.fields.len(), rng) {
+                let (tag, value) = r.fields[j];
+                self.field(text, catalogue, (r.kind, r.ordinal), tag, Ok((r.line, value)));
+                if rng.one_in(4) {
+                    self.field(text, rng.of(damaged), (r.kind, r.ordinal), tag, Err(STALE));
+                }
+            }
+            let keys: &[[u8; 2]] = [&[*b"VN"][..], &[*b"SN", *b"LN"], &[*b"ID"], &[*b"ID"], &[]][usize::from(r.kind) - 1];
+            let others = [*rng.of(&tags), *b"SN", *b"zz", [rng.below(256) as u8, rng.below(256) as u8]];
+            let lacks = |tag: &&[u8; 2]| !r.fields.iter().any(|f| f.0 == **tag);
+            for tag in keys.iter().chain(others.iter().filter(lacks)) {
+                self.field(text, catalogue, (r.kind, r.ordinal), *tag, Err(ABSENT));
+            }
+        }
+        for kind in [0, 1, 2, 3, 4, 5, 6, 255] {
+            let n = all.iter().filter(|r| r.kind == kind).count();
+            for ordinal in [n, u32::MAX as usize] {
+                self.field(text, catalogue, (kind, ordinal), *rng.of(&tags), Err(ABSENT));
+            }
+        }
+    }
+
+    // The value in its line, or why the stand-in takes its place.
+    #[cfg(feature = "lookup")]
+    fn field(
+        &mut self,
+        text: &[u8],
+        catalogue: &[u8],
+        (kind, ordinal): (u8, usize),
+        tag: [u8; 2],
+        want: Result<((usize, usize), &[u8]), Refusal>,
+    ) {
+        let got = library::field(text, catalogue, kind, ordinal as u32, tag);
+        let said = match (got, want) {
+            (None, Err(_)) => None,
+            (Some(place), Ok((line, value))) => match valued(text, line, &tag, place) {
+                Ok(there) if there == value => None,
+                Ok(there) => Some(format!("the value {}, the crate: {}", there.escape_ascii(), value.escape_ascii())),
+                Err(what) => Some(what),
+            },
+            (None, Ok((_, value))) => Some(format!("the stand-in, the crate: {}", value.escape_ascii())),
+            (Some(place), Err(_)) => Some(format!("a value at {place:?}, where the stand-in is due")),
+        };
+        let said = said.map(|s| format!("kind {kind} ordinal {ordinal} tag {}: {s}", tag.escape_ascii()));
+        self.said(Call::Field, want.err().map_or(0, |r| r.number), said);
     }
 
     #[cfg(feature = "graph")]

@@ -11,15 +11,27 @@ pub enum Call {
     Count,
     Key,
     Length,
+    Field,
     Roots,
     Leaves,
     Add,
 }
 
-const CALLS: [Call; 9] =
-    [Call::Read, Call::Check, Call::Tidy, Call::Count, Call::Key, Call::Length, Call::Roots, Call::Leaves, Call::Add];
+const CALLS: [Call; 10] = [
+    Call::Read,
+    Call::Check,
+    Call::Tidy,
+    Call::Count,
+    Call::Key,
+    Call::Length,
+    Call::Field,
+    Call::Roots,
+    Call::Leaves,
+    Call::Add,
+];
 
-/// How often both sides agreed. A number is a refusal's, 0 an acceptance.
+/// How often both sides agreed. A number is a refusal's, 0 an acceptance. Field lookup gives no number: where the stand-in takes
+/// the value's place, it is counted under the number that key would give.
 #[derive(Default)]
 pub struct Tally {
     texts: [u64; 27],

@@ -25,6 +25,16 @@ unsafe extern "C" {
         ordinal: u32,
         length: *mut u64,
     ) -> u64;
+    fn sam_header_field(
+        text: *const u8,
+        text_len: usize,
+        catalogue: *const u8,
+        catalogue_len: usize,
+        kind: u8,
+        ordinal: u32,
+        tag_0: u8,
+        tag_1: u8,
+    ) -> u64;
 }
 
 #[cfg(feature = "graph")]
@@ -102,6 +112,14 @@ pub fn key(text: &[u8], catalogue: &[u8], kind: u8, ordinal: u32) -> Answer {
 #[cfg(feature = "lookup")]
 pub fn length(text: &[u8], catalogue: &[u8], ordinal: u32, length: &mut u64) -> Answer {
     answer(unsafe { sam_header_length(text.as_ptr(), text.len(), catalogue.as_ptr(), catalogue.len(), ordinal, length) })
+}
+
+/// Where the value of a field stands, its offset and its length; None where the stand-in takes its place.
+#[cfg(feature = "lookup")]
+pub fn field(text: &[u8], catalogue: &[u8], kind: u8, ordinal: u32, [a, b]: [u8; 2]) -> Option<(usize, usize)> {
+    let place =
+        unsafe { sam_header_field(text.as_ptr(), text.len(), catalogue.as_ptr(), catalogue.len(), kind, ordinal, a, b) };
+    (place != u64::MAX).then_some(((place >> 32) as usize, place as u32 as usize))
 }
 
 #[cfg(feature = "graph")]

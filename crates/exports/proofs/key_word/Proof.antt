@@ -14,17 +14,8 @@ refusal-word-requires c κs = search needs
 enum-known-answer-2 : tie.Need-enum-known-answer-2
 enum-known-answer-2 c = search needs
 
-cast-result : tie.Need-cast-result
-cast-result c = search needs
-
-mul-result : tie.Need-mul-result
-mul-result c = search needs
-
-cast-result-2 : tie.Need-cast-result-2
-cast-result-2 c = search needs
-
-add-result : tie.Need-add-result
-add-result c = search needs
+place-word-requires : tie.Need-place-word-requires
+place-word-requires c κs = search needs
 
 returns : tie.Need-returns
 unfolding keyWord
@@ -32,9 +23,9 @@ returns c = c .refusal-word .ensures ∙ sym (ap keyWord (c .before .before .ans
 
 returns-2 : tie.Need-returns-2
 unfolding keyWord
-returns-2 c = sym (ap keyWord (c .before .answer2 .given .1))
+returns-2 c = c .place-word .ensures ∙ sym (ap keyWord (c .before .before .answer2 .given .1))
 
 pub key-word-spec : {M : Type 1} → statement M
 key-word-spec =
     tie.close
-    (tie.spec enum-known-answer refusal-word-requires enum-known-answer-2 cast-result mul-result cast-result-2 add-result returns returns-2)
+    (tie.spec enum-known-answer refusal-word-requires enum-known-answer-2 place-word-requires returns returns-2)
