@@ -137,97 +137,10 @@ fn word_start(line: &[u8], k: usize) -> usize
 }
 
 // Word `k` of a line: empty where there is none.
-pub fn word(line: &[u8], k: usize) -> &[u8] {
+pub fn word(line: &[u8], k: usize) -> &[u8]
+    ensures { λ r. ⌜ length (now r) ≤ length (now (line .entry)) ⌝ }
+{
     let start = word_start(line, k);
     let end = until(line, start, b' ');
     &line[start..end]
-}
-
-// Whether `s` is `n` in decimal, without leading zeros.
-pub fn is_number(s: &[u8], n: u64) -> bool {
-    let mut rest = n;
-    let mut i = s.len();
-    while 0 < i {
-        i -= 1;
-        if s[i] != b'0' + (rest % 10) as u8 {
-            return false;
-        }
-        rest /= 10;
-        if rest == 0 {
-            return i == 0;
-        }
-    }
-    false
-}
-
-// The digit of a value below 16.
-fn letter(n: u8) -> u8
-    requires { ⌜ n < 16 ⌝ }
-{
-    if n < 10 { b'0' + n } else { b'a' + (n - 10) }
-}
-
-// Whether the two digits at `at` are a byte's.
-fn is_pair(s: &[u8], at: usize, b: u8) -> bool
-    requires { ⌜ at + 2 ≤ length (now s) ⌝ }
-{
-    if s[at] != letter(b / 16) {
-        return false;
-    }
-    s[at + 1] == letter(b % 16)
-}
-
-// Whether `s` is these bytes in hex, `-` for none.
-pub fn is_hex(s: &[u8], bytes: &[u8]) -> bool {
-    if bytes.len() == 0 {
-        return text::same(s, b"-");
-    }
-    if s.len() % 2 != 0 {
-        return false;
-    }
-    if s.len() / 2 != bytes.len() {
-        return false;
-    }
-    let mut i: usize = 0;
-    while i < bytes.len() {
-        if !is_pair(s, 2 * i, bytes[i]) {
-            return false;
-        }
-        i += 1;
-    }
-    true
-}
-
-// Whether the four digits at `at` are an ordinal's.
-fn is_four(s: &[u8], at: usize, n: u32) -> bool
-    requires { ⌜ at + 4 ≤ length (now s) ⌝ }
-{
-    if 65535 < n {
-        return false;
-    }
-    if !is_pair(s, at, (n / 256) as u8) {
-        return false;
-    }
-    is_pair(s, at + 2, (n % 256) as u8)
-}
-
-// Whether `s` is these ordinals in hex, four digits each, `-` for none.
-pub fn is_ordinals(s: &[u8], list: &[u32]) -> bool {
-    if list.len() == 0 {
-        return text::same(s, b"-");
-    }
-    if s.len() % 4 != 0 {
-        return false;
-    }
-    if s.len() / 4 != list.len() {
-        return false;
-    }
-    let mut i: usize = 0;
-    while i < list.len() {
-        if !is_four(s, 4 * i, list[i]) {
-            return false;
-        }
-        i += 1;
-    }
-    true
 }

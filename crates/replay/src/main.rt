@@ -30,7 +30,7 @@ use format::LineNo;
 use libc::STDOUT_FILENO;
 use parser::Answer;
 ghost use mathlib.Core.Path.{_≡_};
-ghost use Prim.Native.Nat.{_<_, _≤_};
+ghost use Prim.Native.Nat.{_<_, _≤_, _+_};
 ghost use lib.ListN.{length, take};
 
 // What a line asks, as the place of its count; behind these what went wrong.
@@ -64,6 +64,95 @@ const MARKED: usize = 13;
 
 const FOUND: usize = 14;
 
+// Whether `s` is `n` in decimal, without leading zeros.
+fn is_number(s: &[u8], n: u64) -> bool {
+    let mut rest = n;
+    let mut i = s.len();
+    while 0 < i {
+        i -= 1;
+        if s[i] != b'0' + (rest % 10) as u8 {
+            return false;
+        }
+        rest /= 10;
+        if rest == 0 {
+            return i == 0;
+        }
+    }
+    false
+}
+
+// The digit of a value below 16.
+fn letter(n: u8) -> u8
+    requires { ⌜ n < 16 ⌝ }
+{
+    if n < 10 { b'0' + n } else { b'a' + (n - 10) }
+}
+
+// Whether the two digits at `at` are a byte's.
+fn is_pair(s: &[u8], at: usize, b: u8) -> bool
+    requires { ⌜ at + 2 ≤ length (now s) ⌝ }
+{
+    if s[at] != letter(b / 16) {
+        return false;
+    }
+    s[at + 1] == letter(b % 16)
+}
+
+// Whether `s` is these bytes in hex, `-` for none.
+fn is_hex(s: &[u8], bytes: &[u8]) -> bool {
+    if bytes.len() == 0 {
+        return text::same(s, b"-");
+    }
+    if s.len() % 2 != 0 {
+        return false;
+    }
+    if s.len() / 2 != bytes.len() {
+        return false;
+    }
+    let mut i: usize = 0;
+    while i < bytes.len() {
+        if !is_pair(s, 2 * i, bytes[i]) {
+            return false;
+        }
+        i += 1;
+    }
+    true
+}
+
+// Whether the four digits at `at` are an ordinal's.
+fn is_four(s: &[u8], at: usize, n: u32) -> bool
+    requires { ⌜ at + 4 ≤ length (now s) ⌝ }
+{
+    if 65535 < n {
+        return false;
+    }
+    if !is_pair(s, at, (n / 256) as u8) {
+        return false;
+    }
+    is_pair(s, at + 2, (n % 256) as u8)
+}
+
+// Whether `s` is these ordinals in hex, four digits each, `-` for none.
+fn is_ordinals(s: &[u8], list: &[u32]) -> bool {
+    if list.len() == 0 {
+        return text::same(s, b"-");
+    }
+    if s.len() % 4 != 0 {
+        return false;
+    }
+    if s.len() / 4 != list.len() {
+        return false;
+    }
+    let mut i: usize = 0;
+    while i < list.len() {
+        if !is_four(s, 4 * i, list[i]) {
+            return false;
+        }
+        i += 1;
+    }
+    true
+}
+
 // An output of bytes, as it is before a call.
 fn bytes() -> [u8; 65536]
     ensures { λ r. ⌜ 65536 ≡ length r ⌝ }
@@ -93,8 +182,8 @@ fn is_refusal(line: &[u8], at: usize, n: u8, no: LineNo) -> bool
     requires { ⌜ at < 8 ⌝ }
 {
     text::same(cases::word(line, at), b"refused")
-        && cases::is_number(cases::word(line, at + 1), n as u64)
-        && cases::is_number(cases::word(line, at + 2), no.0 as u64)
+        && is_number(cases::word(line, at + 1), n as u64)
+        && is_number(cases::word(line, at + 2), no.0 as u64)
         && cases::word(line, at + 3).len() == 0
 }
 
@@ -110,14 +199,14 @@ fn is_list(word: &[u8], out: &[u32], n: usize) -> bool {
     if out.len() < n {
         return false;
     }
-    cases::is_ordinals(word, &out[..n]) && cases::is_unlisted(&out[n..])
+    is_ordinals(word, &out[..n]) && cases::is_unlisted(&out[n..])
 }
 
 // Whether the count is the line's.
 fn is_count(line: &[u8], text: &[u8], kept: &[u8]) -> bool {
     match calls::count(text, kept, byte_of(cases::word(line, 3))) {
         Answer::Refused(n, no) => is_refusal(line, 4, n, no),
-        Answer::Count(n) => is_ok(line, 4, 1) && cases::is_number(cases::word(line, 5), n as u64),
+        Answer::Count(n) => is_ok(line, 4, 1) && is_number(cases::word(line, 5), n as u64),
     }
 }
 
@@ -128,8 +217,8 @@ fn is_key(line: &[u8], text: &[u8], kept: &[u8]) -> bool {
         KeyAnswer::Refused(n, no) => is_refusal(line, 5, n, no),
         KeyAnswer::At(at, len) => {
             is_ok(line, 5, 2)
-                && cases::is_number(cases::word(line, 6), at as u64)
-                && cases::is_number(cases::word(line, 7), len as u64)
+                && is_number(cases::word(line, 6), at as u64)
+                && is_number(cases::word(line, 7), len as u64)
         }
     }
 }
@@ -138,7 +227,7 @@ fn is_key(line: &[u8], text: &[u8], kept: &[u8]) -> bool {
 fn is_length(line: &[u8], text: &[u8], kept: &[u8]) -> bool {
     match calls::length(text, kept, ordinal_of(cases::word(line, 3))) {
         LengthAnswer::Refused(n, no) => is_refusal(line, 4, n, no),
-        LengthAnswer::Is(n) => is_ok(line, 4, 1) && cases::is_number(cases::word(line, 5), n),
+        LengthAnswer::Is(n) => is_ok(line, 4, 1) && is_number(cases::word(line, 5), n),
     }
 }
 
@@ -151,7 +240,7 @@ fn is_field(line: &[u8], text: &[u8], kept: &[u8]) -> bool {
     let kind = byte_of(cases::word(line, 3));
     let ordinal = ordinal_of(cases::word(line, 4));
     let value = calls::field(text, kept, kind, ordinal, tag[0], tag[1], &stand_in[..n]);
-    cases::is_hex(cases::word(line, 7), value) && cases::word(line, 8).len() == 0
+    is_hex(cases::word(line, 7), value) && cases::word(line, 8).len() == 0
 }
 
 // Whether the roots are the line's, in an output of as many elements as it says.
@@ -171,7 +260,7 @@ fn is_leaves(line: &[u8], text: &[u8], kept: &[u8], out: &mut [u32]) -> bool {
         LeavesAnswer::Counted(n, hops) => {
             is_ok(line, 4, 2)
                 && is_list(cases::word(line, 5), out, n)
-                && cases::is_number(cases::word(line, 6), hops as u64)
+                && is_number(cases::word(line, 6), hops as u64)
         }
     }
 }
@@ -262,7 +351,7 @@ fn is_text(word: &[u8], out: &[u8], n: usize) -> bool {
     if out.len() < n {
         return false;
     }
-    cases::is_hex(word, &out[..n]) && cases::is_untouched(&out[n..])
+    is_hex(word, &out[..n]) && cases::is_untouched(&out[n..])
 }
 
 // Whether the tidy text is the crate's.
@@ -277,7 +366,7 @@ fn is_tidy(word: &[u8], text: &[u8], out: &mut [u8]) -> bool {
 fn is_unwritable(word: &[u8], text: &[u8], out: &mut [u8]) -> bool {
     match tidied(text, out) {
         Answer::Refused(n, no) => {
-            n == 24 && cases::is_number(word, no.0 as u64) && cases::is_untouched(out)
+            n == 24 && is_number(word, no.0 as u64) && cases::is_untouched(out)
         }
         Answer::Count(_) => false,
     }

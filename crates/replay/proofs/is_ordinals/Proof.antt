@@ -1,16 +1,16 @@
--- `cases::is_hex` is safe and ends. Assumes nothing.
+-- `replay::is_ordinals` is safe and ends. Assumes nothing.
 use Prim.Native.Nat.{_≤_, _-_, _/_}
 use mathlib.Core.Path.{_≡_}
 use lib.ListN.{length}
 use borrow.Author.Needs.{needs}
-use Rattle.cases.proofs.is_hex.Statement.{statement}
-use Rattle.cases.proofs.is_hex.Tie as tie
+use Rattle.replay.proofs.is_ordinals.Statement.{statement}
+use Rattle.replay.proofs.is_ordinals.Tie as tie
 
 abbrev Inv-loop : tie.InvT-loop
-Inv-loop s bytes i₀ i = (i ≤ length bytes) × (length s / 2 ≡ length bytes)
+Inv-loop s list i₀ i = (i ≤ length list) × (length s / 4 ≡ length list)
 
 abbrev μ-loop : tie.MeasureT-loop
-μ-loop s bytes i₀ i = length bytes - i
+μ-loop s list i₀ i = length list - i
 
 slice-aggregate-same : tie.Need-slice-aggregate-same Inv-loop μ-loop
 slice-aggregate-same c = search needs
@@ -30,14 +30,17 @@ returns-3 c = search needs
 loop-holds : tie.Need-loop-holds Inv-loop μ-loop
 loop-holds c = search needs
 
-mul-is-pair : tie.Need-mul-is-pair Inv-loop μ-loop
-mul-is-pair c = search needs
+mul-is-four : tie.Need-mul-is-four Inv-loop μ-loop
+mul-is-four c = search needs
 
-shared-slice-read-is-pair : tie.Need-shared-slice-read-is-pair Inv-loop μ-loop
-shared-slice-read-is-pair c = search needs
+mul-is-four-2 : tie.Need-mul-is-four-2 Inv-loop μ-loop
+mul-is-four-2 c = search needs
 
-is-pair-requires : tie.Need-is-pair-requires Inv-loop μ-loop
-is-pair-requires c κs = search needs
+shared-slice-read-is-four : tie.Need-shared-slice-read-is-four Inv-loop μ-loop
+shared-slice-read-is-four c = search needs
+
+is-four-requires : tie.Need-is-four-requires Inv-loop μ-loop
+is-four-requires c κs = search needs
 
 returns-4 : tie.Need-returns-4 Inv-loop μ-loop
 returns-4 c = search needs
@@ -54,8 +57,8 @@ loop-again c = search needs
 returns-5 : tie.Need-returns-5 Inv-loop μ-loop
 returns-5 c = search needs
 
-pub is-hex-spec : {M : Type 1} → statement M
-is-hex-spec =
+pub is-ordinals-spec : {M : Type 1} → statement M
+is-ordinals-spec =
     tie.close
     (tie.spec
     Inv-loop
@@ -66,9 +69,10 @@ is-hex-spec =
     returns-2
     returns-3
     loop-holds
-    mul-is-pair
-    shared-slice-read-is-pair
-    is-pair-requires
+    mul-is-four
+    mul-is-four-2
+    shared-slice-read-is-four
+    is-four-requires
     returns-4
     add-i
     loop-less

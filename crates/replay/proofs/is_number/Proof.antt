@@ -1,11 +1,11 @@
--- `cases::is_number` is safe and ends. Assumes nothing.
+-- `replay::is_number` is safe and ends. Assumes nothing.
 use Prim.Native.Nat.{_≤_, _<_, _-_}
 use mathlib.Core.Path.{_≡_}
 use native.Mathlib.Omega.{arith}
 use lib.ListN.{length}
 use borrow.Author.Needs.{needs}
-use Rattle.cases.proofs.is_number.Statement.{statement}
-use Rattle.cases.proofs.is_number.Tie as tie
+use Rattle.replay.proofs.is_number.Statement.{statement}
+use Rattle.replay.proofs.is_number.Tie as tie
 
 abbrev Inv-loop : tie.InvT-loop
 Inv-loop s n rest₀ i₀ rest i = i ≤ length s
