@@ -541,13 +541,18 @@ impl Checker {
                 let (tag, value) = r.fields[j];
                 self.field(text, catalogue, (r.kind, r.ordinal), tag, Ok((r.line, value)));
                 if rng.one_in(4) {
-                    self.field(text, rng.of(damaged), (r.kind, r.ordinal), tag, Err(STALE));
+                    self.field(text, &rng.of(damaged)[..], (r.kind, r.ordinal), tag, Err(STALE));
                 }
             }
-            let keys: &[[u8; 2]] = [&[*b"VN"][..], &[*b"SN", *b"LN"], &[*b"ID"], &[*b"ID"], &[]][usize::from(r.kind) - 1];
+            let keys: &[&[u8; 2]] = match r.kind {
+                1 => &[b"VN"],
+                2 => &[b"SN", b"LN"],
+                3 | 4 => &[b"ID"],
+                _ => &[],
+            };
             let others = [*rng.of(&tags), *b"SN", *b"zz", [rng.below(256) as u8, rng.below(256) as u8]];
             let lacks = |tag: &&[u8; 2]| !r.fields.iter().any(|f| f.0 == **tag);
-            for tag in keys.iter().chain(others.iter().filter(lacks)) {
+            for tag in keys.iter().copied().chain(others.iter().filter(lacks)) {
                 self.field(text, catalogue, (r.kind, r.ordinal), *tag, Err(ABSENT));
             }
         }

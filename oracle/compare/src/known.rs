@@ -34,7 +34,7 @@ pub const ALL: [(Kind, &str); 14] = [
     (Kind::Dangling, "leaves or add where a PP names no program: 22; the crate panics"),
     (Kind::CycleFirst, "leaves or add where a PP names no program, after a cycle: 22; the crate says that there is a cycle"),
     (Kind::Endless, "leaves or add where a chain leads into a loop: 23, or 22 if a PP names no program; the crate never ends"),
-    (Kind::AddNobody, "add with a PP that names no program: 22; the crate keeps it"),
+    (Kind::AddNobody, "add with a PP that names no program: 22; the crate does not look for it"),
     (Kind::AddPrograms, "add past 1,024 programs: 19; the crate has no limit"),
     (Kind::Lenient, "a tag or value outside document 01's form: 8 or 10; taken by the lenient build's stand-ins"),
 ];
