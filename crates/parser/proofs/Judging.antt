@@ -20,12 +20,11 @@ use Rattle.accepted.proofs.Onward.{read-first, read-none}
 use Rattle.accepted.proofs.Pairs.{pairs-length}
 use Rattle.accepted.proofs.OfKind.{ofKind-append}
 use Rattle.record.specs.Head.{headOf, recordHead}
-use Rattle.marks.proofs.Marks.{Marked, marked-none}
 use Rattle.parser.specs.declared.Judged.the-variants.{Refused, Accepted}
 use Rattle.parser.specs.Judged.{judgedOf, programsOf}
 
--- at the line that starts at `at`, the line number `n`: the lines before it are records, whose keys are marked in `seen`
-pub record Judging (strict : Bool) (t : List ℕ) (seen : List Bool) (at n programs size : ℕ) : Type 0 where
+-- at the line that starts at `at`, the line number `n`: the lines before it are records
+pub record Judging (strict : Bool) (t : List ℕ) (at n programs size : ℕ) : Type 0 where
   pub passed : List Piece
   pub before : List Record
   pub split : lines t ≡ passed ++ linesFrom at (drop at t)
@@ -37,12 +36,10 @@ pub record Judging (strict : Bool) (t : List ℕ) (seen : List Bool) (at n progr
   pub inside : at ≤ length t
   pub slow : n ≤ at
   pub small : size ≤ 28 * at
-  pub marks : Marked seen before
-  pub full : length seen ≡ 65536
 
-pub judging-start : (strict : Bool) (t : List ℕ) (seen : List Bool) → length seen ≡ 65536 → Judging strict t seen 0 0 0 0
+unfoldable pub judging-start : (strict : Bool) (t : List ℕ) → Judging strict t 0 0 0 0
 unfolding lines Pairs ofKind catalogue
-judging-start strict t seen f =
+judging-start strict t =
     record {
       passed = [];
       before = [];
@@ -55,11 +52,9 @@ judging-start strict t seen f =
       inside = omega arith;
       slow = omega arith;
       small = omega arith;
-      marks = marked-none seen;
-      full = f;
     }
 
-pairs-snoc : {A B : Type 0} (R : A → B → Type 0) (xs : List A) (ys : List B) (x : A) (y : B) → Pairs R xs ys → R x y → Pairs R (xs ++ (x ∷ [])) (ys ++ (y ∷ []))
+pub pairs-snoc : {A B : Type 0} (R : A → B → Type 0) (xs : List A) (ys : List B) (x : A) (y : B) → Pairs R xs ys → R x y → Pairs R (xs ++ (x ∷ [])) (ys ++ (y ∷ []))
 unfolding Pairs
 pairs-snoc R [] [] x y p r = (r, tt)
 pairs-snoc R [] (b ∷ ys) x y p r = absurd p
@@ -67,7 +62,7 @@ pairs-snoc R (a ∷ xs) [] x y p r = absurd p
 pairs-snoc R (a ∷ xs) (b ∷ ys) x y p r = (p .0, pairs-snoc R xs ys x y (p .1) r)
 
 -- one program more, or none
-programs-one : (r : Record) → length (ofKind 4 (r ∷ [])) ≡ programsOf (recordHead r)
+pub programs-one : (r : Record) → length (ofKind 4 (r ∷ [])) ≡ programsOf (recordHead r)
 unfolding ofKind programsOf recordHead code
 programs-one (header v fs) = refl
 programs-one (reference p n fs) = refl
@@ -75,7 +70,7 @@ programs-one (group p fs) = refl
 programs-one (program p fs) = refl
 programs-one (comment p) = refl
 
-module _ (strict : Bool) (t : List ℕ) (seen : List Bool) (at n programs size : ℕ) (j : Judging strict t seen at n programs size) where
+module _ (strict : Bool) (t : List ℕ) (at n programs size : ℕ) (j : Judging strict t at n programs size) where
   -- no line is left
   pub judging-end : length t ≤ at → Accepted size ≡ judgedOf (readFrom strict 0 [] (lines t))
   unfolding judgedOf
@@ -92,7 +87,7 @@ module _ (strict : Bool) (t : List ℕ) (seen : List Bool) (at n programs size :
       ∙ take-at (j .passed) (linesFrom at (drop at t)) (length (j .before)) (pairs-length (λ p r. records.line strict p ≡ read r) (j .passed) (j .before) (j .pairs))
 
   module _ (h : at < length t) where
-    some-left : 0 < length (drop at t)
+    pub some-left : 0 < length (drop at t)
     some-left = omega (arith, length-drop at t)
 
     pub next-within : at + firstLine (drop at t) .next ≤ length t
@@ -115,7 +110,7 @@ module _ (strict : Bool) (t : List ℕ) (seen : List Bool) (at n programs size :
           bytes = ap (λ k. take k (drop at t)) (sym len-is) ∙ ap (λ k. take (length (take (firstLine (drop at t) .len) (drop at t))) (drop k t)) (let z : at ≡ at - 0 = omega arith in z);
         }
 
-    onward : readFrom strict 0 [] (lines t)
+    pub onward : readFrom strict 0 [] (lines t)
         ≡ taken n (λ r. readFrom strict (n + 1) (j .before ++ (r ∷ [])) (linesFrom (at + firstLine (drop at t) .next) (drop (at + firstLine (drop at t) .next) t)))
         (admitted strict (j .before) (record { at = at; bytes = take (firstLine (drop at t) .len) (drop at t) }))
     onward =
@@ -133,9 +128,8 @@ module _ (strict : Bool) (t : List ℕ) (seen : List Bool) (at n programs size :
     -- the line is a record more
     module _ (r : Record) (is : records.line strict (record { at = at; bytes = take (firstLine (drop at t) .len) (drop at t) }) ≡ read r)
         (ok : admitted strict (j .before) (record { at = at; bytes = take (firstLine (drop at t) .len) (drop at t) }) ≡ read r)
-        (seen₁ : List Bool) (marked : Marked seen₁ (j .before ++ (r ∷ []))) (full : length seen₁ ≡ 65536)
         (entry : ℕ) (long : length (catalogue (j .before ++ (r ∷ []))) ≡ length (catalogue (j .before)) + entry) (bound : entry ≤ 28 * firstLine (drop at t) .next) where
-      pub judging-on : Judging strict t seen₁ (at + firstLine (drop at t) .next) (n + 1) (programs + programsOf (recordHead r)) (size + entry)
+      unfoldable pub judging-on : Judging strict t (at + firstLine (drop at t) .next) (n + 1) (programs + programsOf (recordHead r)) (size + entry)
       unfolding taken
       judging-on =
           record {
@@ -153,6 +147,4 @@ module _ (strict : Bool) (t : List ℕ) (seen : List Bool) (at n programs size :
             inside = next-within;
             slow = omega (arith, j .slow, next-some);
             small = omega (arith, j .small, bound);
-            marks = marked;
-            full = full;
           }

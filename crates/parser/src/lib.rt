@@ -3,18 +3,22 @@ use catalogue::Matched;
 use format::LineNo;
 use record::Head;
 ghost use mathlib.Core.Path.{_≡_};
-ghost use mathlib.Core.Bool.{Bool, true, false};
+ghost use mathlib.Core.Bool.{Bool, true, false, _||_, cond};
 ghost use mathlib.Core.List.{[]};
-ghost use Prim.Native.Nat.{_≤_, _+_};
-ghost use lib.ListN.{length};
-ghost use Rattle.format.specs.Lines.{lines};
+ghost use Prim.Native.Nat.{_≤_, _<_, _+_};
+ghost use lib.ListN.{length, drop};
+ghost use Rattle.format.specs.Lines.{lines, linesFrom};
+ghost use Rattle.format.specs.Slots.{Held};
+ghost use Rattle.key_index.specs.Told.{start};
 ghost use Rattle.format.specs.Reading.{readFrom};
 ghost use Rattle.format.specs.Bytes.{same};
 ghost use Rattle.format.specs.Catalogue.{catalogue};
 ghost use Rattle.format.specs.Calls.{reading, fresh};
 ghost use Rattle.text.specs.Over.{over};
 ghost use Rattle.accepted.specs.Read.{recordsOf};
+ghost use Rattle.key_index.specs.Taken.{newBarring};
 ghost use Rattle.parser.specs.Accepted.{Accepted};
+ghost use Rattle.parser.specs.Blocks.{clashOf, turned, emptied};
 ghost use Rattle.parser.specs.Judged.{judgedOf, programsOf};
 ghost use Rattle.parser.specs.Answers.{answerOf, outputOf, checkedOf};
 
@@ -49,12 +53,90 @@ fn programs_of(head: Head) -> usize
     }
 }
 
-// Line by line: each line's own refusal, then 17, 18 and 19. The mark of each key that stood is set in `seen`.
-fn judge_marked(text: &[u8], strict: bool, seen: &mut [bool]) -> Judged
+// The line before which the index is begun anew, and the first line ahead whose key an earlier block of lines has.
+struct Block {
+    until: usize,
+    clash: usize,
+}
+
+// The first line from `from` on, the line number `first`, that is `clash` or has a key that is in the area; `clash` where none is.
+fn first_met(
+    text: &[u8],
+    strict: bool,
+    area: &mut [u32],
+    from: usize,
+    first: usize,
+    clash: usize,
+) -> usize
     requires { ⌜ length (now text) ≤ 16777216 ⌝ }
-    requires { ⌜ length (now seen) ≡ 65536 ⌝ }
+    requires { ⌜ 0 < length (now area) ⌝ }
+    requires { ⌜ first ≤ from ⌝ }
+    requires { ⌜ from ≤ length (now text) ⌝ }
+    ensures met { λ r. ⌜ r ≡ clashOf strict (now (text .entry)) (now (area .entry)) clash first (linesFrom from (drop from (now (text .entry)))) ⌝ }
+    ensures kept { λ _. ⌜ now (area .exit) ≡ now (area .entry) ⌝ }
+{
+    let mut at = from;
+    let mut line = first;
+    while at < text.len() {
+        if line == clash {
+            return clash;
+        }
+        let cut = text::first_line(&text[at..]);
+        let end = at + cut.len;
+        let head = record::parse_record(&text[at..end], at, strict);
+        if key_index::meet(text, area, head, false) {
+            return line;
+        }
+        at += cut.next;
+        line += 1;
+    }
+    clash
+}
+
+// The block that a line stands in: where one begins, the keys of the one before are looked for in the lines ahead, and the area is emptied.
+fn turn(text: &[u8], strict: bool, area: &mut [u32], at: usize, line: usize, block: Block) -> Block
+    requires { ⌜ length (now text) ≤ 16777216 ⌝ }
+    requires { ⌜ 0 < length (now area) ⌝ }
+    requires { ⌜ line ≤ at ⌝ }
+    requires { ⌜ at ≤ length (now text) ⌝ }
+    ensures block { λ r. ⌜ r ≡ turned strict (now (text .entry)) (now (area .entry)) at line block ⌝ }
+    ensures wrote { λ _. ⌜ now (area .exit) ≡ emptied (now (area .entry)) line block ⌝ }
+{
+    if line < block.until {
+        return block;
+    }
+    let clash = first_met(text, strict, area, at, line, block.clash);
+    key_index::clear(area);
+    Block {
+        until: line + area.len() / 2,
+        clash: clash,
+    }
+}
+
+// 0, or the refusal of a line with this head, of which it is known whether its key was used before.
+fn barred(count: usize, programs: usize, head: Head, known: bool, clashes: bool) -> u8
+    ensures { λ r. ⌜ r ≡ cond (known || clashes) 18 (newBarring count programs head) ⌝ }
+{
+    if known {
+        return 18;
+    }
+    if clashes {
+        return 18;
+    }
+    key_index::barred_new(count, programs, head)
+}
+
+// Line by line: each line's own refusal, then 17, 18 and 19. The keys of a block of lines, half as many as `area` has slots, are kept there.
+fn judge_indexed(text: &[u8], strict: bool, area: &mut [u32]) -> Judged
+    requires { ⌜ length (now text) ≤ 16777216 ⌝ }
+    requires { ⌜ 2 ≤ length (now area) ⌝ }
+    requires { ⌜ Held (start (now text) (length (now area))) (now area) [] ⌝ }
     ensures { λ r. ⌜ r ≡ judgedOf (readFrom strict 0 [] (lines (now (text .entry)))) ⌝ }
 {
+    let mut block = Block {
+        until: area.len() / 2,
+        clash: 16777217,
+    };
     let mut at: usize = 0;
     let mut line: usize = 0;
     let mut programs: usize = 0;
@@ -67,12 +149,12 @@ fn judge_marked(text: &[u8], strict: bool, seen: &mut [bool]) -> Judged
         }
         let end = at + cut.len;
         let head = record::parse_record(&text[at..end], at, strict);
-        let slot = marks::slot_of(text, head);
-        let n = marks::barred(text, line, programs, head, strict, seen[slot]);
+        block = turn(text, strict, area, at, line, block);
+        let known = key_index::meet(text, area, head, true);
+        let n = barred(line, programs, head, known, line == block.clash);
         if n != 0 {
             return Judged::Refused(n, LineNo(line as u32));
         }
-        seen[slot] = true;
         programs += programs_of(head);
         size += catalogue::record_size(head);
         at = next;
@@ -80,13 +162,33 @@ fn judge_marked(text: &[u8], strict: bool, seen: &mut [bool]) -> Judged
     }
 }
 
+// A short text, whose lines make one block of 1,024 or a few.
+fn judge_short(text: &[u8], strict: bool) -> Judged
+    requires { ⌜ length (now text) ≤ 16777216 ⌝ }
+    ensures { λ r. ⌜ r ≡ judgedOf (readFrom strict 0 [] (lines (now (text .entry)))) ⌝ }
+{
+    let mut area = [0u32; 2048];
+    judge_indexed(text, strict, &mut area)
+}
+
+// Any text, in blocks of 32,768 lines.
+fn judge_long(text: &[u8], strict: bool) -> Judged
+    requires { ⌜ length (now text) ≤ 16777216 ⌝ }
+    ensures { λ r. ⌜ r ≡ judgedOf (readFrom strict 0 [] (lines (now (text .entry)))) ⌝ }
+{
+    let mut area = [0u32; 65536];
+    judge_indexed(text, strict, &mut area)
+}
+
 // What `text` is: the first refusal, or the size of its catalogue.
 pub fn judge(text: &[u8], strict: bool) -> Judged
     requires { ⌜ length (now text) ≤ 16777216 ⌝ }
     ensures { λ r. ⌜ r ≡ judgedOf (readFrom strict 0 [] (lines (now (text .entry)))) ⌝ }
 {
-    let mut seen = [false; 65536];
-    judge_marked(text, strict, &mut seen)
+    if text.len() <= 32768 {
+        return judge_short(text, strict);
+    }
+    judge_long(text, strict)
 }
 
 // Writes the catalogue of an accepted text to the front of `out`.

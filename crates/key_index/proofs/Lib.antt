@@ -1,0 +1,4 @@
+pub mod Word
+pub mod Looking
+pub mod LineKeys
+pub mod Keyed

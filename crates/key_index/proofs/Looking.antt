@@ -1,0 +1,169 @@
+-- Looking along the slots: one slot after another, and what it finds of the values that entered.
+use Prim.Native.Nat.{ℕ, zero, suc, _+_, _-_, _*_, _/_, _%_, _≤_, _<_}
+use mathlib.Core.Path.{_≡_, refl, sym, ap, ap₂, subst, _∙_}
+use mathlib.Core.Bool.{Bool, true, false, _&&_, cond, false≢true}
+use mathlib.Core.List.{List, [], _∷_, _++_}
+use native.Mathlib.Omega.{arith}
+use native.Mathlib.Numerals.{add-one}
+use native.Mathlib.Nat.{mod-lt, mod-eq-of-lt, mod-add-mod, mul-add-div-right, mul-add-mod-self-right, div-eq-of-lt}
+use lib.ListN.{length, take, drop, getD, set, drop-of-length-le}
+use lib.Seq.{drop-cons}
+use lib.Dec.{ltb, eqb}
+use borrow.Author.Tests.{eqb-true, lt-ltb, le-ltb, eq-eqb}
+use Rattle.format.specs.Bytes.{same}
+use Rattle.key_index.specs.Hash.{hashFrom}
+use Rattle.format.specs.Slots.{around, full, filled, seat, seek, pick, Held}
+use Rattle.format.proofs.Slots.{around-length, around-at, filled-around, full-lt, held-enter}
+use Rattle.text.proofs.Equal.{same-equal}
+use Rattle.accepted.proofs.Bools.{and-left, and-right}
+use Rattle.key_index.specs.declared.Sought.{Sought}
+use Rattle.key_index.specs.declared.Sought.the-variants.{Known, Free, Full}
+use Rattle.key_index.specs.Word.{word}
+use Rattle.key_index.specs.Told.{value, keyIn, tells, begins, start, looking, sought, isKnown, after}
+
+-- ---- a slot after another
+
+module _ (hit : ℕ → Bool) (n at : ℕ) (ss : List ℕ) where
+  looking-zero : (v : ℕ) → v ≡ 0 → looking hit n at (v ∷ ss) ≡ Free at
+  unfolding looking
+  looking-zero v e = rw e refl
+
+  looking-some : (v : ℕ) → (v ≡ 0 → ⊥) → looking hit n at (v ∷ ss) ≡ cond (hit v) Known (looking hit n ((at + 1) % n) ss)
+  unfolding looking
+  looking-some zero e = absurd (e refl)
+  looking-some (suc k) e = refl
+
+-- the slot `i` after the first
+module _ (slots : List ℕ) (s i : ℕ) (a : s < length slots) where
+  pub opened : i < length slots → drop i (around s slots) ≡ getD slots ((s + i) % length slots) 0 ∷ drop (i + 1) (around s slots)
+  opened h =
+      rw (drop-cons (around s slots) i 0 (omega (arith, h, around-length s slots (omega (arith, a)))), add-one i)
+      (ap (λ v. v ∷ drop (suc i) (around s slots)) (around-at slots s i a h))
+
+  module _ (hit : ℕ → Bool) (at : ℕ) (e : at ≡ (s + i) % length slots) (h : i < length slots) where
+    pub at-empty : getD slots at 0 ≡ 0 → looking hit (length slots) at (drop i (around s slots)) ≡ Free at
+    at-empty z = ap (looking hit (length slots) at) (opened h) ∙ looking-zero hit (length slots) at (drop (i + 1) (around s slots)) (getD slots ((s + i) % length slots) 0) (ap (λ j. getD slots j 0) (sym e) ∙ z)
+
+    at-value : (getD slots at 0 ≡ 0 → ⊥)
+        → looking hit (length slots) at (drop i (around s slots)) ≡ cond (hit (getD slots at 0)) Known (looking hit (length slots) ((at + 1) % length slots) (drop (i + 1) (around s slots)))
+    at-value z =
+        ap (λ l. looking hit (length slots) at l) (opened h ∙ ap (λ j. getD slots j 0 ∷ drop (i + 1) (around s slots)) (sym e))
+        ∙ looking-some hit (length slots) at (drop (i + 1) (around s slots)) (getD slots at 0) z
+
+    pub at-hit : (getD slots at 0 ≡ 0 → ⊥) → hit (getD slots at 0) ≡ true → looking hit (length slots) at (drop i (around s slots)) ≡ Known
+    at-hit z q = at-value z ∙ ap (λ b. cond b Known (looking hit (length slots) ((at + 1) % length slots) (drop (i + 1) (around s slots)))) q
+
+    pub at-other : (getD slots at 0 ≡ 0 → ⊥) → hit (getD slots at 0) ≡ false
+        → looking hit (length slots) at (drop i (around s slots)) ≡ looking hit (length slots) ((at + 1) % length slots) (drop (i + 1) (around s slots))
+    at-other z q = at-value z ∙ ap (λ b. cond b Known (looking hit (length slots) ((at + 1) % length slots) (drop (i + 1) (around s slots)))) q
+
+    pub at-next : (at + 1) % length slots ≡ (s + (i + 1)) % length slots
+    at-next = ap (λ m. (m + 1) % length slots) e ∙ mod-add-mod (s + i) (length slots) 1 ∙ ap (λ m. m % length slots) (let z : s + i + 1 ≡ s + (i + 1) = omega arith in z)
+
+  pub at-end : (hit : ℕ → Bool) (at : ℕ) → length slots ≤ i → looking hit (length slots) at (drop i (around s slots)) ≡ Full
+  unfolding looking
+  at-end hit at h =
+      let l : length (around s slots) ≤ i = omega (arith, h, around-length s slots (omega (arith, a))) in
+      rw (drop-of-length-le (around s slots) l) refl
+
+-- an empty slot is one of the slots
+unfoldable Below : ℕ → Sought → Type 0
+Below n Known = Unit
+Below n (Free i) = i < n
+Below n Full = Unit
+
+looking-below : (hit : ℕ → Bool) (n at : ℕ) (ss : List ℕ) → at < n → Below n (looking hit n at ss)
+unfolding Below looking
+looking-below hit n at [] a = tt
+looking-below hit n at (zero ∷ ss) a = a
+looking-below hit n at (suc k ∷ ss) a = go (hit (suc k)) (looking-below hit n ((at + 1) % n) ss (mod-lt _ (omega (arith, a))))
+  where
+    go : (b : Bool) → Below n (looking hit n ((at + 1) % n) ss) → Below n (cond b Known (looking hit n ((at + 1) % n) ss))
+    go true ih = tt
+    go false ih = ih
+
+pub free-below : (t slots : List ℕ) (k : ℕ) (id : List ℕ) (i : ℕ) → 0 < length slots → sought t slots k id ≡ Free i → i < length slots
+unfolding Below sought begins
+free-below t slots k id i p e =
+    let at : ℕ = begins (length slots) k id in
+    subst (Below (length slots)) e (looking-below (tells t k id) (length slots) at (around at slots) (mod-lt _ p))
+
+-- ---- what it finds
+
+known-seek : (hit : ℕ → Bool) (n at : ℕ) (ss : List ℕ) → isKnown (looking hit n at ss) ≡ ltb 0 (seek hit ss)
+unfolding isKnown looking seek
+known-seek hit n at [] = refl
+known-seek hit n at (zero ∷ ss) = refl
+known-seek hit n at (suc k ∷ ss) = go (hit (suc k)) (known-seek hit n ((at + 1) % n) ss)
+  where
+    go : (b : Bool) → isKnown (looking hit n ((at + 1) % n) ss) ≡ ltb 0 (seek hit ss) → isKnown (cond b Known (looking hit n ((at + 1) % n) ss)) ≡ ltb 0 (cond b (suc k) (seek hit ss))
+    go true ih = sym (lt-ltb 0 (suc k) (omega arith))
+    go false ih = ih
+
+free-seat : (hit : ℕ → Bool) (n at : ℕ) (ss : List ℕ) → at < n → full ss < length ss → seek hit ss ≡ 0 → looking hit n at ss ≡ Free ((at + full ss) % n)
+unfolding looking seek full
+free-seat hit n at [] a l e = absurd (omega (arith, l))
+free-seat hit n at (zero ∷ ss) a l e = ap Free (sym (mod-eq-of-lt a) ∙ ap (λ m. m % n) (let z : at ≡ at + 0 = omega arith in z))
+free-seat hit n at (suc k ∷ ss) a l e = go (hit (suc k)) e (free-seat hit n ((at + 1) % n) ss (mod-lt _ (omega (arith, a))) (omega (arith, l)))
+  where
+    go : (b : Bool) → cond b (suc k) (seek hit ss) ≡ 0 → (seek hit ss ≡ 0 → looking hit n ((at + 1) % n) ss ≡ Free (((at + 1) % n + full ss) % n))
+        → cond b Known (looking hit n ((at + 1) % n) ss) ≡ Free ((at + suc (full ss)) % n)
+    go true e ih = absurd (omega (arith, e))
+    go false e ih = ih e ∙ ap Free (mod-add-mod (at + 1) n (full ss) ∙ ap (λ m. m % n) (let z : at + 1 + full ss ≡ at + suc (full ss) = omega arith in z))
+
+-- ---- a key among the values that entered
+
+module _ (t slots vs : List ℕ) (p : 0 < length slots) (g : Held (start t (length slots)) slots vs) (k : ℕ) (id : List ℕ) where
+  begins-lt : begins (length slots) k id < length slots
+  unfolding begins
+  begins-lt = mod-lt _ p
+
+  starts : (v : ℕ) → tells t k id v ≡ true → start t (length slots) v ≡ begins (length slots) k id
+  unfolding tells start
+  starts v e =
+      ap₂ (λ j w. begins (length slots) j w) (sym (eqb-true k (v / 16777216) (and-left (eqb k (v / 16777216)) (same id (keyIn t v)) e)))
+      (sym (same-equal id (keyIn t v) (and-right (eqb k (v / 16777216)) (same id (keyIn t v)) e)))
+
+  found : seek (tells t k id) (around (begins (length slots) k id) slots) ≡ pick (tells t k id) vs
+  found = g .finds (tells t k id) (begins (length slots) k id) begins-lt starts
+
+  -- it is known exactly where one of them tells it
+  pub sought-known : isKnown (sought t slots k id) ≡ ltb 0 (pick (tells t k id) vs)
+  unfolding sought
+  sought-known = known-seek (tells t k id) (length slots) (begins (length slots) k id) (around (begins (length slots) k id) slots) ∙ ap (ltb 0) found
+
+  -- a new one enters, where an empty slot is left
+  pub sought-enters : (v : ℕ) → (v ≡ 0 → ⊥) → start t (length slots) v ≡ begins (length slots) k id → length vs < length slots → pick (tells t k id) vs ≡ 0
+      → Held (start t (length slots)) (after true v slots (sought t slots k id)) (vs ++ (v ∷ []))
+  unfolding sought after seat
+  sought-enters zero z e l q = absurd (z refl)
+  sought-enters (suc j) z e l q =
+      let at : ℕ = begins (length slots) k id in
+      let n = around-length at slots (omega (arith, begins-lt)) in
+      let free : looking (tells t k id) (length slots) at (around at slots) ≡ Free ((at + full (around at slots)) % length slots) =
+      free-seat (tells t k id) (length slots) at (around at slots) begins-lt (full-lt (around at slots) (omega (arith, n, filled-around at slots, g .few, l))) (found ∙ q) in
+      rw free
+      (subst (λ m. Held (start t (length slots)) (set slots ((m + full (around m slots)) % length slots) (suc j)) (vs ++ (suc j ∷ []))) e
+      (held-enter (start t (length slots)) slots vs g j l (omega (arith, e, begins-lt))))
+
+-- ---- values
+
+pub value-kind : (k at : ℕ) → at < 16777216 → value k at / 16777216 ≡ k
+unfolding value
+value-kind k at h = mul-add-div-right {m = 16777216} (omega arith) k at ∙ ap (λ m. k + m) (div-eq-of-lt h) ∙ omega arith
+
+pub value-place : (k at : ℕ) → at < 16777216 → value k at % 16777216 ≡ at
+unfolding value
+value-place k at h = mul-add-mod-self-right k 16777216 at ∙ mod-eq-of-lt h
+
+pub value-key : (t : List ℕ) (k at : ℕ) → at < 16777216 → keyIn t (value k at) ≡ word (drop at t)
+unfolding keyIn
+value-key t k at h = ap (λ m. word (drop m t)) (value-place k at h)
+
+pub value-start : (t : List ℕ) (n k at : ℕ) → at < 16777216 → start t n (value k at) ≡ begins n k (word (drop at t))
+unfolding start
+value-start t n k at h = ap₂ (λ j w. begins n j w) (value-kind k at h) (value-key t k at h)
+
+pub value-tells : (t : List ℕ) (j : ℕ) (id : List ℕ) (k at : ℕ) → at < 16777216 → tells t j id (value k at) ≡ (eqb j k && same id (word (drop at t)))
+unfolding tells
+value-tells t j id k at h = ap₂ (λ m w. eqb j m && same id w) (value-kind k at h) (value-key t k at h)

@@ -1,0 +1,5 @@
+pub mod Word
+pub mod Hash
+pub mod Told
+pub mod Keyed
+pub mod Taken

@@ -1,0 +1,89 @@
+-- What a slot of the index tells, and how looking for a key ends.
+use Prim.Native.Nat.{ℕ, zero, suc, _+_, _*_, _/_, _%_}
+use mathlib.Core.Bool.{Bool, true, false, _&&_, cond}
+use mathlib.Core.List.{List, [], _∷_}
+use lib.ListN.{length, take, drop, set}
+use lib.Dec.{eqb}
+use Rattle.format.specs.Bytes.{same}
+use Rattle.key_index.specs.Hash.{hashFrom}
+use Rattle.format.specs.Slots.{around}
+use Rattle.record.specs.declared.Place.{Place}
+use Rattle.record.specs.declared.Head.{Head}
+use Rattle.record.specs.declared.Head.the-variants as head
+use Rattle.key_index.specs.declared.Sought.{Sought}
+use Rattle.key_index.specs.declared.Sought.the-variants.{Known, Free, Full}
+use Rattle.key_index.specs.Word.{word}
+
+-- ---- a slot
+
+-- what tells the key of kind `k` at the offset `at`: offsets are below 2 ^ 24
+unfoldable pub value : ℕ → ℕ → ℕ
+value k at = k * 16777216 + at
+
+-- the key that a slot tells
+unfoldable pub keyIn : List ℕ → ℕ → List ℕ
+unfolding word
+keyIn t v = word (drop (v % 16777216) t)
+
+-- does it tell the key `id` of kind `k`?
+unfoldable pub tells : List ℕ → ℕ → List ℕ → ℕ → Bool
+unfolding same keyIn
+tells t k id v = eqb k (v / 16777216) && same id (keyIn t v)
+
+-- the slot, of `n`, at which looking for a key starts
+unfoldable pub begins : ℕ → ℕ → List ℕ → ℕ
+unfolding hashFrom
+begins n k id = hashFrom k id % n
+
+-- and for the key that a slot tells
+unfoldable pub start : List ℕ → ℕ → ℕ → ℕ
+unfolding begins keyIn
+start t n v = begins n (v / 16777216) (keyIn t v)
+
+-- ---- looking
+
+-- along slots, of which the first is the slot `at` of `n`
+unfoldable pub looking : (ℕ → Bool) → ℕ → ℕ → List ℕ → Sought
+looking hit n at [] = Full
+looking hit n at (zero ∷ ss) = Free at
+looking hit n at (suc k ∷ ss) = cond (hit (suc k)) Known (looking hit n ((at + 1) % n) ss)
+
+-- for the key `id` of kind `k`
+unfoldable pub sought : List ℕ → List ℕ → ℕ → List ℕ → Sought
+unfolding looking tells begins around
+sought t slots k id =
+    let at : ℕ = begins (length slots) k id in
+    looking (tells t k id) (length slots) at (around at slots)
+
+unfoldable pub isKnown : Sought → Bool
+isKnown Known = true
+isKnown (Free i) = false
+isKnown Full = false
+
+-- the slots after that: a key that is new enters, where there is room
+unfoldable pub after : Bool → ℕ → List ℕ → Sought → List ℕ
+after room v slots Known = slots
+after room v slots (Free i) = cond room (set slots i v) slots
+after room v slots Full = slots
+
+-- ---- the key of a head
+
+-- is it in the slots?
+unfoldable pub isMet : List ℕ → List ℕ → Head → Bool
+unfolding isKnown sought
+isMet t slots (head.Refused n) = false
+isMet t slots (head.Header v n) = false
+isMet t slots (head.ReferenceSequence p l n) = isKnown (sought t slots 2 (take (p .len) (drop (p .at) t)))
+isMet t slots (head.ReadGroup p n) = isKnown (sought t slots 3 (take (p .len) (drop (p .at) t)))
+isMet t slots (head.Program p n) = isKnown (sought t slots 4 (take (p .len) (drop (p .at) t)))
+isMet t slots (head.Comment p) = false
+
+-- the slots after that
+unfoldable pub afterMeeting : Bool → List ℕ → List ℕ → Head → List ℕ
+unfolding after sought value
+afterMeeting room t slots (head.Refused n) = slots
+afterMeeting room t slots (head.Header v n) = slots
+afterMeeting room t slots (head.ReferenceSequence p l n) = after room (value 2 (p .at)) slots (sought t slots 2 (take (p .len) (drop (p .at) t)))
+afterMeeting room t slots (head.ReadGroup p n) = after room (value 3 (p .at)) slots (sought t slots 3 (take (p .len) (drop (p .at) t)))
+afterMeeting room t slots (head.Program p n) = after room (value 4 (p .at)) slots (sought t slots 4 (take (p .len) (drop (p .at) t)))
+afterMeeting room t slots (head.Comment p) = slots

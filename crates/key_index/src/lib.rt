@@ -1,0 +1,181 @@
+// An exact index of the keys that stood: a slot is 0, or tells a key by its kind and its offset in the text. A key ends at the
+// first byte below 32, or with the text, so that no length is kept.
+use record::Head;
+use record::Place;
+ghost use mathlib.Core.Path.{_≡_};
+ghost use Prim.Native.Nat.{_≤_, _<_, _+_, _*_, _%_};
+ghost use lib.ListN.{length, take, drop, replicate};
+ghost use Rattle.format.specs.Bytes.{same, none?};
+ghost use Rattle.key_index.specs.Hash.{hashFrom};
+ghost use Rattle.key_index.specs.Word.{word};
+ghost use Rattle.key_index.specs.Told.{value, tells, sought, isKnown, after, isMet, afterMeeting};
+ghost use Rattle.key_index.specs.Keyed.{Placed};
+ghost use Rattle.key_index.specs.Taken.{newBarring};
+
+// How looking for a key ends: at a slot that tells it, at an empty one, or after all slots.
+pub enum Sought {
+    Known,
+    Free(usize),
+    Full,
+}
+
+// The number of a key of this kind.
+fn hash(kind: u8, id: &[u8]) -> usize
+    ensures { λ r. ⌜ r ≡ hashFrom kind (now (id .entry)) ⌝ }
+{
+    let mut h: usize = kind as usize;
+    let mut i: usize = 0;
+    while i < id.len() {
+        h = (33 * h + (id[i] as usize)) % 4294967296;
+        i += 1;
+    }
+    h
+}
+
+// Whether no key goes on at `at`: a byte below 32, or the end of the text.
+fn ends(text: &[u8], at: usize) -> bool
+    ensures { λ r. ⌜ r ≡ none? (word (drop at (now (text .entry)))) ⌝ }
+{
+    if text.len() <= at {
+        return true;
+    }
+    text[at] < 32
+}
+
+// Whether the key at `at` is `id`.
+fn is_at(text: &[u8], at: usize, id: &[u8]) -> bool
+    requires { ⌜ at + length (now id) ≤ 33554432 ⌝ }
+    ensures { λ r. ⌜ r ≡ same (now (id .entry)) (word (drop at (now (text .entry)))) ⌝ }
+{
+    let mut i: usize = 0;
+    while i < id.len() {
+        if ends(text, at + i) {
+            return false;
+        }
+        if text[at + i] != id[i] {
+            return false;
+        }
+        i += 1;
+    }
+    ends(text, at + i)
+}
+
+// Whether a slot tells the key `id` of this kind.
+fn is_told(text: &[u8], slot: u32, kind: u8, id: &[u8]) -> bool
+    requires { ⌜ length (now id) ≤ 16777216 ⌝ }
+    ensures { λ r. ⌜ r ≡ tells (now (text .entry)) kind (now (id .entry)) slot ⌝ }
+{
+    if slot / 16777216 != kind as u32 {
+        return false;
+    }
+    is_at(text, (slot % 16777216) as usize, id)
+}
+
+// The slot after `at` of `n`, round the end.
+fn next(at: usize, n: usize) -> usize
+    requires { ⌜ at < n ⌝ }
+    ensures { λ r. ⌜ r ≡ (at + 1) % n ⌝ }
+{
+    if n - at == 1 {
+        return 0;
+    }
+    at + 1
+}
+
+// Looks for the key `id` of this kind: from the slot of its number on, round the end.
+fn look(text: &[u8], area: &[u32], kind: u8, id: &[u8]) -> Sought
+    requires { ⌜ length (now id) ≤ 16777216 ⌝ }
+    requires { ⌜ 0 < length (now area) ⌝ }
+    ensures { λ r. ⌜ r ≡ sought (now (text .entry)) (now (area .entry)) kind (now (id .entry)) ⌝ }
+{
+    let mut at: usize = hash(kind, id) % area.len();
+    let mut i: usize = 0;
+    while i < area.len() {
+        let slot = area[at];
+        if slot == 0 {
+            return Sought::Free(at);
+        }
+        if is_told(text, slot, kind, id) {
+            return Sought::Known;
+        }
+        at = next(at, area.len());
+        i += 1;
+    }
+    Sought::Full
+}
+
+// Whether the key of this kind at a place of the text is in the area. One that is not enters, where there is `room`.
+fn meet_at(text: &[u8], area: &mut [u32], kind: u8, place: Place, room: bool) -> bool
+    requires { ⌜ length (now text) ≤ 16777216 ⌝ }
+    requires { ⌜ 0 < length (now area) ⌝ }
+    requires { ⌜ place .at + place .len ≤ length (now text) ⌝ }
+    requires { ⌜ place .at < 16777216 ⌝ }
+    ensures known { λ r. ⌜ r ≡ isKnown (sought (now (text .entry)) (now (area .entry)) kind (take (place .len) (drop (place .at) (now (text .entry))))) ⌝ }
+    ensures wrote { λ _. ⌜ now (area .exit) ≡ after room (value kind (place .at)) (now (area .entry)) (sought (now (text .entry)) (now (area .entry)) kind (take (place .len) (drop (place .at) (now (text .entry))))) ⌝ }
+{
+    let start = place.at;
+    let end = start + place.len;
+    match look(text, area, kind, &text[start..end]) {
+        Sought::Known => true,
+        Sought::Free(i) => {
+            if room {
+                area[i] = (kind as u32) * 16777216 + (start as u32);
+            }
+            false
+        }
+        Sought::Full => false,
+    }
+}
+
+// Whether the key of a head is in the area. One that is not enters, where there is `room`; a head without a key changes nothing.
+pub fn meet(text: &[u8], area: &mut [u32], head: Head, room: bool) -> bool
+    requires { ⌜ length (now text) ≤ 16777216 ⌝ }
+    requires { ⌜ 0 < length (now area) ⌝ }
+    requires { ⌜ Placed (length (now text)) head ⌝ }
+    ensures known { λ r. ⌜ r ≡ isMet (now (text .entry)) (now (area .entry)) head ⌝ }
+    ensures wrote { λ _. ⌜ now (area .exit) ≡ afterMeeting room (now (text .entry)) (now (area .entry)) head ⌝ }
+{
+    match head {
+        Head::Refused(_) => false,
+        Head::Header(_, _) => false,
+        Head::ReferenceSequence(p, _, _) => meet_at(text, area, 2, p, room),
+        Head::ReadGroup(p, _) => meet_at(text, area, 3, p, room),
+        Head::Program(p, _) => meet_at(text, area, 4, p, room),
+        Head::Comment(_) => false,
+    }
+}
+
+// Empties the area.
+pub fn clear(area: &mut [u32])
+    ensures { λ _. ⌜ now (area .exit) ≡ replicate (length (now (area .entry))) 0 ⌝ }
+{
+    let mut i: usize = 0;
+    while i < area.len() {
+        area[i] = 0;
+        i += 1;
+    }
+}
+
+// 0, or the refusal of a line with this head, whose key is new.
+pub fn barred_new(count: usize, programs: usize, head: Head) -> u8
+    ensures { λ r. ⌜ r ≡ newBarring count programs head ⌝ }
+{
+    match head {
+        Head::Refused(n) => n,
+        Head::Header(_, _) => {
+            if count == 0 {
+                return 0;
+            }
+            17
+        }
+        Head::ReferenceSequence(_, _, _) => 0,
+        Head::ReadGroup(_, _) => 0,
+        Head::Program(_, _) => {
+            if 1024 <= programs {
+                return 19;
+            }
+            0
+        }
+        Head::Comment(_) => 0,
+    }
+}

@@ -1,2 +1,0 @@
-pub mod Slot
-pub mod Marked
