@@ -71,7 +71,7 @@ made-stand s at fs k r h (sp.of-reference p n e g) =
 made-stand s at fs k r h (sp.of-group p e) = (one-stands s at fs h 73 68 p e, rest-stand s at fs h 73 68)
 made-stand s at fs k r h (sp.of-program p e) = (one-stands s at fs h 73 68 p e, rest-stand s at fs h 73 68)
 
-fields-stand : (strict : Bool) (at : ℕ) (s : List ℕ) (r : Record) (a : Spelled strict at s r) → Each (λ f. Stands s at (f .value)) (a .fields)
+pub fields-stand : (strict : Bool) (at : ℕ) (s : List ℕ) (r : Record) (a : Spelled strict at s r) → Each (λ f. Stands s at (f .value)) (a .fields)
 fields-stand strict at s r a = rw (a .spells) (
     pairs-right (λ p f. Good k (p .at) (p .bytes) f) (Stands (a .rest) (at + 4)) (λ f. Stands whole at (f .value)) one
     (placed (at + 4) (cut 9 (a .rest))) (a .fields) (pieces-stand 9 (at + 4) (a .rest)) (a .each))

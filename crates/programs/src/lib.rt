@@ -1,12 +1,12 @@
 // Adding programs: one after each leaf, and then the tidy text with the new programs behind the old ones.
 use added::Shape;
-use format::Kind;
 use format::LineNo;
 use given::Given;
 use lookup::Named;
 use parser::Answer;
 use parser::Checked;
 use tidy_text::Measured;
+use tidy_text::PerKind;
 ghost use mathlib.Core.Path.{_≡_};
 ghost use mathlib.Core.Bool.{true, false, not, _||_, cond};
 ghost use mathlib.Core.List.{List, _++_};
@@ -31,14 +31,18 @@ ghost use Rattle.lookup.specs.Parents.{Within};
 ghost use Rattle.parser.specs.Answers.{answerOf, outputOf};
 ghost use Rattle.ids.specs.Taken.{known};
 ghost use Rattle.given.specs.Given.{givenOf};
+ghost use Rattle.tidy_text.specs.Sizes.{sizesOf};
 ghost use Rattle.added.specs.Lines.{addedText};
 ghost use Rattle.programs.specs.Added.{withAdded, isNone, isNothing, stray, leavesOf, addingOn};
 
-// Writes the tidy text with the new programs behind the old ones, and answers its length.
+// Writes the tidy text with the new programs behind the old ones, and answers its length: the new ones have `more` bytes, and go
+// to the gap that is left before the comments.
 fn put_all(
     text: &[u8],
     kept: &[u8],
     strict: bool,
+    sizes: PerKind,
+    more: usize,
     prefix: &[u8],
     fields: &[u8],
     leaves: &[u32],
@@ -47,14 +51,25 @@ fn put_all(
 ) -> usize
     requires { ⌜ isAccepted (readText (now text)) ≡ true ⌝ }
     requires { ⌜ strict ≡ isStrict (announced (lines (now text))) ⌝ }
+    requires { ⌜ sizes ≡ sizesOf (recordsOf (now text)) ⌝ }
+    requires { ⌜ (more ≡ length (addedText (now text) (entriesIn (now kept)) (shape .empty) (shape .alone) (shape .linked) (now prefix) (now fields) (now leaves))) × (more ≤ 16777216) ⌝ }
     requires { ⌜ Each (Within (length (now text))) (entriesIn (now kept)) ⌝ }
     requires { ⌜ length (withAdded (recordsOf (now text)) (addedText (now text) (entriesIn (now kept)) (shape .empty) (shape .alone) (shape .linked) (now prefix) (now fields) (now leaves))) ≤ length (now out) ⌝ }
     ensures next { λ r. ⌜ r ≡ length (withAdded (recordsOf (now (text .entry))) (addedText (now (text .entry)) (entriesIn (now (kept .entry))) (shape .empty) (shape .alone) (shape .linked) (now (prefix .entry)) (now (fields .entry)) (now (leaves .entry)))) ⌝ }
     ensures wrote { λ _. ⌜ now (out .exit) ≡ over (now (out .entry)) 0 (withAdded (recordsOf (now (text .entry))) (addedText (now (text .entry)) (entriesIn (now (kept .entry))) (shape .empty) (shape .alone) (shape .linked) (now (prefix .entry)) (now (fields .entry)) (now (leaves .entry)))) ⌝ }
 {
-    let n = tidy_text::put_records(text, strict, out);
-    let n = added::put_added(out, n, text, kept, prefix, fields, leaves, shape);
-    tidy_text::put_kind(text, strict, Kind::Comment, out, n)
+    tidy_text::put_around(text, strict, sizes, more, out);
+    let n = added::put_added(
+        out,
+        sizes.front(),
+        text,
+        kept,
+        prefix,
+        fields,
+        leaves,
+        shape,
+    );
+    n + sizes.co
 }
 
 // Whether a prefix or fields alone are longer than a text may be.
@@ -93,7 +108,8 @@ fn write_added(
     let strict = rules::is_strict(text);
     match tidy_text::measure(text, strict) {
         Measured::Bad(line) => Answer::Refused(24, line),
-        Measured::Is(n) => {
+        Measured::Is(sizes) => {
+            let n = sizes.total();
             if is_too_long(prefix, fields) {
                 return Answer::Refused(1, LineNo(0));
             }
@@ -104,7 +120,18 @@ fn write_added(
             if out.len() < n + more {
                 return Answer::Refused(20, LineNo(0));
             }
-            let n = put_all(text, kept, strict, prefix, fields, leaves, shape, out);
+            let n = put_all(
+                text,
+                kept,
+                strict,
+                sizes,
+                more,
+                prefix,
+                fields,
+                leaves,
+                shape,
+                out,
+            );
             Answer::Count(n)
         }
     }

@@ -2,3 +2,6 @@ pub mod OfKind
 pub mod Lines
 pub mod Total
 pub mod Names
+pub mod Sizes
+pub mod Placed
+pub mod Parts

@@ -10,7 +10,11 @@ use Rattle.format.specs.Tidy.{unwritable}
 use Rattle.accepted.proofs.Bools.{never}
 use Rattle.writer.specs.Line.{lineText, lineWritable, sizeOf}
 use Rattle.writer.specs.declared.Size.the-variants.{Unwritable, Is}
+use Rattle.format.specs.declared.Kind.{Kind}
 use Rattle.tidy_text.specs.Accepted.{onto, recordsFrom}
+use Rattle.tidy_text.specs.Sizes.{plus, grownBy}
+use Rattle.tidy_text.specs.declared.PerKind.{PerKind}
+use Rattle.tidy_text.specs.declared.Grown.the-variants as grown
 use Rattle.tidy_text.proofs.Lines.{lent, Turn, ended}
 use Rattle.text.specs.declared.Cut.{Cut}
 use Rattle.accepted.specs.Read.{isRead}
@@ -38,7 +42,7 @@ unwritable-ended strict t at h l = ap (unwritable l) (ended strict t at h)
 
 -- ---- by a line's size
 
-pub size-bad : (p : Line) → sizeOf p ≡ Unwritable → lineWritable p ≡ false
+size-bad : (p : Line) → sizeOf p ≡ Unwritable → lineWritable p ≡ false
 unfolding sizeOf
 size-bad p e = go (lineWritable p) refl e
   where
@@ -53,3 +57,31 @@ size-is p k e = go (lineWritable p) refl e
     go : (b : Bool) → lineWritable p ≡ b → cond b (Is (length (lineText p))) Unwritable ≡ Is k → (lineWritable p ≡ true) × (length (lineText p) ≡ k)
     go true q e = (q, cc)
     go false q e = absurd (never (cc))
+
+-- ---- by the sizes with it
+
+module _ (j : Kind) (p : Line) (s : PerKind) where
+  pub grown-bad : sizeOf p ≡ Unwritable → grownBy j p s ≡ grown.Unwritable
+  unfolding grownBy
+  grown-bad e = cond-is (lineWritable p) false _ _ (size-bad p e)
+
+  pub grown-is : (n : ℕ) → sizeOf p ≡ Is n → grownBy j p s ≡ grown.Is (plus j n s)
+  unfolding grownBy
+  grown-is n e = cond-is (lineWritable p) true _ _ (size-is p n e .0) ∙ ap (λ n. grown.Is (plus j n s)) (size-is p n e .1)
+
+  pub grew-bad : grownBy j p s ≡ grown.Unwritable → lineWritable p ≡ false
+  unfolding grownBy
+  grew-bad e = go (lineWritable p) refl e
+    where
+      go : (b : Bool) → lineWritable p ≡ b → cond b (grown.Is (plus j (length (lineText p)) s)) grown.Unwritable ≡ grown.Unwritable → lineWritable p ≡ false
+      go true q e = absurd (never (cc))
+      go false q e = q
+
+  pub grew-is : (t : PerKind) → grownBy j p s ≡ grown.Is t → (lineWritable p ≡ true) × (plus j (length (lineText p)) s ≡ t)
+  unfolding grownBy
+  grew-is t e = go (lineWritable p) refl e
+    where
+      go : (b : Bool) → lineWritable p ≡ b → cond b (grown.Is (plus j (length (lineText p)) s)) grown.Unwritable ≡ grown.Is t
+          → (lineWritable p ≡ true) × (plus j (length (lineText p)) s ≡ t)
+      go true q e = (q, cc)
+      go false q e = absurd (never (cc))

@@ -1,7 +1,7 @@
--- The kind bytes of an accepted line tell its record's kind.
+-- The second byte of an accepted line tells its record's kind, and so to which kind's text the line goes.
 use Prim.Native.Nat.{ℕ, _≤_}
 use mathlib.Core.Path.{_≡_, refl, sym, ap, _∙_}
-use mathlib.Core.Bool.{Bool, true, false, _&&_, cond}
+use mathlib.Core.Bool.{Bool, true, false, cond}
 use mathlib.Core.List.{List, [], _∷_, _++_}
 use native.Mathlib.Omega.{arith}
 use lib.ListN.{length, getD}
@@ -20,36 +20,9 @@ use Rattle.accepted.proofs.Spelled.{line-accepted}
 use Rattle.accepted.specs.Read.{isRead}
 use Rattle.writer.specs.Line.{lineText}
 use Rattle.tidy_text.specs.Accepted.{onto}
-use Rattle.tidy_text.specs.Kinds.{numberOf, hasKind, kindText, textOfKind}
-
--- two kinds are one by their bytes exactly if they are by their numbers
-bytes-number : (k j : Kind) → eqb (kind₀ k) (kind₀ j) && eqb (kind₁ k) (kind₁ j) ≡ eqb (numberOf k) (numberOf j)
-unfolding kind₀ kind₁ numberOf
-bytes-number Header Header = refl
-bytes-number Header ReferenceSequence = refl
-bytes-number Header ReadGroup = refl
-bytes-number Header Program = refl
-bytes-number Header Comment = refl
-bytes-number ReferenceSequence Header = refl
-bytes-number ReferenceSequence ReferenceSequence = refl
-bytes-number ReferenceSequence ReadGroup = refl
-bytes-number ReferenceSequence Program = refl
-bytes-number ReferenceSequence Comment = refl
-bytes-number ReadGroup Header = refl
-bytes-number ReadGroup ReferenceSequence = refl
-bytes-number ReadGroup ReadGroup = refl
-bytes-number ReadGroup Program = refl
-bytes-number ReadGroup Comment = refl
-bytes-number Program Header = refl
-bytes-number Program ReferenceSequence = refl
-bytes-number Program ReadGroup = refl
-bytes-number Program Program = refl
-bytes-number Program Comment = refl
-bytes-number Comment Header = refl
-bytes-number Comment ReferenceSequence = refl
-bytes-number Comment ReadGroup = refl
-bytes-number Comment Program = refl
-bytes-number Comment Comment = refl
+use Rattle.tidy_text.specs.Kinds.{numberOf, kindText, textOfKind}
+use Rattle.heads.specs.Found.{kindBy}
+use Rattle.heads.proofs.Finds.{first-byte}
 
 kind-number : (r : Record) → numberOf (kind r) ≡ code r
 unfolding kind numberOf code
@@ -72,6 +45,10 @@ accepted-front strict at s r (sp.of-remark t) = record { rest = 9 ∷ t; spells 
 accepted-front strict at s r (sp.of-fields a) =
     record { rest = 9 ∷ a .rest; spells = a .spells ∙ ap (λ k. 64 ∷ kind₀ k ∷ kind₁ k ∷ 9 ∷ a .rest) (sym (made-kind (a .fields) (a .kind) r (a .made))) }
 
+-- what of a text goes to the kind `k`, if it is all of the kind `j`
+abbrev pub only : Kind → List ℕ → Kind → List ℕ
+only j xs k = cond (eqb (numberOf j) (numberOf k)) xs []
+
 module _ (strict : Bool) (at : ℕ) (s : List ℕ) (h : isRead (line strict (record { at = at; bytes = s })) ≡ true) where
   by-record : (P : Line → Type 0) → ((r : Record) → Front s r → P (read r)) → P (line strict (record { at = at; bytes = s }))
   unfolding isRead
@@ -84,21 +61,13 @@ module _ (strict : Bool) (at : ℕ) (s : List ℕ) (h : isRead (line strict (rec
   pub three : 3 ≤ length s
   three = by-record (λ l. 3 ≤ length s) (λ r f. omega (arith, ap length (f .spells)))
 
-  -- the bytes of a record's kind
-  front-kind : (k : Kind) (r : Record) → Front s r → hasKind k s ≡ eqb (code r) (numberOf k)
-  unfolding hasKind
-  front-kind k r f =
-      ap (λ l. eqb (getD l 1 0) (kind₀ k) && eqb (getD l 2 0) (kind₁ k)) (f .spells)
-      ∙ bytes-number (kind r) k
-      ∙ ap (λ n. eqb n (numberOf k)) (kind-number r)
+  front-number : (r : Record) → Front s r → numberOf (kindBy (getD s 1 0)) ≡ code r
+  front-number r f = ap (λ l. numberOf (kindBy (getD l 1 0))) (f .spells) ∙ ap numberOf (first-byte (kind r)) ∙ kind-number r
 
-  pub kind-same : (k : Kind) → hasKind k s ≡ true → kindText k (line strict (record { at = at; bytes = s })) ≡ lineText (line strict (record { at = at; bytes = s }))
+  -- the line's text goes to the kind that its second byte tells
+  pub line-kind : (k : Kind) → kindText k (line strict (record { at = at; bytes = s })) ≡ only (kindBy (getD s 1 0)) (lineText (line strict (record { at = at; bytes = s }))) k
   unfolding kindText lineText
-  kind-same k e = by-record (λ l. kindText k l ≡ lineText l) (λ r f. rw (sym (front-kind k r f) ∙ e) refl)
-
-  pub kind-other : (k : Kind) → hasKind k s ≡ false → kindText k (line strict (record { at = at; bytes = s })) ≡ []
-  unfolding kindText
-  kind-other k e = by-record (λ l. kindText k l ≡ []) (λ r f. rw (sym (front-kind k r f) ∙ e) refl)
+  line-kind k = by-record (λ l. kindText k l ≡ only (kindBy (getD s 1 0)) (lineText l) k) (λ r f. ap (λ n. cond (eqb n (numberOf k)) (recordText r) []) (sym (front-number r f)))
 
 -- ---- one line before others
 
@@ -110,3 +79,7 @@ kind-onto k (read r) rs = go (eqb (code r) (numberOf k))
     go : (t : Bool) → text (cond t (r ∷ ofKind (numberOf k) rs) (ofKind (numberOf k) rs)) ≡ cond t (recordText r) [] ++ text (ofKind (numberOf k) rs)
     go true = refl
     go false = refl
+
+-- the texts of the kinds before a line's record is taken and after
+pub kind-turn : (j k : Kind) (l : Line) (rs : List Record) → kindText k l ≡ only j (lineText l) k → textOfKind k (onto l rs) ≡ only j (lineText l) k ++ textOfKind k rs
+kind-turn j k l rs e = kind-onto k l rs ∙ ap (λ xs. xs ++ textOfKind k rs) e

@@ -7,11 +7,12 @@ use lib.ListN.{drop}
 use Rattle.format.specs.Lines.{Piece, linesFrom}
 use Rattle.format.specs.Records.{Record, Line, refused, read, line}
 use Rattle.accepted.specs.Read.{isRead}
+use Rattle.tidy_text.specs.declared.PerKind.{PerKind}
 use Rattle.tidy_text.specs.declared.Measured.{Measured}
 use Rattle.tidy_text.specs.declared.Measured.the-variants as measured
 
--- the tidy text's length, or the line of the first SQ whose name can't be written
-unfoldable pub measuredOf : Option ℕ → ℕ → Measured
+-- the sizes of the tidy text, or the line of the first SQ whose name can't be written
+unfoldable pub measuredOf : Option ℕ → PerKind → Measured
 measuredOf none n = measured.Is n
 measuredOf (some l) n = measured.Bad (record { 0 = l })
 

@@ -1,15 +1,13 @@
--- Kinds by their number and by their bytes, and a line's text if it is of a kind.
+-- A kind by its number, and a line's text if it is of a kind.
 use Prim.Native.Nat.{ℕ}
-use mathlib.Core.Bool.{Bool, _&&_, cond}
+use mathlib.Core.Bool.{Bool, cond}
 use mathlib.Core.List.{List, [], _++_}
-use lib.ListN.{getD}
 use lib.Dec.{eqb}
 use Rattle.format.specs.Records.{Record, code, Line, refused, read}
 use Rattle.format.specs.Reading.{ofKind}
 use Rattle.format.specs.Tidy.{recordText, text}
 use Rattle.format.specs.declared.Kind.{Kind}
 use Rattle.format.specs.declared.Kind.the-variants.{Header, ReferenceSequence, ReadGroup, Program, Comment}
-use Rattle.accepted.specs.Spelled.{kind₀, kind₁}
 
 -- as `code` numbers the records
 unfoldable pub numberOf : Kind → ℕ
@@ -18,11 +16,6 @@ numberOf ReferenceSequence = 2
 numberOf ReadGroup = 3
 numberOf Program = 4
 numberOf Comment = 5
-
--- are the two bytes after the first those of the kind?
-unfoldable pub hasKind : Kind → List ℕ → Bool
-unfolding kind₀ kind₁
-hasKind k s = eqb (getD s 1 0) (kind₀ k) && eqb (getD s 2 0) (kind₁ k)
 
 unfoldable pub kindText : Kind → Line → List ℕ
 unfolding numberOf code recordText

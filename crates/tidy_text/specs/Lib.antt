@@ -1,2 +1,4 @@
 pub mod Accepted
 pub mod Kinds
+pub mod Sizes
+pub mod Placed

@@ -1,116 +1,222 @@
-// The tidy text of an accepted text: HD, then all SQ, RG, PG, CO, each kind in text order.
+// The tidy text of an accepted text: HD, then all SQ, RG, PG, CO, each kind in text order. One pass measures each kind, and one
+// puts each record at its kind's own place.
 use format::Kind;
 use format::LineNo;
 use writer::Size;
 ghost use mathlib.Core.Path.{_≡_};
 ghost use mathlib.Core.Bool.{true};
 ghost use Prim.Native.Nat.{_≤_, _+_};
-ghost use lib.ListN.{length};
+ghost use lib.ListN.{length, getD};
 ghost use Rattle.format.specs.Lines.{lines};
 ghost use Rattle.format.specs.Records.{line};
 ghost use Rattle.format.specs.Reading.{announced, isStrict, readText};
 ghost use Rattle.format.specs.Tidy.{tidy, unwritable};
+ghost use Rattle.format.specs.declared.Kind.the-variants.{Comment};
 ghost use Rattle.text.specs.Over.{over};
+ghost use Rattle.writer.specs.Line.{lineText};
 ghost use Rattle.accepted.specs.Read.{isAccepted, isRead, recordsOf};
+ghost use Rattle.heads.specs.Found.{kindBy};
 ghost use Rattle.tidy_text.specs.Accepted.{measuredOf};
-ghost use Rattle.tidy_text.specs.Kinds.{hasKind, kindText, textOfKind, frontText};
+ghost use Rattle.tidy_text.specs.Kinds.{textOfKind, frontText};
+ghost use Rattle.tidy_text.specs.Sizes.{noBytes, get, plus, front, total, starts, grownBy, sizesOf};
+ghost use Rattle.tidy_text.specs.Placed.{placed, parts, Apart};
 
-// How many bytes the tidy text has, or the line of the first SQ whose name can't be written.
+// A number for each kind of record: how many bytes its records have, or where its next one goes.
+pub struct PerKind {
+    pub hd: usize,
+    pub sq: usize,
+    pub rg: usize,
+    pub pg: usize,
+    pub co: usize,
+}
+
+impl PerKind {
+    fn new() -> Self
+        ensures { λ r. ⌜ r ≡ noBytes ⌝ }
+    {
+        PerKind {
+            hd: 0,
+            sq: 0,
+            rg: 0,
+            pg: 0,
+            co: 0,
+        }
+    }
+
+    // The number of a kind.
+    fn get(self, kind: Kind) -> usize
+        ensures { λ r. ⌜ r ≡ get kind self ⌝ }
+    {
+        match kind {
+            Kind::Header => self.hd,
+            Kind::ReferenceSequence => self.sq,
+            Kind::ReadGroup => self.rg,
+            Kind::Program => self.pg,
+            Kind::Comment => self.co,
+        }
+    }
+
+    // With `n` more for a kind.
+    fn plus(self, kind: Kind, n: usize) -> PerKind
+        requires { ⌜ get kind self + n ≤ 18446744073709551615 ⌝ }
+        ensures { λ r. ⌜ r ≡ plus kind n self ⌝ }
+    {
+        let mut next = self;
+        match kind {
+            Kind::Header => {
+                next.hd = next.hd + n;
+            }
+            Kind::ReferenceSequence => {
+                next.sq = next.sq + n;
+            }
+            Kind::ReadGroup => {
+                next.rg = next.rg + n;
+            }
+            Kind::Program => {
+                next.pg = next.pg + n;
+            }
+            Kind::Comment => {
+                next.co = next.co + n;
+            }
+        }
+        next
+    }
+
+    // Of all kinds but the comments.
+    pub fn front(self) -> usize
+        requires { ⌜ front self ≤ 18446744073709551615 ⌝ }
+        ensures { λ r. ⌜ r ≡ front self ⌝ }
+    {
+        self.hd + self.sq + self.rg + self.pg
+    }
+
+    // Of all kinds.
+    pub fn total(self) -> usize
+        requires { ⌜ total self ≤ 18446744073709551615 ⌝ }
+        ensures { λ r. ⌜ r ≡ total self ⌝ }
+    {
+        self.hd + self.sq + self.rg + self.pg + self.co
+    }
+
+    // Where the records of each kind start, with `gap` bytes before the comments.
+    fn starts(self, gap: usize) -> PerKind
+        requires { ⌜ front self + gap ≤ 18446744073709551615 ⌝ }
+        ensures { λ r. ⌜ r ≡ starts gap self ⌝ }
+    {
+        let sq = self.hd;
+        let rg = sq + self.sq;
+        let pg = rg + self.rg;
+        PerKind {
+            hd: 0,
+            sq,
+            rg,
+            pg,
+            co: pg + self.pg + gap,
+        }
+    }
+}
+
+// How many bytes each kind has in the tidy text, or the line of the first SQ whose name can't be written.
 pub enum Measured {
     Bad(LineNo),
-    Is(usize),
+    Is(PerKind),
 }
 
-// Whether the kind bytes of an accepted line are those of `kind`.
-fn is_of_kind(src: &[u8], kind: Kind) -> bool
-    requires { ⌜ 3 ≤ length (now src) ⌝ }
-    ensures { λ r. ⌜ r ≡ hasKind kind (now (src .entry)) ⌝ }
-{
-    let a = src[1];
-    let b = src[2];
-    if a == writer::kind_first(kind) {
-        return b == writer::kind_second(kind);
-    }
-    false
+// The same of the lines so far.
+enum Grown {
+    Unwritable,
+    Is(PerKind),
 }
 
-// Writes the record of an accepted line if it is of `kind`: a line of another kind is passed by its kind bytes.
-fn put_of_kind(out: &mut [u8], o: usize, kind: Kind, src: &[u8], at: usize, strict: bool) -> usize
+// The sizes with one accepted line more, if its record can be written.
+fn with_line(sizes: PerKind, src: &[u8], at: usize, strict: bool) -> Grown
     requires { ⌜ isRead (line strict (record { at = at; bytes = now src })) ≡ true ⌝ }
     requires { ⌜ at + length (now src) ≤ 16777216 ⌝ }
-    requires { ⌜ o + length (kindText kind (line strict (record { at = at; bytes = now src }))) ≤ length (now out) ⌝ }
-    ensures next { λ r. ⌜ r ≡ o + length (kindText kind (line strict (record { at = at; bytes = now (src .entry) }))) ⌝ }
-    ensures wrote { λ _. ⌜ now (out .exit) ≡ over (now (out .entry)) o (kindText kind (line strict (record { at = at; bytes = now (src .entry) }))) ⌝ }
+    requires { ⌜ get (kindBy (getD (now src) 1 0)) sizes + length (lineText (line strict (record { at = at; bytes = now src }))) ≤ 18446744073709551615 ⌝ }
+    ensures { λ r. ⌜ r ≡ grownBy (kindBy (getD (now (src .entry)) 1 0)) (line strict (record { at = at; bytes = now (src .entry) })) sizes ⌝ }
 {
-    if is_of_kind(src, kind) {
-        return writer::put_record(out, o, src, at, strict);
-    }
-    o
+    let size = writer::record_size(src, at, strict);
+    let Size::Is(n) = size else {
+        return Grown::Unwritable;
+    };
+    Grown::Is(sizes.plus(heads::kind_of(src), n))
 }
 
-// The length of the tidy text of an accepted text, or the line of the first SQ whose name can't be written, in one pass.
-// `strict` is what the text says of repeated tags.
+// How many bytes the records of each kind have in the tidy text, or the line of the first SQ whose name can't be written, in one
+// pass over an accepted text. `strict` is what the text says of repeated tags.
 pub fn measure(text: &[u8], strict: bool) -> Measured
     requires { ⌜ isAccepted (readText (now text)) ≡ true ⌝ }
     requires { ⌜ strict ≡ isStrict (announced (lines (now text))) ⌝ }
-    ensures { λ r. ⌜ r ≡ measuredOf (unwritable 0 (recordsOf (now (text .entry)))) (length (tidy (recordsOf (now (text .entry))))) ⌝ }
+    ensures { λ r. ⌜ r ≡ measuredOf (unwritable 0 (recordsOf (now (text .entry)))) (sizesOf (recordsOf (now (text .entry)))) ⌝ }
 {
     let mut l: u32 = 0;
-    let mut n: usize = 0;
+    let mut sizes = PerKind::new();
     let mut at: usize = 0;
     while at < text.len() {
         let cut = text::first_line(&text[at..]);
-        let size = writer::record_size(&text[at..at + cut.len], at, strict);
-        let Size::Is(len) = size else {
+        let grown = with_line(sizes, &text[at..at + cut.len], at, strict);
+        let Grown::Is(next) = grown else {
             return Measured::Bad(LineNo(l));
         };
         l += 1;
-        n += len;
+        sizes = next;
         at += cut.next;
     }
-    Measured::Is(n)
+    Measured::Is(sizes)
 }
 
-// Writes the records of one kind, in text order.
-pub fn put_kind(text: &[u8], strict: bool, kind: Kind, out: &mut [u8], o: usize) -> usize
+// Writes the record of an accepted line at its kind's place, and answers the places after it.
+fn put_line(out: &mut [u8], places: PerKind, src: &[u8], at: usize, strict: bool) -> PerKind
+    requires { ⌜ isRead (line strict (record { at = at; bytes = now src })) ≡ true ⌝ }
+    requires { ⌜ at + length (now src) ≤ 16777216 ⌝ }
+    requires { ⌜ get (kindBy (getD (now src) 1 0)) places + length (lineText (line strict (record { at = at; bytes = now src }))) ≤ length (now out) ⌝ }
+    ensures next { λ r. ⌜ r ≡ plus (kindBy (getD (now (src .entry)) 1 0)) (length (lineText (line strict (record { at = at; bytes = now (src .entry) })))) places ⌝ }
+    ensures wrote { λ _. ⌜ now (out .exit) ≡ over (now (out .entry)) (get (kindBy (getD (now (src .entry)) 1 0)) places) (lineText (line strict (record { at = at; bytes = now (src .entry) }))) ⌝ }
+{
+    let kind = heads::kind_of(src);
+    let o = places.get(kind);
+    let n = writer::put_record(out, o, src, at, strict);
+    places.plus(kind, n - o)
+}
+
+// Writes the records of each kind, in text order, from the kind's place on, in one pass.
+fn put_lines(text: &[u8], strict: bool, places: PerKind, out: &mut [u8])
     requires { ⌜ isAccepted (readText (now text)) ≡ true ⌝ }
     requires { ⌜ strict ≡ isStrict (announced (lines (now text))) ⌝ }
-    requires { ⌜ o + length (textOfKind kind (recordsOf (now text))) ≤ length (now out) ⌝ }
-    ensures next { λ r. ⌜ r ≡ o + length (textOfKind kind (recordsOf (now (text .entry)))) ⌝ }
-    ensures wrote { λ _. ⌜ now (out .exit) ≡ over (now (out .entry)) o (textOfKind kind (recordsOf (now (text .entry)))) ⌝ }
+    requires { ⌜ Apart (parts places (recordsOf (now text))) (length (now out)) ⌝ }
+    ensures { λ _. ⌜ now (out .exit) ≡ placed (now (out .entry)) (parts places (recordsOf (now (text .entry)))) ⌝ }
 {
-    let mut n = o;
+    let mut next = places;
     let mut at: usize = 0;
     while at < text.len() {
         let cut = text::first_line(&text[at..]);
-        n = put_of_kind(out, n, kind, &text[at..at + cut.len], at, strict);
+        next = put_line(out, next, &text[at..at + cut.len], at, strict);
         at += cut.next;
     }
-    n
 }
 
-// Writes all records but the comments, kind by kind, and answers the place after them.
-pub fn put_records(text: &[u8], strict: bool, out: &mut [u8]) -> usize
+// Writes the tidy text but for `gap` bytes before the comments, which stay as they are: other records go there.
+// `sizes` are those that measuring gives.
+pub fn put_around(text: &[u8], strict: bool, sizes: PerKind, gap: usize, out: &mut [u8])
     requires { ⌜ isAccepted (readText (now text)) ≡ true ⌝ }
     requires { ⌜ strict ≡ isStrict (announced (lines (now text))) ⌝ }
-    requires { ⌜ length (frontText (recordsOf (now text))) ≤ length (now out) ⌝ }
-    ensures next { λ r. ⌜ r ≡ length (frontText (recordsOf (now (text .entry)))) ⌝ }
-    ensures wrote { λ _. ⌜ now (out .exit) ≡ over (now (out .entry)) 0 (frontText (recordsOf (now (text .entry)))) ⌝ }
+    requires { ⌜ sizes ≡ sizesOf (recordsOf (now text)) ⌝ }
+    requires { ⌜ gap ≤ 16777216 ⌝ }
+    requires { ⌜ length (tidy (recordsOf (now text))) + gap ≤ length (now out) ⌝ }
+    ensures { λ _. ⌜ now (out .exit) ≡ over (over (now (out .entry)) 0 (frontText (recordsOf (now (text .entry))))) (length (frontText (recordsOf (now (text .entry)))) + gap) (textOfKind Comment (recordsOf (now (text .entry)))) ⌝ }
 {
-    let n = put_kind(text, strict, Kind::Header, out, 0);
-    let n = put_kind(text, strict, Kind::ReferenceSequence, out, n);
-    let n = put_kind(text, strict, Kind::ReadGroup, out, n);
-    put_kind(text, strict, Kind::Program, out, n)
+    put_lines(text, strict, sizes.starts(gap), out);
 }
 
-// Writes the tidy text of an accepted text, the comments last, and answers its length.
-pub fn put_tidy(text: &[u8], strict: bool, out: &mut [u8]) -> usize
+// Writes the tidy text of an accepted text, and answers its length. `sizes` are those that measuring gives.
+pub fn put_tidy(text: &[u8], strict: bool, sizes: PerKind, out: &mut [u8]) -> usize
     requires { ⌜ isAccepted (readText (now text)) ≡ true ⌝ }
     requires { ⌜ strict ≡ isStrict (announced (lines (now text))) ⌝ }
+    requires { ⌜ sizes ≡ sizesOf (recordsOf (now text)) ⌝ }
     requires { ⌜ length (tidy (recordsOf (now text))) ≤ length (now out) ⌝ }
     ensures next { λ r. ⌜ r ≡ length (tidy (recordsOf (now (text .entry)))) ⌝ }
     ensures wrote { λ _. ⌜ now (out .exit) ≡ over (now (out .entry)) 0 (tidy (recordsOf (now (text .entry)))) ⌝ }
 {
-    let n = put_records(text, strict, out);
-    put_kind(text, strict, Kind::Comment, out, n)
+    put_around(text, strict, sizes, 0, out);
+    sizes.total()
 }

@@ -14,18 +14,19 @@ use Rattle.format.specs.declared.LineNo.{LineNo}
 use Rattle.accepted.proofs.Read.{accepted-reads}
 use Rattle.accepted.specs.Read.{isAccepted, recordsOf}
 use Rattle.tidy_text.specs.Accepted.{measuredOf}
+use Rattle.tidy_text.specs.declared.PerKind.{PerKind}
 use Rattle.tidy_text.specs.declared.Measured.the-variants.{Bad, Is}
 
 -- ---- by what was measured
 
-pub measured-bad : (o : Option ℕ) (n : ℕ) (l : LineNo) → measuredOf o n ≡ Bad l → o ≡ some (l .0)
+pub measured-bad : (o : Option ℕ) (n : PerKind) (l : LineNo) → measuredOf o n ≡ Bad l → o ≡ some (l .0)
 unfolding measuredOf
 measured-bad none n l e = absurd (let z : _≡_ {A = ℕ} 0 1 = cc in omega arith)
 measured-bad (some k) n l e =
     let y : _≡_ {A = LineNo} (record { 0 = k }) l = cc in
     rw (← y) refl
 
-pub measured-is : (o : Option ℕ) (n m : ℕ) → measuredOf o n ≡ Is m → (o ≡ none) × (n ≡ m)
+pub measured-is : (o : Option ℕ) (n m : PerKind) → measuredOf o n ≡ Is m → (o ≡ none) × (n ≡ m)
 unfolding measuredOf
 measured-is none n m e = (refl, cc)
 measured-is (some k) n m e = absurd (let z : _≡_ {A = ℕ} 0 1 = cc in omega arith)

@@ -22,14 +22,15 @@ fn write_accepted(text: &[u8], strict: bool, out: &mut [u8]) -> Answer
 {
     match tidy_text::measure(text, strict) {
         Measured::Bad(line) => Answer::Refused(24, line),
-        Measured::Is(n) => {
+        Measured::Is(sizes) => {
+            let n = sizes.total();
             if 16777216 < n {
                 return Answer::Refused(1, LineNo(0));
             }
             if out.len() < n {
                 return Answer::Refused(20, LineNo(0));
             }
-            let n = tidy_text::put_tidy(text, strict, out);
+            let n = tidy_text::put_tidy(text, strict, sizes, out);
             Answer::Count(n)
         }
     }

@@ -124,6 +124,10 @@ module _ (strict : Bool) (at : ℕ) (s : List ℕ) (r : Record) (a : Spelled str
         places = rw q (pieces-fields (a .kind) (placed (at + 4) (cut 9 (a .rest))) (a .fields) (a .each));
       })
 
+  -- the fields from there on are those that the line is spelled by
+  pub accepted-fields : fieldsFrom at s 3 ≡ a .fields
+  accepted-fields = fields .places
+
   -- the walk may start after the kind bytes
   pub accepted-start : AtField strict at s 3
   unfolding fieldsOf

@@ -10,9 +10,9 @@ ghost use Rattle.walk.specs.Run.{AtField, fieldsTo, fieldsFrom};
 ghost use Rattle.walk.specs.Next.{isFirst, valueAt, orValue, keptAt, nextIn};
 
 // Where a value stands in the text.
-struct Value {
-    at: usize,
-    len: usize,
+pub struct Value {
+    pub at: usize,
+    pub len: usize,
 }
 
 // A field that is no key: its tag, where its value stands in the text, and the place in the line to go on from.
@@ -94,6 +94,23 @@ fn kept_value(line: &[u8], at: usize, i: usize, end: usize, strict: bool) -> Val
         return own;
     }
     last_value(line, at, end, line[i + 1], line[i + 2], own)
+}
+
+// The last value with the tag `a`, `b` in the accepted line at the offset `at`: where repeats are forbidden, the first such field has it.
+pub fn find_value(line: &[u8], at: usize, a: u8, b: u8, strict: bool) -> Value
+    requires { ⌜ AtField strict at (now line) 3 ⌝ }
+    requires { ⌜ at + length (now line) ≤ 4294967295 ⌝ }
+    ensures { λ r. ⌜ r ≡ orValue (record { at = 0; len = 0 }) (lastOf a b (fieldsFrom at (now (line .entry)) 3)) ⌝ }
+{
+    let mut i: usize = 3;
+    while i < line.len() {
+        let end = field_end(line, i);
+        if field::is_same_tag(line[i + 1], line[i + 2], a, b) {
+            return kept_value(line, at, i, end, strict);
+        }
+        i = end;
+    }
+    Value { at: 0, len: 0 }
 }
 
 // The next field of the accepted line at the offset `at`, from the place `pos` on, that is no key and stands at its tag's first place.

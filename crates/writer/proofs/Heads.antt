@@ -20,6 +20,7 @@ use Rattle.accepted.proofs.Stands.{line-stand}
 use Rattle.accepted.specs.Read.{isRead}
 use Rattle.record.specs.Head.{placeOf, recordHead, headOf}
 use Rattle.record.specs.declared.Head.{Head}
+use Rattle.heads.specs.Found.{uncounted}
 use Rattle.walk.specs.Run.{AtField}
 use Rattle.walk.proofs.Start.{accepted-start, accepted-others}
 use Rattle.writer.specs.Line.{lineText, lineWritable}
@@ -71,16 +72,16 @@ module _ (strict : Bool) (at : ℕ) (s : List ℕ) where
 
   -- ---- by record
 
-  record-holds : (r : Record) → line strict (record { at = at; bytes = s }) ≡ read r → Holds strict at s (recordHead r)
-  unfolding Holds recordHead pieces Each code
+  record-holds : (r : Record) → line strict (record { at = at; bytes = s }) ≡ read r → Holds strict at s (uncounted (recordHead r))
+  unfolding Holds uncounted recordHead pieces Each code
   record-holds (header v fs) e = start (header v fs) e (λ z. absurd (omega arith))
   record-holds (reference p n fs) e = (start (reference p n fs) e (λ z. absurd (omega arith)), inside at s p (stand (reference p n fs) e .0))
   record-holds (group p fs) e = (start (group p fs) e (λ z. absurd (omega arith)), inside at s p (stand (group p fs) e .0))
   record-holds (program p fs) e = (start (program p fs) e (λ z. absurd (omega arith)), inside at s p (stand (program p fs) e .0))
   record-holds (comment p) e = inside at s p (stand (comment p) e .0)
 
-  record-text : (r : Record) → line strict (record { at = at; bytes = s }) ≡ read r → recordText r ≡ headText at s (recordHead r)
-  unfolding recordText headText recordHead headerText sequenceText mapText commentText prefixText versionText fieldText kind₀ kind₁ kind others pieces Each code
+  record-text : (r : Record) → line strict (record { at = at; bytes = s }) ≡ read r → recordText r ≡ headText at s (uncounted (recordHead r))
+  unfolding recordText headText uncounted recordHead headerText sequenceText mapText commentText prefixText versionText fieldText kind₀ kind₁ kind others pieces Each code
   record-text (header v fs) e = behind (header v fs) e (λ z. absurd (omega arith)) (prefixText kinds.Header ++ fieldText 86 78 (versionText v))
   record-text (reference p n fs) e =
       ap (λ l. prefixText kinds.ReferenceSequence ++ fieldText 83 78 l ++ fieldText 76 78 (written n) ++ fieldsText fs ++ (10 ∷ [])) (sym (place-bytes at s p (stand (reference p n fs) e .0)))
@@ -93,8 +94,8 @@ module _ (strict : Bool) (at : ℕ) (s : List ℕ) where
       ∙ behind (program p fs) e (λ z. absurd (omega arith)) (prefixText kinds.Program ++ fieldText 73 68 (placeText at s (placeOf p)))
   record-text (comment p) e = ap (λ l. prefixText kinds.Comment ++ (9 ∷ []) ++ l ++ (10 ∷ [])) (sym (place-bytes at s p (stand (comment p) e .0)))
 
-  record-writable : (r : Record) → line strict (record { at = at; bytes = s }) ≡ read r → isWritable r ≡ headWritable at s (recordHead r)
-  unfolding isWritable headWritable recordHead pieces Each
+  record-writable : (r : Record) → line strict (record { at = at; bytes = s }) ≡ read r → isWritable r ≡ headWritable at s (uncounted (recordHead r))
+  unfolding isWritable headWritable uncounted recordHead pieces Each
   record-writable (header v fs) e = refl
   record-writable (reference p n fs) e = ap isName (sym (place-bytes at s p (stand (reference p n fs) e .0)))
   record-writable (group p fs) e = refl
@@ -113,12 +114,12 @@ module _ (strict : Bool) (at : ℕ) (s : List ℕ) where
         go (read r) e q = f r e
 
     -- what is known once the head is known
-    pub told : (h d : Head) → h ≡ headOf (line strict (record { at = at; bytes = s })) → h ≡ d → Told strict at s d
+    pub told : (h d : Head) → h ≡ uncounted (headOf (line strict (record { at = at; bytes = s }))) → h ≡ d → Told strict at s d
     unfolding lineText lineWritable headOf
     told h d e q =
         subst (Told strict at s) (sym e ∙ q)
         (record {
-          holds = by-record (λ l. Holds strict at s (headOf l)) record-holds;
-          text = by-record (λ l. lineText l ≡ headText at s (headOf l)) record-text;
-          writable = by-record (λ l. lineWritable l ≡ headWritable at s (headOf l)) record-writable;
+          holds = by-record (λ l. Holds strict at s (uncounted (headOf l))) record-holds;
+          text = by-record (λ l. lineText l ≡ headText at s (uncounted (headOf l))) record-text;
+          writable = by-record (λ l. lineWritable l ≡ headWritable at s (uncounted (headOf l))) record-writable;
         })

@@ -3,3 +3,4 @@ pub mod Others
 pub mod Texts
 pub mod Sizes
 pub mod Heads
+pub mod Whole

@@ -5,15 +5,17 @@ use record::Head;
 use record::Place;
 use walk::Next;
 ghost use mathlib.Core.Path.{_≡_};
-ghost use mathlib.Core.Bool.{true};
+ghost use mathlib.Core.Bool.{true, _&&_};
 ghost use mathlib.Core.List.{[], _∷_, _++_};
 ghost use Prim.Native.Nat.{_≤_, _+_};
-ghost use lib.ListN.{length, take, drop};
+ghost use lib.ListN.{length, take, drop, getD};
 ghost use Rattle.format.specs.Records.{line};
 ghost use Rattle.format.specs.Tidy.{fieldText};
 ghost use Rattle.text.specs.Over.{over};
 ghost use Rattle.accepted.specs.Spelled.{kind₀, kind₁};
 ghost use Rattle.accepted.specs.Read.{isRead};
+ghost use Rattle.heads.specs.Found.{kindBy};
+ghost use Rattle.neat.specs.Neat.{neat};
 ghost use Rattle.walk.specs.Run.{AtField};
 ghost use Rattle.writer.specs.Line.{lineText, sizeOf};
 ghost use Rattle.writer.specs.Parts.{prefixText, versionText, othersText};
@@ -234,15 +236,15 @@ fn put_comment(out: &mut [u8], o: usize, comment: Place, line: &[u8], at: usize)
     n + 2 + len
 }
 
-// Writes the record of an accepted line, which stands at the offset `at` without its ending, and answers the place after it.
-pub fn put_record(out: &mut [u8], o: usize, src: &[u8], at: usize, strict: bool) -> usize
+// Writes the record of an accepted line part by part.
+fn put_parts(out: &mut [u8], o: usize, src: &[u8], at: usize, strict: bool) -> usize
     requires { ⌜ isRead (line strict (record { at = at; bytes = now src })) ≡ true ⌝ }
     requires { ⌜ at + length (now src) ≤ 16777216 ⌝ }
     requires { ⌜ o + length (lineText (line strict (record { at = at; bytes = now src }))) ≤ length (now out) ⌝ }
     ensures next { λ r. ⌜ r ≡ o + length (lineText (line strict (record { at = at; bytes = now (src .entry) }))) ⌝ }
     ensures wrote { λ _. ⌜ now (out .exit) ≡ over (now (out .entry)) o (lineText (line strict (record { at = at; bytes = now (src .entry) }))) ⌝ }
 {
-    let head = record::parse_record(src, at, strict);
+    let head = heads::find_head(src, at, strict);
     match head {
         Head::Refused(_) => o,
         Head::Header(v, _) => put_header(out, o, v, src, at, strict),
@@ -251,6 +253,43 @@ pub fn put_record(out: &mut [u8], o: usize, src: &[u8], at: usize, strict: bool)
         Head::Program(p, _) => put_map(out, o, Kind::Program, p, src, at, strict),
         Head::Comment(p) => put_comment(out, o, p, src, at),
     }
+}
+
+// Whether the record of an accepted line is the line itself, so that it need not be taken apart.
+fn is_whole(src: &[u8], strict: bool) -> bool
+    requires { ⌜ 3 ≤ length (now src) ⌝ }
+    ensures { λ r. ⌜ r ≡ (strict && neat (kindBy (getD (now (src .entry)) 1 0)) (now (src .entry))) ⌝ }
+{
+    if strict {
+        return neat::is_neat(heads::kind_of(src), src);
+    }
+    false
+}
+
+// Writes a line as it is, and the LF.
+fn put_whole(out: &mut [u8], o: usize, line: &[u8]) -> usize
+    requires { ⌜ o + length (now line) + 1 ≤ length (now out) ⌝ }
+    ensures next { λ r. ⌜ r ≡ o + length (now (line .entry) ++ (10 ∷ [])) ⌝ }
+    ensures wrote { λ _. ⌜ now (out .exit) ≡ over (now (out .entry)) o (now (line .entry) ++ (10 ∷ [])) ⌝ }
+{
+    let n = o + line.len();
+    text::put_bytes(out, o, line);
+    out[n] = b'\n';
+    n + 1
+}
+
+// Writes the record of an accepted line, which stands at the offset `at` without its ending, and answers the place after it.
+pub fn put_record(out: &mut [u8], o: usize, src: &[u8], at: usize, strict: bool) -> usize
+    requires { ⌜ isRead (line strict (record { at = at; bytes = now src })) ≡ true ⌝ }
+    requires { ⌜ at + length (now src) ≤ 16777216 ⌝ }
+    requires { ⌜ o + length (lineText (line strict (record { at = at; bytes = now src }))) ≤ length (now out) ⌝ }
+    ensures next { λ r. ⌜ r ≡ o + length (lineText (line strict (record { at = at; bytes = now (src .entry) }))) ⌝ }
+    ensures wrote { λ _. ⌜ now (out .exit) ≡ over (now (out .entry)) o (lineText (line strict (record { at = at; bytes = now (src .entry) }))) ⌝ }
+{
+    if is_whole(src, strict) {
+        return put_whole(out, o, src);
+    }
+    put_parts(out, o, src, at, strict)
 }
 
 // How many bytes the other fields of an accepted line have.
@@ -336,8 +375,11 @@ pub fn record_size(src: &[u8], at: usize, strict: bool) -> Size
     requires { ⌜ at + length (now src) ≤ 16777216 ⌝ }
     ensures { λ r. ⌜ r ≡ sizeOf (line strict (record { at = at; bytes = now (src .entry) })) ⌝ }
 {
-    let head = record::parse_record(src, at, strict);
+    let head = heads::find_head(src, at, strict);
     if is_head_writable(head, src, at, strict) {
+        if is_whole(src, strict) {
+            return Size::Is(src.len() + 1);
+        }
         return Size::Is(head_len(head, src, at, strict));
     }
     Size::Unwritable

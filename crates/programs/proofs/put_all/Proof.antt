@@ -1,19 +1,25 @@
 -- `programs::put_all` meets its contract: the records, the new programs, the comments.
 use Prim.Native.Nat.{ℕ, _+_, _≤_}
-use mathlib.Core.Path.{_≡_, sym, ap, _∙_}
+use mathlib.Core.Path.{_≡_, ap, ap₂, _∙_}
 use mathlib.Core.List.{List, _++_}
 use native.Mathlib.Omega.{arith}
 use lib.ListN.{length, length-append}
 use Rattle.format.specs.Records.{Record}
 use Rattle.format.specs.Reading.{readText}
+use Rattle.format.specs.Tidy.{tidy}
 use Rattle.format.specs.declared.Kind.the-variants.{Comment}
 use Rattle.accepted.specs.Read.{recordsOf}
 use Rattle.entries.specs.Entries.{entriesIn}
-use Rattle.writer.proofs.Wrote.{Wrote, wrote-then}
 use Rattle.tidy_text.specs.Kinds.{textOfKind, frontText}
+use Rattle.tidy_text.specs.Sizes.{get, front, sizesOf}
+use Rattle.text.specs.Over.{over}
+use Rattle.tidy_text.proofs.Lines.{opened}
+use Rattle.tidy_text.proofs.Total.{tidy-small}
+use Rattle.tidy_text.proofs.Sizes.{front-size, get-sizes}
+use Rattle.tidy_text.proofs.Parts.{around-filled}
 use Rattle.added.specs.Lines.{addedText}
 use Rattle.programs.specs.Added.{withAdded}
-use Rattle.programs.proofs.Sizes.{with-parts}
+use Rattle.programs.proofs.Sizes.{with-parts, with-size}
 use borrow.Author.Needs.{needs}
 use Rattle.programs.proofs.put_all.Statement.{statement}
 use Rattle.programs.proofs.put_all.Tie as tie
@@ -25,21 +31,51 @@ records s = recordsOf (s .args .text .now)
 abbrev new : tie.Start → List ℕ
 new s = let a = s .args in addedText (a .text .now) (entriesIn (a .kept .now)) (a .shape .empty) (a .shape .alone) (a .shape .linked) (a .prefix .now) (a .fields .now) (a .leaves .now)
 
-put-records-requires : tie.Need-put-records-requires
-put-records-requires c κs = let s = c .before .before .before .before .before .before .before in (s .pre .0, (s .pre .1 .0, omega (arith, s .pre .1 .1 .1, with-parts (records s) (new s))))
+-- how long the parts are
+module _ (s : tie.Start) where
+  front-is : front (s .args .sizes) ≡ length (frontText (records s))
+  front-is = ap front (s .pre .1 .1 .0) ∙ front-size (records s)
+
+  comments-are : s .args .sizes .co ≡ length (textOfKind Comment (records s))
+  unfolding get
+  comments-are = ap (get Comment) (s .pre .1 .1 .0) ∙ get-sizes Comment (records s)
+
+  whole-is : (length (tidy (records s)) + length (new s) ≤ length (s .args .out .now)) × (length (tidy (records s)) ≡ length (frontText (records s)) + length (textOfKind Comment (records s)))
+  whole-is = (
+    omega (arith, s .pre .1 .1 .1 .1 .1, with-size (records s) (new s)),
+    omega (arith, with-size (records s) (new s), with-parts (records s) (new s)),
+  )
+
+  small : length (tidy (records s)) + length (new s) ≤ 33554433
+  small =
+      omega (
+        arith,
+        s .pre .1 .1 .1 .0,
+        tidy-small (s .args .strict) (s .args .text .now) (opened (s .args .strict) (s .args .text .now) (s .pre .0) (s .pre .1 .0)) .1,
+      )
+
+put-around-requires : tie.Need-put-around-requires
+put-around-requires c κs =
+    let s = c .before .before .before .before .before .before .before in
+    (s .pre .0, (s .pre .1 .0, (s .pre .1 .1 .0, (s .pre .1 .1 .1 .0 .1, omega (arith, s .pre .1 .1 .1 .0 .0, whole-is s .0)))))
+
+front-requires : tie.Need-front-requires
+front-requires c κs =
+    let s = c .before .before .before .before .before .before .before .before .before .before .before in
+    let room : front (s .args .sizes) ≤ 18446744073709551615 = omega (arith, front-is s, whole-is s .1, small s) in
+    room
 
 put-added-requires : tie.Need-put-added-requires
 put-added-requires c κs =
-    let w = c .before .before .before in
+    let w = c .before .before .before .before in
     let s = w .before .before .before .before .before .before .before .before in
-    (s .pre .1 .1 .0, omega (arith, s .pre .1 .1 .1, with-parts (records s) (new s), w .put-records .ensures .0, w .put-records .kept .1 .1 .0))
+    (s .pre .1 .1 .1 .1 .0, omega (arith, c .front .ensures, front-is s, whole-is s, w .put-around .kept .1 .1 .1 .1 .0))
 
-put-kind-requires : tie.Need-put-kind-requires
-put-kind-requires c κs =
+add-result : tie.Need-add-result
+add-result c =
     let x = c .before .before .before in
-    let w = x .before .before .before .before in
-    let s = w .before .before .before .before .before .before .before .before in
-    (s .pre .0, (s .pre .1 .0, omega (arith, s .pre .1 .1 .1, with-parts (records s) (new s), w .put-records .ensures .0, w .put-records .kept .1 .1 .0, x .put-added .ensures .0, x .put-added .kept .0)))
+    let s = x .before .before .before .before .before .before .before .before .before .before .before .before .before in
+    omega (arith, x .put-added .ensures .0, x .before .front .ensures, front-is s, comments-are s, whole-is s .1, small s)
 
 same-length : tie.Need-same-length
 same-length c = search needs
@@ -47,19 +83,21 @@ same-length c = search needs
 returns : tie.Need-returns
 unfolding withAdded
 returns c =
-    let y = c .before .before in
-    let x = y .before .before .before .before in
-    let w = x .before .before .before .before in
+    let x = c .before .before .before in
+    let f = x .before in
+    let w = f .before .before .before .before in
     let s = w .before .before .before .before .before .before .before .before in
     let out = s .args .out .now in
-    let a = frontText (records s) in
-    let size = with-parts (records s) (new s) in
-    let first : Wrote out 0 (w .put-records .last .1 .1 .0) (w .put-records .result) a = (omega (arith, w .put-records .ensures .0), w .put-records .ensures .1) in
-    let both = wrote-then out 0 _ _ _ _ a (new s) first (x .put-added .ensures) (omega (arith, s .pre .1 .1 .1, size, length-append a (new s))) in
-    let all = wrote-then out 0 _ _ _ _ (a ++ new s) (textOfKind Comment (records s)) both (y .put-kind .ensures) (omega (arith, s .pre .1 .1 .1, size, length-append a (new s), length-append (a ++ new s) (textOfKind Comment (records s)))) in
-    (omega (arith, all .0), all .1)
+    let rs = records s in
+    let a = frontText rs in
+    let b = textOfKind Comment rs in (
+      omega (arith, x .put-added .ensures .0, f .front .ensures, front-is s, comments-are s, with-parts rs (new s)),
+      x .put-added .ensures .1
+          ∙ ap₂ (λ o n. over o n (new s)) (w .put-around .ensures ∙ ap (λ n. over (over out 0 a) (length a + n) b) (s .pre .1 .1 .1 .0 .0)) (f .front .ensures ∙ front-is s)
+          ∙ around-filled out (new s) rs (whole-is s .0),
+    )
 
 pub put-all-spec : {M : Type 1} → statement M
 put-all-spec =
     tie.close
-    (tie.spec put-records-requires put-added-requires put-kind-requires same-length returns)
+    (tie.spec put-around-requires front-requires put-added-requires add-result same-length returns)

@@ -1,181 +1,59 @@
--- `writer::put_record` meets its contract: the head of an accepted line says which record is to be written, and its text.
+-- `writer::put_record` meets its contract: the line as it is where that is its record's text, else part by part.
 use Prim.Native.Nat.{_+_, _≤_}
-use mathlib.Core.Path.{_≡_, sym, subst}
-use lib.ListN.{length}
-use Rattle.record.specs.declared.Head.{Head}
-use Rattle.writer.specs.Heads.{headText, Holds}
+use mathlib.Core.Path.{_≡_, sym, ap, subst, _∙_}
+use mathlib.Core.List.{[], _∷_, _++_}
+use native.Mathlib.Omega.{arith}
+use lib.ListN.{length, length-append}
+use Rattle.format.specs.Records.{line}
+use Rattle.heads.proofs.Finds.{three}
+use Rattle.writer.specs.Line.{lineText}
 use Rattle.writer.proofs.Wrote.{Wrote}
-use Rattle.writer.proofs.Heads.{Told, told}
+use Rattle.writer.proofs.Whole.{whole-text}
 use borrow.Author.Needs.{needs}
 use Rattle.writer.proofs.put_record.Statement.{statement}
 use Rattle.writer.proofs.put_record.Tie as tie
 
--- the head is `d`
-shown : (c : tie.After-parse-record) (d : Head) → c .parse-record .result ≡ d → (let a = c .before .before .before .args in Told (a .strict) (a .at) (a .src .now) d)
-shown c d e =
-    let s = c .before .before .before in
-    let a = s .args in
-    told (a .strict) (a .at) (a .src .now) (s .pre .0) (c .parse-record .result) d (c .parse-record .ensures) e
+whole : (t : tie.Then1) → (let a = t .before .before .before .before .args in lineText (line (a .strict) (record { at = a .at; bytes = a .src .now })) ≡ a .src .now ++ (10 ∷ []))
+whole t =
+    let s = t .before .before .before .before in
+    whole-text (s .args .strict) (s .args .at) (s .args .src .now) (s .pre .0) (sym (t .before .is-whole .ensures) ∙ t .if1 .taken)
 
--- it has room
-room : (c : tie.After-parse-record) (d : Head) → c .parse-record .result ≡ d
-    → (let a = c .before .before .before .args in a .o + length (headText (a .at) (a .src .now) d) ≤ length (a .out .now))
-room c d e = let s = c .before .before .before in subst (λ l. s .args .o + length l ≤ length (s .args .out .now)) (shown c d e .text) (s .pre .1 .1)
+is-whole-requires : tie.Need-is-whole-requires
+is-whole-requires c κs = let s = c .before .before in three (s .args .strict) (s .args .at) (s .args .src .now) (s .pre .0)
 
-parse-record-requires : tie.Need-parse-record-requires
-parse-record-requires c κs = search needs
-
-enum-told : tie.Need-enum-told
-enum-told c = search needs
-
-enum-known-head : tie.Need-enum-known-head
-enum-known-head c = search needs
-
-put-header-requires : tie.Need-put-header-requires
-unfolding Holds headText
-put-header-requires c κs =
-    let k = c .before .before in
-    let p = k .before .before in
-    let s = p .before .before .before in
-    let holds = shown p _ (k .head .given .1) .holds in
-    (holds, (s .pre .1 .0, room p _ (k .head .given .1)))
-
-enum-known-head-2 : tie.Need-enum-known-head-2
-enum-known-head-2 c = search needs
-
-put-reference-sequence-requires : tie.Need-put-reference-sequence-requires
-unfolding Holds headText
-put-reference-sequence-requires c κs =
-    let k = c .before .before in
-    let p = k .before .before in
-    let s = p .before .before .before in
-    let holds = shown p _ (k .head2 .given .1) .holds in
-    (holds .0, (s .pre .1 .0, (holds .1, room p _ (k .head2 .given .1))))
-
-enum-known-head-3 : tie.Need-enum-known-head-3
-enum-known-head-3 c = search needs
-
-put-map-requires : tie.Need-put-map-requires
-unfolding Holds headText
-put-map-requires c κs =
-    let k = c .before .before in
-    let p = k .before .before in
-    let s = p .before .before .before in
-    let holds = shown p _ (k .head3 .given .1) .holds in
-    (holds .0, (s .pre .1 .0, (holds .1, room p _ (k .head3 .given .1))))
-
-enum-known-head-4 : tie.Need-enum-known-head-4
-enum-known-head-4 c = search needs
-
-put-map-requires-2 : tie.Need-put-map-requires-2
-unfolding Holds headText
-put-map-requires-2 c κs =
-    let k = c .before .before in
-    let p = k .before .before in
-    let s = p .before .before .before in
-    let holds = shown p _ (k .head4 .given .1) .holds in
-    (holds .0, (s .pre .1 .0, (holds .1, room p _ (k .head4 .given .1))))
-
-enum-known-head-5 : tie.Need-enum-known-head-5
-enum-known-head-5 c = search needs
-
-put-comment-requires : tie.Need-put-comment-requires
-unfolding Holds headText
-put-comment-requires c κs =
-    let k = c .before .before in
-    let p = k .before .before in
-    let s = p .before .before .before in
-    let holds = shown p _ (k .head5 .given .1) .holds in
-    (holds, room p _ (k .head5 .given .1))
-
-returns : tie.Need-returns
-unfolding Holds
-returns c = absurd (shown (c .before .before) _ (c .enum-told .given .1) .holds)
+put-whole-requires : tie.Need-put-whole-requires
+put-whole-requires c κs =
+    let t = c .before in
+    let s = t .before .before .before .before in
+    omega (arith, s .pre .1 .1, ap length (whole t), length-append (s .args .src .now) (10 ∷ []))
 
 same-length : tie.Need-same-length
 same-length c = search needs
 
-returns-2 : tie.Need-returns-2
-unfolding headText
-returns-2 c =
+returns : tie.Need-returns
+returns c =
     let w = c .before .before in
-    let k = w .before .before .before in
-    let p = k .before .before in
-    let a = p .before .before .before .args in
-    subst (Wrote (a .out .now) (a .o) (w .put-header .last .0) (w .put-header .result)) (sym (shown p _ (k .head .given .1) .text)) (w .put-header .ensures)
+    let t = w .before .before in
+    let a = t .before .before .before .before .args in
+    subst (Wrote (a .out .now) (a .o) (w .put-whole .last .0) (w .put-whole .result)) (sym (whole t)) (w .put-whole .ensures)
+
+put-parts-requires : tie.Need-put-parts-requires
+put-parts-requires c κs = search needs
 
 same-length-2 : tie.Need-same-length-2
 same-length-2 c = search needs
 
-returns-3 : tie.Need-returns-3
-unfolding headText
-returns-3 c =
-    let w = c .before .before in
-    let k = w .before .before .before in
-    let p = k .before .before in
-    let a = p .before .before .before .args in
-    subst (Wrote (a .out .now) (a .o) (w .put-reference-sequence .last .0) (w .put-reference-sequence .result)) (sym (shown p _ (k .head2 .given .1) .text)) (w .put-reference-sequence .ensures)
-
-same-length-3 : tie.Need-same-length-3
-same-length-3 c = search needs
-
-returns-4 : tie.Need-returns-4
-unfolding headText
-returns-4 c =
-    let w = c .before .before in
-    let k = w .before .before .before in
-    let p = k .before .before in
-    let a = p .before .before .before .args in
-    subst (Wrote (a .out .now) (a .o) (w .put-map .last .0) (w .put-map .result)) (sym (shown p _ (k .head3 .given .1) .text)) (w .put-map .ensures)
-
-same-length-4 : tie.Need-same-length-4
-same-length-4 c = search needs
-
-returns-5 : tie.Need-returns-5
-unfolding headText
-returns-5 c =
-    let w = c .before .before in
-    let k = w .before .before .before in
-    let p = k .before .before in
-    let a = p .before .before .before .args in
-    subst (Wrote (a .out .now) (a .o) (w .put-map2 .last .0) (w .put-map2 .result)) (sym (shown p _ (k .head4 .given .1) .text)) (w .put-map2 .ensures)
-
-same-length-5 : tie.Need-same-length-5
-same-length-5 c = search needs
-
-returns-6 : tie.Need-returns-6
-unfolding headText
-returns-6 c =
-    let w = c .before .before in
-    let k = w .before .before .before in
-    let p = k .before .before in
-    let a = p .before .before .before .args in
-    subst (Wrote (a .out .now) (a .o) (w .put-comment .last .0) (w .put-comment .result)) (sym (shown p _ (k .head5 .given .1) .text)) (w .put-comment .ensures)
+returns-2 : tie.Need-returns-2
+returns-2 c = search needs
 
 pub put-record-spec : {M : Type 1} → statement M
 put-record-spec =
     tie.close
     (tie.spec
-    parse-record-requires
-    enum-told
-    enum-known-head
-    put-header-requires
-    enum-known-head-2
-    put-reference-sequence-requires
-    enum-known-head-3
-    put-map-requires
-    enum-known-head-4
-    put-map-requires-2
-    enum-known-head-5
-    put-comment-requires
-    returns
+    is-whole-requires
+    put-whole-requires
     same-length
-    returns-2
+    returns
+    put-parts-requires
     same-length-2
-    returns-3
-    same-length-3
-    returns-4
-    same-length-4
-    returns-5
-    same-length-5
-    returns-6)
+    returns-2)

@@ -1,0 +1,188 @@
+-- What an accepted line of each kind holds: the fields that its head is made from, and where they stand.
+use Prim.Native.Nat.{ℕ, _+_, _-_, _≤_, _<_, _^_}
+use mathlib.Core.Path.{_≡_, refl, sym, ap, subst, _∙_}
+use mathlib.Core.Bool.{Bool, true, false, not, _&&_}
+use mathlib.Core.List.{List, [], _∷_}
+use mathlib.Core.Option.{some}
+use native.Mathlib.Omega.{arith}
+use lib.ListN.{length, take, drop, getD}
+use Rattle.format.specs.Decimal.{worth, digits}
+use Rattle.format.specs.Lines.{Piece, cut, placed}
+use Rattle.format.specs.Fields.{Field, tagged, lastOf}
+use Rattle.format.specs.Records.{Record, header, reference, group, program, comment, Line, refused, read, line}
+use Rattle.format.specs.Version.{version}
+use Rattle.format.specs.declared.Version.{Version}
+use Rattle.format.specs.declared.Kind.{Kind}
+use Rattle.format.specs.declared.Kind.the-variants.{Header, ReferenceSequence, ReadGroup, Program, Comment}
+use Rattle.text.specs.Stands.{Stands, Each}
+use Rattle.accepted.specs.Sound.{kind}
+use Rattle.accepted.specs.Spelled as sp
+use Rattle.accepted.specs.Spelled.{Sized, Good, Made, Spelled, Accepted, kind₀, kind₁}
+use Rattle.accepted.specs.Read.{isRead}
+use Rattle.accepted.proofs.Bools.{never, and-left, and-right}
+use Rattle.accepted.proofs.Fields.{Of, lastOf-of}
+use Rattle.accepted.proofs.Pairs.{pairs-right}
+use Rattle.accepted.proofs.Sound.{made-kind}
+use Rattle.accepted.proofs.Spelled.{line-accepted}
+use Rattle.accepted.proofs.Stands.{fields-stand}
+use Rattle.text.proofs.Stands.{pieces-stand}
+use Rattle.record.specs.Head.{placeOf, recordHead, headOf}
+use Rattle.record.specs.declared.Place.{Place}
+use Rattle.record.specs.declared.Head.{Head}
+use Rattle.record.specs.declared.Head.the-variants as head
+use Rattle.walk.specs.Run.{AtField, fieldsFrom}
+use Rattle.walk.proofs.Start.{accepted-start, accepted-fields}
+use borrow.Author.Tests.{lt-ltb, not-true}
+use Rattle.format.specs.Bytes.{digit, all, none?}
+use Rattle.decimal.specs.Number.{counted, front}
+use Rattle.decimal.specs.declared.Number.the-variants.{Is}
+use Rattle.decimal.proofs.Whole.{span-all}
+use Rattle.heads.specs.Found.{kindBy, placeIn, uncounted}
+
+pub first-byte : (k : Kind) → kindBy (kind₀ k) ≡ k
+unfolding kindBy kind₀
+first-byte Header = refl
+first-byte ReferenceSequence = refl
+first-byte ReadGroup = refl
+first-byte Program = refl
+first-byte Comment = refl
+
+-- ---- by kind
+
+-- the line `s` has a last field with the tag `a`, `b`, whose value is `p`
+pub record Has (at : ℕ) (s : List ℕ) (a b : ℕ) (p : Piece) : Type 0 where
+  pub last : lastOf a b (fieldsFrom at s 3) ≡ some p
+  pub stands : Stands s at p
+
+-- the head `h` of a line is that of an HD, by its VN
+pub record OfHeader (at : ℕ) (s : List ℕ) (h : Head) : Type 0 where
+  pub piece : Piece
+  pub number : Version
+  pub has : Has at s 86 78 piece
+  pub spells : version (piece .bytes) ≡ some number
+  pub is : h ≡ head.Header number 0
+
+-- of an SQ, by its SN and its LN
+pub record OfReference (at : ℕ) (s : List ℕ) (h : Head) : Type 0 where
+  pub name : Piece
+  pub size : Piece
+  pub has-name : Has at s 83 78 name
+  pub has-size : Has at s 76 78 size
+  pub fits : worth (size .bytes) < 2 ^ 64
+  pub spells : digits (size .bytes) ≡ true
+  pub is : h ≡ head.ReferenceSequence (placeOf name) (worth (size .bytes)) 0
+
+-- of an RG or PG, by its ID
+pub record OfMap (at : ℕ) (s : List ℕ) (make : Place → Head) (h : Head) : Type 0 where
+  pub piece : Piece
+  pub has : Has at s 73 68 piece
+  pub is : h ≡ make (placeOf piece)
+
+unfoldable pub Held : Bool → Kind → ℕ → List ℕ → Head → Type 0
+Held strict Header at s h = AtField strict at s 3 × OfHeader at s h
+Held strict ReferenceSequence at s h = AtField strict at s 3 × OfReference at s h
+Held strict ReadGroup at s h = AtField strict at s 3 × OfMap at s (λ p. head.ReadGroup p 0) h
+Held strict Program at s h = AtField strict at s 3 × OfMap at s (λ p. head.Program p 0) h
+Held strict Comment at s h = (4 ≤ length s) × (h ≡ head.Comment (record { at = at + 4; len = length s - 4 }))
+
+-- ---- a line of fields
+
+-- what a length is
+unfoldable pub Number : Piece → Type 0
+Number p = (worth (p .bytes) < 2 ^ 64) × (digits (p .bytes) ≡ true)
+
+module _ (strict : Bool) (at : ℕ) (s : List ℕ) where
+  made-held : (fs : List Field) (k : Kind) (r : Record) → AtField strict at s 3 → ((x y : ℕ) (p : Piece) → lastOf x y fs ≡ some p → Has at s x y p)
+      → (k ≡ ReferenceSequence → (p : Piece) → lastOf 76 78 fs ≡ some p → Number p) → Made fs k r → Held strict k at s (uncounted (recordHead r))
+  unfolding Held uncounted recordHead Number
+  made-held fs k r start has number (sp.of-header p v e g) = (start, record { piece = p; number = v; has = has 86 78 p e; spells = g; is = refl })
+  made-held fs k r start has number (sp.of-reference p n e g) =
+      let l = number refl n g in
+      (start, record { name = p; size = n; has-name = has 83 78 p e; has-size = has 76 78 n g; fits = l .0; spells = l .1; is = refl })
+  made-held fs k r start has number (sp.of-group p e) = (start, record { piece = p; has = has 73 68 p e; is = refl })
+  made-held fs k r start has number (sp.of-program p e) = (start, record { piece = p; has = has 73 68 p e; is = refl })
+
+  module _ (r : Record) (a : Spelled strict at s r) where
+    has : (x y : ℕ) (p : Piece) → lastOf x y (a .fields) ≡ some p → Has at s x y p
+    has x y p e =
+        let o = lastOf-of (λ f. Stands s at (f .value)) x y (a .fields) p (fields-stand strict at s r a) e in
+        record { last = ap (lastOf x y) (accepted-fields strict at s r a) ∙ e; stands = subst (Stands s at) (o .value) (o .holds) }
+
+    sized : Each (Sized (a .kind)) (a .fields)
+    sized =
+        pairs-right (λ p f. Good (a .kind) (p .at) (p .bytes) f) (Stands (a .rest) (at + 4)) (Sized (a .kind)) (λ p f h g. g .sized)
+        (placed (at + 4) (cut 9 (a .rest))) (a .fields) (pieces-stand 9 (at + 4) (a .rest)) (a .each)
+
+    pub number : a .kind ≡ ReferenceSequence → (p : Piece) → lastOf 76 78 (a .fields) ≡ some p → Number p
+    unfolding Sized Number
+    number k p e =
+        let o = lastOf-of (Sized ReferenceSequence) 76 78 (a .fields) p (subst (λ k. Each (Sized k) (a .fields)) k sized) e in
+        let n = o .holds (o .tag) in
+        subst Number (o .value) (n .1, n .2)
+
+accepted-held : (strict : Bool) (at : ℕ) (s : List ℕ) (r : Record) → Accepted strict at s r → Held strict (kind r) at s (uncounted (recordHead r))
+unfolding Held uncounted recordHead kind placeOf
+accepted-held strict at s r (sp.of-remark t) = (omega arith, ap (λ n. head.Comment (record { at = at + 4; len = n })) (omega arith))
+accepted-held strict at s r (sp.of-fields a) =
+    subst (λ k. Held strict k at s (uncounted (recordHead r))) (sym (made-kind (a .fields) (a .kind) r (a .made)))
+    (made-held strict at s (a .fields) (a .kind) r (accepted-start strict at s r a) (has strict at s r a) (number strict at s r a) (a .made))
+
+-- its second byte
+accepted-byte : (strict : Bool) (at : ℕ) (s : List ℕ) (r : Record) → Accepted strict at s r → (3 ≤ length s) × (kindBy (getD s 1 0) ≡ kind r)
+unfolding kind kind₀
+accepted-byte strict at s r (sp.of-remark t) = (omega arith, first-byte Comment)
+accepted-byte strict at s r (sp.of-fields a) = (
+  omega (arith, ap length (a .spells)),
+  ap (λ l. kindBy (getD l 1 0)) (a .spells) ∙ first-byte (a .kind) ∙ sym (made-kind (a .fields) (a .kind) r (a .made)),
+)
+
+-- ---- an accepted line
+
+module _ (strict : Bool) (at : ℕ) (s : List ℕ) (h : isRead (line strict (record { at = at; bytes = s })) ≡ true) where
+  by-record : (P : Line → Type 0) → ((r : Record) → Accepted strict at s r → P (read r)) → P (line strict (record { at = at; bytes = s }))
+  unfolding isRead
+  by-record P f = go (line strict (record { at = at; bytes = s })) refl h
+    where
+      go : (l : Line) → line strict (record { at = at; bytes = s }) ≡ l → isRead l ≡ true → P l
+      go (refused n) e q = absurd (never (cc))
+      go (read r) e q = f r (line-accepted strict (record { at = at; bytes = s }) r e)
+
+  pub three : 3 ≤ length s
+  three = by-record (λ l. 3 ≤ length s) (λ r a. accepted-byte strict at s r a .0)
+
+  -- the head by the kind that the second byte tells
+  pub held : (k : Kind) → kindBy (getD s 1 0) ≡ k → Held strict k at s (uncounted (headOf (line strict (record { at = at; bytes = s }))))
+  unfolding headOf
+  held k e =
+      by-record (λ l. Held strict k at s (uncounted (headOf l)))
+      (λ r a. subst (λ k. Held strict k at s (uncounted (recordHead r))) (sym (accepted-byte strict at s r a .1) ∙ e) (accepted-held strict at s r a))
+
+-- ---- a piece by its place
+
+module _ (at : ℕ) (s : List ℕ) (a b : ℕ) (p : Piece) (h : Has at s a b p) where
+  -- the place that is found
+  pub found-place : (q : Place) → q ≡ placeIn (lastOf a b (fieldsFrom at s 3)) → q ≡ placeOf p
+  unfolding placeIn
+  found-place q e = e ∙ ap placeIn (h .last)
+
+  module _ (q : Place) (e : q ≡ placeIn (lastOf a b (fieldsFrom at s 3))) where
+    pub place-within : (at ≤ q .at) × (q .at - at + q .len ≤ length s)
+    unfolding placeOf
+    place-within =
+        let f = found-place q e in
+        rw f (h .stands .from, h .stands .within)
+
+    -- and the bytes that are lent by it
+    pub place-bytes : take (q .at - at + q .len - (q .at - at)) (drop (q .at - at) s) ≡ p .bytes
+    unfolding placeOf
+    place-bytes =
+        let n : q .at - at + q .len - (q .at - at) ≡ q .len = omega arith in
+        ap (λ n. take n (drop (q .at - at) s)) n ∙ ap (λ q. take (q .len) (drop (q .at - at) s)) (found-place q e) ∙ sym (h .stands .bytes)
+
+-- ---- what they say
+
+pub front-digits : (limit : ℕ) (ds : List ℕ) → digits ds ≡ true → worth ds < limit → front limit ds ≡ Is (worth ds) (length ds)
+unfolding front counted digits
+front-digits limit ds h l =
+    let n = and-left (not (none? ds)) (all digit ds) h in
+    rw (span-all ds (and-right (not (none? ds)) (all digit ds) h), not-true (none? ds) n, lt-ltb (worth ds) limit l) refl

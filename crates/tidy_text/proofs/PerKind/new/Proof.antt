@@ -1,0 +1,12 @@
+-- `tidy_text::PerKind::new` meets its contract.
+use mathlib.Core.Path.{refl}
+use Rattle.tidy_text.specs.Sizes.{noBytes}
+use Rattle.tidy_text.proofs.PerKind.new.Statement.{statement}
+use Rattle.tidy_text.proofs.PerKind.new.Tie as tie
+
+returns : tie.Need-returns
+unfolding noBytes
+returns c = refl
+
+pub new-spec : {M : Type 1} → statement M
+new-spec = tie.close (tie.spec returns)

@@ -1,0 +1,52 @@
+-- `tidy_text::put_around` meets its contract: one kind starts where the one before it ends, and the comments a gap further.
+use Prim.Native.Nat.{_+_, _≤_}
+use mathlib.Core.Path.{_≡_, sym, ap, subst, _∙_}
+use native.Mathlib.Omega.{arith}
+use lib.ListN.{length}
+use Rattle.format.specs.Reading.{readText}
+use Rattle.accepted.specs.Read.{recordsOf}
+use Rattle.tidy_text.specs.Sizes.{front, starts, sizesOf}
+use Rattle.tidy_text.specs.Placed.{placed, parts, Apart}
+use Rattle.tidy_text.proofs.Lines.{opened}
+use Rattle.tidy_text.proofs.Total.{front-sizes, tidy-sizes, tidy-small}
+use Rattle.tidy_text.proofs.Sizes.{front-size}
+use Rattle.tidy_text.proofs.Parts.{starts-apart, starts-placed}
+use borrow.Author.Needs.{needs}
+use Rattle.tidy_text.proofs.put_around.Statement.{statement}
+use Rattle.tidy_text.proofs.put_around.Tie as tie
+
+-- where each kind starts
+places : (c : tie.After-starts) → (let a = c .before .before .before .args in c .starts .result ≡ starts (a .gap) (sizesOf (recordsOf (a .text .now))))
+places c = let s = c .before .before .before in c .starts .ensures ∙ ap (starts (s .args .gap)) (s .pre .1 .1 .0)
+
+starts-requires : tie.Need-starts-requires
+starts-requires c κs =
+    let s = c .before .before in
+    let a = s .args in
+    let rs = recordsOf (a .text .now) in
+    let small = tidy-small (a .strict) (a .text .now) (opened (a .strict) (a .text .now) (s .pre .0) (s .pre .1 .0)) .1 in
+    let room : front (a .sizes) + a .gap ≤ 18446744073709551615 =
+    omega (arith, s .pre .1 .1 .1 .0, small, ap front (s .pre .1 .1 .0), front-size rs, front-sizes rs, tidy-sizes rs) in
+    room
+
+put-lines-requires : tie.Need-put-lines-requires
+put-lines-requires c κs =
+    let s = c .before .before .before .before in
+    let a = s .args in
+    let rs = recordsOf (a .text .now) in
+    (s .pre .0, (s .pre .1 .0, subst (λ p. Apart (parts p rs) (length (a .out .now))) (sym (places (c .before))) (starts-apart (a .out .now) (a .gap) rs (s .pre .1 .1 .1 .1))))
+
+same-length : tie.Need-same-length
+same-length c = search needs
+
+returns : tie.Need-returns
+returns c =
+    let w = c .before .before in
+    let g = w .before .before in
+    let s = g .before .before .before in
+    let a = s .args in
+    let rs = recordsOf (a .text .now) in
+    w .put-lines .ensures ∙ ap (λ p. placed (a .out .now) (parts p rs)) (places g) ∙ starts-placed (a .out .now) (a .gap) rs (s .pre .1 .1 .1 .1)
+
+pub put-around-spec : {M : Type 1} → statement M
+put-around-spec = tie.close (tie.spec starts-requires put-lines-requires same-length returns)
