@@ -1,3 +1,4 @@
+pub mod Mixing
 pub mod Word
 pub mod Looking
 pub mod LineKeys
