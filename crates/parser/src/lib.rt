@@ -162,21 +162,30 @@ fn judge_indexed(text: &[u8], strict: bool, area: &mut [u32]) -> Judged
     }
 }
 
-// A short text, whose lines make one block of 1,024 or a few.
+// A short text, in blocks of 256 lines: little is cleared for it.
 fn judge_short(text: &[u8], strict: bool) -> Judged
     requires { ⌜ length (now text) ≤ 16777216 ⌝ }
     ensures { λ r. ⌜ r ≡ judgedOf (readFrom strict 0 [] (lines (now (text .entry)))) ⌝ }
 {
-    let mut area = [0u32; 2048];
+    let mut area = [0u32; 512];
     judge_indexed(text, strict, &mut area)
 }
 
-// Any text, in blocks of 32,768 lines.
+// A text of some thousand lines, in blocks of 4,096.
+fn judge_middle(text: &[u8], strict: bool) -> Judged
+    requires { ⌜ length (now text) ≤ 16777216 ⌝ }
+    ensures { λ r. ⌜ r ≡ judgedOf (readFrom strict 0 [] (lines (now (text .entry)))) ⌝ }
+{
+    let mut area = [0u32; 8192];
+    judge_indexed(text, strict, &mut area)
+}
+
+// Any text, in blocks of 131,072 lines.
 fn judge_long(text: &[u8], strict: bool) -> Judged
     requires { ⌜ length (now text) ≤ 16777216 ⌝ }
     ensures { λ r. ⌜ r ≡ judgedOf (readFrom strict 0 [] (lines (now (text .entry)))) ⌝ }
 {
-    let mut area = [0u32; 65536];
+    let mut area = [0u32; 262144];
     judge_indexed(text, strict, &mut area)
 }
 
@@ -185,8 +194,11 @@ pub fn judge(text: &[u8], strict: bool) -> Judged
     requires { ⌜ length (now text) ≤ 16777216 ⌝ }
     ensures { λ r. ⌜ r ≡ judgedOf (readFrom strict 0 [] (lines (now (text .entry)))) ⌝ }
 {
-    if text.len() <= 32768 {
+    if text.len() <= 8192 {
         return judge_short(text, strict);
+    }
+    if text.len() <= 262144 {
+        return judge_middle(text, strict);
     }
     judge_long(text, strict)
 }
