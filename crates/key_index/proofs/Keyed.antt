@@ -19,14 +19,12 @@ use Rattle.accepted.proofs.Bools.{or-assoc}
 use Rattle.record.specs.Head.{headOf, recordHead, placeOf}
 use Rattle.record.specs.declared.Head.{Head}
 use Rattle.record.specs.declared.Head.the-variants as head
-use Rattle.keys.specs.Used.{isKeyed, hasKey, findIn, judgedLines}
-use Rattle.bars.specs.Bars.{isUsed, isFound, barring}
-use Rattle.bars.proofs.Bars.{stood, found-any}
+use Rattle.admission.specs.Admission.{isKeyed, hasKey, isUsed, isTaken}
+use Rattle.admission.proofs.Admission.{stood}
 use Rattle.key_index.specs.declared.Sought.{Sought}
 use Rattle.key_index.specs.declared.Sought.the-variants.{Known, Free, Full}
 use Rattle.key_index.specs.Word.{word}
 use Rattle.key_index.specs.Told.{value, tells, begins, start, sought, isKnown, after, isMet, afterMeeting}
-use Rattle.key_index.specs.Taken.{isTaken, newBarring}
 use Rattle.key_index.specs.Keyed.{valuesOf, keysOf, Ended, Placed}
 use Rattle.key_index.proofs.LineKeys.{line-ended}
 use Rattle.key_index.proofs.Looking.{sought-known, sought-enters, value-start, value-tells}
@@ -53,7 +51,7 @@ module _ (t : List ℕ) (k : ℕ) (id : List ℕ) where
       pick-value (tells t k id) (value j (p .at)) vs (value-some j (p .at) h)
       ∙ ap (λ b. b || ltb 0 (pick (tells t k id) vs)) (value-tells t k id j (p .at) (e .0) ∙ ap (λ w. eqb k j && same id w) (e .1))
 
-  record-has : (r : Record) → Ended t r → (vs : List ℕ) → ltb 0 (pick (tells t k id) (valuesOf r ++ vs)) ≡ (hasKey k id (read r) || ltb 0 (pick (tells t k id) vs))
+  record-has : (r : Record) → Ended t r → (vs : List ℕ) → ltb 0 (pick (tells t k id) (valuesOf r ++ vs)) ≡ (hasKey k id r || ltb 0 (pick (tells t k id) vs))
   unfolding Ended valuesOf hasKey isKeyed code key
   record-has (header v fs) e vs = none (eqb k 1)
     where
@@ -69,10 +67,10 @@ module _ (t : List ℕ) (k : ℕ) (id : List ℕ) where
       none true = refl
       none false = refl
 
-  keys-have : (rs : List Record) → Each (Ended t) rs → ltb 0 (pick (tells t k id) (keysOf rs)) ≡ any (λ q. hasKey k id (read q)) rs
+  keys-have : (rs : List Record) → Each (Ended t) rs → ltb 0 (pick (tells t k id) (keysOf rs)) ≡ any (hasKey k id) rs
   unfolding Each keysOf any pick
   keys-have [] e = refl
-  keys-have (r ∷ rs) e = record-has r (e .0) (keysOf rs) ∙ ap (λ b. hasKey k id (read r) || b) (keys-have rs (e .1))
+  keys-have (r ∷ rs) e = record-has r (e .0) (keysOf rs) ∙ ap (λ b. hasKey k id r || b) (keys-have rs (e .1))
 
 pub keys-snoc : (rs : List Record) (r : Record) → keysOf (rs ++ (r ∷ [])) ≡ keysOf rs ++ valuesOf r
 unfolding keysOf
@@ -135,46 +133,15 @@ module _ (t slots vs : List ℕ) (p : 0 < length slots) (g : Held (start t (leng
   met-told (head.Program q n) = sought-known t slots vs p g 4 (take (q .len) (drop (q .at) t))
   met-told (head.Comment q) = refl
 
--- it is one of the keys of the records before where one of the lines before has it
-module _ (strict : Bool) (t : List ℕ) (passed : List Piece) (rs : List Record) (h : Pairs (λ q r. records.line strict q ≡ read r) passed rs) (first : take (length rs) (lines t) ≡ passed)
-    (ended : Each (Ended t) rs) where
-  told-used : (k : ℕ) (id : List ℕ) → ltb 0 (pick (tells t k id) (keysOf rs)) ≡ isFound (findIn k id 0 (judgedLines strict (length rs) t))
-  unfolding judgedLines
-  told-used k id = keys-have t k id rs ended ∙ sym (ap (λ l. isFound (findIn k id 0 (map (records.line strict) l))) first ∙ found-any strict k id 0 passed rs h)
-
-  pub told-taken : (x : Head) → toldIn t (keysOf rs) x ≡ isTaken strict (length rs) t x
-  unfolding toldIn isTaken isUsed
-  told-taken (head.Refused n) = refl
-  told-taken (head.Header v n) = refl
-  told-taken (head.ReferenceSequence q l n) = told-used 2 (take (q .len) (drop (q .at) t))
-  told-taken (head.ReadGroup q n) = told-used 3 (take (q .len) (drop (q .at) t))
-  told-taken (head.Program q n) = told-used 4 (take (q .len) (drop (q .at) t))
-  told-taken (head.Comment q) = refl
-
--- a key that was used is refused with 18
-pub taken-barring : (strict : Bool) (count programs : ℕ) (t : List ℕ) (x : Head) → isTaken strict count t x ≡ true → barring strict count programs t x ≡ 18
-unfolding isTaken barring
-taken-barring strict count programs t (head.Refused n) e = absurd (false≢true e)
-taken-barring strict count programs t (head.Header v n) e = absurd (false≢true e)
-taken-barring strict count programs t (head.ReferenceSequence p l n) e = ap (λ u. cond u 18 0) e
-taken-barring strict count programs t (head.ReadGroup p n) e = ap (λ u. cond u 18 0) e
-taken-barring strict count programs t (head.Program p n) e = ap (λ u. cond u 18 (cond (leb 1024 programs) 19 0)) e
-taken-barring strict count programs t (head.Comment p) e = absurd (false≢true e)
-
--- and one that is new is judged as such
-pub new-barring : (strict : Bool) (count programs : ℕ) (t : List ℕ) (x : Head) → isTaken strict count t x ≡ false → newBarring count programs x ≡ barring strict count programs t x
-unfolding isTaken newBarring barring
-new-barring strict count programs t (head.Refused n) e = refl
-new-barring strict count programs t (head.Header v n) e = refl
-new-barring strict count programs t (head.ReferenceSequence p l n) e = sym (ap (λ u. cond u 18 0) e)
-new-barring strict count programs t (head.ReadGroup p n) e = sym (ap (λ u. cond u 18 0) e)
-new-barring strict count programs t (head.Program p n) e = sym (ap (λ u. cond u 18 (cond (leb 1024 programs) 19 0)) e)
-new-barring strict count programs t (head.Comment p) e = refl
-
--- so that it is enough to know which it is
-pub known-barring : (strict : Bool) (count programs : ℕ) (t : List ℕ) (x : Head) (known : Bool) → known ≡ isTaken strict count t x → cond known 18 (newBarring count programs x) ≡ barring strict count programs t x
-known-barring strict count programs t x true e = sym (taken-barring strict count programs t x (sym e))
-known-barring strict count programs t x false e = new-barring strict count programs t x (sym e)
+-- it is one of the keys of some records where one of them has it
+pub told-taken : (t : List ℕ) (rs : List Record) → Each (Ended t) rs → (x : Head) → toldIn t (keysOf rs) x ≡ isTaken rs t x
+unfolding toldIn isTaken isUsed
+told-taken t rs e (head.Refused n) = refl
+told-taken t rs e (head.Header v n) = refl
+told-taken t rs e (head.ReferenceSequence q l n) = keys-have t 2 (take (q .len) (drop (q .at) t)) rs e
+told-taken t rs e (head.ReadGroup q n) = keys-have t 3 (take (q .len) (drop (q .at) t)) rs e
+told-taken t rs e (head.Program q n) = keys-have t 4 (take (q .len) (drop (q .at) t)) rs e
+told-taken t rs e (head.Comment q) = refl
 
 -- ---- one record more
 

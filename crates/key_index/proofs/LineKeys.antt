@@ -31,7 +31,7 @@ use Rattle.accepted.proofs.Fields.{Of, lastOf-of}
 use Rattle.accepted.proofs.Pairs.{pairs-right}
 use Rattle.accepted.proofs.Spelled.{line-accepted}
 use Rattle.accepted.proofs.Sound.{line-sound}
-use Rattle.bars.proofs.Bars.{stood}
+use Rattle.admission.proofs.Admission.{stood}
 use Rattle.key_index.specs.Word.{word}
 use Rattle.key_index.specs.Keyed.{Ended}
 

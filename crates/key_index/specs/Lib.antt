@@ -2,4 +2,3 @@ pub mod Word
 pub mod Hash
 pub mod Told
 pub mod Keyed
-pub mod Taken

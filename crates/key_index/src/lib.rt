@@ -10,7 +10,6 @@ ghost use Rattle.key_index.specs.Hash.{mixed, wordsFrom, hashFrom};
 ghost use Rattle.key_index.specs.Word.{word};
 ghost use Rattle.key_index.specs.Told.{value, tells, sought, isKnown, after, isMet, afterMeeting};
 ghost use Rattle.key_index.specs.Keyed.{Placed};
-ghost use Rattle.key_index.specs.Taken.{newBarring};
 
 // How looking for a key ends: at a slot that tells it, at an empty one, or after all slots.
 pub enum Sought {
@@ -72,7 +71,7 @@ fn is_at(text: &[u8], at: usize, id: &[u8]) -> bool
     let mut i: usize = 0;
     while i < id.len() {
         if ends(text, at + i) {
-            return false;
+            return false; // a key that only starts `id`
         }
         if text[at + i] != id[i] {
             return false;
@@ -175,29 +174,5 @@ pub fn clear(area: &mut [u32])
     while i < area.len() {
         area[i] = 0;
         i += 1;
-    }
-}
-
-// 0, or the refusal of a line with this head, whose key is new.
-pub fn barred_new(count: usize, programs: usize, head: Head) -> u8
-    ensures { λ r. ⌜ r ≡ newBarring count programs head ⌝ }
-{
-    match head {
-        Head::Refused(n) => n,
-        Head::Header(_, _) => {
-            if count == 0 {
-                return 0;
-            }
-            17
-        }
-        Head::ReferenceSequence(_, _, _) => 0,
-        Head::ReadGroup(_, _) => 0,
-        Head::Program(_, _) => {
-            if 1024 <= programs {
-                return 19;
-            }
-            0
-        }
-        Head::Comment(_) => 0,
     }
 }

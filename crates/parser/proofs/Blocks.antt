@@ -25,8 +25,8 @@ use Rattle.accepted.proofs.Bools.{or-false}
 use Rattle.accepted.proofs.Onward.{lines-count}
 use Rattle.record.specs.declared.Head.{Head}
 use Rattle.record.specs.Head.{headOf, recordHead}
-use Rattle.bars.proofs.Bars.{stood}
-use Rattle.key_index.specs.Taken.{isTaken}
+use Rattle.admission.proofs.Admission.{stood}
+use Rattle.admission.specs.Admission.{isTaken}
 use Rattle.key_index.specs.Told.{start, isMet, afterMeeting}
 use Rattle.key_index.specs.Keyed.{valuesOf, keysOf, Ended}
 use Rattle.key_index.proofs.LineKeys.{line-ended}
@@ -196,15 +196,14 @@ module _ (strict : Bool) (t area₀ area : List ℕ) (b : Block) (at n programs 
     now-ahead = subst (Ahead strict t (x .old) (b .clash) n) (first-ahead t at h) (x .ahead)
 
     -- the index and the line that is known tell whether its key was used
-    pub used-known : (y : Head) → y ≡ headOf (records.line strict (record { at = at; bytes = take (firstLine (drop at t) .len) (drop at t) })) → (isMet t area y || eqb n (b .clash)) ≡ isTaken strict n t y
+    pub used-known : (y : Head) → y ≡ headOf (records.line strict (record { at = at; bytes = take (firstLine (drop at t) .len) (drop at t) })) → (isMet t area y || eqb n (b .clash)) ≡ isTaken (j .before) t y
     unfolding Ahead
     used-known y e =
         ap₂ (λ c d. c || d) (met-told t area (x .new) (omega (arith, x .some)) (x .held) y) (sym (now-ahead .0) ∙ ap (toldIn t (x .old)) (sym e))
         ∙ turn-or (toldIn t (x .new) y) (toldIn t (x .old) y)
         ∙ sym (told-append t (x .old) (x .new) y)
         ∙ ap (λ l. toldIn t l y) (sym (x .parts))
-        ∙ told-taken strict t (j .passed) (j .before) (j .pairs) (passed-are strict t at n programs size j) (x .ended) y
-        ∙ ap (λ m. isTaken strict m t y) (j .counted)
+        ∙ told-taken t (j .before) (x .ended) y
       where
         turn-or : (c d : Bool) → (c || d) ≡ (d || c)
         turn-or true true = refl

@@ -16,7 +16,7 @@ ghost use Rattle.format.specs.Catalogue.{catalogue};
 ghost use Rattle.format.specs.Calls.{reading, fresh};
 ghost use Rattle.text.specs.Over.{over};
 ghost use Rattle.accepted.specs.Read.{recordsOf};
-ghost use Rattle.key_index.specs.Taken.{newBarring};
+ghost use Rattle.admission.specs.Admission.{barring};
 ghost use Rattle.parser.specs.Accepted.{Accepted};
 ghost use Rattle.parser.specs.Blocks.{clashOf, turned, emptied};
 ghost use Rattle.parser.specs.Judged.{judgedOf, programsOf};
@@ -113,17 +113,21 @@ fn turn(text: &[u8], strict: bool, area: &mut [u32], at: usize, line: usize, blo
     }
 }
 
-// 0, or the refusal of a line with this head, of which it is known whether its key was used before.
-fn barred(count: usize, programs: usize, head: Head, known: bool, clashes: bool) -> u8
-    ensures { λ r. ⌜ r ≡ cond (known || clashes) 18 (newBarring count programs head) ⌝ }
+// Whether a key was used before: in this block, or in an earlier one.
+fn is_used(known: bool, clashes: bool) -> bool
+    ensures { λ r. ⌜ r ≡ (known || clashes) ⌝ }
 {
     if known {
-        return 18;
+        return true;
     }
-    if clashes {
-        return 18;
-    }
-    key_index::barred_new(count, programs, head)
+    clashes
+}
+
+// 0, or the refusal of a line with this head.
+fn barred(count: usize, programs: usize, head: Head, known: bool, clashes: bool) -> u8
+    ensures { λ r. ⌜ r ≡ barring (known || clashes) count programs head ⌝ }
+{
+    admission::barred(head, is_used(known, clashes), count, programs)
 }
 
 // Line by line: each line's own refusal, then 17, 18 and 19. The keys of a block of lines, half as many as `area` has slots, are kept there.

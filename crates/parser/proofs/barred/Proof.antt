@@ -1,28 +1,25 @@
--- `parser::barred` meets its contract: a key that was used comes first.
-use mathlib.Core.Path.{_≡_, sym, ap, _∙_}
-use mathlib.Core.Bool.{_||_, cond}
-use Rattle.key_index.specs.Taken.{newBarring}
+-- `parser::barred` meets its contract.
+use mathlib.Core.Path.{_≡_, ap, _∙_}
+use Rattle.admission.specs.Admission.{barring}
 use borrow.Author.Needs.{needs}
 use Rattle.parser.proofs.barred.Statement.{statement}
 use Rattle.parser.proofs.barred.Tie as tie
 use Rattle.parser.proofs.barred.Reads as reads
 use Rattle.parser.proofs.barred.Lts as lts
-use Rattle.key_index.proofs.barred_new.Reads as barred-new-reads
+use Rattle.admission.proofs.barred.Reads as barred-reads
+use Rattle.parser.proofs.is_used.Reads as is-used-reads
+
+is-used-requires : tie.Need-is-used-requires
+is-used-requires c κs = search needs
+
+barred-requires : tie.Need-barred-requires
+barred-requires c κs = search needs
 
 returns : tie.Need-returns
-returns c = search needs
-
-returns-2 : tie.Need-returns-2
-returns-2 c = search needs
-
-barred-new-requires : tie.Need-barred-new-requires
-barred-new-requires c κs = search needs
-
-returns-3 : tie.Need-returns-3
-returns-3 c =
-    let a = c .before .before .before .args in
-    let n = newBarring (a .count) (a .programs) (a .head) in
-    c .barred-new .ensures ∙ sym (ap (λ b. cond (b || a .clashes) 18 n) (c .before .before .if1 .left) ∙ ap (λ b. cond b 18 n) (c .before .if2 .left))
+returns c =
+    let u = c .before in
+    let a = u .before .args in
+    c .barred .ensures ∙ ap (λ t. barring t (a .count) (a .programs) (a .head)) (u .is-used .ensures)
 
 pub barred-spec : {M : Type 1} → statement M
-barred-spec = tie.close (tie.spec returns returns-2 barred-new-requires returns-3)
+barred-spec = tie.close (tie.spec is-used-requires barred-requires returns)

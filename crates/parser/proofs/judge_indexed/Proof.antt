@@ -18,14 +18,12 @@ use Rattle.field.proofs.Before.{rest}
 use Rattle.record.specs.declared.Head.{Head}
 use Rattle.record.specs.declared.Head.the-variants as head
 use Rattle.record.specs.Head.{headOf, recordHead}
-use Rattle.bars.specs.Bars.{refusalOf, barring, Within}
-use Rattle.bars.proofs.Bars.{stood, head-within, barring-is, refusal-none, refusal-some}
-use Rattle.bars.proofs.Few.{others-few}
-use Rattle.key_index.specs.Taken.{isTaken}
-use Rattle.accepted.proofs.Bools.{split}
+use Rattle.admission.specs.Admission.{refusalOf, isTaken, barring}
+use Rattle.admission.proofs.Admission.{barring-is, unbarred-new, refusal-none, refusal-some}
+use Rattle.admission.proofs.Few.{others-few}
 use Rattle.key_index.specs.Told.{isMet}
 use Rattle.key_index.specs.Keyed.{Placed}
-use Rattle.key_index.proofs.Keyed.{head-placed, taken-barring, known-barring, meeting-length}
+use Rattle.key_index.proofs.Keyed.{head-placed, meeting-length}
 use Rattle.catalogue.specs.Line.{recordBytes}
 use Rattle.catalogue.specs.Parts.{sizeOfHead, othersOf, ownEntry}
 use Rattle.catalogue.proofs.Records.{catalogue-length, own-others, size-length}
@@ -103,14 +101,6 @@ head-is c =
     let n : l .loop .at + q .before .before .first-line .result .len - l .loop .at ≡ q .before .before .first-line .result .len = omega arith in
     c .parse-record .ensures ∙ ap (λ b. headOf (line (a .strict) (record { at = l .loop .at; bytes = take b (drop (l .loop .at) (a .text .now)) }))) (n ∙ ap (λ x. x .len) (cut q))
 
-within : (c : tie.After-parse-record Inv-loop μ-loop)
-    → let q = c .before .before .before in
-    Within (length (q .before .before .before .before .before .before .before .args .text .now)) (c .parse-record .result)
-within c =
-    let q = c .before .before .before in
-    let a = q .before .before .before .before .before .before .before .args in
-    subst (Within (length (a .text .now))) (sym (head-is c)) (head-within (a .strict) (a .text .now) (piece q) (stands q))
-
 placed-head : (c : tie.After-parse-record Inv-loop μ-loop)
     → let q = c .before .before .before in
     Placed (length (q .before .before .before .before .before .before .before .args .text .now)) (c .parse-record .result)
@@ -143,7 +133,7 @@ used : (c : tie.After-turn Inv-loop μ-loop) (y : Head)
     → let p = c .before .before in
     let l = p .before .before .before .before .before .before .before in
     let a = l .before .before .before .args in
-    y ≡ p .parse-record .result → (isMet (a .text .now) (c .turn .last .1 .1 .0) y || eqb (l .loop .line) (c .turn .result .clash)) ≡ isTaken (a .strict) (l .loop .line) (a .text .now) y
+    y ≡ p .parse-record .result → (isMet (a .text .now) (c .turn .last .1 .1 .0) y || eqb (l .loop .line) (c .turn .result .clash)) ≡ isTaken (l .loop .inv .0 .before) (a .text .now) y
 unfolding piece
 used c y e =
     let p = c .before .before in
@@ -156,15 +146,14 @@ barring-told : (c : tie.After-barred Inv-loop μ-loop)
     → let p = c .before .before .before .before .before .before .before .before .before .before in
     let l = p .before .before .before .before .before .before .before in
     let a = l .before .before .before .args in
-    c .barred .result ≡ barring (a .strict) (l .loop .line) (l .loop .programs) (a .text .now) (p .parse-record .result)
+    c .barred .result ≡ barring (isTaken (l .loop .inv .0 .before) (a .text .now) (p .parse-record .result)) (l .loop .line) (l .loop .programs) (p .parse-record .result)
 barring-told c =
     let m = c .before .before .before .before in
     let w = m .before .before .before .before in
     let p = w .before .before in
     let l = p .before .before .before .before .before .before .before in
-    let a = l .before .before .before .args in
     c .barred .ensures
-    ∙ known-barring (a .strict) (l .loop .line) (l .loop .programs) (a .text .now) (p .parse-record .result) (m .meet .result || eqb (l .loop .line) (w .turn .result .clash))
+    ∙ ap (λ t. barring t (l .loop .line) (l .loop .programs) (p .parse-record .result))
     (ap (λ b. b || eqb (l .loop .line) (w .turn .result .clash)) (m .meet .ensures .0) ∙ used w (p .parse-record .result) refl)
 
 -- whether it may follow the lines before
@@ -177,11 +166,12 @@ number c =
     let l = q .before .before .before .before in
     let a = l .before .before .before .args in
     let j = l .loop .inv .0 in
+    let h = headOf (line (a .strict) (piece q)) in
     barring-told c
-    ∙ ap (barring (a .strict) (l .loop .line) (l .loop .programs) (a .text .now)) (head-is (c .before .before .before .before .before .before .before .before .before .before))
-    ∙ ap (λ n. barring (a .strict) n (l .loop .programs) (a .text .now) (headOf (line (a .strict) (piece q)))) (sym (j .counted))
-    ∙ ap (λ n. barring (a .strict) (length (j .before)) n (a .text .now) (headOf (line (a .strict) (piece q)))) (j .told)
-    ∙ barring-is (a .strict) (a .text .now) (j .passed) (j .before) (j .pairs) (passed-are (a .strict) (a .text .now) (l .loop .at) (l .loop .line) (l .loop .programs) (l .loop .size) j) (piece q) (stands q)
+    ∙ ap (λ x. barring (isTaken (j .before) (a .text .now) x) (l .loop .line) (l .loop .programs) x) (head-is (c .before .before .before .before .before .before .before .before .before .before))
+    ∙ ap (λ n. barring (isTaken (j .before) (a .text .now) h) n (l .loop .programs) h) (sym (j .counted))
+    ∙ ap (λ n. barring (isTaken (j .before) (a .text .now) h) (length (j .before)) n h) (j .told)
+    ∙ barring-is (a .text .now) (j .before) (a .strict) (piece q) (stands q)
 
 -- it is a record more
 accepted : (c : tie.Else2 Inv-loop μ-loop)
@@ -208,14 +198,11 @@ fresh c =
     let w = c .before .before .before .before .before .before .before .before .before in
     let l = w .before .before .before .before .before .before .before .before .before in
     let a = l .before .before .before .args in
+    let b = l .loop .inv .0 .before in
     let x = recordHead (accepted c .0) in
     used w x (sym (record-is c))
-    ∙ split (isTaken (a .strict) (l .loop .line) (a .text .now) x)
-    (λ y. absurd (eighteen (sym (taken-barring (a .strict) (l .loop .line) (l .loop .programs) (a .text .now) x y) ∙ ap (barring (a .strict) (l .loop .line) (l .loop .programs) (a .text .now)) (sym (record-is c)) ∙ sym (barring-told (c .before)) ∙ c .if2 .left)))
-    (λ n. n)
-  where
-    eighteen : _≡_ {A = ℕ} 18 0 → ⊥
-    eighteen e = omega (arith, e)
+    ∙ unbarred-new (a .text .now) b (l .loop .line) (l .loop .programs) x
+    (ap (λ y. barring (isTaken b (a .text .now) y) (l .loop .line) (l .loop .programs) y) (sym (record-is c)) ∙ sym (barring-told (c .before)) ∙ c .if2 .left)
 
 -- it has no more other fields than bytes, and its entries are within bounds
 few : (c : tie.Else2 Inv-loop μ-loop)

@@ -26,9 +26,9 @@ use Rattle.accepted.specs.Pieces.{pieces, Pairs}
 use Rattle.accepted.proofs.Bools.{never}
 use Rattle.accepted.proofs.Stands.{line-stand, stands-within}
 use Rattle.record.specs.Head.{headOf, recordHead, placeOf}
-use Rattle.keys.specs.Used.{isKeyed, hasKey, findIn, judgedLines}
-use Rattle.keys.specs.declared.Found.the-variants as found
-use Rattle.bars.specs.Bars.{refusalOf, isFound, isUsed, barring, Within}
+use Rattle.record.specs.declared.Head.{Head}
+use Rattle.record.specs.declared.Head.the-variants as head
+use Rattle.admission.specs.Admission.{refusalOf, isKeyed, hasKey, isUsed, isTaken, barring}
 
 -- ---- a line's key stands in the text
 
@@ -36,39 +36,7 @@ use Rattle.bars.specs.Bars.{refusalOf, isFound, isUsed, barring, Within}
 pub stood : (strict : Bool) (t : List ℕ) (p : Piece) → Stands t 0 p → (r : Record) → records.line strict p ≡ read r → Each (Stands t 0) (pieces r)
 stood strict t p s r e = each-map (Stands (p .bytes) (p .at)) (Stands t 0) (λ x. stands-within t 0 p x s) (pieces r) (line-stand strict p r e)
 
-record-within : (t : List ℕ) (r : Record) → Each (Stands t 0) (pieces r) → Within (length t) (recordHead r)
-unfolding Within recordHead placeOf pieces Each
-record-within t (header v fs) s = tt
-record-within t (reference p n fs) s = omega (arith, s .0 .within)
-record-within t (group p fs) s = omega (arith, s .0 .within)
-record-within t (program p fs) s = omega (arith, s .0 .within)
-record-within t (comment p) s = tt
-
-pub head-within : (strict : Bool) (t : List ℕ) (p : Piece) → Stands t 0 p → Within (length t) (headOf (records.line strict p))
-unfolding headOf Within
-head-within strict t p s = go (records.line strict p) refl
-  where
-    go : (l : Line) → records.line strict p ≡ l → Within (length t) (headOf l)
-    go (refused n) e = tt
-    go (read r) e = record-within t r (stood strict t p s r e)
-
 -- ---- a key used before
-
--- the search finds a key among lines that are read exactly where one of their records has it
-pub found-any : (strict : Bool) (k : ℕ) (id : List ℕ) (i : ℕ) (ps : List Piece) (rs : List Record) → Pairs (λ q r. records.line strict q ≡ read r) ps rs
-    → isFound (findIn k id i (map (records.line strict) ps)) ≡ any (λ r. hasKey k id (read r)) rs
-unfolding isFound findIn any Pairs
-found-any strict k id i [] [] h = refl
-found-any strict k id i [] (r ∷ rs) h = absurd h
-found-any strict k id i (p ∷ ps) [] h = absurd h
-found-any strict k id i (p ∷ ps) (r ∷ rs) h =
-    ap (λ l. isFound (cond (hasKey k id l) (found.At i) (findIn k id (i + 1) (map (records.line strict) ps)))) (h .0)
-    ∙ go (hasKey k id (read r)) (found-any strict k id (i + 1) ps rs (h .1))
-  where
-    go : (t : Bool) → isFound (findIn k id (i + 1) (map (records.line strict) ps)) ≡ any (λ r. hasKey k id (read r)) rs
-        → isFound (cond t (found.At i) (findIn k id (i + 1) (map (records.line strict) ps))) ≡ t || any (λ r. hasKey k id (read r)) rs
-    go true ih = refl
-    go false ih = ih
 
 any-same : (f g : Record → Bool) → ((q : Record) → f q ≡ g q) → (rs : List Record) → any f rs ≡ any g rs
 unfolding any
@@ -76,7 +44,7 @@ any-same f g h [] = refl
 any-same f g h (r ∷ rs) = ap (λ t. t || any f rs) (h r) ∙ ap (λ t. g r || t) (any-same f g h rs)
 
 -- a record with a key clashes with those of its kind that have its bytes for their key
-keyed-clash : (r : Record) (k : ℕ) (p : Piece) → code r ≡ k → key r ≡ some p → (q : Record) → clash r q ≡ hasKey k (p .bytes) (read q)
+keyed-clash : (r : Record) (k : ℕ) (p : Piece) → code r ≡ k → key r ≡ some p → (q : Record) → clash r q ≡ hasKey k (p .bytes) q
 unfolding clash hasKey sameKeys isKeyed
 keyed-clash r k p c e q = ap (λ n. eqb n (code q) && sameKeys (key r) (key q)) c ∙ ap (λ o. eqb k (code q) && sameKeys o (key q)) e ∙ ap (λ t. eqb k (code q) && t) (go (key q))
   where
@@ -101,20 +69,21 @@ unfolding refusalOf unless
 unless-refusal zero r = refl
 unless-refusal (suc n) r = refl
 
-module _ (strict : Bool) (t : List ℕ) (passed : List Piece) (before : List Record) (h : Pairs (λ q r. records.line strict q ≡ read r) passed before) (first : take (length before) (lines t) ≡ passed) where
-  used-is : (r : Record) (k : ℕ) (p : Piece) → code r ≡ k → key r ≡ some p → Stands t 0 p → isUsed strict (length before) t k (placeOf p) ≡ any (clash r) before
-  unfolding isUsed judgedLines placeOf
+new : (b : Bool) (n : ℕ) → cond b 18 n ≡ 0 → b ≡ false
+new true n e = absurd (omega (arith, e))
+new false n e = refl
+
+module _ (t : List ℕ) (before : List Record) where
+  used-is : (r : Record) (k : ℕ) (p : Piece) → code r ≡ k → key r ≡ some p → Stands t 0 p → isUsed before t k (placeOf p) ≡ any (clash r) before
+  unfolding isUsed placeOf
   used-is r k p c e s =
-      ap (λ b. isFound (findIn k b 0 (map (records.line strict) (take (length before) (lines t))))) (sym bytes)
-      ∙ ap (λ l. isFound (findIn k (p .bytes) 0 (map (records.line strict) l))) first
-      ∙ found-any strict k (p .bytes) 0 passed before h
-      ∙ any-same (λ q. hasKey k (p .bytes) (read q)) (clash r) (λ q. sym (keyed-clash r k p c e q)) before
+      ap (λ b. any (hasKey k b) before) (sym bytes) ∙ any-same (hasKey k (p .bytes)) (clash r) (λ q. sym (keyed-clash r k p c e q)) before
     where
       bytes : p .bytes ≡ take (length (p .bytes)) (drop (p .at) t)
       bytes = s .bytes ∙ ap (λ m. take (length (p .bytes)) (drop m t)) (let z : p .at - 0 ≡ p .at = omega arith in z)
 
-  record-barring : (r : Record) → Each (Stands t 0) (pieces r) → barring strict (length before) (length (ofKind 4 before)) t (recordHead r) ≡ reading.barred before r
-  unfolding barring recordHead reading.barred pieces Each code key any none?
+  record-barring : (r : Record) → Each (Stands t 0) (pieces r) → barring (isTaken before t (recordHead r)) (length before) (length (ofKind 4 before)) (recordHead r) ≡ reading.barred before r
+  unfolding barring isTaken recordHead reading.barred pieces Each code key any none?
   record-barring (header v fs) s = go before
     where
       go : (rs : List Record) → _≡_ {A = ℕ} (cond (eqb (length rs) 0) 0 17) (cond (not (none? rs)) 17 (cond (any (clash (header v fs)) rs) 18 0))
@@ -125,13 +94,24 @@ module _ (strict : Bool) (t : List ℕ) (passed : List Piece) (before : List Rec
   record-barring (program p fs) s = ap (λ u. cond u 18 (cond (leb 1024 (length (ofKind 4 before))) 19 0)) (used-is (program p fs) 4 p refl refl (s .0))
   record-barring (comment p) s = sym (ap (λ u. cond u 18 0) (unkeyed-clash (comment p) refl before))
 
-  pub barring-is : (p : Piece) → Stands t 0 p → barring strict (length before) (length (ofKind 4 before)) t (headOf (records.line strict p)) ≡ refusalOf (admitted strict before p)
+  pub barring-is : (strict : Bool) (p : Piece) → Stands t 0 p
+      → barring (isTaken before t (headOf (records.line strict p))) (length before) (length (ofKind 4 before)) (headOf (records.line strict p)) ≡ refusalOf (admitted strict before p)
   unfolding admitted following headOf barring refusalOf
-  barring-is p s = go (records.line strict p) refl
+  barring-is strict p s = go (records.line strict p) refl
     where
-      go : (l : Line) → records.line strict p ≡ l → barring strict (length before) (length (ofKind 4 before)) t (headOf l) ≡ refusalOf (following before l)
+      go : (l : Line) → records.line strict p ≡ l → barring (isTaken before t (headOf l)) (length before) (length (ofKind 4 before)) (headOf l) ≡ refusalOf (following before l)
       go (refused n) e = refl
       go (read r) e = record-barring r (stood strict t p s r e) ∙ sym (unless-refusal (reading.barred before r) r)
+
+  -- a line that may follow has a new key
+  pub unbarred-new : (count programs : ℕ) (x : Head) → barring (isTaken before t x) count programs x ≡ 0 → isTaken before t x ≡ false
+  unfolding barring isTaken
+  unbarred-new count programs (head.Refused n) e = refl
+  unbarred-new count programs (head.Header v n) e = refl
+  unbarred-new count programs (head.ReferenceSequence p l n) e = new (isUsed before t 2 p) 0 e
+  unbarred-new count programs (head.ReadGroup p n) e = new (isUsed before t 3 p) 0 e
+  unbarred-new count programs (head.Program p n) e = new (isUsed before t 4 p) (cond (leb 1024 programs) 19 0) e
+  unbarred-new count programs (head.Comment p) e = refl
 
 -- ---- a refusal is never 0
 

@@ -1,0 +1,52 @@
+-- Why a line may not follow the records before it: what is judged of its head.
+use Prim.Native.Nat.{ℕ}
+use mathlib.Core.Bool.{Bool, true, false, _&&_, cond}
+use mathlib.Core.List.{List}
+use mathlib.Core.Option.{Option, none, some}
+use lib.ListN.{take, drop}
+use lib.Dec.{eqb, leb}
+use Rattle.format.specs.Bytes.{same, any}
+use Rattle.format.specs.Lines.{Piece}
+use Rattle.format.specs.Records.{Record, code, key, Line, refused, read}
+use Rattle.record.specs.declared.Place.{Place}
+use Rattle.record.specs.declared.Head.{Head}
+use Rattle.record.specs.declared.Head.the-variants as head
+
+-- 0, or the number of a refusal
+unfoldable pub refusalOf : Line → ℕ
+refusalOf (refused n) = n
+refusalOf (read r) = 0
+
+unfoldable pub isKeyed : List ℕ → Option Piece → Bool
+unfolding same
+isKeyed id none = false
+isKeyed id (some p) = same id (p .bytes)
+
+-- is a record of kind `k`, and has it the key `id`?
+unfoldable pub hasKey : ℕ → List ℕ → Record → Bool
+unfolding isKeyed code key
+hasKey k id r = eqb k (code r) && isKeyed id (key r)
+
+-- has one of some records, in kind `k`, the key at a place of the text?
+unfoldable pub isUsed : List Record → List ℕ → ℕ → Place → Bool
+unfolding any hasKey
+isUsed rs t k p = any (hasKey k (take (p .len) (drop (p .at) t))) rs
+
+-- has one of some records the key of this head, in its kind?
+unfoldable pub isTaken : List Record → List ℕ → Head → Bool
+unfolding isUsed
+isTaken rs t (head.Refused n) = false
+isTaken rs t (head.Header v n) = false
+isTaken rs t (head.ReferenceSequence p l n) = isUsed rs t 2 p
+isTaken rs t (head.ReadGroup p n) = isUsed rs t 3 p
+isTaken rs t (head.Program p n) = isUsed rs t 4 p
+isTaken rs t (head.Comment p) = false
+
+-- 0, or why a line with this head may not follow `count` lines, among which are `programs` programs and, if `taken`, one with its key
+unfoldable pub barring : Bool → ℕ → ℕ → Head → ℕ
+barring taken count programs (head.Refused n) = n
+barring taken count programs (head.Header v n) = cond (eqb count 0) 0 17
+barring taken count programs (head.ReferenceSequence p l n) = cond taken 18 0
+barring taken count programs (head.ReadGroup p n) = cond taken 18 0
+barring taken count programs (head.Program p n) = cond taken 18 (cond (leb 1024 programs) 19 0)
+barring taken count programs (head.Comment p) = 0
