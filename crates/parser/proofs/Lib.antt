@@ -1,4 +1,2 @@
-pub mod Judging
 pub mod Walking
 pub mod Told
-pub mod Blocks

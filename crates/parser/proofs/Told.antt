@@ -15,9 +15,9 @@ use Rattle.format.specs.Catalogue.{catalogue}
 use Rattle.format.specs.Calls.{Answer, no, yes, then, readAnswer, records, fitting, reading, current, fresh}
 use Rattle.format.specs.declared.LineNo.{LineNo}
 use Rattle.text.proofs.Equal.{same-equal, same-other}
-use Rattle.parser.specs.declared.Judged.{Judged}
-use Rattle.parser.specs.declared.Judged.the-variants.{Refused, Accepted}
-use Rattle.parser.specs.Judged.{judgedOf}
+use Rattle.judging.specs.declared.Judged.{Judged}
+use Rattle.judging.specs.declared.Judged.the-variants.{Refused, Accepted}
+use Rattle.judging.specs.Judged.{judgedOf}
 use Rattle.text.specs.Over.{over}
 use Rattle.accepted.specs.Read.{kept, recordsOf}
 use Rattle.parser.specs.declared.Answer.the-variants as answer

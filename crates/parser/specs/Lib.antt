@@ -1,4 +1,2 @@
-pub mod Judged
 pub mod Answers
 pub mod Accepted
-pub mod Blocks

@@ -1,32 +1,17 @@
 // The whole text: judged line by line, its catalogue written, and a catalogue compared with it.
 use catalogue::Matched;
 use format::LineNo;
-use record::Head;
+use judging::Judged;
 ghost use mathlib.Core.Path.{_≡_};
-ghost use mathlib.Core.Bool.{Bool, true, false, _||_, cond};
-ghost use mathlib.Core.List.{[]};
-ghost use Prim.Native.Nat.{_≤_, _<_, _+_};
-ghost use lib.ListN.{length, drop};
-ghost use Rattle.format.specs.Lines.{lines, linesFrom};
-ghost use Rattle.format.specs.Slots.{Held};
-ghost use Rattle.key_index.specs.Told.{start};
-ghost use Rattle.format.specs.Reading.{readFrom};
+ghost use Prim.Native.Nat.{_≤_};
+ghost use lib.ListN.{length};
 ghost use Rattle.format.specs.Bytes.{same};
 ghost use Rattle.format.specs.Catalogue.{catalogue};
 ghost use Rattle.format.specs.Calls.{reading, fresh};
 ghost use Rattle.text.specs.Over.{over};
 ghost use Rattle.accepted.specs.Read.{recordsOf};
-ghost use Rattle.admission.specs.Admission.{barring};
 ghost use Rattle.parser.specs.Accepted.{Accepted};
-ghost use Rattle.parser.specs.Blocks.{clashOf, turned, emptied};
-ghost use Rattle.parser.specs.Judged.{judgedOf, programsOf};
 ghost use Rattle.parser.specs.Answers.{answerOf, outputOf, checkedOf};
-
-// The first refusal and its line, or how many bytes the catalogue has.
-pub enum Judged {
-    Refused(u8, LineNo),
-    Accepted(usize),
-}
 
 // A refusal and its line, or how many bytes or ordinals are written.
 pub enum Answer {
@@ -38,173 +23,6 @@ pub enum Answer {
 pub enum Checked {
     Refused(u8, LineNo),
     Fresh,
-}
-
-fn programs_of(head: Head) -> usize
-    ensures { λ r. ⌜ r ≡ programsOf head ⌝ }
-{
-    match head {
-        Head::Refused(_) => 0,
-        Head::Header(_, _) => 0,
-        Head::ReferenceSequence(_, _, _) => 0,
-        Head::ReadGroup(_, _) => 0,
-        Head::Program(_, _) => 1,
-        Head::Comment(_) => 0,
-    }
-}
-
-// The line before which the index is begun anew, and the first line ahead whose key an earlier block of lines has.
-struct Block {
-    until: usize,
-    clash: usize,
-}
-
-// The first line from `from` on, the line number `first`, that is `clash` or has a key that is in the area; `clash` where none is.
-fn first_met(
-    text: &[u8],
-    strict: bool,
-    area: &mut [u32],
-    from: usize,
-    first: usize,
-    clash: usize,
-) -> usize
-    requires { ⌜ length (now text) ≤ 16777216 ⌝ }
-    requires { ⌜ 0 < length (now area) ⌝ }
-    requires { ⌜ first ≤ from ⌝ }
-    requires { ⌜ from ≤ length (now text) ⌝ }
-    ensures met { λ r. ⌜ r ≡ clashOf strict (now (text .entry)) (now (area .entry)) clash first (linesFrom from (drop from (now (text .entry)))) ⌝ }
-    ensures kept { λ _. ⌜ now (area .exit) ≡ now (area .entry) ⌝ }
-{
-    let mut at = from;
-    let mut line = first;
-    while at < text.len() {
-        if line == clash {
-            return clash;
-        }
-        let cut = text::first_line(&text[at..]);
-        let end = at + cut.len;
-        let head = record::parse_record(&text[at..end], at, strict);
-        if key_index::meet(text, area, head, false) {
-            return line;
-        }
-        at += cut.next;
-        line += 1;
-    }
-    clash
-}
-
-// The block that a line stands in: where one begins, the keys of the one before are looked for in the lines ahead, and the area is emptied.
-fn turn(text: &[u8], strict: bool, area: &mut [u32], at: usize, line: usize, block: Block) -> Block
-    requires { ⌜ length (now text) ≤ 16777216 ⌝ }
-    requires { ⌜ 0 < length (now area) ⌝ }
-    requires { ⌜ line ≤ at ⌝ }
-    requires { ⌜ at ≤ length (now text) ⌝ }
-    ensures block { λ r. ⌜ r ≡ turned strict (now (text .entry)) (now (area .entry)) at line block ⌝ }
-    ensures wrote { λ _. ⌜ now (area .exit) ≡ emptied (now (area .entry)) line block ⌝ }
-{
-    if line < block.until {
-        return block;
-    }
-    let clash = first_met(text, strict, area, at, line, block.clash);
-    key_index::clear(area);
-    Block {
-        until: line + area.len() / 2,
-        clash: clash,
-    }
-}
-
-// Whether a key was used before: in this block, or in an earlier one.
-fn is_used(known: bool, clashes: bool) -> bool
-    ensures { λ r. ⌜ r ≡ (known || clashes) ⌝ }
-{
-    if known {
-        return true;
-    }
-    clashes
-}
-
-// 0, or the refusal of a line with this head.
-fn barred(count: usize, programs: usize, head: Head, known: bool, clashes: bool) -> u8
-    ensures { λ r. ⌜ r ≡ barring (known || clashes) count programs head ⌝ }
-{
-    admission::barred(head, is_used(known, clashes), count, programs)
-}
-
-// Line by line: each line's own refusal, then 17, 18 and 19. The keys of a block of lines, half as many as `area` has slots, are kept there.
-fn judge_indexed(text: &[u8], strict: bool, area: &mut [u32]) -> Judged
-    requires { ⌜ length (now text) ≤ 16777216 ⌝ }
-    requires { ⌜ 2 ≤ length (now area) ⌝ }
-    requires { ⌜ Held (start (now text) (length (now area))) (now area) [] ⌝ }
-    ensures { λ r. ⌜ r ≡ judgedOf (readFrom strict 0 [] (lines (now (text .entry)))) ⌝ }
-{
-    let mut block = Block {
-        until: area.len() / 2,
-        clash: 16777217,
-    };
-    let mut at: usize = 0;
-    let mut line: usize = 0;
-    let mut programs: usize = 0;
-    let mut size: usize = 0;
-    loop {
-        let cut = text::first_line(&text[at..]);
-        let next = at + cut.next;
-        if at == text.len() {
-            return Judged::Accepted(size);
-        }
-        let end = at + cut.len;
-        let head = record::parse_record(&text[at..end], at, strict);
-        block = turn(text, strict, area, at, line, block);
-        let known = key_index::meet(text, area, head, true);
-        let n = barred(line, programs, head, known, line == block.clash);
-        if n != 0 {
-            return Judged::Refused(n, LineNo(line as u32));
-        }
-        programs += programs_of(head);
-        size += catalogue::record_size(head);
-        at = next;
-        line += 1;
-    }
-}
-
-// A short text, in blocks of 256 lines: little is cleared for it.
-fn judge_short(text: &[u8], strict: bool) -> Judged
-    requires { ⌜ length (now text) ≤ 16777216 ⌝ }
-    ensures { λ r. ⌜ r ≡ judgedOf (readFrom strict 0 [] (lines (now (text .entry)))) ⌝ }
-{
-    let mut area = [0u32; 512];
-    judge_indexed(text, strict, &mut area)
-}
-
-// A text of some thousand lines, in blocks of 4,096.
-fn judge_middle(text: &[u8], strict: bool) -> Judged
-    requires { ⌜ length (now text) ≤ 16777216 ⌝ }
-    ensures { λ r. ⌜ r ≡ judgedOf (readFrom strict 0 [] (lines (now (text .entry)))) ⌝ }
-{
-    let mut area = [0u32; 8192];
-    judge_indexed(text, strict, &mut area)
-}
-
-// Any text, in blocks of 131,072 lines.
-fn judge_long(text: &[u8], strict: bool) -> Judged
-    requires { ⌜ length (now text) ≤ 16777216 ⌝ }
-    ensures { λ r. ⌜ r ≡ judgedOf (readFrom strict 0 [] (lines (now (text .entry)))) ⌝ }
-{
-    let mut area = [0u32; 262144];
-    judge_indexed(text, strict, &mut area)
-}
-
-// What `text` is: the first refusal, or the size of its catalogue.
-pub fn judge(text: &[u8], strict: bool) -> Judged
-    requires { ⌜ length (now text) ≤ 16777216 ⌝ }
-    ensures { λ r. ⌜ r ≡ judgedOf (readFrom strict 0 [] (lines (now (text .entry)))) ⌝ }
-{
-    if text.len() <= 8192 {
-        return judge_short(text, strict);
-    }
-    if text.len() <= 262144 {
-        return judge_middle(text, strict);
-    }
-    judge_long(text, strict)
 }
 
 // Writes the catalogue of an accepted text to the front of `out`.
@@ -251,7 +69,7 @@ pub fn read(text: &[u8], kept: &mut [u8]) -> Answer
         return Answer::Refused(1, LineNo(0));
     }
     let strict = rules::is_strict(text);
-    match judge(text, strict) {
+    match judging::judge(text, strict) {
         Judged::Refused(n, line) => Answer::Refused(n, line),
         Judged::Accepted(size) => {
             if kept.len() < size {
@@ -271,7 +89,7 @@ pub fn check(text: &[u8], kept: &[u8]) -> Checked
         return Checked::Refused(1, LineNo(0));
     }
     let strict = rules::is_strict(text);
-    match judge(text, strict) {
+    match judging::judge(text, strict) {
         Judged::Refused(n, line) => Checked::Refused(n, line),
         Judged::Accepted(size) => {
             if size != kept.len() {

@@ -1,7 +1,7 @@
 // Tidying: the text of the same records with the keys first, one LF after each line, kind by kind.
 use format::LineNo;
+use judging::Judged;
 use parser::Answer;
-use parser::Judged;
 use tidy_text::Measured;
 ghost use mathlib.Core.Path.{_≡_};
 ghost use mathlib.Core.Bool.{true};
@@ -45,7 +45,7 @@ pub fn tidy(text: &[u8], out: &mut [u8]) -> Answer
         return Answer::Refused(1, LineNo(0));
     }
     let strict = rules::is_strict(text);
-    match parser::judge(text, strict) {
+    match judging::judge(text, strict) {
         Judged::Refused(n, line) => Answer::Refused(n, line),
         Judged::Accepted(_) => write_accepted(text, strict, out),
     }

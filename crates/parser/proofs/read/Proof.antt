@@ -18,7 +18,7 @@ use Rattle.parser.proofs.read.Statement.{statement}
 use Rattle.parser.proofs.read.Tie as tie
 use Rattle.parser.proofs.read.Reads as reads
 use Rattle.parser.proofs.read.Lts as lts
-use Rattle.parser.proofs.judge.Reads as judge-reads
+use Rattle.judging.proofs.judge.Reads as judge-reads
 use Rattle.parser.proofs.put_catalogue.Reads as put-catalogue-reads
 use Rattle.rules.proofs.is_strict.Reads as is-strict-reads
 

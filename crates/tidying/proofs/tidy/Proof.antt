@@ -15,7 +15,7 @@ use Rattle.tidying.proofs.tidy.Statement.{statement}
 use Rattle.tidying.proofs.tidy.Tie as tie
 use Rattle.tidying.proofs.tidy.Reads as reads
 use Rattle.tidying.proofs.tidy.Lts as lts
-use Rattle.parser.proofs.judge.Reads as judge-reads
+use Rattle.judging.proofs.judge.Reads as judge-reads
 use Rattle.rules.proofs.is_strict.Reads as is-strict-reads
 use Rattle.tidying.proofs.write_accepted.Reads as write-accepted-reads
 

@@ -1,13 +1,13 @@
--- `parser::barred` meets its contract.
+-- `judging::barred` meets its contract.
 use mathlib.Core.Path.{_≡_, ap, _∙_}
 use Rattle.admission.specs.Admission.{barring}
 use borrow.Author.Needs.{needs}
-use Rattle.parser.proofs.barred.Statement.{statement}
-use Rattle.parser.proofs.barred.Tie as tie
-use Rattle.parser.proofs.barred.Reads as reads
-use Rattle.parser.proofs.barred.Lts as lts
+use Rattle.judging.proofs.barred.Statement.{statement}
+use Rattle.judging.proofs.barred.Tie as tie
+use Rattle.judging.proofs.barred.Reads as reads
+use Rattle.judging.proofs.barred.Lts as lts
 use Rattle.admission.proofs.barred.Reads as barred-reads
-use Rattle.parser.proofs.is_used.Reads as is-used-reads
+use Rattle.judging.proofs.is_used.Reads as is-used-reads
 
 is-used-requires : tie.Need-is-used-requires
 is-used-requires c κs = search needs

@@ -1,4 +1,4 @@
--- `parser::first_met` meets its contract: what is left of the lines ahead decides.
+-- `judging::first_met` meets its contract: what is left of the lines ahead decides.
 use Prim.Native.Nat.{ℕ, _+_, _-_, _≤_, _<_}
 use mathlib.Core.Path.{_≡_, refl, sym, ap, subst, _∙_}
 use mathlib.Core.List.{List}
@@ -16,12 +16,12 @@ use Rattle.record.specs.Head.{headOf}
 use Rattle.key_index.specs.Told.{isMet}
 use Rattle.key_index.specs.Keyed.{Placed}
 use Rattle.key_index.proofs.Keyed.{head-placed, meeting-none}
-use Rattle.parser.specs.Blocks.{clashOf}
-use Rattle.parser.proofs.Blocks.{clash-none, clash-here, clash-met, clash-on, ahead-stands}
-use Rattle.parser.proofs.first_met.Statement.{statement}
-use Rattle.parser.proofs.first_met.Tie as tie
-use Rattle.parser.proofs.first_met.Reads as reads
-use Rattle.parser.proofs.first_met.Lts as lts
+use Rattle.judging.specs.Blocks.{clashOf}
+use Rattle.judging.proofs.Blocks.{clash-none, clash-here, clash-met, clash-on, ahead-stands}
+use Rattle.judging.proofs.first_met.Statement.{statement}
+use Rattle.judging.proofs.first_met.Tie as tie
+use Rattle.judging.proofs.first_met.Reads as reads
+use Rattle.judging.proofs.first_met.Lts as lts
 use Rattle.key_index.proofs.meet.Reads as meet-reads
 use Rattle.record.proofs.parse_record.Reads as parse-record-reads
 use Rattle.text.proofs.first_line.Reads as first-line-reads

@@ -8,7 +8,7 @@ use Rattle.format.specs.Lines.{Piece, linesFrom}
 use Rattle.format.specs.Records.{line}
 use Rattle.record.specs.Head.{headOf}
 use Rattle.key_index.specs.Told.{isMet}
-use Rattle.parser.specs.declared.Block.{Block}
+use Rattle.judging.specs.declared.Block.{Block}
 
 -- the first of some lines, counted from `n`, that is the line `clash` or has a key that the slots tell; `clash` where none is
 unfoldable pub clashOf : Bool → List ℕ → List ℕ → ℕ → ℕ → List Piece → ℕ

@@ -1,4 +1,4 @@
--- `parser::turn` meets its contract: the same block, or the next one.
+-- `judging::turn` meets its contract: the same block, or the next one.
 use Prim.Native.Nat.{ℕ, _+_, _/_, _<_}
 use mathlib.Core.Path.{_≡_, refl, sym, ap, ap₂, _∙_}
 use mathlib.Core.Bool.{Bool, cond}
@@ -7,15 +7,15 @@ use native.Mathlib.Omega.{arith}
 use borrow.Author.Tests.{lt-ltb, le-ltb}
 use lib.ListN.{length, drop, replicate, length-replicate}
 use Rattle.format.specs.Lines.{linesFrom}
-use Rattle.parser.specs.declared.Block.{Block}
-use Rattle.parser.specs.Blocks.{clashOf, turned, emptied}
+use Rattle.judging.specs.declared.Block.{Block}
+use Rattle.judging.specs.Blocks.{clashOf, turned, emptied}
 use borrow.Author.Needs.{needs}
-use Rattle.parser.proofs.turn.Statement.{statement}
-use Rattle.parser.proofs.turn.Tie as tie
-use Rattle.parser.proofs.turn.Reads as reads
-use Rattle.parser.proofs.turn.Lts as lts
+use Rattle.judging.proofs.turn.Statement.{statement}
+use Rattle.judging.proofs.turn.Tie as tie
+use Rattle.judging.proofs.turn.Reads as reads
+use Rattle.judging.proofs.turn.Lts as lts
 use Rattle.key_index.proofs.clear.Reads as clear-reads
-use Rattle.parser.proofs.first_met.Reads as first-met-reads
+use Rattle.judging.proofs.first_met.Reads as first-met-reads
 
 returns : tie.Need-returns
 unfolding turned emptied

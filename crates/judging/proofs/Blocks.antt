@@ -31,10 +31,10 @@ use Rattle.key_index.specs.Told.{start, isMet, afterMeeting}
 use Rattle.key_index.specs.Keyed.{valuesOf, keysOf, Ended}
 use Rattle.key_index.proofs.LineKeys.{line-ended}
 use Rattle.key_index.proofs.Keyed.{toldIn, told-none, told-append, told-taken, met-told, keys-snoc, ended-snoc, meeting-length, meeting-holds, values-few}
-use Rattle.parser.specs.declared.Block.{Block}
-use Rattle.parser.specs.Judged.{programsOf}
-use Rattle.parser.specs.Blocks.{clashOf, turned, emptied}
-use Rattle.parser.proofs.Judging.{Judging, judging-start, judging-on, passed-are, line-stands}
+use Rattle.judging.specs.declared.Block.{Block}
+use Rattle.judging.specs.Judged.{programsOf}
+use Rattle.judging.specs.Blocks.{clashOf, turned, emptied}
+use Rattle.judging.proofs.Judging.{Judging, judging-start, judging-on, passed-are, line-stands}
 
 -- ---- which line ahead has a key of an earlier block
 

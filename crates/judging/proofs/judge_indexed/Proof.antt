@@ -1,4 +1,4 @@
--- `parser::judge_indexed` meets its contract: the lines before are records, and what is ahead decides.
+-- `judging::judge_indexed` meets its contract: the lines before are records, and what is ahead decides.
 use Prim.Native.Nat.{ℕ, suc, _+_, _-_, _*_, _/_, _≤_, _<_}
 use mathlib.Core.Path.{_≡_, refl, sym, ap, subst, _∙_}
 use mathlib.Core.Bool.{Bool, true, false, _||_, cond}
@@ -28,18 +28,18 @@ use Rattle.catalogue.specs.Line.{recordBytes}
 use Rattle.catalogue.specs.Parts.{sizeOfHead, othersOf, ownEntry}
 use Rattle.catalogue.proofs.Records.{catalogue-length, own-others, size-length}
 use Rattle.catalogue.proofs.Entries.{size-most}
-use Rattle.parser.specs.Judged.{judgedOf, programsOf}
-use Rattle.parser.proofs.Blocks.{Blocking, blocking-start, blocking-turn, turn-until, used-known, blocking-on}
-use Rattle.parser.proofs.Judging.{Judging, judging-start, judging-on, judging-end, judging-refused, few-lines, passed-are, next-within, len-within, next-some, len-is, line-stands}
-use Rattle.parser.proofs.judge_indexed.Statement.{statement}
-use Rattle.parser.proofs.judge_indexed.Tie as tie
-use Rattle.parser.proofs.judge_indexed.Reads as reads
-use Rattle.parser.proofs.judge_indexed.Lts as lts
-use Rattle.parser.proofs.barred.Reads as barred-reads
-use Rattle.parser.proofs.turn.Reads as turn-reads
+use Rattle.judging.specs.Judged.{judgedOf, programsOf}
+use Rattle.judging.proofs.Blocks.{Blocking, blocking-start, blocking-turn, turn-until, used-known, blocking-on}
+use Rattle.judging.proofs.Judging.{Judging, judging-start, judging-on, judging-end, judging-refused, few-lines, passed-are, next-within, len-within, next-some, len-is, line-stands}
+use Rattle.judging.proofs.judge_indexed.Statement.{statement}
+use Rattle.judging.proofs.judge_indexed.Tie as tie
+use Rattle.judging.proofs.judge_indexed.Reads as reads
+use Rattle.judging.proofs.judge_indexed.Lts as lts
+use Rattle.judging.proofs.barred.Reads as barred-reads
+use Rattle.judging.proofs.turn.Reads as turn-reads
 use Rattle.key_index.proofs.meet.Reads as meet-reads
 use Rattle.catalogue.proofs.record_size.Reads as record-size-reads
-use Rattle.parser.proofs.programs_of.Reads as programs-of-reads
+use Rattle.judging.proofs.programs_of.Reads as programs-of-reads
 use Rattle.record.proofs.parse_record.Reads as parse-record-reads
 use Rattle.text.proofs.first_line.Reads as first-line-reads
 

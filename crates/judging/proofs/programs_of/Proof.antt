@@ -1,9 +1,9 @@
--- `parser::programs_of` meets its contract. Assumes nothing.
+-- `judging::programs_of` meets its contract. Assumes nothing.
 use mathlib.Core.Path.{sym, ap}
-use Rattle.parser.specs.Judged.{programsOf}
+use Rattle.judging.specs.Judged.{programsOf}
 use borrow.Author.Needs.{needs}
-use Rattle.parser.proofs.programs_of.Statement.{statement}
-use Rattle.parser.proofs.programs_of.Tie as tie
+use Rattle.judging.proofs.programs_of.Statement.{statement}
+use Rattle.judging.proofs.programs_of.Tie as tie
 
 enum-told : tie.Need-enum-told
 enum-told c = search needs

@@ -20,8 +20,8 @@ use Rattle.accepted.proofs.Onward.{read-first, read-none}
 use Rattle.accepted.proofs.Pairs.{pairs-length}
 use Rattle.accepted.proofs.OfKind.{ofKind-append}
 use Rattle.record.specs.Head.{headOf, recordHead}
-use Rattle.parser.specs.declared.Judged.the-variants.{Refused, Accepted}
-use Rattle.parser.specs.Judged.{judgedOf, programsOf}
+use Rattle.judging.specs.declared.Judged.the-variants.{Refused, Accepted}
+use Rattle.judging.specs.Judged.{judgedOf, programsOf}
 
 -- at the line that starts at `at`, the line number `n`: the lines before it are records
 pub record Judging (strict : Bool) (t : List ℕ) (at n programs size : ℕ) : Type 0 where

@@ -1,13 +1,13 @@
--- `parser::judge_short` meets its contract: an area of zeros holds no key.
+-- `judging::judge_short` meets its contract: an area of zeros holds no key.
 use native.Mathlib.Omega.{arith}
 use borrow.Author.Needs.{needs}
 use Rattle.format.proofs.Slots.{held-none}
 use Rattle.key_index.specs.Told.{start}
-use Rattle.parser.proofs.judge_short.Statement.{statement}
-use Rattle.parser.proofs.judge_short.Tie as tie
-use Rattle.parser.proofs.judge_short.Reads as reads
-use Rattle.parser.proofs.judge_short.Lts as lts
-use Rattle.parser.proofs.judge_indexed.Reads as judge-indexed-reads
+use Rattle.judging.proofs.judge_short.Statement.{statement}
+use Rattle.judging.proofs.judge_short.Tie as tie
+use Rattle.judging.proofs.judge_short.Reads as reads
+use Rattle.judging.proofs.judge_short.Lts as lts
+use Rattle.judging.proofs.judge_indexed.Reads as judge-indexed-reads
 
 slice-aggregate-judge-indexed : tie.Need-slice-aggregate-judge-indexed
 slice-aggregate-judge-indexed c = search needs

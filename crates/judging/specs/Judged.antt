@@ -6,8 +6,8 @@ use Rattle.format.specs.Reading.{Reading, refuse, accept}
 use Rattle.format.specs.Catalogue.{catalogue}
 use Rattle.record.specs.declared.Head.{Head}
 use Rattle.record.specs.declared.Head.the-variants as head
-use Rattle.parser.specs.declared.Judged.{Judged}
-use Rattle.parser.specs.declared.Judged.the-variants.{Refused, Accepted}
+use Rattle.judging.specs.declared.Judged.{Judged}
+use Rattle.judging.specs.declared.Judged.the-variants.{Refused, Accepted}
 
 -- the first refusal and its line, or how long the catalogue is
 unfoldable pub judgedOf : Reading → Judged
