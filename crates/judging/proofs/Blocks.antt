@@ -137,13 +137,13 @@ pub record Blocking (strict : Bool) (t area₀ area : List ℕ) (b : Block) (at 
   pub parts : keysOf (j .before) ≡ old ++ new
   pub held : Held (start t (length area)) area new
   pub long : length area ≡ length area₀
-  pub some : 2 ≤ length area
+  pub some : 4 ≤ length area
   pub due : n ≤ b .until
-  pub room : length new + b .until ≤ n + length area / 2
+  pub room : length new + b .until ≤ n + length area / 4 * 3
   pub ahead : Ahead strict t old (b .clash) n (linesFrom at (drop at t))
 
-pub blocking-start : (strict : Bool) (t area : List ℕ) → length t ≤ 16777216 → 2 ≤ length area → Held (start t (length area)) area []
-    → Blocking strict t area area (record { until = length area / 2; clash = 16777217 }) 0 0 0 0 (judging-start strict t)
+pub blocking-start : (strict : Bool) (t area : List ℕ) → length t ≤ 16777216 → 4 ≤ length area → Held (start t (length area)) area []
+    → Blocking strict t area area (record { until = length area / 4 * 3; clash = 16777217 }) 0 0 0 0 (judging-start strict t)
 unfolding judging-start Each keysOf
 blocking-start strict t area small s g =
     record {
@@ -166,7 +166,7 @@ module _ (strict : Bool) (t area₀ area : List ℕ) (b : Block) (at n programs 
   blocking-turn = go (ltb n (b .until)) refl
     where
       go : (c : Bool) → ltb n (b .until) ≡ c
-          → Blocking strict t area₀ (cond c area (replicate (length area) 0)) (cond c b (record { until = n + length area / 2; clash = clashOf strict t area (b .clash) n (linesFrom at (drop at t)) })) at n programs size j
+          → Blocking strict t area₀ (cond c area (replicate (length area) 0)) (cond c b (record { until = n + length area / 4 * 3; clash = clashOf strict t area (b .clash) n (linesFrom at (drop at t)) })) at n programs size j
       go true e = x
       go false e =
           let l : length (replicate {A = ℕ} (length area) 0) ≡ length area = length-replicate (length area) 0 in
@@ -179,7 +179,7 @@ module _ (strict : Bool) (t area₀ area : List ℕ) (b : Block) (at n programs 
             long = l ∙ x .long;
             some = omega (arith, l, x .some);
             due = omega arith;
-            room = omega (arith, ap (λ m. m / 2) l);
+            room = omega (arith, ap (λ m. m / 4 * 3) l);
             ahead = ahead-more strict t area (b .clash) (x .old) (x .new) (omega (arith, x .some)) (x .held) n (linesFrom at (drop at t)) (x .ahead);
           }
 
@@ -187,7 +187,7 @@ module _ (strict : Bool) (t area₀ area : List ℕ) (b : Block) (at n programs 
   unfolding turned
   turn-until = go (ltb n (b .until)) refl
     where
-      go : (c : Bool) → ltb n (b .until) ≡ c → n < cond c b (record { until = n + length area / 2; clash = clashOf strict t area (b .clash) n (linesFrom at (drop at t)) }) .until
+      go : (c : Bool) → ltb n (b .until) ≡ c → n < cond c b (record { until = n + length area / 4 * 3; clash = clashOf strict t area (b .clash) n (linesFrom at (drop at t)) }) .until
       go true e = ltb-true n (b .until) e
       go false e = omega (arith, x .some)
 
@@ -246,6 +246,6 @@ module _ (strict : Bool) (t area₀ area : List ℕ) (b : Block) (at n programs 
             long = same ∙ x .long;
             some = omega (arith, same, x .some);
             due = omega (arith, before);
-            room = omega (arith, x .room, length-append (x .new) (valuesOf r), values-few r, ap (λ m. m / 2) same);
+            room = omega (arith, x .room, length-append (x .new) (valuesOf r), values-few r, ap (λ m. m / 4 * 3) same);
             ahead = now-ahead .1 (right (isMet t area (recordHead r)) (eqb n (b .clash)) fresh);
           }

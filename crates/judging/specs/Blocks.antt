@@ -1,5 +1,5 @@
 -- The index is begun anew after every block of lines. What the lines ahead have of an earlier block is known by then.
-use Prim.Native.Nat.{ℕ, _+_, _/_}
+use Prim.Native.Nat.{ℕ, _+_, _*_, _/_}
 use mathlib.Core.Bool.{Bool, cond}
 use mathlib.Core.List.{List, [], _∷_}
 use lib.ListN.{length, drop, replicate}
@@ -19,7 +19,7 @@ clashOf strict t slots clash n (p ∷ ps) = cond (eqb n clash) clash (cond (isMe
 -- at the line `n`, which starts at `at`: the same block, or the next one
 unfoldable pub turned : Bool → List ℕ → List ℕ → ℕ → ℕ → Block → Block
 unfolding clashOf linesFrom
-turned strict t slots at n b = cond (ltb n (b .until)) b (record { until = n + length slots / 2; clash = clashOf strict t slots (b .clash) n (linesFrom at (drop at t)) })
+turned strict t slots at n b = cond (ltb n (b .until)) b (record { until = n + length slots / 4 * 3; clash = clashOf strict t slots (b .clash) n (linesFrom at (drop at t)) })
 
 -- and the slots, which are emptied for the next one
 unfoldable pub emptied : List ℕ → ℕ → Block → List ℕ

@@ -87,10 +87,8 @@ fn turn(text: &[u8], strict: bool, area: &mut [u32], at: usize, line: usize, blo
     }
     let clash = first_met(text, strict, area, at, line, block.clash);
     key_index::clear(area);
-    Block {
-        until: line + area.len() / 2,
-        clash: clash,
-    }
+    let until = line + area.len() / 4 * 3;
+    Block { until, clash }
 }
 
 // Whether a key was used before: in this block, or in an earlier one.
@@ -110,15 +108,16 @@ fn barred(count: usize, programs: usize, head: Head, known: bool, clashes: bool)
     admission::barred(head, is_used(known, clashes), count, programs)
 }
 
-// Line by line: each line's own refusal, then 17, 18 and 19. The keys of a block of lines, half as many as `area` has slots, are kept there.
+// Line by line: each line's own refusal, then 17, 18 and 19. The keys of a block of lines, three for each four slots of `area`, are kept there.
 fn judge_indexed(text: &[u8], strict: bool, area: &mut [u32]) -> Judged
     requires { ⌜ length (now text) ≤ 16777216 ⌝ }
-    requires { ⌜ 2 ≤ length (now area) ⌝ }
+    requires { ⌜ 4 ≤ length (now area) ⌝ }
     requires { ⌜ Held (start (now text) (length (now area))) (now area) [] ⌝ }
     ensures { λ r. ⌜ r ≡ judgedOf (readFrom strict 0 [] (lines (now (text .entry)))) ⌝ }
 {
+    let until = area.len() / 4 * 3;
     let mut block = Block {
-        until: area.len() / 2,
+        until,
         clash: 16777217,
     };
     let mut at: usize = 0;
@@ -146,7 +145,7 @@ fn judge_indexed(text: &[u8], strict: bool, area: &mut [u32]) -> Judged
     }
 }
 
-// A short text, in blocks of 256 lines: little is cleared for it.
+// A short text, in blocks of 384 lines: little is cleared for it.
 fn judge_short(text: &[u8], strict: bool) -> Judged
     requires { ⌜ length (now text) ≤ 16777216 ⌝ }
     ensures { λ r. ⌜ r ≡ judgedOf (readFrom strict 0 [] (lines (now (text .entry)))) ⌝ }
@@ -155,7 +154,7 @@ fn judge_short(text: &[u8], strict: bool) -> Judged
     judge_indexed(text, strict, &mut area)
 }
 
-// A text of some thousand lines, in blocks of 4,096.
+// A text of some thousand lines, in blocks of 6,144.
 fn judge_middle(text: &[u8], strict: bool) -> Judged
     requires { ⌜ length (now text) ≤ 16777216 ⌝ }
     ensures { λ r. ⌜ r ≡ judgedOf (readFrom strict 0 [] (lines (now (text .entry)))) ⌝ }
@@ -164,12 +163,12 @@ fn judge_middle(text: &[u8], strict: bool) -> Judged
     judge_indexed(text, strict, &mut area)
 }
 
-// Any text, in blocks of 131,072 lines.
+// Any text, in blocks of 98,304 lines.
 fn judge_long(text: &[u8], strict: bool) -> Judged
     requires { ⌜ length (now text) ≤ 16777216 ⌝ }
     ensures { λ r. ⌜ r ≡ judgedOf (readFrom strict 0 [] (lines (now (text .entry)))) ⌝ }
 {
-    let mut area = [0u32; 262144];
+    let mut area = [0u32; 131072];
     judge_indexed(text, strict, &mut area)
 }
 

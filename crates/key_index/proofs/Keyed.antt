@@ -24,16 +24,16 @@ use Rattle.admission.proofs.Admission.{stood}
 use Rattle.key_index.specs.declared.Sought.{Sought}
 use Rattle.key_index.specs.declared.Sought.the-variants.{Known, Free, Full}
 use Rattle.key_index.specs.Word.{word}
-use Rattle.key_index.specs.Told.{value, tells, begins, start, sought, isKnown, after, isMet, afterMeeting}
+use Rattle.key_index.specs.Told.{mark, value, tells, begins, start, sought, isKnown, after, isMet, afterMeeting}
 use Rattle.key_index.specs.Keyed.{valuesOf, keysOf, Ended, Placed}
 use Rattle.key_index.proofs.LineKeys.{line-ended}
-use Rattle.key_index.proofs.Looking.{sought-known, sought-enters, value-start, value-tells}
+use Rattle.key_index.proofs.Looking.{mark-same, sought-known, sought-enters, value-start, value-tells}
 
 -- ---- which records have a key
 
-value-some : (k at : ℕ) → 0 < k → value k at ≡ 0 → ⊥
-unfolding value
-value-some k at h e = omega (arith, h, e)
+value-some : (k : ℕ) (id : List ℕ) (at : ℕ) → 0 < k → value (mark k id) at ≡ 0 → ⊥
+unfolding value mark
+value-some k id at h e = omega (arith, h, e)
 
 pick-value : (hit : ℕ → Bool) (v : ℕ) (vs : List ℕ) → (v ≡ 0 → ⊥) → ltb 0 (pick hit (v ∷ vs)) ≡ (hit v || ltb 0 (pick hit vs))
 unfolding pick
@@ -46,10 +46,11 @@ pick-value hit (suc k) vs z = go (hit (suc k))
 
 module _ (t : List ℕ) (k : ℕ) (id : List ℕ) where
   one-has : (j : ℕ) → 0 < j → (p : Piece) → (p .at < 16777216) × (word (drop (p .at) t) ≡ p .bytes) → (vs : List ℕ)
-      → ltb 0 (pick (tells t k id) (value j (p .at) ∷ vs)) ≡ ((eqb k j && same id (p .bytes)) || ltb 0 (pick (tells t k id) vs))
+      → ltb 0 (pick (tells t k id) (value (mark j (p .bytes)) (p .at) ∷ vs)) ≡ ((eqb k j && same id (p .bytes)) || ltb 0 (pick (tells t k id) vs))
   one-has j h p e vs =
-      pick-value (tells t k id) (value j (p .at)) vs (value-some j (p .at) h)
-      ∙ ap (λ b. b || ltb 0 (pick (tells t k id) vs)) (value-tells t k id j (p .at) (e .0) ∙ ap (λ w. eqb k j && same id w) (e .1))
+      pick-value (tells t k id) (value (mark j (p .bytes)) (p .at)) vs (value-some j (p .bytes) (p .at) h)
+      ∙ ap (λ b. b || ltb 0 (pick (tells t k id) vs))
+      (value-tells t k id (mark j (p .bytes)) (p .at) (e .0) ∙ ap (λ w. eqb (mark k id) (mark j (p .bytes)) && same id w) (e .1) ∙ mark-same k j id (p .bytes))
 
   record-has : (r : Record) → Ended t r → (vs : List ℕ) → ltb 0 (pick (tells t k id) (valuesOf r ++ vs)) ≡ (hasKey k id r || ltb 0 (pick (tells t k id) vs))
   unfolding Ended valuesOf hasKey isKeyed code key
@@ -156,9 +157,9 @@ pub meeting-length : (room : Bool) (t slots : List ℕ) (x : Head) → length (a
 unfolding afterMeeting
 meeting-length room t slots (head.Refused n) = refl
 meeting-length room t slots (head.Header v n) = refl
-meeting-length room t slots (head.ReferenceSequence q l n) = after-length room (value 2 (q .at)) slots (sought t slots 2 (take (q .len) (drop (q .at) t)))
-meeting-length room t slots (head.ReadGroup q n) = after-length room (value 3 (q .at)) slots (sought t slots 3 (take (q .len) (drop (q .at) t)))
-meeting-length room t slots (head.Program q n) = after-length room (value 4 (q .at)) slots (sought t slots 4 (take (q .len) (drop (q .at) t)))
+meeting-length room t slots (head.ReferenceSequence q l n) = after-length room (value (mark 2 (take (q .len) (drop (q .at) t))) (q .at)) slots (sought t slots 2 (take (q .len) (drop (q .at) t)))
+meeting-length room t slots (head.ReadGroup q n) = after-length room (value (mark 3 (take (q .len) (drop (q .at) t))) (q .at)) slots (sought t slots 3 (take (q .len) (drop (q .at) t)))
+meeting-length room t slots (head.Program q n) = after-length room (value (mark 4 (take (q .len) (drop (q .at) t))) (q .at)) slots (sought t slots 4 (take (q .len) (drop (q .at) t)))
 meeting-length room t slots (head.Comment q) = refl
 
 -- without room nothing changes
@@ -172,20 +173,22 @@ pub meeting-none : (t slots : List ℕ) (x : Head) → afterMeeting false t slot
 unfolding afterMeeting
 meeting-none t slots (head.Refused n) = refl
 meeting-none t slots (head.Header v n) = refl
-meeting-none t slots (head.ReferenceSequence q l n) = after-none (value 2 (q .at)) slots (sought t slots 2 (take (q .len) (drop (q .at) t)))
-meeting-none t slots (head.ReadGroup q n) = after-none (value 3 (q .at)) slots (sought t slots 3 (take (q .len) (drop (q .at) t)))
-meeting-none t slots (head.Program q n) = after-none (value 4 (q .at)) slots (sought t slots 4 (take (q .len) (drop (q .at) t)))
+meeting-none t slots (head.ReferenceSequence q l n) = after-none (value (mark 2 (take (q .len) (drop (q .at) t))) (q .at)) slots (sought t slots 2 (take (q .len) (drop (q .at) t)))
+meeting-none t slots (head.ReadGroup q n) = after-none (value (mark 3 (take (q .len) (drop (q .at) t))) (q .at)) slots (sought t slots 3 (take (q .len) (drop (q .at) t)))
+meeting-none t slots (head.Program q n) = after-none (value (mark 4 (take (q .len) (drop (q .at) t))) (q .at)) slots (sought t slots 4 (take (q .len) (drop (q .at) t)))
 meeting-none t slots (head.Comment q) = refl
 
 module _ (t slots vs : List ℕ) (p : 0 < length slots) (g : Held (start t (length slots)) slots vs) (room : length vs < length slots) where
   one-enters : (k : ℕ) → 0 < k → (q : Piece) → (q .at < 16777216) × (word (drop (q .at) t) ≡ q .bytes) → Stands t 0 q
-      → isKnown (sought t slots k (take (length (q .bytes)) (drop (q .at) t))) ≡ false
-      → Held (start t (length slots)) (after true (value k (q .at)) slots (sought t slots k (take (length (q .bytes)) (drop (q .at) t)))) (vs ++ (value k (q .at) ∷ []))
+      → let id : List ℕ = take (length (q .bytes)) (drop (q .at) t) in
+      isKnown (sought t slots k id) ≡ false
+      → Held (start t (length slots)) (after true (value (mark k id) (q .at)) slots (sought t slots k id)) (vs ++ (value (mark k (q .bytes)) (q .at) ∷ []))
   one-enters k h q e s m =
       let id : List ℕ = take (length (q .bytes)) (drop (q .at) t) in
-      let b : word (drop (q .at) t) ≡ id = e .1 ∙ s .bytes ∙ ap (λ j. take (length (q .bytes)) (drop j t)) (let z : q .at - 0 ≡ q .at = omega arith in z) in
-      sought-enters t slots vs p g k id (value k (q .at)) (value-some k (q .at) h) (value-start t (length slots) k (q .at) (e .0) ∙ ap (begins (length slots) k) b) room
-      (none (ltb-false 0 (pick (tells t k id) vs) (sym (sought-known t slots vs p g k id) ∙ m)))
+      let i : q .bytes ≡ id = s .bytes ∙ ap (λ j. take (length (q .bytes)) (drop j t)) (let z : q .at - 0 ≡ q .at = omega arith in z) in
+      subst (λ b. Held (start t (length slots)) (after true (value (mark k id) (q .at)) slots (sought t slots k id)) (vs ++ (value (mark k b) (q .at) ∷ []))) (sym i)
+      (sought-enters t slots vs p g k id (value (mark k id) (q .at)) (value-some k id (q .at) h) (value-start t (length slots) k id (q .at) (e .0) ∙ ap (begins (length slots) k) (e .1 ∙ i)) room
+      (none (ltb-false 0 (pick (tells t k id) vs) (sym (sought-known t slots vs p g k id) ∙ m))))
     where
       none : {n : ℕ} → n ≤ 0 → n ≡ 0
       none h = omega (arith, h)

@@ -5,11 +5,11 @@ use mathlib.Core.Bool.{Bool, true, false, _&&_, cond, false≢true}
 use mathlib.Core.List.{List, [], _∷_, _++_}
 use native.Mathlib.Omega.{arith}
 use native.Mathlib.Numerals.{add-one}
-use native.Mathlib.Nat.{mod-lt, mod-eq-of-lt, mod-add-mod, mul-add-div-right, mul-add-mod-self-right, div-eq-of-lt}
+use native.Mathlib.Nat.{mod-lt, mod-eq-of-lt, mod-add-mod, mul-add-div-right, mul-add-mod-self-right, div-eq-of-lt, div-div-eq-div-mul}
 use lib.ListN.{length, take, drop, getD, set, drop-of-length-le}
 use lib.Seq.{drop-cons}
 use lib.Dec.{ltb, eqb}
-use borrow.Author.Tests.{eqb-true, lt-ltb, le-ltb, eq-eqb}
+use borrow.Author.Tests.{eqb-true, eqb-false, lt-ltb, le-ltb, eq-eqb, ne-eqb}
 use Rattle.format.specs.Bytes.{same}
 use Rattle.key_index.specs.Hash.{hashFrom}
 use Rattle.format.specs.Slots.{around, full, filled, seat, seek, pick, Held}
@@ -19,7 +19,7 @@ use Rattle.accepted.proofs.Bools.{and-left, and-right}
 use Rattle.key_index.specs.declared.Sought.{Sought}
 use Rattle.key_index.specs.declared.Sought.the-variants.{Known, Free, Full}
 use Rattle.key_index.specs.Word.{word}
-use Rattle.key_index.specs.Told.{value, keyIn, tells, begins, start, looking, sought, isKnown, after}
+use Rattle.key_index.specs.Told.{mark, value, keyIn, tells, begins, start, looking, sought, isKnown, after}
 
 -- ---- a slot after another
 
@@ -111,6 +111,36 @@ free-seat hit n at (suc k ∷ ss) a l e = go (hit (suc k)) e (free-seat hit n ((
     go true e ih = absurd (omega (arith, e))
     go false e ih = ih e ∙ ap Free (mod-add-mod (at + 1) n (full ss) ∙ ap (λ m. m % n) (let z : at + 1 + full ss ≡ at + suc (full ss) = omega arith in z))
 
+-- ---- marks
+
+pub mark-kind : (k : ℕ) (id : List ℕ) → mark k id / 32 ≡ k
+unfolding mark
+mark-kind k id =
+    let f : hashFrom k id / 134217728 % 32 < 32 = mod-lt _ (omega arith) in
+    mul-add-div-right {m = 32} (omega arith) k (hashFrom k id / 134217728 % 32) ∙ ap (λ m. k + m) (div-eq-of-lt f) ∙ omega arith
+
+-- the mark of a value's kind
+marked-kind : (v : ℕ) → v / 536870912 ≡ v / 16777216 / 32
+marked-kind v = sym (div-div-eq-div-mul v 16777216 32)
+
+-- where two keys are equal, their marks tell their kinds apart
+pub mark-same : (k j : ℕ) (id b : List ℕ) → (eqb (mark k id) (mark j b) && same id b) ≡ (eqb k j && same id b)
+mark-same k j id b = go (same id b) refl
+  where
+    and-none : (x y : Bool) → (x && false) ≡ (y && false)
+    and-none true true = refl
+    and-none true false = refl
+    and-none false true = refl
+    and-none false false = refl
+
+    kinds : (t : Bool) → eqb k j ≡ t → eqb (mark k b) (mark j b) ≡ t
+    kinds true e = eq-eqb (mark k b) (mark j b) (ap (λ m. mark m b) (eqb-true k j e))
+    kinds false e = ne-eqb (mark k b) (mark j b) (λ q. eqb-false k j e (sym (mark-kind k b) ∙ ap (λ m. m / 32) q ∙ mark-kind j b))
+
+    go : (t : Bool) → same id b ≡ t → (eqb (mark k id) (mark j b) && t) ≡ (eqb k j && t)
+    go true e = ap (λ l. eqb (mark k l) (mark j b) && true) (same-equal id b e) ∙ ap (λ x. x && true) (kinds (eqb k j) refl)
+    go false e = and-none (eqb (mark k id) (mark j b)) (eqb k j)
+
 -- ---- a key among the values that entered
 
 module _ (t slots vs : List ℕ) (p : 0 < length slots) (g : Held (start t (length slots)) slots vs) (k : ℕ) (id : List ℕ) where
@@ -121,8 +151,9 @@ module _ (t slots vs : List ℕ) (p : 0 < length slots) (g : Held (start t (leng
   starts : (v : ℕ) → tells t k id v ≡ true → start t (length slots) v ≡ begins (length slots) k id
   unfolding tells start
   starts v e =
-      ap₂ (λ j w. begins (length slots) j w) (sym (eqb-true k (v / 16777216) (and-left (eqb k (v / 16777216)) (same id (keyIn t v)) e)))
-      (sym (same-equal id (keyIn t v) (and-right (eqb k (v / 16777216)) (same id (keyIn t v)) e)))
+      let m : mark k id ≡ v / 16777216 = eqb-true (mark k id) (v / 16777216) (and-left (eqb (mark k id) (v / 16777216)) (same id (keyIn t v)) e) in
+      ap₂ (λ j w. begins (length slots) j w) (marked-kind v ∙ ap (λ n. n / 32) (sym m) ∙ mark-kind k id)
+      (sym (same-equal id (keyIn t v) (and-right (eqb (mark k id) (v / 16777216)) (same id (keyIn t v)) e)))
 
   found : seek (tells t k id) (around (begins (length slots) k id) slots) ≡ pick (tells t k id) vs
   found = g .finds (tells t k id) (begins (length slots) k id) begins-lt starts
@@ -148,22 +179,23 @@ module _ (t slots vs : List ℕ) (p : 0 < length slots) (g : Held (start t (leng
 
 -- ---- values
 
-pub value-kind : (k at : ℕ) → at < 16777216 → value k at / 16777216 ≡ k
+pub value-mark : (m at : ℕ) → at < 16777216 → value m at / 16777216 ≡ m
 unfolding value
-value-kind k at h = mul-add-div-right {m = 16777216} (omega arith) k at ∙ ap (λ m. k + m) (div-eq-of-lt h) ∙ omega arith
+value-mark m at h = mul-add-div-right {m = 16777216} (omega arith) m at ∙ ap (λ n. m + n) (div-eq-of-lt h) ∙ omega arith
 
-pub value-place : (k at : ℕ) → at < 16777216 → value k at % 16777216 ≡ at
+pub value-place : (m at : ℕ) → at < 16777216 → value m at % 16777216 ≡ at
 unfolding value
-value-place k at h = mul-add-mod-self-right k 16777216 at ∙ mod-eq-of-lt h
+value-place m at h = mul-add-mod-self-right m 16777216 at ∙ mod-eq-of-lt h
 
-pub value-key : (t : List ℕ) (k at : ℕ) → at < 16777216 → keyIn t (value k at) ≡ word (drop at t)
+pub value-key : (t : List ℕ) (m at : ℕ) → at < 16777216 → keyIn t (value m at) ≡ word (drop at t)
 unfolding keyIn
-value-key t k at h = ap (λ m. word (drop m t)) (value-place k at h)
+value-key t m at h = ap (λ n. word (drop n t)) (value-place m at h)
 
-pub value-start : (t : List ℕ) (n k at : ℕ) → at < 16777216 → start t n (value k at) ≡ begins n k (word (drop at t))
+pub value-start : (t : List ℕ) (n k : ℕ) (id : List ℕ) (at : ℕ) → at < 16777216 → start t n (value (mark k id) at) ≡ begins n k (word (drop at t))
 unfolding start
-value-start t n k at h = ap₂ (λ j w. begins n j w) (value-kind k at h) (value-key t k at h)
+value-start t n k id at h =
+    ap₂ (λ j w. begins n j w) (marked-kind (value (mark k id) at) ∙ ap (λ m. m / 32) (value-mark (mark k id) at h) ∙ mark-kind k id) (value-key t (mark k id) at h)
 
-pub value-tells : (t : List ℕ) (j : ℕ) (id : List ℕ) (k at : ℕ) → at < 16777216 → tells t j id (value k at) ≡ (eqb j k && same id (word (drop at t)))
+pub value-tells : (t : List ℕ) (j : ℕ) (id : List ℕ) (m at : ℕ) → at < 16777216 → tells t j id (value m at) ≡ (eqb (mark j id) m && same id (word (drop at t)))
 unfolding tells
-value-tells t j id k at h = ap₂ (λ m w. eqb j m && same id w) (value-kind k at h) (value-key t k at h)
+value-tells t j id m at h = ap₂ (λ n w. eqb (mark j id) n && same id w) (value-mark m at h) (value-key t m at h)

@@ -47,7 +47,7 @@ module _ (h : ℕ) (s : List ℕ) (i : ℕ) where
   pub words-end : length s - i < 4 → wordsFrom h (drop i s) ≡ h
   words-end l = words-few h (drop i s) (omega (arith, l, length-drop i s))
 
--- ---- bytes
+  -- ---- bytes
 
   pub bytes-on : i < length s → bytesFrom h (drop i s) ≡ bytesFrom (mixed h (getD s i 0)) (drop (i + 1) s)
   unfolding bytesFrom

@@ -7,15 +7,15 @@ use Rattle.format.specs.Records.{Record, header, reference, group, program, com
 use Rattle.record.specs.declared.Head.{Head}
 use Rattle.record.specs.declared.Head.the-variants as head
 use Rattle.key_index.specs.Word.{word}
-use Rattle.key_index.specs.Told.{value}
+use Rattle.key_index.specs.Told.{mark, value}
 
 -- the value of a record's key, if it has one
 unfoldable pub valuesOf : Record → List ℕ
-unfolding value
+unfolding value mark
 valuesOf (header v fs) = []
-valuesOf (reference p n fs) = value 2 (p .at) ∷ []
-valuesOf (group p fs) = value 3 (p .at) ∷ []
-valuesOf (program p fs) = value 4 (p .at) ∷ []
+valuesOf (reference p n fs) = value (mark 2 (p .bytes)) (p .at) ∷ []
+valuesOf (group p fs) = value (mark 3 (p .bytes)) (p .at) ∷ []
+valuesOf (program p fs) = value (mark 4 (p .bytes)) (p .at) ∷ []
 valuesOf (comment p) = []
 
 -- the values of the keys of some records, in order

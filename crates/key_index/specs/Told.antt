@@ -16,9 +16,15 @@ use Rattle.key_index.specs.Word.{word}
 
 -- ---- a slot
 
--- what tells the key of kind `k` at the offset `at`: offsets are below 2 ^ 24
+-- what a slot keeps of a key besides its place: its kind, and the five highest bits of its number, by which most other keys are told
+-- apart without a look at the text
+unfoldable pub mark : ℕ → List ℕ → ℕ
+unfolding hashFrom
+mark k id = k * 32 + hashFrom k id / 134217728 % 32
+
+-- what tells a key with this mark at the offset `at`: offsets are below 2 ^ 24
 unfoldable pub value : ℕ → ℕ → ℕ
-value k at = k * 16777216 + at
+value m at = m * 16777216 + at
 
 -- the key that a slot tells
 unfoldable pub keyIn : List ℕ → ℕ → List ℕ
@@ -27,8 +33,8 @@ keyIn t v = word (drop (v % 16777216) t)
 
 -- does it tell the key `id` of kind `k`?
 unfoldable pub tells : List ℕ → ℕ → List ℕ → ℕ → Bool
-unfolding same keyIn
-tells t k id v = eqb k (v / 16777216) && same id (keyIn t v)
+unfolding mark same keyIn
+tells t k id v = eqb (mark k id) (v / 16777216) && same id (keyIn t v)
 
 -- the slot, of `n`, at which looking for a key starts
 unfoldable pub begins : ℕ → ℕ → List ℕ → ℕ
@@ -38,7 +44,7 @@ begins n k id = hashFrom k id % n
 -- and for the key that a slot tells
 unfoldable pub start : List ℕ → ℕ → ℕ → ℕ
 unfolding begins keyIn
-start t n v = begins n (v / 16777216) (keyIn t v)
+start t n v = begins n (v / 536870912) (keyIn t v)
 
 -- ---- looking
 
@@ -80,10 +86,10 @@ isMet t slots (head.Comment p) = false
 
 -- the slots after that
 unfoldable pub afterMeeting : Bool → List ℕ → List ℕ → Head → List ℕ
-unfolding after sought value
+unfolding after sought value mark
 afterMeeting room t slots (head.Refused n) = slots
 afterMeeting room t slots (head.Header v n) = slots
-afterMeeting room t slots (head.ReferenceSequence p l n) = after room (value 2 (p .at)) slots (sought t slots 2 (take (p .len) (drop (p .at) t)))
-afterMeeting room t slots (head.ReadGroup p n) = after room (value 3 (p .at)) slots (sought t slots 3 (take (p .len) (drop (p .at) t)))
-afterMeeting room t slots (head.Program p n) = after room (value 4 (p .at)) slots (sought t slots 4 (take (p .len) (drop (p .at) t)))
+afterMeeting room t slots (head.ReferenceSequence p l n) = after room (value (mark 2 (take (p .len) (drop (p .at) t))) (p .at)) slots (sought t slots 2 (take (p .len) (drop (p .at) t)))
+afterMeeting room t slots (head.ReadGroup p n) = after room (value (mark 3 (take (p .len) (drop (p .at) t))) (p .at)) slots (sought t slots 3 (take (p .len) (drop (p .at) t)))
+afterMeeting room t slots (head.Program p n) = after room (value (mark 4 (take (p .len) (drop (p .at) t))) (p .at)) slots (sought t slots 4 (take (p .len) (drop (p .at) t)))
 afterMeeting room t slots (head.Comment p) = slots

@@ -3,12 +3,14 @@
 use record::Head;
 use record::Place;
 ghost use mathlib.Core.Path.{_≡_};
-ghost use Prim.Native.Nat.{_≤_, _<_, _+_, _*_, _%_};
+ghost use mathlib.Core.Bool.{_&&_};
+ghost use Prim.Native.Nat.{_≤_, _<_, _+_, _*_, _/_, _%_};
+ghost use lib.Dec.{eqb};
 ghost use lib.ListN.{length, take, drop, replicate};
 ghost use Rattle.format.specs.Bytes.{same, none?};
 ghost use Rattle.key_index.specs.Hash.{mixed, wordsFrom, hashFrom};
 ghost use Rattle.key_index.specs.Word.{word};
-ghost use Rattle.key_index.specs.Told.{value, tells, sought, isKnown, after, isMet, afterMeeting};
+ghost use Rattle.key_index.specs.Told.{mark, value, keyIn, sought, isKnown, after, isMet, afterMeeting};
 ghost use Rattle.key_index.specs.Keyed.{Placed};
 
 // How looking for a key ends: at a slot that tells it, at an empty one, or after all slots.
@@ -81,12 +83,19 @@ fn is_at(text: &[u8], at: usize, id: &[u8]) -> bool
     ends(text, at + i)
 }
 
-// Whether a slot tells the key `id` of this kind.
-fn is_told(text: &[u8], slot: u32, kind: u8, id: &[u8]) -> bool
-    requires { ⌜ length (now id) ≤ 16777216 ⌝ }
-    ensures { λ r. ⌜ r ≡ tells (now (text .entry)) kind (now (id .entry)) slot ⌝ }
+// What a slot keeps of a key besides its place, by the key's number.
+fn mark(kind: u8, number: usize) -> u32
+    ensures { λ r. ⌜ r ≡ kind * 32 + number / 134217728 % 32 ⌝ }
 {
-    if slot / 16777216 != kind as u32 {
+    (kind as u32) * 32 + (number / 134217728 % 32) as u32
+}
+
+// Whether a slot tells the key `id` with this mark: only where the marks are equal the text is looked at.
+fn is_told(text: &[u8], slot: u32, mark: u32, id: &[u8]) -> bool
+    requires { ⌜ length (now id) ≤ 16777216 ⌝ }
+    ensures { λ r. ⌜ r ≡ (eqb mark (slot / 16777216) && same (now (id .entry)) (keyIn (now (text .entry)) slot)) ⌝ }
+{
+    if slot / 16777216 != mark {
         return false;
     }
     is_at(text, (slot % 16777216) as usize, id)
@@ -103,20 +112,22 @@ fn next(at: usize, n: usize) -> usize
     at + 1
 }
 
-// Looks for the key `id` of this kind: from the slot of its number on, round the end.
-fn look(text: &[u8], area: &[u32], kind: u8, id: &[u8]) -> Sought
+// Looks for the key `id` of this kind, whose number is given: from the slot of its number on, round the end.
+fn look(text: &[u8], area: &[u32], kind: u8, id: &[u8], number: usize) -> Sought
     requires { ⌜ length (now id) ≤ 16777216 ⌝ }
     requires { ⌜ 0 < length (now area) ⌝ }
+    requires { ⌜ number ≡ hashFrom kind (now id) ⌝ }
     ensures { λ r. ⌜ r ≡ sought (now (text .entry)) (now (area .entry)) kind (now (id .entry)) ⌝ }
 {
-    let mut at: usize = hash(kind, id) % area.len();
+    let told = mark(kind, number);
+    let mut at: usize = number % area.len();
     let mut i: usize = 0;
     while i < area.len() {
         let slot = area[at];
         if slot == 0 {
             return Sought::Free(at);
         }
-        if is_told(text, slot, kind, id) {
+        if is_told(text, slot, told, id) {
             return Sought::Known;
         }
         at = next(at, area.len());
@@ -130,17 +141,19 @@ fn meet_at(text: &[u8], area: &mut [u32], kind: u8, place: Place, room: bool) ->
     requires { ⌜ length (now text) ≤ 16777216 ⌝ }
     requires { ⌜ 0 < length (now area) ⌝ }
     requires { ⌜ place .at + place .len ≤ length (now text) ⌝ }
-    requires { ⌜ place .at < 16777216 ⌝ }
+    requires { ⌜ (place .at < 16777216) × (kind ≤ 7) ⌝ }
     ensures known { λ r. ⌜ r ≡ isKnown (sought (now (text .entry)) (now (area .entry)) kind (take (place .len) (drop (place .at) (now (text .entry))))) ⌝ }
-    ensures wrote { λ _. ⌜ now (area .exit) ≡ after room (value kind (place .at)) (now (area .entry)) (sought (now (text .entry)) (now (area .entry)) kind (take (place .len) (drop (place .at) (now (text .entry))))) ⌝ }
+    ensures wrote { λ _. ⌜ now (area .exit) ≡ after room (value (mark kind (take (place .len) (drop (place .at) (now (text .entry))))) (place .at)) (now (area .entry)) (sought (now (text .entry)) (now (area .entry)) kind (take (place .len) (drop (place .at) (now (text .entry))))) ⌝ }
 {
     let start = place.at;
     let end = start + place.len;
-    match look(text, area, kind, &text[start..end]) {
+    let id = &text[start..end];
+    let number = hash(kind, id);
+    match look(text, area, kind, id, number) {
         Sought::Known => true,
         Sought::Free(i) => {
             if room {
-                area[i] = (kind as u32) * 16777216 + (start as u32);
+                area[i] = mark(kind, number) * 16777216 + (start as u32);
             }
             false
         }

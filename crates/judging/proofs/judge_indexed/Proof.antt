@@ -44,10 +44,10 @@ use Rattle.record.proofs.parse_record.Reads as parse-record-reads
 use Rattle.text.proofs.first_line.Reads as first-line-reads
 
 abbrev Inv-loop : tie.InvT-loop
-Inv-loop text strict area₀ block₀ at₀ line₀ programs₀ size₀ area block at line programs size = (j : Judging strict text at line programs size) × Blocking strict text area₀ area block at line programs size j
+Inv-loop text strict area₀ until block₀ at₀ line₀ programs₀ size₀ area block at line programs size = (j : Judging strict text at line programs size) × Blocking strict text area₀ area block at line programs size j
 
 abbrev μ-loop : tie.MeasureT-loop
-μ-loop text strict area₀ block₀ at₀ line₀ programs₀ size₀ area block at line programs size = length text - at
+μ-loop text strict area₀ until block₀ at₀ line₀ programs₀ size₀ area block at line programs size = length text - at
 
 -- ---- in a turn
 
@@ -248,6 +248,9 @@ programs-most (head.ReadGroup p n) = omega arith
 programs-most (head.Program p n) = omega arith
 programs-most (head.Comment p) = omega arith
 
+mul-until : tie.Need-mul-until Inv-loop μ-loop
+mul-until c = search needs
+
 loop-holds : tie.Need-loop-holds Inv-loop μ-loop
 loop-holds c = let s = c .before .before in (judging-start (s .args .strict) (s .args .text .now), blocking-start (s .args .strict) (s .args .text .now) (s .args .area .now) (s .pre .0) (s .pre .1 .0) (s .pre .1 .1))
 
@@ -315,8 +318,8 @@ meet-requires c κs =
 barred-requires : tie.Need-barred-requires Inv-loop μ-loop
 barred-requires c κs = search needs
 
-cast-t29 : tie.Need-cast-t29 Inv-loop μ-loop
-cast-t29 c =
+cast-t30 : tie.Need-cast-t30 Inv-loop μ-loop
+cast-t30 c =
     let q = c .before .before .before .before .before .before .before .before .before .before .before .before .before .before in
     let l = q .before .before .before .before in
     omega (arith, l .loop .inv .0 .slow, inside q, l .before .before .before .pre .0)
@@ -397,6 +400,7 @@ judge-indexed-spec =
     (tie.spec
     Inv-loop
     μ-loop
+    mul-until
     loop-holds
     sub-first-line
     part-first-line-start
@@ -413,7 +417,7 @@ judge-indexed-spec =
     turn-requires
     meet-requires
     barred-requires
-    cast-t29
+    cast-t30
     same-length-2
     returns-2
     programs-of-requires

@@ -1,5 +1,5 @@
 -- `judging::turn` meets its contract: the same block, or the next one.
-use Prim.Native.Nat.{ℕ, _+_, _/_, _<_}
+use Prim.Native.Nat.{ℕ, _+_, _*_, _/_, _<_}
 use mathlib.Core.Path.{_≡_, refl, sym, ap, ap₂, _∙_}
 use mathlib.Core.Bool.{Bool, cond}
 use mathlib.Core.List.{List}
@@ -22,7 +22,7 @@ unfolding turned emptied
 returns c =
     let a = c .before .before .before .before .args in
     let e = lt-ltb (a .line) (a .block .until) (c .if1 .taken) in
-    let other : Block = record { until = a .line + length (a .area .now) / 2; clash = clashOf (a .strict) (a .text .now) (a .area .now) (a .block .clash) (a .line) (linesFrom (a .at) (drop (a .at) (a .text .now))) } in
+    let other : Block = record { until = a .line + length (a .area .now) / 4 * 3; clash = clashOf (a .strict) (a .text .now) (a .area .now) (a .block .clash) (a .line) (linesFrom (a .at) (drop (a .at) (a .text .now))) } in
     (sym (ap (λ t. cond t (a .block) other) e), sym (ap (λ t. cond t (a .area .now) (replicate (length (a .area .now)) 0)) e))
 
 first-met-requires : tie.Need-first-met-requires
@@ -31,8 +31,11 @@ first-met-requires c κs = search needs
 clear-requires : tie.Need-clear-requires
 clear-requires c κs = search needs
 
-add-t16 : tie.Need-add-t16
-add-t16 c = search needs
+mul-until : tie.Need-mul-until
+mul-until c = search needs
+
+add-until : tie.Need-add-until
+add-until c = search needs
 
 same-length : tie.Need-same-length
 same-length c = search needs
@@ -48,10 +51,10 @@ returns-2 c =
     let clash = clashOf (a .strict) (a .text .now) (a .area .now) (a .block .clash) (a .line) (linesFrom (a .at) (drop (a .at) (a .text .now))) in
     let area : k .clear .last .0 ≡ replicate (length (a .area .now)) 0 = k .clear .ensures ∙ ap (λ l. replicate (length l) 0) (f .first-met .ensures .1) in
     let long : length (k .clear .last .0) ≡ length (a .area .now) = ap length area ∙ length-replicate (length (a .area .now)) 0 in (
-      ap₂ next (ap (λ n. a .line + n / 2) long) (f .first-met .ensures .0) ∙ sym (ap (λ t. cond t (a .block) (next (a .line + length (a .area .now) / 2) clash)) e),
+      ap₂ next (ap (λ n. a .line + n / 4 * 3) long) (f .first-met .ensures .0) ∙ sym (ap (λ t. cond t (a .block) (next (a .line + length (a .area .now) / 4 * 3) clash)) e),
       area ∙ sym (ap (λ t. cond t (a .area .now) (replicate (length (a .area .now)) 0)) e),
     )
 
 pub turn-spec : {M : Type 1} → statement M
 turn-spec =
-    tie.close (tie.spec returns first-met-requires clear-requires add-t16 same-length returns-2)
+    tie.close (tie.spec returns first-met-requires clear-requires mul-until add-until same-length returns-2)

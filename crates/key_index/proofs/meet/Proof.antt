@@ -1,6 +1,7 @@
 -- `key_index::meet` meets its contract, head by head.
 use Prim.Native.Nat.{_≤_, _<_}
 use mathlib.Core.Path.{_≡_, sym, ap, subst, _∙_}
+use native.Mathlib.Omega.{arith}
 use lib.ListN.{length}
 use Rattle.key_index.specs.Told.{isMet, afterMeeting}
 use Rattle.key_index.specs.Keyed.{Placed}
@@ -25,7 +26,7 @@ unfolding Placed
 meet-at-requires c κs =
     let s = c .before .before .before .before .before .before in
     let p = subst (Placed (length (s .args .text .now))) (c .before .before .head .given .1) (s .pre .1 .1) in
-    (s .pre .0, (s .pre .1 .0, p))
+    (s .pre .0, (s .pre .1 .0, (p .0, (p .1, omega arith))))
 
 enum-known-head-2 : tie.Need-enum-known-head-2
 enum-known-head-2 c = search needs
@@ -35,7 +36,7 @@ unfolding Placed
 meet-at-requires-2 c κs =
     let s = c .before .before .before .before .before .before in
     let p = subst (Placed (length (s .args .text .now))) (c .before .before .head2 .given .1) (s .pre .1 .1) in
-    (s .pre .0, (s .pre .1 .0, p))
+    (s .pre .0, (s .pre .1 .0, (p .0, (p .1, omega arith))))
 
 enum-known-head-3 : tie.Need-enum-known-head-3
 enum-known-head-3 c = search needs
@@ -45,7 +46,7 @@ unfolding Placed
 meet-at-requires-3 c κs =
     let s = c .before .before .before .before .before .before in
     let p = subst (Placed (length (s .args .text .now))) (c .before .before .head3 .given .1) (s .pre .1 .1) in
-    (s .pre .0, (s .pre .1 .0, p))
+    (s .pre .0, (s .pre .1 .0, (p .0, (p .1, omega arith))))
 
 enum-told-3 : tie.Need-enum-told-3
 enum-told-3 c = search needs
