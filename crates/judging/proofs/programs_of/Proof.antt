@@ -1,65 +1,37 @@
--- `judging::programs_of` meets its contract. Assumes nothing.
-use mathlib.Core.Path.{sym, ap}
-use Rattle.judging.specs.Judged.{programsOf}
+-- `judging::programs_of` meets its contract: a program counts, and nothing else.
+use Prim.Native.Nat.{ℕ}
+use mathlib.Core.Path.{_≡_, refl, sym, ap}
+use mathlib.Core.List.{[], _∷_}
 use borrow.Author.Needs.{needs}
+use denote.Enum.Declared.{tagOf}
+use types.Run.{OneOf, miss}
+use Rattle.record.proofs.Head.{the-type}
+use Rattle.record.specs.declared.Head.{Head}
+use Rattle.record.specs.declared.Head.the-variants as head
+use Rattle.judging.specs.Judged.{programsOf}
 use Rattle.judging.proofs.programs_of.Statement.{statement}
 use Rattle.judging.proofs.programs_of.Tie as tie
+use Rattle.judging.proofs.programs_of.Reads as reads
+use Rattle.judging.proofs.programs_of.Lts as lts
+
+no-program : (h : Head) → OneOf (0 ∷ 1 ∷ 2 ∷ 3 ∷ 5 ∷ []) (tagOf the-type h) → _≡_ {A = ℕ} 0 (programsOf h)
+unfolding programsOf
+no-program (head.Refused n) k = refl
+no-program (head.Header v n) k = refl
+no-program (head.ReferenceSequence p l n) k = refl
+no-program (head.ReadGroup p n) k = refl
+no-program (head.Program p n) k = absurd (miss (0 ∷ 1 ∷ 2 ∷ 3 ∷ 5 ∷ []) 4 tt k)
+no-program (head.Comment p) k = refl
 
 enum-told : tie.Need-enum-told
 enum-told c = search needs
-
-enum-told-2 : tie.Need-enum-told-2
-enum-told-2 c = search needs
-
-enum-told-3 : tie.Need-enum-told-3
-enum-told-3 c = search needs
-
-enum-told-4 : tie.Need-enum-told-4
-enum-told-4 c = search needs
-
-enum-told-5 : tie.Need-enum-told-5
-enum-told-5 c = search needs
-
-enum-told-6 : tie.Need-enum-told-6
-enum-told-6 c = search needs
 
 returns : tie.Need-returns
 unfolding programsOf
 returns c = sym (ap programsOf (c .enum-told .given .1))
 
 returns-2 : tie.Need-returns-2
-unfolding programsOf
-returns-2 c = sym (ap programsOf (c .enum-told2 .given .1))
-
-returns-3 : tie.Need-returns-3
-unfolding programsOf
-returns-3 c = sym (ap programsOf (c .enum-told3 .given .1))
-
-returns-4 : tie.Need-returns-4
-unfolding programsOf
-returns-4 c = sym (ap programsOf (c .enum-told4 .given .1))
-
-returns-5 : tie.Need-returns-5
-unfolding programsOf
-returns-5 c = sym (ap programsOf (c .enum-told5 .given .1))
-
-returns-6 : tie.Need-returns-6
-unfolding programsOf
-returns-6 c = sym (ap programsOf (c .enum-told6 .given .1))
+returns-2 c = no-program (c .before .args .head) (c .match .keys2)
 
 pub programs-of-spec : {M : Type 1} → statement M
-programs-of-spec =
-    tie.close
-    (tie.spec
-    enum-told
-    enum-told-2
-    enum-told-3
-    enum-told-4
-    enum-told-5
-    enum-told-6
-    returns
-    returns-2
-    returns-3
-    returns-4
-    returns-5
-    returns-6)
+programs-of-spec = tie.close (tie.spec enum-told returns returns-2)
