@@ -7,7 +7,7 @@ ghost use mathlib.Core.List.{[]};
 ghost use Prim.Native.Nat.{_≤_, _<_};
 ghost use lib.ListN.{length, drop};
 ghost use Rattle.format.specs.Lines.{lines, linesFrom};
-ghost use Rattle.format.specs.Reading.{readFrom};
+ghost use Rattle.format.specs.Reading.{readFrom, readText};
 ghost use Rattle.format.specs.Slots.{Held};
 ghost use Rattle.admission.specs.Admission.{barring};
 ghost use Rattle.key_index.specs.Told.{start};
@@ -169,8 +169,8 @@ fn judge_long(text: &[u8], strict: bool) -> Judged
     judge_indexed(text, strict, &mut area)
 }
 
-// What `text` is: the first refusal, or the size of its catalogue.
-pub fn judge(text: &[u8], strict: bool) -> Judged
+// The lines of a text: the first refusal, or the size of the text's catalogue.
+fn judge_lines(text: &[u8], strict: bool) -> Judged
     requires { ⌜ length (now text) ≤ 16777216 ⌝ }
     ensures { λ r. ⌜ r ≡ judgedOf (readFrom strict 0 [] (lines (now (text .entry)))) ⌝ }
 {
@@ -181,4 +181,14 @@ pub fn judge(text: &[u8], strict: bool) -> Judged
         return judge_middle(text, strict);
     }
     judge_long(text, strict)
+}
+
+// What any bytes are: 1 where they are too many, the first refusal of their lines, or the size of their catalogue.
+pub fn judge(text: &[u8]) -> Judged
+    ensures { λ r. ⌜ r ≡ judgedOf (readText (now (text .entry))) ⌝ }
+{
+    if 16777216 < text.len() {
+        return Judged::Refused(1, LineNo(0));
+    }
+    judge_lines(text, rules::is_strict(text))
 }

@@ -6,56 +6,16 @@ use mathlib.Core.List.{List, [], _∷_, _++_}
 use native.Mathlib.Omega.{arith}
 use lib.ListN.{length, drop}
 use lib.Dec.{eqb, ltb}
-use borrow.Author.Tests.{lt-ltb, le-ltb, eq-eqb, ne-eqb}
+use borrow.Author.Tests.{lt-ltb, le-ltb}
 use Rattle.format.specs.Bytes.{same}
-use Rattle.format.specs.Lines.{lines}
 use Rattle.format.specs.Records.{Record}
-use Rattle.format.specs.Reading.{Reading, refuse, accept, readText, readFrom, announced, isStrict, longest}
+use Rattle.format.specs.Reading.{refuse, accept, readText}
 use Rattle.format.specs.Catalogue.{catalogue}
 use Rattle.format.specs.Calls.{Answer, no, yes, then, readAnswer, records, fitting, reading, current, fresh}
 use Rattle.format.specs.declared.LineNo.{LineNo}
-use Rattle.text.proofs.Equal.{same-equal, same-other}
-use Rattle.judging.specs.declared.Judged.{Judged}
-use Rattle.judging.specs.declared.Judged.the-variants.{Refused, Accepted}
-use Rattle.judging.specs.Judged.{judgedOf}
 use Rattle.text.specs.Over.{over}
-use Rattle.accepted.specs.Read.{kept, recordsOf}
 use Rattle.parser.specs.declared.Answer.the-variants as answer
 use Rattle.parser.specs.Answers.{answerOf, outputOf}
-use Rattle.parser.specs.Accepted as accepted
-
--- ---- reading by judging
-
-pub too-long : (t : List ℕ) → 16777216 < length t → readText t ≡ refuse 1 0
-unfolding readText longest
-too-long t h = rw (lt-ltb _ _ h) refl
-
-judged-text : (strict : Bool) (t : List ℕ) → length t ≤ 16777216 → strict ≡ isStrict (announced (lines t)) → readText t ≡ readFrom strict 0 [] (lines t)
-unfolding readText longest
-judged-text strict t h e = rw (le-ltb 16777216 (length t) h, e) refl
-
-module _ (strict : Bool) (t : List ℕ) (h : length t ≤ 16777216) (e : strict ≡ isStrict (announced (lines t))) where
-  pub text-refused : (n : ℕ) (l : LineNo) → judgedOf (readFrom strict 0 [] (lines t)) ≡ Refused n l → readText t ≡ refuse n (l .0)
-  unfolding judgedOf
-  text-refused n l j = judged-text strict t h e ∙ go (readFrom strict 0 [] (lines t)) j
-    where
-      go : (r : Reading) → judgedOf r ≡ Refused n l → r ≡ refuse n (l .0)
-      go (refuse m k) j =
-          let x : m ≡ n = cc in
-          let y : _≡_ {A = LineNo} (record { 0 = k }) l = cc in
-          rw (x, ← y) refl
-      go (accept rs) j = absurd (let z : _≡_ {A = ℕ} 0 1 = cc in omega arith)
-
-  pub text-accepted : (n : ℕ) → judgedOf (readFrom strict 0 [] (lines t)) ≡ Accepted n → accepted.Accepted strict t × (n ≡ length (catalogue (recordsOf t)))
-  unfolding judgedOf recordsOf kept
-  text-accepted n j = go (readFrom strict 0 [] (lines t)) (judged-text strict t h e) j
-    where
-      go : (r : Reading) → readText t ≡ r → judgedOf r ≡ Accepted n → accepted.Accepted strict t × (n ≡ length (catalogue (recordsOf t)))
-      go (refuse m k) q j = absurd (let z : _≡_ {A = ℕ} 0 1 = cc in omega arith)
-      go (accept rs) q j =
-          let own : recordsOf t ≡ rs = ap kept q in
-          let size : length (catalogue rs) ≡ n = cc in
-          (record { rule = e; reads = q ∙ ap accept (sym own) }, sym size ∙ ap (λ x. length (catalogue x)) (sym own))
 
 -- ---- what the calls then answer
 

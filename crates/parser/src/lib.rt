@@ -65,17 +65,13 @@ pub fn read(text: &[u8], kept: &mut [u8]) -> Answer
     ensures answer { λ r. ⌜ r ≡ answerOf (reading (now (text .entry)) (length (now (kept .entry)))) ⌝ }
     ensures wrote { λ _. ⌜ now (kept .exit) ≡ outputOf (reading (now (text .entry)) (length (now (kept .entry)))) (now (kept .entry)) ⌝ }
 {
-    if 16777216 < text.len() {
-        return Answer::Refused(1, LineNo(0));
-    }
-    let strict = rules::is_strict(text);
-    match judging::judge(text, strict) {
+    match judging::judge(text) {
         Judged::Refused(n, line) => Answer::Refused(n, line),
         Judged::Accepted(size) => {
             if kept.len() < size {
                 return Answer::Refused(20, LineNo(0));
             }
-            put_catalogue(text, strict, kept);
+            put_catalogue(text, rules::is_strict(text), kept);
             Answer::Count(size)
         }
     }
@@ -85,17 +81,13 @@ pub fn read(text: &[u8], kept: &mut [u8]) -> Answer
 pub fn check(text: &[u8], kept: &[u8]) -> Checked
     ensures { λ r. ⌜ r ≡ checkedOf (fresh (now (text .entry)) (now (kept .entry))) ⌝ }
 {
-    if 16777216 < text.len() {
-        return Checked::Refused(1, LineNo(0));
-    }
-    let strict = rules::is_strict(text);
-    match judging::judge(text, strict) {
+    match judging::judge(text) {
         Judged::Refused(n, line) => Checked::Refused(n, line),
         Judged::Accepted(size) => {
             if size != kept.len() {
                 return Checked::Refused(21, LineNo(0));
             }
-            if is_catalogue(text, strict, kept) {
+            if is_catalogue(text, rules::is_strict(text), kept) {
                 return Checked::Fresh;
             }
             Checked::Refused(21, LineNo(0))

@@ -41,12 +41,8 @@ pub fn tidy(text: &[u8], out: &mut [u8]) -> Answer
     ensures answer { λ r. ⌜ r ≡ answerOf (tidying (now (text .entry)) (length (now (out .entry)))) ⌝ }
     ensures wrote { λ _. ⌜ now (out .exit) ≡ outputOf (tidying (now (text .entry)) (length (now (out .entry)))) (now (out .entry)) ⌝ }
 {
-    if 16777216 < text.len() {
-        return Answer::Refused(1, LineNo(0));
-    }
-    let strict = rules::is_strict(text);
-    match judging::judge(text, strict) {
+    match judging::judge(text) {
         Judged::Refused(n, line) => Answer::Refused(n, line),
-        Judged::Accepted(_) => write_accepted(text, strict, out),
+        Judged::Accepted(_) => write_accepted(text, rules::is_strict(text), out),
     }
 }

@@ -8,7 +8,8 @@ use Rattle.format.specs.Reading.{readText}
 use Rattle.format.specs.Calls.{tidying}
 use Rattle.accepted.specs.Read.{isAccepted}
 use Rattle.parser.specs.Answers.{answerOf, outputOf}
-use Rattle.parser.proofs.Told.{too-long, text-refused, text-accepted, refused-answer}
+use Rattle.judging.proofs.Whole.{text-refused, text-accepted}
+use Rattle.parser.proofs.Told.{refused-answer}
 use Rattle.tidying.proofs.Writing.{tidy-refused, tidy-accepted}
 use borrow.Author.Needs.{needs}
 use Rattle.tidying.proofs.tidy.Statement.{statement}
@@ -20,23 +21,11 @@ use Rattle.rules.proofs.is_strict.Reads as is-strict-reads
 use Rattle.tidying.proofs.write_accepted.Reads as write-accepted-reads
 
 -- the text is accepted
-accepted : (c : tie.After-enum-told)
-    → isAccepted (readText (c .before .before .before .before .before .before .before .args .text .now)) ≡ true
+accepted : (c : tie.After-enum-told) → isAccepted (readText (c .before .before .before .before .before .args .text .now)) ≡ true
 unfolding isAccepted
 accepted c =
     let j = c .before .before in
-    let s = j .before in
-    let t = s .before .before .before .before .args .text .now in
-    ap isAccepted (text-accepted (s .is-strict .result) t (s .before .if1 .left) (s .is-strict .ensures) (c .enum-told .given .0 .0) (sym (j .judge .ensures) ∙ c .enum-told .given .1) .0 .reads)
-
-returns : tie.Need-returns
-returns c =
-    let a = c .before .before .before .args in
-    let room = length (a .out .now) in
-    refused-answer (tidying (a .text .now) room) (a .out .now) 1 (record { 0 = 0 }) (tidy-refused (a .text .now) room 1 0 (too-long (a .text .now) (c .if1 .taken)))
-
-is-strict-requires : tie.Need-is-strict-requires
-is-strict-requires c κs = search needs
+    ap isAccepted (text-accepted (j .before .before .before .args .text .now) (c .enum-told .given .0 .0) (sym (j .judge .ensures) ∙ c .enum-told .given .1) .0)
 
 judge-requires : tie.Need-judge-requires
 judge-requires c κs = search needs
@@ -47,40 +36,32 @@ enum-known-n c = search needs
 enum-told : tie.Need-enum-told
 enum-told c = search needs
 
-write-accepted-requires : tie.Need-write-accepted-requires
-write-accepted-requires c κs = (accepted (c .before), c .before .before .before .before .is-strict .ensures)
+is-strict-requires : tie.Need-is-strict-requires
+is-strict-requires c κs = search needs
 
-returns-2 : tie.Need-returns-2
-returns-2 c =
+write-accepted-requires : tie.Need-write-accepted-requires
+write-accepted-requires c κs = (accepted (c .before .before), c .before .is-strict .ensures)
+
+returns : tie.Need-returns
+returns c =
     let j = c .before .before .before in
-    let s = j .before in
-    let a = s .before .before .before .before .args in
+    let a = j .before .before .before .args in
     let room = length (a .out .now) in
     refused-answer (tidying (a .text .now) room) (a .out .now) (c .before .n .given .0 .0) (c .before .n .given .0 .1 .0)
     (tidy-refused (a .text .now) room (c .before .n .given .0 .0) (c .before .n .given .0 .1 .0 .0)
-    (text-refused (s .is-strict .result) (a .text .now) (s .before .if1 .left) (s .is-strict .ensures) (c .before .n .given .0 .0) (c .before .n .given .0 .1 .0) (sym (j .judge .ensures) ∙ c .before .n .given .1)))
+    (text-refused (a .text .now) (c .before .n .given .0 .0) (c .before .n .given .0 .1 .0) (sym (j .judge .ensures) ∙ c .before .n .given .1)))
 
 same-length : tie.Need-same-length
 same-length c = search needs
 
-returns-3 : tie.Need-returns-3
-returns-3 c =
+returns-2 : tie.Need-returns-2
+returns-2 c =
     let w = c .before .before in
-    let z = w .before .before in
-    let a = z .before .before .before .before .before .before .before .args in
+    let z = w .before .before .before in
+    let a = z .before .before .before .before .before .args in
     let e = sym (tidy-accepted (a .text .now) (length (a .out .now)) (accepted z)) in
     (w .write-accepted .ensures .0 ∙ ap answerOf e, w .write-accepted .ensures .1 ∙ ap (λ x. outputOf x (a .out .now)) e)
 
 pub tidy-spec : {M : Type 1} → statement M
 tidy-spec =
-    tie.close
-    (tie.spec
-    returns
-    is-strict-requires
-    judge-requires
-    enum-known-n
-    enum-told
-    write-accepted-requires
-    returns-2
-    same-length
-    returns-3)
+    tie.close (tie.spec judge-requires enum-known-n enum-told is-strict-requires write-accepted-requires returns same-length returns-2)
