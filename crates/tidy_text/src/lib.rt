@@ -187,7 +187,7 @@ fn put_lines(text: &[u8], strict: bool, places: PerKind, out: &mut [u8])
     ensures { λ _. ⌜ now (out .exit) ≡ placed (now (out .entry)) (parts places (recordsOf (now (text .entry)))) ⌝ }
 {
     let mut next = places;
-    let mut at: usize = 0;
+    let mut at: usize = 0; // from the first line on
     while at < text.len() {
         let cut = text::first_line(&text[at..]);
         next = put_line(out, next, &text[at..at + cut.len], at, strict);
