@@ -69,9 +69,13 @@ impl Run {
         if self.trace {
             eprintln!("{}", replay(case));
         }
+        let found = self.checker.case(case);
+        self.count(case, found);
+    }
+
+    fn count(&mut self, case: &Case, found: Vec<Difference>) {
         self.texts += 1;
         self.inside += u64::from(in_domain(&case.text));
-        let found = self.checker.case(case);
         if found.is_empty() {
             return;
         }
@@ -94,6 +98,12 @@ impl Run {
 
     fn text(&mut self, text: &[u8]) {
         self.ask(&Case { text: text.to_vec(), add: None });
+    }
+
+    // A text that takes long is read once and asked nothing else.
+    fn once(&mut self, text: &[u8]) {
+        let found = self.checker.once(text);
+        self.count(&Case { text: text.to_vec(), add: None }, found);
     }
 
     fn reduced(&mut self, case: &Case, d: &Difference) -> Case {
@@ -190,15 +200,28 @@ impl Run {
                 for i in 0..40_000 * scale {
                     let n = if i % 100 == 0 { 1 + rng.below(60) } else { rng.below(9) };
                     let text = inputs::programs(rng, n);
+                    let text = if rng.one_in(3) { inputs::with_groups(rng, &text) } else { text };
                     let text = if rng.one_in(20) { inputs::damaged(rng, &text) } else { text };
                     let add = Some(inputs::addition(rng, &text));
                     self.ask(&Case { text, add });
                 }
             }
-            "boundaries" => inputs::boundaries(&mut |t| {
-                let add = Some((b"x".to_vec(), b"\tPN:v".to_vec()));
-                self.ask(&Case { text: t.to_vec(), add });
-            }),
+            "boundaries" => {
+                inputs::boundaries(&mut |t| {
+                    let add = Some((b"x".to_vec(), b"\tPN:v".to_vec()));
+                    self.ask(&Case { text: t.to_vec(), add });
+                });
+                inputs::full_of_programs(&mut |t, p, f| {
+                    self.ask(&Case { text: t.to_vec(), add: Some((p.into(), f.into())) });
+                });
+                // Lines, and the lines of a block: the key index has areas of twice as many slots.
+                for (n, block) in [(300, 256), (700, 256), (2_500, 1_024), (5_000, 4_096), (13_000, 4_096)] {
+                    inputs::many_keys(n, block, &mut |t| self.text(t));
+                }
+                for n in [140_000, 300_000] {
+                    inputs::many_keys(n, 131_072, &mut |t| self.once(t));
+                }
+            }
             _ => unreachable!(),
         }
     }
