@@ -720,25 +720,33 @@ fn short_key(mut i: usize) -> String {
     }
 }
 
+fn short_sq(i: usize) -> String {
+    format!("@SQ\tSN:{}\tLN:1", short_key(i))
+}
+
+fn short_rg(i: usize) -> String {
+    format!("@RG\tID:{}", short_key(i))
+}
+
+fn short_pg(i: usize) -> String {
+    format!("@PG\tID:{}", short_key(i))
+}
+
 /// Headers of n short lines, more than the `block` of lines whose keys are in one area of the key index: all SQ, all RG, and all kinds
-/// in turn, which share their keys. Some have a key that stands twice, near and far, or two of them; in some another refusal stands
-/// before, on or after the line of an 18.
+/// in turn, which share their keys. A key stands twice, near or far, or two do, or none.
 pub fn many_keys(n: usize, block: usize, f: &mut dyn FnMut(&[u8])) {
-    let sq = |i: usize| format!("@SQ\tSN:{}\tLN:1", short_key(i));
-    let rg = |i: usize| format!("@RG\tID:{}", short_key(i));
-    let pg = |i: usize| format!("@PG\tID:{}", short_key(i));
     // At most 1,000 programs.
     let every = (n / 1_000).next_multiple_of(6).max(6);
     let mixed = |i: usize| match i % 3 {
-        0 if i % every == 0 => pg(i / 3),
-        0 => sq(i / 3),
-        1 => rg(i / 3),
+        0 if i % every == 0 => short_pg(i / 3),
+        0 => short_sq(i / 3),
+        1 => short_rg(i / 3),
         _ => "@CO\t".into(),
     };
     let last = n - 1;
-    for line in [&sq as &dyn Fn(usize) -> String, &rg, &mixed] {
+    for line in [&short_sq as &dyn Fn(usize) -> String, &short_rg, &mixed] {
         let lines: Vec<String> = (0..n).map(line).collect();
-        // Each first line once more in place of the second.
+        // Each first line, or the one before where it has no key, once more in place of the second.
         let mut again = |pairs: &[(usize, usize)]| {
             let mut lines: Vec<&str> = lines.iter().map(String::as_str).collect();
             for &(from, to) in pairs {
@@ -762,9 +770,13 @@ pub fn many_keys(n: usize, block: usize, f: &mut dyn FnMut(&[u8])) {
         again(&[(0, last), (block, block + 3)]);
         again(&[(block - 1, last), (0, block + 3)]);
     }
-    // Programs, as many as may be, before read groups; the line of the 18 stands in the last block.
+}
+
+/// Headers of n short lines, programs before read groups, with another refusal before, on or after the line of an 18, which stands in
+/// the last block: a wrong tag, a second HD, a program more than may be.
+pub fn beside_used(n: usize, block: usize, f: &mut dyn FnMut(&[u8])) {
     let programs = PROGRAMS.min(n / 2);
-    let lines: Vec<String> = (0..n).map(|i| if i < programs { pg(i) } else { rg(i) }).collect();
+    let lines: Vec<String> = (0..n).map(|i| if i < programs { short_pg(i) } else { short_rg(i) }).collect();
     let mut with = |changed: &[(usize, &str)]| {
         let mut lines: Vec<&str> = lines.iter().map(String::as_str).collect();
         for &(i, line) in changed {
@@ -772,8 +784,8 @@ pub fn many_keys(n: usize, block: usize, f: &mut dyn FnMut(&[u8])) {
         }
         f(lines.join("\n").as_bytes());
     };
-    let (at, used) = (last - 1, [pg(0), rg(programs)]);
-    for other in [format!("{}\t1A:v", rg(n)), "@HD\tVN:1.6".into(), pg(n)] {
+    let (at, used) = (n - 2, [short_pg(0), short_rg(programs)]);
+    for other in [format!("{}\t1A:v", short_rg(n)), "@HD\tVN:1.6".into(), short_pg(n)] {
         for used in &used {
             for place in [at - block / 4, at - 1, at + 1] {
                 with(&[(at, used), (place, &other)]);
@@ -784,7 +796,7 @@ pub fn many_keys(n: usize, block: usize, f: &mut dyn FnMut(&[u8])) {
         with(&[(at, &format!("{used}\t1A:v"))]);
         with(&[(at, &format!("{used}\tID:x"))]);
     }
-    with(&[(at, &pg(programs - 1))]);
+    with(&[(at, &short_pg(programs - 1))]);
 }
 
 /// Texts with as many programs as may be, or nearly, each with what is given to add: IDs that are used and more programs than may be, a

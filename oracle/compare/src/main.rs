@@ -18,7 +18,8 @@ use check::{Case, Checker, Difference};
 use known::Kind;
 use oracle::inputs::{self, Rng, in_domain};
 
-const PHASES: [&str; 9] = ["corners", "tokens", "fields", "bytes", "graphs", "random", "damaged", "programs", "boundaries"];
+const PHASES: [&str; 10] =
+    ["corners", "tokens", "fields", "bytes", "graphs", "random", "damaged", "programs", "boundaries", "keys"];
 
 /// Unlisted differences that are printed; the run ends at the last of them.
 const MOST: usize = 8;
@@ -214,13 +215,18 @@ impl Run {
                 inputs::full_of_programs(&mut |t, p, f| {
                     self.ask(&Case { text: t.to_vec(), add: Some((p.into(), f.into())) });
                 });
+            }
+            "keys" => {
                 // Lines, and the lines of a block: the key index has areas of twice as many slots.
-                for (n, block) in [(300, 256), (700, 256), (2_500, 1_024), (5_000, 4_096), (13_000, 4_096)] {
+                for (n, block) in [(300, 256), (700, 256), (2_500, 1_024)] {
                     inputs::many_keys(n, block, &mut |t| self.text(t));
+                    inputs::beside_used(n, block, &mut |t| self.text(t));
                 }
-                for n in [140_000, 300_000] {
-                    inputs::many_keys(n, 131_072, &mut |t| self.once(t));
+                for (n, block) in [(5_000, 4_096), (13_000, 4_096), (140_000, 131_072)] {
+                    inputs::many_keys(n, block, &mut |t| self.once(t));
+                    inputs::beside_used(n, block, &mut |t| self.once(t));
                 }
+                inputs::many_keys(300_000, 131_072, &mut |t| self.once(t));
             }
             _ => unreachable!(),
         }
