@@ -300,10 +300,10 @@ impl Checker {
         std::mem::take(&mut self.found)
     }
 
-    /// The differences of a text that is read once and asked nothing else.
-    pub fn once(&mut self, text: &[u8]) -> Vec<Difference> {
+    /// The differences of a case whose text is read once and asked nothing else.
+    pub fn once(&mut self, case: &Case) -> Vec<Difference> {
         self.found.clear();
-        self.read(text);
+        self.read(&case.text);
         std::mem::take(&mut self.found)
     }
 

@@ -67,16 +67,21 @@ fn judged(case: &Case, mut found: Vec<Difference>) -> Vec<Difference> {
 
 impl Run {
     fn ask(&mut self, case: &Case) {
+        self.compare(case, Checker::case);
+    }
+
+    // A text that takes long is read once and asked nothing else.
+    fn once(&mut self, text: &[u8]) {
+        self.compare(&Case { text: text.to_vec(), add: None }, Checker::once);
+    }
+
+    fn compare(&mut self, case: &Case, compared: fn(&mut Checker, &Case) -> Vec<Difference>) {
         if self.trace {
             eprintln!("{}", replay(case));
         }
-        let found = self.checker.case(case);
-        self.count(case, found);
-    }
-
-    fn count(&mut self, case: &Case, found: Vec<Difference>) {
         self.texts += 1;
         self.inside += u64::from(in_domain(&case.text));
+        let found = compared(&mut self.checker, case);
         if found.is_empty() {
             return;
         }
@@ -99,12 +104,6 @@ impl Run {
 
     fn text(&mut self, text: &[u8]) {
         self.ask(&Case { text: text.to_vec(), add: None });
-    }
-
-    // A text that takes long is read once and asked nothing else.
-    fn once(&mut self, text: &[u8]) {
-        let found = self.checker.once(text);
-        self.count(&Case { text: text.to_vec(), add: None }, found);
     }
 
     fn reduced(&mut self, case: &Case, d: &Difference) -> Case {
