@@ -43,7 +43,7 @@ use noodles_sam::{
 /// Where real headers stand if no folder is given. This file is compiled in target/oracle.
 const HEADERS: &str = concat!(env!("CARGO_MANIFEST_DIR"), "/../../../../shared/headers");
 
-/// A text that takes longer gets no more rounds than three.
+/// No round begins after this, but three are run at least.
 const ENOUGH: Duration = Duration::from_secs(10);
 
 /// What the crate is given and writes.
