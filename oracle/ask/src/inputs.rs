@@ -706,3 +706,169 @@ pub fn boundaries(f: &mut dyn FnMut(&[u8])) {
     // Short once it is tidied: zeros go.
     f(&[b"@SQ\tSN:a\tLN:", &vec![b'0'; LONGEST - 14][..], b"8\n"].concat());
 }
+
+/// A key of few letters and digits, one for each number.
+fn short_key(mut i: usize) -> String {
+    const BYTES: &[u8] = b"0123456789ABCDEFGHIJKLMNOPQRSTUVWXYZabcdefghijklmnopqrstuvwxyz";
+    let mut key = String::new();
+    loop {
+        key.push(BYTES[i % 62] as char);
+        i /= 62;
+        if i == 0 {
+            return key;
+        }
+    }
+}
+
+fn short_sq(i: usize) -> String {
+    format!("@SQ\tSN:{}\tLN:1", short_key(i))
+}
+
+fn short_rg(i: usize) -> String {
+    format!("@RG\tID:{}", short_key(i))
+}
+
+fn short_pg(i: usize) -> String {
+    format!("@PG\tID:{}", short_key(i))
+}
+
+/// Headers of n short lines, more than the `block` of lines whose keys are in one area of the key index: all SQ, all RG, and all kinds
+/// in turn, which share their keys. A key stands twice, near or far, or two do, or none.
+pub fn many_keys(n: usize, block: usize, f: &mut dyn FnMut(&[u8])) {
+    // At most 1,000 programs.
+    let every = (n / 1_000).next_multiple_of(6).max(6);
+    let mixed = |i: usize| match i % 3 {
+        0 if i % every == 0 => short_pg(i / 3),
+        0 => short_sq(i / 3),
+        1 => short_rg(i / 3),
+        _ => "@CO\t".into(),
+    };
+    let last = n - 1;
+    for line in [&short_sq as &dyn Fn(usize) -> String, &short_rg, &mixed] {
+        let lines: Vec<String> = (0..n).map(line).collect();
+        // Each first line, or the one before where it has no key, once more in place of the second.
+        let mut again = |pairs: &[(usize, usize)]| {
+            let mut lines: Vec<&str> = lines.iter().map(String::as_str).collect();
+            for &(from, to) in pairs {
+                lines[to] = lines[if lines[from].starts_with("@CO") { from - 1 } else { from }];
+            }
+            f(lines.join("\n").as_bytes());
+        };
+        again(&[]);
+        for (from, to) in [
+            (0, block - 1),
+            (0, block),
+            (0, last),
+            (block / 2, last),
+            (block - 1, block),
+            (block - 1, last),
+            (block, last),
+            (last - 3, last),
+        ] {
+            again(&[(from, to)]);
+        }
+        again(&[(0, last), (block, block + 3)]);
+        again(&[(block - 1, last), (0, block + 3)]);
+    }
+}
+
+/// Headers of n short lines, programs before read groups, with another refusal before, on or after the line of an 18, which stands in
+/// the last block: a wrong tag, a second HD, a program more than may be.
+pub fn beside_used(n: usize, block: usize, f: &mut dyn FnMut(&[u8])) {
+    let programs = PROGRAMS.min(n / 2);
+    let lines: Vec<String> = (0..n).map(|i| if i < programs { short_pg(i) } else { short_rg(i) }).collect();
+    let mut with = |changed: &[(usize, &str)]| {
+        let mut lines: Vec<&str> = lines.iter().map(String::as_str).collect();
+        for &(i, line) in changed {
+            lines[i] = line;
+        }
+        f(lines.join("\n").as_bytes());
+    };
+    let (at, used) = (n - 2, [short_pg(0), short_rg(programs)]);
+    for other in [format!("{}\t1A:v", short_rg(n)), "@HD\tVN:1.6".into(), short_pg(n)] {
+        for used in &used {
+            for place in [at - block / 4, at - 1, at + 1] {
+                with(&[(at, used), (place, &other)]);
+            }
+        }
+    }
+    for used in &used {
+        with(&[(at, &format!("{used}\t1A:v"))]);
+        with(&[(at, &format!("{used}\tID:x"))]);
+    }
+    with(&[(at, &short_pg(programs - 1))]);
+}
+
+/// Texts with as many programs as may be, or nearly, each with what is given to add: IDs that are used and more programs than may be, a
+/// PP that names one and one that names none.
+pub fn full_of_programs(f: &mut dyn FnMut(&[u8], &str, &str)) {
+    let text = |n: usize, chained: bool, named: &[(usize, String)]| {
+        let id = |i: usize| named.iter().find(|x| x.0 == i).map_or(format!("p{i}"), |x| x.1.clone());
+        let after = |i: usize| if chained && i > 0 { format!("\tPP:{}", id(i - 1)) } else { String::new() };
+        (0..n).map(|i| format!("@PG\tID:{}{}\n", id(i), after(i))).collect::<String>()
+    };
+    for n in [PROGRAMS - 1, PROGRAMS] {
+        let leaf = format!("p{}", n - 1);
+        let chain = text(n, true, &[(7, "x".into()), (9, format!("x-{leaf}"))]);
+        for (prefix, fields) in [("y", ""), ("x", ""), ("p0", ""), ("y", "\tPP:p0"), ("x", "\tPP:p0\tPN:v"), ("x", "\tPP:z")] {
+            f(chain.as_bytes(), prefix, fields);
+        }
+        f(chain.as_bytes(), "y", &format!("\tPP:{leaf}"));
+        // One more that is used already, that is not in form, and that is neither.
+        f(format!("{chain}@PG\tID:{leaf}\n").as_bytes(), "y", "");
+        f(format!("{chain}@RG\tID:p0\n@PG\tID:p0\n@PG\tID:y\n").as_bytes(), "y", "");
+        f(format!("{chain}@PG\tID:y\tPP\n").as_bytes(), "y", "");
+        f(format!("{chain}@RG\tID:p0\tPP:z\n@PG\tID:y\n").as_bytes(), "y", "");
+    }
+    for n in [PROGRAMS / 2, PROGRAMS / 2 + 1, PROGRAMS] {
+        f(text(n, false, &[]).as_bytes(), "x", "");
+        for used in [0, 1, n / 2, n - 1] {
+            let id = (3, format!("x-p{used}"));
+            f(text(n, false, &[id.clone()]).as_bytes(), "x", "");
+            f(text(n, false, &[id, (4, "x".into())]).as_bytes(), "x", "\tPP:p2");
+        }
+    }
+}
+
+/// The text with read groups between its lines. Their keys are those of programs, and a PP among their fields is no parent.
+pub fn with_groups(rng: &mut Rng, text: &[u8]) -> Vec<u8> {
+    let mut o = Vec::new();
+    for (i, line) in text.split_inclusive(|&b| b == b'\n').enumerate() {
+        if rng.one_in(2) {
+            o.extend_from_slice(format!("@RG\tID:{}", program_id(i)).as_bytes());
+            if rng.one_in(2) {
+                o.extend_from_slice(format!("\tPP:{}", program_id(rng.below(9))).as_bytes());
+            }
+            o.push(b'\n');
+        }
+        o.extend_from_slice(line);
+    }
+    o
+}
+
+/// The text with other names: in each value every small letter becomes the next, and z becomes a. Lengths and numbers stay, and keys are
+/// equal where they were: an accepted text keeps its catalogue.
+pub fn renamed(text: &[u8]) -> Vec<u8> {
+    // A value stands behind the three bytes of its tag and colon. The line's front has three too.
+    let mut at = 0;
+    let next = |&b: &u8| {
+        at = if matches!(b, b'\t' | b'\n') { 0 } else { at + 1 };
+        match b {
+            b'z' if at > 3 => b'a',
+            b'a'..b'z' if at > 3 => b + 1,
+            _ => b,
+        }
+    };
+    text.iter().map(next).collect()
+}
+
+/// The text with its first line ended by CR LF in place of LF, or the other way, and whether a line stands behind it: an accepted text
+/// keeps its records, and the places behind the first line become others. None where there is no LF, or too many bytes.
+pub fn ended_otherwise(text: &[u8]) -> Option<(Vec<u8>, bool)> {
+    let (line, rest) = text.split_at(text.iter().position(|&b| b == b'\n')?);
+    let other = match line.strip_suffix(b"\r") {
+        Some(line) => [line, rest].concat(),
+        None => [line, b"\r", rest].concat(),
+    };
+    (other.len() <= LONGEST).then_some((other, rest.len() > 1))
+}

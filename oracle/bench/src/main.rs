@@ -1,72 +1,165 @@
-//! bench: the crate against this library, on the same bytes, from the same process.
+//! bench: the library's calls timed: beside the crate on headers as tools write them, and alone on texts made to be slow.
 //!
-//! bench [ROUNDS]    each side ROUNDS times (default 20), one after the other; the best of each, and their ratio.
-//!                   A size that takes longer than a minute gets fewer rounds, but three at least; its line says how many
+//! bench [--rounds N] [FOLDER]    the first table; FOLDER has real headers, `*.sam` (default ../shared/headers beside the repository)
+//! bench worst [WORD]             the second table (`worst.rs`), or its rows that have this word in their names
 //!
-//! Headers have an HD and 200, 2,000 or 20,000 SQ lines of five fields each. For reading: the crate's whole-text parser alone
-//! (dropping its header is not timed) against sam_header_read. For tidying: its parser and its writer, into a buffer that is
-//! reused, against sam_header_tidy. The library's output buffers are reused and not cleared.
+//! A row of the first table is a text: its name and bytes, then library/crate for each call, the library's time for a line of
+//! reading in ns, and how often all ran. Both sides take the same bytes in the same process, one after the other, and the best
+//! time of each counts: of N times (default 100), of fewer where ten seconds are over, but of three at least.
+//!
+//!   read, check, count    against the crate's whole-text parser; here and below dropping its header is not timed
+//!   leaves                against its parser and its leaves
+//!   add                   against its parser, its add and its writer, into a buffer that is reused; its fields are read before
+//!   tidy                  against its parser and its writer
+//!
+//! A call that the library refuses is not timed: the refusal's number stands there in brackets. The library's outputs are reused
+//! and not cleared, and hold the bytes that the crate wrote.
+//!
+//!   N SQ, numbered        an HD and SQ lines of five fields, the names `chrUn_00012`
+//!   N SQ, random          with names of twelve letters and digits
+//!   N SQ, assembler       with names as `NODE_12_length_4711_cov_9.3`
+//!   200000 short SQ       with SN and LN alone
+//!   20000 RG              of five fields
+//!   1024 chained PG       after 20,000 SQ of five fields; one more may not be added (19)
 
-use std::{fmt::Write, hint::black_box, time::Instant};
+mod calls;
+mod texts;
+mod worst;
 
-use noodles_sam::{Header, io::writer::write_header};
-use oracle::inputs::Rng;
+use std::{
+    hint::black_box,
+    path::Path,
+    process::{Command, ExitCode},
+    time::{Duration, Instant},
+};
 
-fn text(n: usize) -> String {
-    let mut rng = Rng::new(n as u64);
-    let mut t = String::from("@HD\tVN:1.6\tSO:coordinate\n");
-    for i in 0..n {
-        let length = 1_000 + (i * 7_919) % 200_000;
-        let (a, b) = (rng.next(), rng.next());
-        writeln!(
-            t,
-            "@SQ\tSN:chrUn_{i:05}\tLN:{length}\tM5:{a:016x}{b:016x}\tAS:assembly\tUR:file:///ref/example/assembly.fa.gz"
-        )
-        .unwrap();
+use calls::{CALLS, FIELDS, PREFIX, Room, timed};
+use noodles_sam::{
+    Header,
+    header::record::value::{Map, map::Program},
+    io::writer::write_header,
+};
+
+/// Where real headers stand if no folder is given. This file is compiled in target/oracle.
+const HEADERS: &str = concat!(env!("CARGO_MANIFEST_DIR"), "/../../../../shared/headers");
+
+/// No round begins after this, but three are run at least.
+const ENOUGH: Duration = Duration::from_secs(10);
+
+/// What the crate is given and writes.
+struct Theirs {
+    fields: Map<Program>,
+    written: Vec<u8>,
+}
+
+impl Theirs {
+    fn parse(&mut self, text: &str) -> Header {
+        text.parse().expect("accepted by the crate")
     }
-    t
+
+    fn leaves(&mut self, text: &str) -> Header {
+        let header = self.parse(text);
+        black_box(header.programs().leaves().expect("no cycle").count());
+        header
+    }
+
+    fn add(&mut self, text: &str) -> Header {
+        let mut header = self.parse(text);
+        header.programs_mut().add(PREFIX, self.fields.clone()).expect("added by the crate");
+        self.write(header)
+    }
+
+    fn tidy(&mut self, text: &str) -> Header {
+        let header = self.parse(text);
+        self.write(header)
+    }
+
+    fn write(&mut self, header: Header) -> Header {
+        self.written.clear();
+        write_header(&mut self.written, &header).expect("written by the crate");
+        header
+    }
 }
 
-fn timed<T>(best: &mut u128, f: impl FnOnce() -> T) -> T {
-    let began = Instant::now();
-    let result = black_box(f());
-    *best = (*best).min(began.elapsed().as_nanos());
-    result
-}
+/// What the crate does for each of CALLS, and whether it writes a text.
+const CRATE: [(fn(&mut Theirs, &str) -> Header, bool); CALLS.len()] = [
+    (Theirs::parse, false),
+    (Theirs::parse, false),
+    (Theirs::parse, false),
+    (Theirs::leaves, false),
+    (Theirs::add, true),
+    (Theirs::tidy, true),
+];
 
-fn show(what: &str, theirs: u128, ours: u128) {
-    let (theirs, ours) = (theirs as f64, ours as f64);
-    println!("  {what}: crate {:.1} us, library {:.1} us, library/crate {:.2}", theirs / 1e3, ours / 1e3, ours / theirs);
-}
-
-fn main() {
-    let rounds = std::env::args().nth(1).map_or(20, |s| s.parse::<usize>().expect("a number of rounds"));
-    println!("best of {rounds} each, one after the other; the catalogue and tidy buffers are reused and not cleared");
-    for n in [200, 2_000, 20_000] {
-        let text = text(n);
-        let mut catalogue = vec![0; 20 + n * 50];
-        let (mut tidy, mut written) = (vec![0; text.len() + 1], Vec::with_capacity(text.len() + 1));
-        let [mut parse, mut read, mut parse_write, mut tidied] = [u128::MAX; 4];
-        let (mut answers, mut ran) = ((0, 0), 0);
-        let began = Instant::now();
-        while ran < rounds && (ran < 3 || began.elapsed().as_secs() < 60) {
-            ran += 1;
-            let header: Header = timed(&mut parse, || black_box(&text[..]).parse().expect("accepted"));
-            assert_eq!(header.reference_sequences().len(), n);
-            drop(header);
-            answers.0 = timed(&mut read, || library::read(black_box(text.as_bytes()), &mut catalogue).expect("accepted"));
-            // The crate's header outlives the clock here too.
-            let _header = timed(&mut parse_write, || {
-                let header: Header = black_box(&text[..]).parse().expect("accepted");
-                written.clear();
-                write_header(&mut written, &header).expect("written");
-                header
-            });
-            answers.1 = timed(&mut tidied, || library::tidy(black_box(text.as_bytes()), &mut tidy).expect("accepted"));
+fn row(name: &str, bytes: &[u8], rounds: usize) {
+    let Ok(text) = str::from_utf8(bytes) else {
+        return println!("{name}: not UTF-8, which the crate's whole-text parser needs");
+    };
+    let mut room = Room::new();
+    let mut theirs = Theirs { fields: oracle::program_fields(FIELDS).expect("in form"), written: Vec::new() };
+    let first = CALLS.map(|(_, ours)| ours(bytes, &mut room));
+    if let Err(r) = first[0] {
+        return println!("{name}: refused {} line {}", r.number, r.line);
+    }
+    let mut best = [(Duration::MAX, Duration::MAX); CALLS.len()];
+    let (mut ran, began) = (0, Instant::now());
+    while ran < rounds && (ran < 3 || began.elapsed() < ENOUGH) {
+        ran += 1;
+        for (i, ((_, ours), (crates, writes))) in CALLS.into_iter().zip(CRATE).enumerate() {
+            if first[i].is_err() {
+                continue;
+            }
+            drop(timed(&mut best[i].1, || crates(&mut theirs, black_box(text))));
+            let n = timed(&mut best[i].0, || ours(black_box(bytes), &mut room)).expect("accepted as before");
+            assert!(!writes || room.out[..n as usize] == theirs.written[..], "both wrote the same");
         }
-        assert!(tidy[..answers.1 as usize] == written[..], "both wrote the same");
-        println!("{n} SQ lines, {} bytes, a catalogue of {}, best of {ran}:", text.len(), answers.0);
-        show("parse / read", parse, read);
-        show("parse and write / tidy", parse_write, tidied);
     }
+    print!("{name:<27}{:>10}", bytes.len());
+    for (answer, (ours, crates)) in first.iter().zip(best) {
+        match answer {
+            Ok(_) => print!("{:>9.2}", ours.as_secs_f64() / crates.as_secs_f64()),
+            Err(r) => print!("{:>9}", format!("({})", r.number)),
+        }
+    }
+    println!("{:>9.0}{ran:>9}", best[0].0.as_nanos() as f64 / oracle::spans(bytes).count().max(1) as f64);
+}
+
+/// The kind of processor, as the system tells it.
+fn processor() -> String {
+    let named = |all: String| {
+        let line = all.lines().find(|l| l.to_lowercase().starts_with("model name"))?;
+        Some(line.split_once(':')?.1.trim().to_string())
+    };
+    let told = std::fs::read_to_string("/proc/cpuinfo").ok().and_then(named);
+    let asked = || Command::new("lscpu").output().ok().and_then(|o| named(String::from_utf8(o.stdout).ok()?));
+    format!("{} ({})", told.or_else(asked).unwrap_or("a processor that is not told".into()), std::env::consts::ARCH)
+}
+
+fn main() -> ExitCode {
+    let args: Vec<String> = std::env::args().skip(1).collect();
+    let args: Vec<&str> = args.iter().map(String::as_str).collect();
+    let (rounds, folder) = match args[..] {
+        ["worst"] | ["worst", _] => (0, None),
+        [] => (100, Some(HEADERS)),
+        [folder] if !folder.starts_with('-') => (100, Some(folder)),
+        ["--rounds", n] if n.parse::<usize>().is_ok() => (n.parse().unwrap(), Some(HEADERS)),
+        ["--rounds", n, folder] if n.parse::<usize>().is_ok() => (n.parse().unwrap(), Some(folder)),
+        _ => {
+            eprintln!("usage: see the top of oracle/bench/src/main.rs");
+            return ExitCode::from(2);
+        }
+    };
+    println!("processor: {}\narchive: {}\n", processor(), library::LINKED.trim());
+    let Some(folder) = folder else {
+        worst::table(args.get(1).copied().unwrap_or(""));
+        return ExitCode::SUCCESS;
+    };
+    print!("{:<27}{:>10}", "library/crate", "bytes");
+    for (call, _) in CALLS {
+        print!("{call:>9}");
+    }
+    println!("{:>9}{:>9}", "ns/line", "best of");
+    texts::made(&mut |name, text| row(name, text, rounds));
+    texts::found(Path::new(folder), &mut |name, text| row(name, text, rounds));
+    ExitCode::SUCCESS
 }

@@ -1,7 +1,10 @@
 //! One case: both sides are asked, and everything that they answer is compared.
 
 use library::{Answer, Element, Lent, Refusal};
-use oracle::{Header, inputs::Rng};
+use oracle::{
+    Header,
+    inputs::{self, Rng},
+};
 
 use crate::{
     known::{self, Kind},
@@ -286,10 +289,29 @@ impl Checker {
     pub fn case(&mut self, case: &Case) -> Vec<Difference> {
         self.found.clear();
         let before = case.clone();
-        let text = &case.text[..];
+        match self.read(&case.text) {
+            Some(Err(r)) => self.refused(case, r),
+            Some(Ok((catalogue, header))) => self.accepted(case, &catalogue, &header),
+            None => {}
+        }
+        if *case != before {
+            self.differ(Call::Read, None, "a text, a prefix or fields were changed".into());
+        }
+        std::mem::take(&mut self.found)
+    }
+
+    /// The differences of a case whose text is read once and asked nothing else.
+    pub fn once(&mut self, case: &Case) -> Vec<Difference> {
+        self.found.clear();
+        self.read(&case.text);
+        std::mem::take(&mut self.found)
+    }
+
+    // Reads the text on both sides: the refusal, or the catalogue and the crate's records; none where there is nothing to go on with.
+    fn read(&mut self, text: &[u8]) -> Option<Result<(Vec<u8>, Header), Refusal>> {
         let theirs = oracle::parse(text);
-        let room = theirs.as_ref().map_or(40, |h| catalogue_len(h) + 9);
-        let ours = library::read(text, self.bytes.lend(room));
+        let need = theirs.as_ref().map(catalogue_len);
+        let ours = library::read(text, self.bytes.lend(need.as_ref().map_or(40, |n| n + 9)));
         match (ours, theirs) {
             (Err(r), theirs) => {
                 let theirs = theirs.err();
@@ -300,23 +322,37 @@ impl Checker {
                     let theirs = theirs.map_or("accepted".into(), |t| format!("{} line {} {}", t.number, t.line, t.error));
                     self.differ(Call::Read, kind, format!("refused {} line {}; the crate: {theirs}", r.number, r.line));
                 }
-                self.refused(case, r);
+                Some(Err(r))
             }
             (Ok(n), Err(t)) => {
-                self.differ(
-                    Call::Read,
-                    None,
-                    format!("accepted ({n} bytes); the crate: {} line {} {}", t.number, t.line, t.error),
-                );
+                let theirs = format!("{} line {} {}", t.number, t.line, t.error);
+                self.differ(Call::Read, None, format!("accepted ({n} bytes); the crate: {theirs}"));
+                None
             }
             (Ok(n), Ok(header)) => {
-                self.accepted(case, n, &header);
+                let catalogue = self.catalogued(text, n, &header)?;
+                self.tally.text(0);
+                Some(Ok((catalogue, header)))
             }
         }
-        if *case != before {
-            self.differ(Call::Read, None, "a text, a prefix or fields were changed".into());
-        }
-        std::mem::take(&mut self.found)
+    }
+
+    // The catalogue that reading left, held to the crate's records.
+    fn catalogued(&mut self, text: &[u8], n: u64, header: &Header) -> Option<Vec<u8>> {
+        let need = catalogue_len(header);
+        let wrong = if n != need as u64 {
+            format!("{n} bytes of catalogue, wanted {need}")
+        } else if !self.bytes.kept_from(need) {
+            "something past the catalogue was changed".into()
+        } else {
+            let catalogue = self.bytes.front(need).to_vec();
+            match records(text, &catalogue, header) {
+                Ok(()) => return Some(catalogue),
+                Err(what) => format!("{what}; catalogue {}", inputs::hex(&catalogue)),
+            }
+        };
+        self.differ(Call::Read, None, wrong);
+        None
     }
 
     fn differ(&mut self, call: Call, kind: Option<Kind>, what: String) {
@@ -392,38 +428,28 @@ impl Checker {
         }
     }
 
-    fn accepted(&mut self, case: &Case, n: u64, header: &Header) {
+    fn accepted(&mut self, case: &Case, catalogue: &[u8], header: &Header) {
         let text = &case.text[..];
-        let need = catalogue_len(header);
-        if n != need as u64 {
-            return self.differ(Call::Read, None, format!("{n} bytes of catalogue, wanted {need}"));
-        }
-        if !self.bytes.kept_from(need) {
-            return self.differ(Call::Read, None, "something past the catalogue was changed".into());
-        }
-        let catalogue = self.bytes.front(need).to_vec();
-        if let Err(what) = records(text, &catalogue, header) {
-            return self.differ(Call::Read, None, format!("{what}; catalogue {}", oracle::inputs::hex(&catalogue)));
-        }
-        let said = outputs(&mut self.bytes, Ok((&catalogue, n)), |o| library::read(text, o));
+        let need = catalogue.len();
+        let said = outputs(&mut self.bytes, Ok((catalogue, need as u64)), |o| library::read(text, o));
         self.said(Call::Read, 0, said);
-        self.tally.text(0);
 
         // The catalogue is this text's; a damaged one is not.
-        self.same(Call::Check, library::check(text, &catalogue), Ok(0), "its own catalogue");
+        self.same(Call::Check, library::check(text, catalogue), Ok(0), "its own catalogue");
         let hash = text.iter().fold(0xcbf2_9ce4_8422_2325u64, |h, &b| (h ^ u64::from(b)).wrapping_mul(0x100_0000_01b3));
         let mut rng = Rng::new(hash);
         let mut damaged = Vec::new();
         for _ in 0..if need == 0 { 0 } else { 3 } {
-            let mut c = catalogue.clone();
+            let mut c = catalogue.to_vec();
             c[rng.below(need)] ^= if rng.one_in(2) { 1 << rng.below(8) } else { 1 + rng.below(255) as u8 };
             damaged.push(c);
         }
-        damaged.push([&catalogue[..], &[*rng.of(b"\x00\x06\x01\xff")]].concat());
+        damaged.push([catalogue, &[*rng.of(b"\x00\x06\x01\xff")]].concat());
         if need > 0 {
             damaged.push(catalogue[..need - 1].to_vec());
             damaged.push(Vec::new());
         }
+        damaged.extend(self.others(text, catalogue));
         for c in &damaged {
             self.same(Call::Check, library::check(text, c), Err(STALE), "a damaged catalogue");
         }
@@ -431,13 +457,27 @@ impl Checker {
         self.tidy(text, header);
         #[cfg(feature = "lookup")]
         {
-            self.lookup(text, &catalogue, &damaged, header, &mut rng);
-            self.fields(text, &catalogue, &damaged, header, &mut rng);
+            self.lookup(text, catalogue, &damaged, header, &mut rng);
+            self.fields(text, catalogue, &damaged, header, &mut rng);
         }
         #[cfg(feature = "graph")]
-        self.graph(text, &catalogue, &damaged, header, &mut rng);
+        self.graph(text, catalogue, &damaged, header, &mut rng);
         #[cfg(feature = "add")]
-        self.add(case, &catalogue, &damaged, header, &mut rng);
+        self.add(case, catalogue, &damaged, header, &mut rng);
+    }
+
+    // Texts that are nearly this one: with other names its catalogue is fresh, with other places it is not. The catalogue of the
+    // latter, which is as long and not this text's.
+    fn others(&mut self, text: &[u8], catalogue: &[u8]) -> Option<Vec<u8>> {
+        let named = inputs::renamed(text);
+        self.same(Call::Check, library::check(&named, catalogue), Ok(0), "over a text with other names");
+        let (other, moved) = inputs::ended_otherwise(text)?;
+        let want = if moved { Err(STALE) } else { Ok(0) };
+        self.same(Call::Check, library::check(&other, catalogue), want, "over a text whose first line ends otherwise");
+        let mut own = vec![0; catalogue.len()];
+        let got = library::read(&other, &mut own);
+        self.same(Call::Read, got, Ok(own.len() as u64), "a text whose first line ends otherwise");
+        moved.then_some(own)
     }
 
     // The line of the first SQ whose name the crate does not write.
@@ -622,7 +662,7 @@ impl Checker {
         // The lenient build cannot say what is not in form.
         if oracle::LENIENT {
             let line = [b"@PG\tID:", &prefix[..], fields].concat();
-            if line.contains(&b'\n') || !oracle::inputs::in_domain(&line) {
+            if line.contains(&b'\n') || !inputs::in_domain(&line) {
                 return;
             }
         }

@@ -18,7 +18,8 @@ use check::{Case, Checker, Difference};
 use known::Kind;
 use oracle::inputs::{self, Rng, in_domain};
 
-const PHASES: [&str; 9] = ["corners", "tokens", "fields", "bytes", "graphs", "random", "damaged", "programs", "boundaries"];
+const PHASES: [&str; 10] =
+    ["corners", "tokens", "fields", "bytes", "graphs", "random", "damaged", "programs", "boundaries", "keys"];
 
 /// Unlisted differences that are printed; the run ends at the last of them.
 const MOST: usize = 8;
@@ -66,12 +67,21 @@ fn judged(case: &Case, mut found: Vec<Difference>) -> Vec<Difference> {
 
 impl Run {
     fn ask(&mut self, case: &Case) {
+        self.compare(case, Checker::case);
+    }
+
+    // A text that takes long is read once and asked nothing else.
+    fn once(&mut self, text: &[u8]) {
+        self.compare(&Case { text: text.to_vec(), add: None }, Checker::once);
+    }
+
+    fn compare(&mut self, case: &Case, compared: fn(&mut Checker, &Case) -> Vec<Difference>) {
         if self.trace {
             eprintln!("{}", replay(case));
         }
         self.texts += 1;
         self.inside += u64::from(in_domain(&case.text));
-        let found = self.checker.case(case);
+        let found = compared(&mut self.checker, case);
         if found.is_empty() {
             return;
         }
@@ -190,15 +200,33 @@ impl Run {
                 for i in 0..40_000 * scale {
                     let n = if i % 100 == 0 { 1 + rng.below(60) } else { rng.below(9) };
                     let text = inputs::programs(rng, n);
+                    let text = if rng.one_in(3) { inputs::with_groups(rng, &text) } else { text };
                     let text = if rng.one_in(20) { inputs::damaged(rng, &text) } else { text };
                     let add = Some(inputs::addition(rng, &text));
                     self.ask(&Case { text, add });
                 }
             }
-            "boundaries" => inputs::boundaries(&mut |t| {
-                let add = Some((b"x".to_vec(), b"\tPN:v".to_vec()));
-                self.ask(&Case { text: t.to_vec(), add });
-            }),
+            "boundaries" => {
+                inputs::boundaries(&mut |t| {
+                    let add = Some((b"x".to_vec(), b"\tPN:v".to_vec()));
+                    self.ask(&Case { text: t.to_vec(), add });
+                });
+                inputs::full_of_programs(&mut |t, p, f| {
+                    self.ask(&Case { text: t.to_vec(), add: Some((p.into(), f.into())) });
+                });
+            }
+            "keys" => {
+                // Lines, and the lines of a block: the key index has areas of twice as many slots.
+                for (n, block) in [(300, 256), (700, 256), (2_500, 1_024)] {
+                    inputs::many_keys(n, block, &mut |t| self.text(t));
+                    inputs::beside_used(n, block, &mut |t| self.text(t));
+                }
+                for (n, block) in [(5_000, 4_096), (13_000, 4_096), (140_000, 131_072)] {
+                    inputs::many_keys(n, block, &mut |t| self.once(t));
+                    inputs::beside_used(n, block, &mut |t| self.once(t));
+                }
+                inputs::many_keys(300_000, 131_072, &mut |t| self.once(t));
+            }
             _ => unreachable!(),
         }
     }

@@ -1,5 +1,8 @@
 //! This library's C interface, and buffers that show which bytes a call wrote.
 
+/// The archive that was linked: its bytes, its sum, and where it stood when oracle/build took it.
+pub const LINKED: &str = include_str!("../linked.txt");
+
 unsafe extern "C" {
     fn sam_header_read(text: *const u8, text_len: usize, catalogue: *mut u8, catalogue_len: usize) -> u64;
     fn sam_header_check(text: *const u8, text_len: usize, catalogue: *const u8, catalogue_len: usize) -> u64;
