@@ -222,18 +222,10 @@ fn parse_fields(kind: Kind, src: &[u8], at: usize, strict: bool) -> Head
 fn has_break(src: &[u8]) -> bool
     ensures { λ r. ⌜ r ≡ any breaks (now (src .entry)) ⌝ }
 {
-    let mut i: usize = 0;
-    while i < src.len() {
-        let b = src[i];
-        if b == b'\n' {
-            return true;
-        }
-        if b == b'\r' {
-            return true;
-        }
-        i += 1;
+    if text::upto(src, b'\n') < src.len() {
+        return true;
     }
-    false
+    text::upto(src, b'\r') < src.len()
 }
 
 // CO: one tab, then any bytes, also none.
