@@ -4,21 +4,20 @@ use mathlib.Core.Path.{_≡_, refl, sym, ap, _∙_}
 use mathlib.Core.Bool.{Bool, true, false, cond}
 use mathlib.Core.List.{List, [], _∷_}
 use lib.Dec.{eqb}
+use borrow.Author.Tests.{eqb-true, eqb-false}
 use Rattle.format.specs.Decimal.{span}
 use Rattle.format.specs.Fields.{bad, field, valueField, versionField, isTag}
 use Rattle.format.specs.declared.Kind.{Kind}
 use Rattle.format.specs.declared.Kind.the-variants.{Header, ReferenceSequence, ReadGroup, Program, Comment}
 use Rattle.field.specs.Parsed.{takenOf, parsedOf}
-use Rattle.field.specs.declared.Taken.{Taken}
-use Rattle.field.specs.declared.Taken.the-variants.{Value, Wrong}
 use Rattle.field.proofs.Judged.{plain-taken, version-wrong, version-taken, length-sized, numeric, value-version, value-length, value-plain}
 
 version-anywhere : (at to : ℕ) (v : List ℕ) → parsedOf Header (versionField at v) ≡ parsedOf Header (versionField to v)
-version-anywhere at to v = go (takenOf v) refl
+version-anywhere at to v = go (eqb (takenOf v) 0) refl
   where
-    go : (t : Taken) → takenOf v ≡ t → parsedOf Header (versionField at v) ≡ parsedOf Header (versionField to v)
-    go Wrong e = version-wrong at v e ∙ sym (version-wrong to v e)
-    go (Value n) e = version-taken at n v e ∙ sym (version-taken to n v e)
+    go : (t : Bool) → eqb (takenOf v) 0 ≡ t → parsedOf Header (versionField at v) ≡ parsedOf Header (versionField to v)
+    go true e = version-wrong at v (eqb-true _ _ e) ∙ sym (version-wrong to v (eqb-true _ _ e))
+    go false e = version-taken at v (eqb-false _ _ e) ∙ sym (version-taken to v (eqb-false _ _ e))
 
 module _ (a b at to : ℕ) (v : List ℕ) where
   value-anywhere : (k : Kind) → parsedOf k (valueField k a b at v) ≡ parsedOf k (valueField k a b to v)

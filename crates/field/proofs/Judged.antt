@@ -1,12 +1,13 @@
 -- What the readers of a value answer, as what is judged of its bytes.
 use Prim.Native.Nat.{ℕ, _^_}
 use mathlib.Core.Path.{_≡_, refl, ap, _∙_}
-use mathlib.Core.Bool.{Bool, true, false, _&&_, not, cond}
+use mathlib.Core.Bool.{Bool, true, false, _&&_, not, cond, false≢true}
 use mathlib.Core.List.{List, [], _∷_}
 use mathlib.Core.Option.{Option, none, some}
 use native.Mathlib.Omega.{arith}
 use lib.ListN.{length}
 use lib.Dec.{eqb, ltb}
+use borrow.Author.Tests.{eqb-true, eqb-false, ne-eqb}
 use Rattle.decimal.specs.Number.{counted}
 use Rattle.decimal.specs.declared.Number.the-variants as number
 use Rattle.format.specs.Bytes.{none?}
@@ -19,8 +20,6 @@ use Rattle.format.specs.declared.Version.{Version}
 use Rattle.format.specs.declared.Kind.{Kind}
 use Rattle.format.specs.declared.Kind.the-variants.{Header, ReferenceSequence, ReadGroup, Program, Comment}
 use Rattle.field.specs.Parsed.{takenOf, spelledOf, lengthOf, parsedOf, valued, fieldOf}
-use Rattle.field.specs.declared.Taken.{Taken}
-use Rattle.field.specs.declared.Taken.the-variants.{Value, Wrong}
 use Rattle.field.specs.declared.Spelled.{Spelled}
 use Rattle.field.specs.declared.Spelled.the-variants as spelled′
 use Rattle.field.specs.declared.Length.{Length}
@@ -29,39 +28,44 @@ use Rattle.field.specs.declared.Parsed.{Parsed}
 use Rattle.field.specs.declared.Parsed.the-variants.{Bad, Good}
 use Rattle.field.specs.declared.Says.the-variants as says
 
--- ---- a value kept as it stands
-
-unfoldable pub plainBy : ℕ → ℕ → Taken → Parsed
-plainBy a b Wrong = Bad 10
-plainBy a b (Value n) = Good (record { tag_0 = a; tag_1 = b; len = n; says = says.Bytes })
-
-pub plain-taken : (a b at : ℕ) (v : List ℕ) → parsedOf Program (plain a b at v) ≡ plainBy a b (takenOf v)
-unfolding parsedOf plain plainBy takenOf
-plain-taken a b at v = go (isValue v)
-  where
-    go : (t : Bool)
-        → parsedOf Program (cond t (good (record { tag₀ = a; tag₁ = b; value = record { at = at; bytes = v } })) (bad 10))
-        ≡ plainBy a b (cond t (Value (length v)) Wrong)
-    go true = refl
-    go false = refl
-
 -- ---- what taking a value tells
 
-pub a-value : (v : List ℕ) (n : ℕ) → takenOf v ≡ Value n → (isValue v ≡ true) × (n ≡ length v)
-unfolding takenOf
-a-value v n e = go (isValue v) refl e
-  where
-    go : (t : Bool) → isValue v ≡ t → cond t (Value (length v)) Wrong ≡ Value n → (isValue v ≡ true) × (n ≡ length v)
-    go true k e = (k, cc)
-    go false k e = absurd (let z : _≡_ {A = ℕ} 0 1 = cc in omega arith)
+-- a value has at least one byte
+some-value : (v : List ℕ) → isValue v ≡ true → length v ≡ 0 → ⊥
+unfolding isValue
+some-value [] h e = false≢true h
+some-value (b ∷ v) h e = omega arith
 
-pub no-value : (v : List ℕ) → takenOf v ≡ Wrong → isValue v ≡ false
+pub a-value : (v : List ℕ) → (takenOf v ≡ 0 → ⊥) → (isValue v ≡ true) × (takenOf v ≡ length v)
+unfolding takenOf
+a-value v n = go (isValue v) refl n
+  where
+    go : (t : Bool) → isValue v ≡ t → (cond t (length v) 0 ≡ 0 → ⊥) → (isValue v ≡ true) × (cond t (length v) 0 ≡ length v)
+    go true k n = (k, refl)
+    go false k n = absurd (n refl)
+
+pub no-value : (v : List ℕ) → takenOf v ≡ 0 → isValue v ≡ false
 unfolding takenOf
 no-value v e = go (isValue v) refl e
   where
-    go : (t : Bool) → isValue v ≡ t → cond t (Value (length v)) Wrong ≡ Wrong → isValue v ≡ false
-    go true k e = cc
+    go : (t : Bool) → isValue v ≡ t → cond t (length v) 0 ≡ 0 → isValue v ≡ false
+    go true k e = absurd (some-value v k e)
     go false k e = k
+
+-- ---- a value kept as it stands
+
+unfoldable pub plainBy : ℕ → ℕ → ℕ → Parsed
+plainBy a b n = cond (eqb n 0) (Bad 10) (Good (record { tag_0 = a; tag_1 = b; len = n; says = says.Bytes }))
+
+pub plain-taken : (a b at : ℕ) (v : List ℕ) → parsedOf Program (plain a b at v) ≡ plainBy a b (takenOf v)
+unfolding parsedOf plain plainBy takenOf
+plain-taken a b at v = go (isValue v) refl
+  where
+    go : (t : Bool) → isValue v ≡ t
+        → parsedOf Program (cond t (good (record { tag₀ = a; tag₁ = b; value = record { at = at; bytes = v } })) (bad 10))
+        ≡ plainBy a b (cond t (length v) 0)
+    go true k = rw (ne-eqb (length v) 0 (some-value v k)) refl
+    go false k = refl
 
 -- ---- VN of HD
 
@@ -69,13 +73,13 @@ unfoldable pub versionBy : ℕ → Spelled → Parsed
 versionBy n spelled′.Invalid = Bad 11
 versionBy n (spelled′.Is w) = Good (record { tag_0 = 86; tag_1 = 78; len = n; says = says.Version w })
 
-pub version-wrong : (at : ℕ) (v : List ℕ) → takenOf v ≡ Wrong → parsedOf Header (versionField at v) ≡ Bad 10
+pub version-wrong : (at : ℕ) (v : List ℕ) → takenOf v ≡ 0 → parsedOf Header (versionField at v) ≡ Bad 10
 unfolding parsedOf versionField
 version-wrong at v e = rw (no-value v e) refl
 
-pub version-taken : (at n : ℕ) (v : List ℕ) → takenOf v ≡ Value n → parsedOf Header (versionField at v) ≡ versionBy n (spelledOf (version v))
+pub version-taken : (at : ℕ) (v : List ℕ) → (takenOf v ≡ 0 → ⊥) → parsedOf Header (versionField at v) ≡ versionBy (takenOf v) (spelledOf (version v))
 unfolding parsedOf versionField versionBy spelledOf
-version-taken at n v e = rw (a-value v n e .0, a-value v n e .1) (go (version v) refl)
+version-taken at v n = rw (a-value v n .0, a-value v n .1) (go (version v) refl)
   where
     f : fields.Field
     f = record { tag₀ = 86; tag₁ = 78; value = record { at = at; bytes = v } }

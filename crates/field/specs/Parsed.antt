@@ -14,8 +14,6 @@ use Rattle.format.specs.Fields as fields
 use Rattle.format.specs.Version.{version}
 use Rattle.decimal.specs.declared.Number.{Number}
 use Rattle.decimal.specs.declared.Number.the-variants as number
-use Rattle.field.specs.declared.Taken.{Taken}
-use Rattle.field.specs.declared.Taken.the-variants.{Value, Wrong}
 use Rattle.field.specs.declared.Part.{Part}
 use Rattle.field.specs.declared.Part.the-variants as part
 use Rattle.field.specs.declared.Spelled.{Spelled}
@@ -28,10 +26,10 @@ use Rattle.field.specs.declared.Field.{Field}
 use Rattle.field.specs.declared.Parsed.{Parsed}
 use Rattle.field.specs.declared.Parsed.the-variants.{Bad, Good}
 
--- the bytes before the next tab: a value and its length, or refusal 10 (`Wrong`)
-unfoldable pub takenOf : List ℕ → Taken
+-- how many of the bytes before the next tab are taken as a value: all, or none where they are no value
+unfoldable pub takenOf : List ℕ → ℕ
 unfolding isValue
-takenOf v = cond (isValue v) (Value (length v)) Wrong
+takenOf v = cond (isValue v) (length v) 0
 
 -- one side of a version's dot
 unfoldable pub partOf : Option ℕ → Part

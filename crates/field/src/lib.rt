@@ -4,21 +4,17 @@ use format::Kind;
 use format::Version;
 ghost use mathlib.Core.Path.{_≡_};
 ghost use mathlib.Core.Bool.{_&&_};
-ghost use lib.Dec.{eqb};
-ghost use Rattle.format.specs.Bytes.{between, letter, digit};
+ghost use lib.Dec.{eqb, leb};
+ghost use lib.ListN.{length, drop};
+ghost use Rattle.format.specs.Bytes.{between, letter, digit, printable};
 ghost use Rattle.format.specs.Decimal.{number, span};
 ghost use Rattle.format.specs.Fields.{isTag, field, valueField, versionField, lengthField, plain};
 ghost use Rattle.format.specs.Version.{version};
-ghost use Prim.Native.Nat.{_^_};
+ghost use Prim.Native.Nat.{_+_, _*_, _/_, _^_, _≤_};
 ghost use Rattle.decimal.specs.Number.{front};
 ghost use Rattle.text.specs.Upto.{before};
+ghost use Rattle.text.specs.Run.{run};
 ghost use Rattle.field.specs.Parsed.{takenOf, partOf, spelledOf, lengthOf, parsedOf};
-
-// How many bytes a value has.
-pub enum Taken {
-    Value(usize),
-    Wrong,
-}
 
 // The version that a value spells.
 pub enum Spelled {
@@ -96,28 +92,59 @@ pub fn is_same_tag(a: u8, b: u8, x: u8, y: u8) -> bool
 
 // ---- values
 
-// The value at the front of `src`, up to the next tab or the end.
-pub fn parse_value(src: &[u8]) -> Taken
-    ensures { λ r. ⌜ r ≡ takenOf (before 9 (now (src .entry))) ⌝ }
+// What may stand in a value: space to tilde.
+fn is_printable(b: u8) -> bool
+    ensures { λ r. ⌜ r ≡ printable b ⌝ }
 {
-    let mut i = 0;
-    while i < src.len() {
-        let b = src[i];
-        if b == b'\t' {
-            break;
-        }
-        if b < 32 {
-            return Taken::Wrong;
-        }
-        if 126 < b {
-            return Taken::Wrong;
+    is_between(b' ', b'~', b)
+}
+
+// Whether all 8 bytes of `s` from `at` on may stand in a value: all are looked at, with no way out, so that a processor can take them at once.
+fn is_printable_block(s: &[u8], at: usize) -> bool
+    requires { ⌜ at + 8 ≤ length (now s) ⌝ }
+    ensures { λ r. ⌜ r ≡ leb 8 (run printable (drop at (now (s .entry)))) ⌝ }
+{
+    let mut fine = true;
+    let mut i: usize = 0;
+    while i < 8 {
+        if !is_printable(s[at + i]) {
+            fine = false;
         }
         i += 1;
     }
-    if i == 0 {
-        return Taken::Wrong;
+    fine
+}
+
+// How many bytes of `s` stand in whole blocks of 8 before the first that may not stand in a value.
+fn pass_printable(s: &[u8]) -> usize
+    ensures { λ r. ⌜ r ≡ run printable (now (s .entry)) / 8 * 8 ⌝ }
+{
+    let mut at: usize = 0;
+    while 8 <= s.len() - at {
+        if !is_printable_block(s, at) {
+            return at;
+        }
+        at += 8;
     }
-    Taken::Value(i)
+    at
+}
+
+// How many bytes the value at the front of `src` has, up to the next tab or the end: 0 for one that is none.
+pub fn value_len(src: &[u8]) -> usize
+    ensures { λ r. ⌜ r ≡ takenOf (before 9 (now (src .entry))) ⌝ }
+{
+    let mut i = pass_printable(src);
+    while i < src.len() {
+        let b = src[i];
+        if b == b'\t' {
+            return i;
+        }
+        if !is_printable(b) {
+            return 0;
+        }
+        i += 1;
+    }
+    i
 }
 
 // ---- versions
@@ -181,24 +208,26 @@ pub fn parse_length(src: &[u8]) -> Length
 fn parse_plain_value(a: u8, b: u8, src: &[u8]) -> Parsed
     ensures { λ r. ⌜ r ≡ parsedOf Kind.Program (plain a b 3 (before 9 (now (src .entry)))) ⌝ }
 {
-    match parse_value(src) {
-        Taken::Wrong => Parsed::Bad(10),
-        Taken::Value(len) => Parsed::Good(Field {
-            tag_0: a,
-            tag_1: b,
-            len,
-            says: Says::Bytes,
-        }),
+    let len = value_len(src);
+    if len == 0 {
+        return Parsed::Bad(10);
     }
+    Parsed::Good(Field {
+        tag_0: a,
+        tag_1: b,
+        len,
+        says: Says::Bytes,
+    })
 }
 
 // VN of HD.
 fn parse_version_value(src: &[u8]) -> Parsed
     ensures { λ r. ⌜ r ≡ parsedOf Kind.Header (versionField 3 (before 9 (now (src .entry)))) ⌝ }
 {
-    let Taken::Value(len) = parse_value(src) else {
+    let len = value_len(src);
+    if len == 0 {
         return Parsed::Bad(10);
-    };
+    }
     match parse_version(&src[..len]) {
         Spelled::Invalid => Parsed::Bad(11),
         Spelled::Is(version) => Parsed::Good(Field {

@@ -1,57 +1,55 @@
 -- `field::parse_version_value` meets its contract: what was taken as a value is the bytes before the next tab, and is read as a version.
-use mathlib.Core.Path.{_≡_, sym, ap, _∙_}
+use Prim.Native.Nat.{ℕ}
+use mathlib.Core.Path.{_≡_, refl, sym, ap, _∙_}
+use mathlib.Core.List.{List}
 use native.Mathlib.Omega.{arith}
-use lib.ListN.{take}
+use lib.ListN.{length, take}
 use lib.Seq.{length-take-le}
 use borrow.Author.Needs.{needs}
+use Rattle.format.specs.Fields.{versionField}
 use Rattle.format.specs.Version.{version}
+use Rattle.format.specs.declared.Kind.the-variants.{Header}
 use Rattle.text.proofs.Lines.{upto-le}
 use Rattle.text.specs.Upto.{upto, before}
-use Rattle.field.specs.Parsed.{takenOf, spelledOf}
-use Rattle.field.specs.declared.Taken.the-variants.{Value}
+use Rattle.field.specs.Parsed.{takenOf, spelledOf, parsedOf}
+use Rattle.field.specs.declared.Spelled.{Spelled}
 use Rattle.field.proofs.Before.{before-length}
 use Rattle.field.proofs.Judged.{versionBy, version-wrong, version-taken, a-value}
 use Rattle.field.proofs.parse_version_value.Statement.{statement}
 use Rattle.field.proofs.parse_version_value.Tie as tie
 
--- ---- where a value was taken
+-- `n` bytes were taken as a value
+module _ (s : List ℕ) (n : ℕ) (e : n ≡ takenOf (before 9 s)) (z : n ≡ 0 → ⊥) where
+  some : takenOf (before 9 s) ≡ 0 → ⊥
+  some q = z (e ∙ q)
 
-taken : (c : tie.After-len) → takenOf (before 9 (c .before .before .before .before .args .src .now)) ≡ Value (c .len .given .0 .0)
-taken c = sym (c .before .before .parse-value .ensures) ∙ c .len .given .1
+  all-of-it : n ≡ upto 9 s
+  all-of-it = e ∙ a-value (before 9 s) some .1 ∙ before-length 9 s
 
-all-of-it : (c : tie.After-len) → c .len .given .0 .0 ≡ upto 9 (c .before .before .before .before .args .src .now)
-all-of-it c = a-value _ _ (taken c) .1 ∙ before-length 9 _
+  fits : n ≡ length (take n s)
+  fits = sym (length-take-le n s (omega (arith, all-of-it, upto-le 9 s)))
 
-spelt : (c : tie.After-parse-version)
-    → c .parse-version .result ≡ spelledOf (version (before 9 (c .before .before .before .before .before .before .before .args .src .now)))
-unfolding before
-spelt c =
-    let l = c .before .before .before in
-    c .parse-version .ensures ∙ ap (λ n. spelledOf (version (take n (l .before .before .before .before .args .src .now)))) (all-of-it l)
+  -- and read as `r`
+  spelt : (r : Spelled) → r ≡ spelledOf (version (take n s)) → versionBy n r ≡ parsedOf Header (versionField 3 (before 9 s))
+  unfolding before
+  spelt r q = sym (version-taken 3 (before 9 s) some ∙ rw (sym e, sym all-of-it, sym q) refl)
 
-parse-value-requires : tie.Need-parse-value-requires
-parse-value-requires c κs = search needs
-
-enum-known-len : tie.Need-enum-known-len
-enum-known-len c = search needs
-
-enum-told : tie.Need-enum-told
-enum-told c = search needs
+value-len-requires : tie.Need-value-len-requires
+value-len-requires c κs = search needs
 
 returns : tie.Need-returns
-returns c = sym (version-wrong 3 _ (sym (c .before .before .parse-value .ensures) ∙ c .enum-told .given .1))
+returns c = sym (version-wrong 3 _ (sym (c .before .value-len .ensures) ∙ c .if1 .taken))
 
 slice-aggregate-parse-version : tie.Need-slice-aggregate-parse-version
 slice-aggregate-parse-version c =
-    let l = c .before .before in
-    let s = l .before .before .before .before .args .src .now in
-    sym (length-take-le (l .len .given .0 .0) s (omega (arith, all-of-it l, upto-le 9 s)))
+    let v = c .before .before in
+    fits _ _ (v .value-len .ensures) (c .before .if1 .left)
 
 parse-version-requires : tie.Need-parse-version-requires
 parse-version-requires c κs = search needs
 
-enum-told-2 : tie.Need-enum-told-2
-enum-told-2 c = search needs
+enum-told : tie.Need-enum-told
+enum-told c = search needs
 
 enum-known-version : tie.Need-enum-known-version
 enum-known-version c = search needs
@@ -60,27 +58,25 @@ returns-2 : tie.Need-returns-2
 unfolding versionBy
 returns-2 c =
     let p = c .before .before in
-    let l = p .before .before .before in
-    ap (versionBy (l .len .given .0 .0)) (sym (c .enum-told2 .given .1) ∙ spelt p) ∙ sym (version-taken 3 _ _ (taken l))
+    let b = p .before .before in
+    ap (versionBy (b .before .value-len .result)) (sym (c .enum-told .given .1)) ∙ spelt _ _ (b .before .value-len .ensures) (b .if1 .left) _ (p .parse-version .ensures)
 
 returns-3 : tie.Need-returns-3
 unfolding versionBy
 returns-3 c =
     let p = c .before .before .before in
-    let l = p .before .before .before in
-    ap (versionBy (l .len .given .0 .0)) (sym (c .before .version .given .1) ∙ spelt p) ∙ sym (version-taken 3 _ _ (taken l))
+    let b = p .before .before in
+    ap (versionBy (b .before .value-len .result)) (sym (c .before .version .given .1)) ∙ spelt _ _ (b .before .value-len .ensures) (b .if1 .left) _ (p .parse-version .ensures)
 
 pub parse-version-value-spec : {M : Type 1} → statement M
 parse-version-value-spec =
     tie.close
     (tie.spec
-    parse-value-requires
-    enum-known-len
-    enum-told
+    value-len-requires
     returns
     slice-aggregate-parse-version
     parse-version-requires
-    enum-told-2
+    enum-told
     enum-known-version
     returns-2
     returns-3)
