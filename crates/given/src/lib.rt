@@ -1,5 +1,4 @@
 // What a caller gives to have programs added: an ID prefix, and fields as in the body of a PG line, each with its leading tab.
-use field::Parsed;
 use format::Kind;
 ghost use mathlib.Core.Path.{_≡_};
 ghost use mathlib.Core.Bool.{not, _||_};
@@ -45,18 +44,14 @@ fn is_marred(fields: &[u8]) -> bool
         if fields[pos] != b'\t' {
             return true;
         }
-        let parsed = field::parse_field(Kind::Program, &fields[pos + 1..]);
-        match parsed {
-            Parsed::Bad(_) => {
-                return true;
-            }
-            Parsed::Good(f) => {
-                if is_barred(&fields[..pos], f.tag_0, f.tag_1) {
-                    return true;
-                }
-                pos = pos + 4 + f.len;
-            }
+        let f = field::parse_field(Kind::Program, &fields[pos + 1..]);
+        if f.stop != 0 {
+            return true;
         }
+        if is_barred(&fields[..pos], f.tag_0, f.tag_1) {
+            return true;
+        }
+        pos = pos + 4 + f.len;
     }
     false
 }

@@ -20,22 +20,23 @@ use Rattle.text.specs.Upto.{upto}
 use Rattle.text.specs.Stands.{Each}
 use Rattle.text.proofs.Lines.{upto-le}
 use Rattle.text.proofs.Before.{upto-take}
+use Rattle.text.proofs.Run.{upto-onward}
 use Rattle.field.specs.declared.Field as code
-use Rattle.field.specs.declared.Says.{Says}
-use Rattle.field.specs.declared.Says.the-variants as says
+use Rattle.field.specs.Parsed.{isVersion, isLength}
+use Rattle.field.proofs.Answer.{Told}
+use Rattle.field.proofs.Shown.{Shown, shown}
 use Rattle.accepted.specs.Sound.{isKey}
 use Rattle.accepted.proofs.Bools.{any-snoc, split, or-true, or-false, and-left, and-right}
 use Rattle.accepted.proofs.Tags.{repeats-snoc}
 use Rattle.tags.specs.Occurs.{occurs}
 use Rattle.tags.proofs.Region.{Clean, occurs-fields}
 use Rattle.record.specs.declared.Keys.{Keys}
-use Rattle.record.specs.declared.KeyPlace.the-variants as place
 use Rattle.record.specs.Head.{headOf}
-use Rattle.record.specs.Keys.{keysOf, noKeys, saying, withField, headFrom}
+use Rattle.record.specs.Keys.{keysOf, noKeys, withField, headFrom}
 use Rattle.record.specs.Slot.{slotOf}
 use Rattle.record.proofs.Turn.{tailScan, prepend, fielded-tail, judged-stop, judged-twice, judged-end, prepend-prepend, upto-not}
-use Rattle.record.proofs.Made.{Spelled, keys-snoc, spelled-none, spelled-snoc, head-made}
-use Rattle.record.proofs.Walked.{Walked, Shown, shown, Turned, upto-drop}
+use Rattle.record.proofs.Made.{keys-snoc, head-made}
+use Rattle.record.proofs.Walked.{Walked, Turned}
 
 -- one field more at the end of a run
 fields-snoc : (fs : List Field) (f : Field) → fieldsText (fs ++ (f ∷ [])) ≡ fieldsText fs ++ fieldText (f .tag₀) (f .tag₁) (f .value .bytes)
@@ -74,7 +75,7 @@ module _ (kind : Kind) (at : ℕ) (s : List ℕ) (g : code.Field) (t : Turned ki
         second = λ e. upto-not 9 s 1 (omega (arith, t .within)) (sym (t .kept .second) ∙ e);
         value =
             ap (upto 9) (t .kept .bytes)
-            ∙ upto-take 9 (drop 3 s) (length (t .field .value .bytes)) (omega (arith, t .within, upto-drop 9 s 3 (omega (arith, t .within))));
+            ∙ upto-take 9 (drop 3 s) (length (t .field .value .bytes)) (omega (arith, t .within, upto-onward 9 s 3 (omega (arith, t .within))));
       }
 
   pub spelled-text : 9 ∷ take (3 + length (t .field .value .bytes)) s ≡ fieldText (t .field .tag₀) (t .field .tag₁) (t .field .value .bytes)
@@ -96,28 +97,27 @@ same-slot f a b h =
     let d : f .tag₁ ≡ b = eqb-true (f .tag₁) b (and-right x y h) in
     rw (e, d) refl
 
+-- what was answered is the field's
+pub turn-shown : (kind : Kind) (at : ℕ) (s : List ℕ) (g : code.Field) (t : Turned kind at s g) → Shown (t .field) g
+turn-shown kind at s g t = rw (t .answer) (shown kind (t .field) (t .told))
+
 -- one field more is at most one other field more
 pub with-few : (k : Kind) (g : code.Field) (at : ℕ) (again : Bool) (keys : Keys) → withField k g at again keys .others ≤ suc (keys .others)
-unfolding withField saying
-with-few k g at again keys = go (g .says)
+unfolding withField
+with-few k g at again keys = go (isKey k (g .«tag_0») (g .«tag_1»)) refl (isVersion k (g .«tag_0») (g .«tag_1»)) refl (isLength k (g .«tag_0») (g .«tag_1»)) refl again
   where
-    go : (s : Says) → saying k g at again keys s .others ≤ suc (keys .others)
-    go (says.Version v) = omega arith
-    go (says.Length n) = omega arith
-    go says.Bytes = by (isKey k (g .«tag_0») (g .«tag_1»)) again
-      where
-        by : (t u : Bool)
-            → cond {A = Keys} t (record { key = place.At (record { at = at; len = g .len }); version = keys .version; length = keys .length; others = keys .others })
-            (record { key = keys .key; version = keys .version; length = keys .length; others = cond u (keys .others) (suc (keys .others)) }) .others
-            ≤ suc (keys .others)
-        by true u = omega arith
-        by false true = omega arith
-        by false false = omega arith
+    go : (x : Bool) → isKey k (g .«tag_0») (g .«tag_1») ≡ x → (y : Bool) → isVersion k (g .«tag_0») (g .«tag_1») ≡ y → (z : Bool) → isLength k (g .«tag_0») (g .«tag_1») ≡ z → (u : Bool)
+        → withField k g at u keys .others ≤ suc (keys .others)
+    go true e true d z f u = rw (e, d) (omega arith)
+    go true e false d true f u = rw (e, d, f) (omega arith)
+    go true e false d false f u = rw (e, d, f) (omega arith)
+    go false e y d z f true = rw e (omega arith)
+    go false e y d z f false = rw e (omega arith)
 
 -- ---- where the loop starts, and where it ends
 
 no-keys : (k : Kind) → keysOf k [] ≡ noKeys
-unfolding keysOf noKeys
+unfolding keysOf
 no-keys Header = refl
 no-keys ReferenceSequence = refl
 no-keys ReadGroup = refl
@@ -126,7 +126,7 @@ no-keys Comment = refl
 
 pub walked-start : (kind : Kind) (src : List ℕ) (at : ℕ) (strict : Bool) (keys : Keys) → 3 ≤ length src → keys ≡ noKeys
     → Walked kind src at strict (replicate 64 false) keys 3
-unfolding fieldsText Each prepend repeats any noKeys
+unfolding fieldsText Each prepend repeats any
 walked-start kind src at strict keys h e =
     record {
       fields = [];
@@ -136,8 +136,8 @@ walked-start kind src at strict keys h e =
       clean = tt;
       left = fielded-tail strict kind (at + 3) (drop 3 src);
       once = never strict;
-      told = e ∙ sym (no-keys kind);
-      spelled = spelled-none kind;
+      says = e ∙ sym (no-keys kind);
+      told = tt;
       marks = λ a b y. absurd (let z : _≡_ {A = ℕ} 0 1 = cc in omega arith);
       size = refl;
       few = rw e (omega arith);
@@ -161,8 +161,8 @@ module _ (kind : Kind) (src : List ℕ) (at : ℕ) (strict : Bool) (seen : List 
   pub turn-end : length src ≤ pos → headFrom kind keys ≡ headOf (fielded strict kind (at + 3) (drop 3 src))
   unfolding tailScan
   turn-end h =
-      ap (headFrom kind) (w .told)
-      ∙ head-made kind (w .fields) (w .spelled)
+      ap (headFrom kind) (w .says)
+      ∙ head-made kind (w .fields) (w .told)
       ∙ sym
       (ap headOf
       (w .left
@@ -190,7 +190,7 @@ module _ (kind : Kind) (src : List ℕ) (at : ℕ) (strict : Bool) (seen : List 
     more = w .fields ++ (t .field ∷ [])
 
     len : g .len ≡ length (t .field .value .bytes)
-    len = shown kind (t .field) g (t .answer) .len
+    len = turn-shown kind (at + pos) (drop (pos + 1) src) g t .len
 
     rest : length (drop (pos + 1) src) ≡ length src - (pos + 1)
     rest = length-drop (pos + 1) src
@@ -202,7 +202,7 @@ module _ (kind : Kind) (src : List ℕ) (at : ℕ) (strict : Bool) (seen : List 
     pub told-again : (getD seen (slotOf (g .«tag_0») (g .«tag_1»)) false && occurs (g .«tag_0») (g .«tag_1») (take (pos - 3) (drop 3 src)))
         ≡ any (tagged (t .field .tag₀) (t .field .tag₁)) (w .fields)
     told-again =
-        let s = shown kind (t .field) g (t .answer) in
+        let s = turn-shown kind (at + pos) (drop (pos + 1) src) g t in
         rw (s .first, s .second, w .region, occurs-fields (t .field .tag₀) (t .field .tag₁) (w .fields) (w .clean))
         (split (any (tagged (t .field .tag₀) (t .field .tag₁)) (w .fields))
         (λ y. rw (w .marks (t .field .tag₀) (t .field .tag₁) y, y) refl)
@@ -266,7 +266,7 @@ module _ (kind : Kind) (src : List ℕ) (at : ℕ) (strict : Bool) (seen : List 
         set-here e = ap (λ i. getD (set seen (slotOf (g .«tag_0») (g .«tag_1»)) true) i false) e ∙ getD-set-same seen (slotOf (g .«tag_0») (g .«tag_1»)) true false place
 
         own : tagged a b (t .field) ≡ true → getD (set seen (slotOf (g .«tag_0») (g .«tag_1»)) true) (slotOf a b) false ≡ true
-        own q = set-here (same-slot (t .field) a b q ∙ sym (ap (λ x. slotOf x (t .field .tag₁)) (shown kind (t .field) g (t .answer) .first)) ∙ sym (ap (λ y. slotOf (g .«tag_0») y) (shown kind (t .field) g (t .answer) .second)))
+        own q = set-here (same-slot (t .field) a b q ∙ sym (ap (λ x. slotOf x (t .field .tag₁)) (turn-shown kind (at + pos) (drop (pos + 1) src) g t .first)) ∙ sym (ap (λ y. slotOf (g .«tag_0») y) (turn-shown kind (at + pos) (drop (pos + 1) src) g t .second)))
 
         old : tagged a b (t .field) ≡ false → getD (set seen (slotOf (g .«tag_0») (g .«tag_1»)) true) (slotOf a b) false ≡ true
         old q =
@@ -290,11 +290,12 @@ module _ (kind : Kind) (src : List ℕ) (at : ℕ) (strict : Bool) (seen : List 
           clean = each-snoc Clean (w .fields) (t .field) (w .clean) (clean-field kind (at + pos) (drop (pos + 1) src) g t);
           left = left;
           once = once n;
-          told =
-              ap (withField kind g (at + pos + 4) (any (tagged (t .field .tag₀) (t .field .tag₁)) (w .fields))) (w .told)
+          says =
+              ap (withField kind g (at + pos + 4) (any (tagged (t .field .tag₀) (t .field .tag₁)) (w .fields))) (w .says)
               ∙ ap (λ p. withField kind g p (any (tagged (t .field .tag₀) (t .field .tag₁)) (w .fields)) (keysOf kind (w .fields))) (sym (t .kept .starts ∙ a))
-              ∙ sym (keys-snoc (w .fields) (t .field) g kind (t .answer));
-          spelled = spelled-snoc kind (w .fields) (t .field) g (t .answer) (w .spelled);
+              ∙ ap (λ h. withField kind h (t .field .value .at) (any (tagged (t .field .tag₀) (t .field .tag₁)) (w .fields)) (keysOf kind (w .fields))) (t .answer)
+              ∙ sym (keys-snoc (w .fields) (t .field) kind (t .told));
+          told = each-snoc (Told kind) (w .fields) (t .field) (w .told) (t .told);
           marks = marks;
           size = length-set seen (slotOf (g .«tag_0») (g .«tag_1»)) true ∙ w .size;
           few = omega (arith, w .few, with-few kind g (at + pos + 4) (any (tagged (t .field .tag₀) (t .field .tag₁)) (w .fields)) keys);

@@ -20,14 +20,6 @@ use Rattle.record.proofs.Walked.{Walked, Turned, turned, refused-here}
 use Rattle.record.proofs.Step.{walked-start, turn-six, turn-end, turn-refused, next-within, told-again, turn-twice, walked, slot-below}
 use Rattle.record.proofs.parse_fields.Statement.{statement}
 use Rattle.record.proofs.parse_fields.Tie as tie
-use Rattle.record.proofs.parse_fields.Reads as reads
-use Rattle.record.proofs.parse_fields.Lts as lts
-use Rattle.field.proofs.parse_field.Reads as parse-field-reads
-use Rattle.record.proofs.Keys.head.Reads as head-reads
-use Rattle.record.proofs.Keys.new.Reads as new-reads
-use Rattle.record.proofs.Keys.with.Reads as with-reads
-use Rattle.record.proofs.slot.Reads as slot-reads
-use Rattle.record.proofs.stands_again.Reads as stands-again-reads
 
 abbrev Inv-loop : tie.InvT-loop
 Inv-loop kind src at strict seen₀ keys₀ pos₀ seen keys pos = Walked kind src at strict seen keys pos
@@ -46,52 +38,55 @@ answer c =
     c .parse-field .ensures ∙ ap (λ s. parsedOf (a .kind) (field (a .kind) 0 (before 9 s))) (rest (l .loop .pos + 1) (a .src .now))
 
 -- the field that it found
-turn : (c : tie.After-known-told2 Inv-loop μ-loop)
-    → let l = c .before .before .before .before .before .before .before .before in
-    let a = l .before .before .before .args in
-    Turned (a .kind) (a .at + l .loop .pos) (drop (l .loop .pos + 1) (a .src .now)) (c .before .parsed2 .given .0 .0)
-turn c =
-    let q = c .before .before .before in
+turn : (c : tie.Else2 Inv-loop μ-loop)
+    → let q = c .before .before in
     let l = q .before .before .before .before .before in
     let a = l .before .before .before .args in
-    turned (a .kind) (a .at + l .loop .pos) (drop (l .loop .pos + 1) (a .src .now)) (c .before .parsed2 .given .0 .0) (sym (answer q) ∙ c .before .parsed2 .given .1)
+    Turned (a .kind) (a .at + l .loop .pos) (drop (l .loop .pos + 1) (a .src .now)) (q .parse-field .result)
+turn c =
+    let q = c .before .before in
+    let l = q .before .before .before .before .before in
+    let a = l .before .before .before .args in
+    turned (a .kind) (a .at + l .loop .pos) (drop (l .loop .pos + 1) (a .src .now)) (q .parse-field .result) (answer q) (c .if2 .left)
 
 -- whether its tag stood before
 again : (c : tie.After-stands-again Inv-loop μ-loop)
     → let k = c .before .before .before in
-    let l = k .before .before .before .before .before .before .before .before in
+    let l = k .before .before .before .before .before .before .before in
     c .stands-again .result ≡ any (tagged (turn k .field .tag₀) (turn k .field .tag₁)) (l .loop .inv .fields)
 again c =
     let k = c .before .before .before in
-    let q = k .before .before .before in
+    let q = k .before .before in
     let l = q .before .before .before .before .before in
     let a = l .before .before .before .args in
+    let g = q .parse-field .result in
     c .stands-again .ensures
-    ∙ ap (λ i. getD (l .loop .seen) i false && occurs (k .before .parsed2 .given .0 .0 .«tag_0») (k .before .parsed2 .given .0 .0 .«tag_1») (take (l .loop .pos - 3) (drop 3 (a .src .now)))) (c .before .before .slot .ensures)
-    ∙ told-again (a .kind) (a .src .now) (a .at) (a .strict) (l .loop .seen) (l .loop .keys) (l .loop .pos) (l .loop .inv) (q .before .before .before .before .loop-test .taken) (q .before .before .if1 .left) _ (turn k)
+    ∙ ap (λ i. getD (l .loop .seen) i false && occurs (g .«tag_0») (g .«tag_1») (take (l .loop .pos - 3) (drop 3 (a .src .now)))) (c .before .before .slot .ensures)
+    ∙ told-again (a .kind) (a .src .now) (a .at) (a .strict) (l .loop .seen) (l .loop .keys) (l .loop .pos) (l .loop .inv) (q .before .before .before .before .loop-test .taken) (q .before .before .if1 .left) g (turn k)
 
 -- the field ends within the line
-room : (c : tie.After-known-told2 Inv-loop μ-loop)
-    → let l = c .before .before .before .before .before .before .before .before in
-    l .loop .pos + 4 + c .before .parsed2 .given .0 .0 .len ≤ length (l .before .before .before .args .src .now)
+room : (c : tie.Else2 Inv-loop μ-loop)
+    → let q = c .before .before in
+    let l = q .before .before .before .before .before in
+    l .loop .pos + 4 + q .parse-field .result .len ≤ length (l .before .before .before .args .src .now)
 room c =
-    let q = c .before .before .before in
+    let q = c .before .before in
     let l = q .before .before .before .before .before in
     let a = l .before .before .before .args in
     next-within (a .kind) (a .src .now) (a .at) (a .strict) (l .loop .seen) (l .loop .keys) (l .loop .pos) (l .loop .inv) (q .before .before .before .before .loop-test .taken) (q .before .before .if1 .left) _ (turn c)
 
 -- no tag stands twice where that is forbidden
-allowed : (c : tie.Joined2 Inv-loop μ-loop)
+allowed : (c : tie.Joined3 Inv-loop μ-loop)
     → let k = c .before .before .before .before in
-    let l = k .before .before .before .before .before .before .before .before in
+    let l = k .before .before .before .before .before .before .before in
     l .before .before .before .args .strict && any (tagged (turn k .field .tag₀) (turn k .field .tag₁)) (l .loop .inv .fields) ≡ false
 allowed c =
     let k = c .before .before .before .before in
-    let l = k .before .before .before .before .before .before .before .before in
+    let l = k .before .before .before .before .before .before .before in
     ⊎-elim
     (λ w. ap (λ t. t && any (tagged (turn k .field .tag₀) (turn k .field .tag₁)) (l .loop .inv .fields)) (w .0 .taken) ∙ sym (again (c .before)) ∙ w .1 .left)
     (λ w. ap (λ t. t && any (tagged (turn k .field .tag₀) (turn k .field .tag₁)) (l .loop .inv .fields)) (w .left))
-    (c .if2 .came)
+    (c .if3 .came)
 
 new-requires : tie.Need-new-requires Inv-loop μ-loop
 new-requires c κs = search needs
@@ -126,20 +121,14 @@ part-parse-field-end c = search needs
 parse-field-requires : tie.Need-parse-field-requires Inv-loop μ-loop
 parse-field-requires c κs = search needs
 
-enum-known-parsed : tie.Need-enum-known-parsed Inv-loop μ-loop
-enum-known-parsed c = search needs
-
 returns-2 : tie.Need-returns-2 Inv-loop μ-loop
 unfolding headOf
 returns-2 c =
-    let q = c .before .before .before in
+    let q = c .before .before in
     let l = q .before .before .before .before .before in
     let a = l .before .before .before .args in
-    let r = refused-here (a .kind) (a .at + l .loop .pos) (drop (l .loop .pos + 1) (a .src .now)) (c .before .parsed .given .0 .0) (sym (answer q) ∙ c .before .parsed .given .1) in
-    sym (ap headOf (turn-refused (a .kind) (a .src .now) (a .at) (a .strict) (l .loop .seen) (l .loop .keys) (l .loop .pos) (l .loop .inv) (q .before .before .before .before .loop-test .taken) (q .before .before .if1 .left) (c .before .parsed .given .0 .0) (r .0) (r .1)))
-
-enum-known-parsed-2 : tie.Need-enum-known-parsed-2 Inv-loop μ-loop
-enum-known-parsed-2 c = search needs
+    let g = q .parse-field .result in
+    sym (ap headOf (turn-refused (a .kind) (a .src .now) (a .at) (a .strict) (l .loop .seen) (l .loop .keys) (l .loop .pos) (l .loop .inv) (q .before .before .before .before .loop-test .taken) (q .before .before .if1 .left) (g .stop) (refused-here (a .kind) (a .at + l .loop .pos) (drop (l .loop .pos + 1) (a .src .now)) g (answer q) (c .if2 .taken)) (c .if2 .taken)))
 
 slot-requires : tie.Need-slot-requires Inv-loop μ-loop
 slot-requires c κs = search needs
@@ -163,10 +152,11 @@ returns-3 : tie.Need-returns-3 Inv-loop μ-loop
 unfolding headOf
 returns-3 c =
     let s = c .before .before in
-    let q = s .before .before .before .before .before .before in
+    let k = s .before .before .before in
+    let q = k .before .before in
     let l = q .before .before .before .before .before in
     let a = l .before .before .before .args in
-    sym (ap headOf (turn-twice (a .kind) (a .src .now) (a .at) (a .strict) (l .loop .seen) (l .loop .keys) (l .loop .pos) (l .loop .inv) (q .before .before .before .before .loop-test .taken) (q .before .before .if1 .left) _ (turn (s .before .before .before)) (c .before .if2 .taken) (sym (again s) ∙ c .if3 .taken)))
+    sym (ap headOf (turn-twice (a .kind) (a .src .now) (a .at) (a .strict) (l .loop .seen) (l .loop .keys) (l .loop .pos) (l .loop .inv) (q .before .before .before .before .loop-test .taken) (q .before .before .if1 .left) _ (turn k) (c .before .if3 .taken) (sym (again s) ∙ c .if4 .taken)))
 
 array-write-seen : tie.Need-array-write-seen Inv-loop μ-loop
 array-write-seen c = rw (c .before .before .before .slot .ensures) (slot-below _ _)
@@ -174,31 +164,31 @@ array-write-seen c = rw (c .before .before .before .slot .ensures) (slot-below _
 add-with : tie.Need-add-with Inv-loop μ-loop
 add-with c =
     let k = c .before .before .before .before in
-    let l = k .before .before .before .before .before .before .before .before in
+    let l = k .before .before .before .before .before .before .before in
     omega (arith, room k, l .before .before .before .pre .1)
 
 add-with-2 : tie.Need-add-with-2 Inv-loop μ-loop
 add-with-2 c =
     let k = c .before .before .before .before in
-    let l = k .before .before .before .before .before .before .before .before in
+    let l = k .before .before .before .before .before .before .before in
     omega (arith, room k, l .before .before .before .pre .1)
 
 with-requires : tie.Need-with-requires Inv-loop μ-loop
 with-requires c κs =
     let k = c .before .before .before .before in
-    let l = k .before .before .before .before .before .before .before .before in
+    let l = k .before .before .before .before .before .before .before in
     omega (arith, room k, l .before .before .before .pre .1, l .loop .inv .few)
 
 add-pos : tie.Need-add-pos Inv-loop μ-loop
 add-pos c =
     let k = c .before .before .before .before .before in
-    let l = k .before .before .before .before .before .before .before .before in
+    let l = k .before .before .before .before .before .before .before in
     omega (arith, room k, l .before .before .before .pre .1)
 
 add-pos-2 : tie.Need-add-pos-2 Inv-loop μ-loop
 add-pos-2 c =
     let k = c .before .before .before .before .before .before in
-    let l = k .before .before .before .before .before .before .before .before in
+    let l = k .before .before .before .before .before .before .before in
     omega (arith, room k, l .before .before .before .pre .1)
 
 loop-less : tie.Need-loop-less Inv-loop μ-loop
@@ -211,7 +201,7 @@ loop-again c =
     let j = c .before .before in
     let s = j .before in
     let k = s .before .before .before in
-    let q = k .before .before .before in
+    let q = k .before .before in
     let l = q .before .before .before .before .before in
     let a = l .before .before .before .args in
     rw (s .before .before .slot .ensures, c .before .with .ensures, again s)
@@ -241,9 +231,7 @@ parse-fields-spec =
     part-parse-field-start
     part-parse-field-end
     parse-field-requires
-    enum-known-parsed
     returns-2
-    enum-known-parsed-2
     slot-requires
     sub-stands-again
     part-stands-again-start
