@@ -1,7 +1,7 @@
 -- The keys of the fields read so far: one field more, and the head that they make when the line ends.
 use Prim.Native.Nat.{ℕ, suc}
 use mathlib.Core.Path.{_≡_, refl, sym, ap, _∙_}
-use mathlib.Core.Bool.{Bool, true, false, _&&_, _||_, cond, false≢true}
+use mathlib.Core.Bool.{Bool, true, false, _||_, cond}
 use mathlib.Core.List.{List, [], _∷_, _++_, append-nil}
 use mathlib.Core.Option.{Option, none, some}
 use native.Mathlib.Omega.{arith}
@@ -21,7 +21,7 @@ use Rattle.format.specs.declared.Kind.the-variants.{Header, ReferenceSequence, 
 use Rattle.text.specs.Stands.{Each}
 use Rattle.field.specs.Parsed.{isVersion, isLength, valued, versionedBy}
 use Rattle.field.proofs.Answer.{Told}
-use Rattle.field.proofs.Shown.{no-version, valued-length, valued-kept, told-version, valued-version}
+use Rattle.field.proofs.Shown.{valued-length, valued-kept, told-version, valued-version}
 use Rattle.record.specs.declared.Keys.{Keys}
 use Rattle.record.specs.declared.Place.{Place}
 use Rattle.record.specs.declared.Head.{Head}
@@ -30,9 +30,9 @@ use Rattle.record.specs.Head.{placeOf, headOf}
 use Rattle.accepted.specs.Sound.{isKey}
 use Rattle.tags.specs.Others.{unkeyed}
 use Rattle.record.specs.Keys.{keyOf, spelt, versionOf, sized, lengthOf, placed, there, numbers, plainly, keysOf, withField, headFrom, keyedHead}
-use Rattle.accepted.proofs.Bools.{or-true, or-false, or-left, or-right, any-append, any-snoc, split, and-left, and-right}
+use Rattle.accepted.proofs.Bools.{or-true, split, and-left}
 use Rattle.accepted.proofs.Tags.{lastOf-snoc, settled-snoc, any-settled, length-put}
-use Rattle.accepted.proofs.Fields.{Of, lastOf-of}
+use Rattle.accepted.proofs.Fields.{lastOf-of}
 use Rattle.tags.proofs.Firsts.{not-key}
 
 -- ---- one field more

@@ -4,16 +4,16 @@ use format::Kind;
 use format::Version;
 use kind::ParsedKind;
 ghost use mathlib.Core.Path.{_≡_};
-ghost use mathlib.Core.Bool.{_&&_, _||_};
+ghost use mathlib.Core.Bool.{true, false, _&&_, _||_};
 ghost use Prim.Native.Nat.{_≤_, _+_, _*_, _%_};
-ghost use lib.ListN.{length, drop};
-ghost use lib.Dec.{eqb};
+ghost use lib.ListN.{length, drop, replicate};
 ghost use Rattle.format.specs.Bytes.{any};
+ghost use Rattle.format.specs.Fields.{isTag};
 ghost use Rattle.format.specs.Records.{line, prefixed, body, fielded, remark, breaks};
 ghost use Rattle.record.specs.Head.{headOf, hasFields};
 ghost use Rattle.record.specs.Keys.{noKeys, withField, headFrom};
 ghost use Rattle.tags.specs.Occurs.{occurs};
-ghost use Rattle.record.specs.Slot.{slotOf};
+ghost use Rattle.record.specs.Marks.{placeOf, marksOf};
 
 // Where a piece of the text stands.
 pub struct Place {
@@ -48,21 +48,29 @@ pub struct Keys {
     pub others: usize,
 }
 
-// The place of a tag among 64: tags of the specification that stand in one record have different ones.
-fn slot(a: u8, b: u8) -> usize
-    ensures { λ r. ⌜ r ≡ slotOf a b ⌝ }
+// Where the mark of a tag stands. `exact`: each tag has a place of its own among 4,350, since its bytes are 65 to 122 and 48 to 122. Else it is one of
+// 64 places, and tags of the specification that stand in one record have different ones.
+fn mark_of(a: u8, b: u8, exact: bool) -> usize
+    requires { ⌜ isTag a b ≡ true ⌝ }
+    ensures { λ r. ⌜ r ≡ placeOf exact a b ⌝ }
 {
+    if exact {
+        return (a as usize - 65) * 75 + (b as usize - 48);
+    }
     ((a as usize) * 4 + (b as usize)) % 64
 }
 
-// Whether the tag `a`, `b` stands among the fields `src`, which is looked up only where its place was `seen`.
-fn stands_again(src: &[u8], a: u8, b: u8, seen: bool) -> bool
-    ensures { λ r. ⌜ r ≡ (seen && occurs a b (now (src .entry))) ⌝ }
+// Whether the tag `a`, `b`, whose mark is `seen`, stands among the fields `src`: where the marks are not exact, a mark alone does not say so.
+fn stands_again(src: &[u8], a: u8, b: u8, exact: bool, seen: bool) -> bool
+    ensures { λ r. ⌜ r ≡ (seen && (exact || occurs a b (now (src .entry)))) ⌝ }
 {
-    if seen {
-        return tags::occurs(src, a, b);
+    if !seen {
+        return false;
     }
-    false
+    if exact {
+        return true;
+    }
+    tags::occurs(src, a, b)
 }
 
 impl Keys {
@@ -148,13 +156,20 @@ impl Keys {
     }
 }
 
-// The fields of a line of any kind but CO, from its third byte on: one walk, and each value is looked at once.
-fn parse_fields(kind: Kind, src: &[u8], at: usize, strict: bool) -> Head
+// The fields of a line of any kind but CO, from its third byte on: one walk, and each value is looked at once. `seen` has a mark for each tag, none set.
+fn walk_fields(
+    kind: Kind,
+    src: &[u8],
+    at: usize,
+    strict: bool,
+    exact: bool,
+    seen: &mut [bool],
+) -> Head
     requires { ⌜ 3 ≤ length (now src) ⌝ }
     requires { ⌜ at + length (now src) ≤ 4294967295 ⌝ }
+    requires { ⌜ now seen ≡ replicate (marksOf exact) false ⌝ }
     ensures { λ r. ⌜ r ≡ headOf (fielded strict kind (at + 3) (drop 3 (now (src .entry)))) ⌝ }
 {
-    let mut seen = [false; 64];
     let mut keys = Keys::new();
     let mut pos: usize = 3;
     while pos < src.len() {
@@ -165,18 +180,50 @@ fn parse_fields(kind: Kind, src: &[u8], at: usize, strict: bool) -> Head
         if f.stop != 0 {
             return Head::Refused(f.stop);
         }
-        let place = slot(f.tag_0, f.tag_1);
-        let again = stands_again(&src[3..pos], f.tag_0, f.tag_1, seen[place]);
+        let mark = mark_of(f.tag_0, f.tag_1, exact);
+        let again = stands_again(&src[3..pos], f.tag_0, f.tag_1, exact, seen[mark]);
         if strict {
             if again {
                 return Head::Refused(14);
             }
         }
-        seen[place] = true;
+        seen[mark] = true;
         keys = keys.with(kind, f, at + pos + 4, again);
         pos = pos + 4 + f.len;
     }
     keys.head(kind)
+}
+
+// A short line: few marks to clear, and little to look back over where one was set before.
+fn parse_short(kind: Kind, src: &[u8], at: usize, strict: bool) -> Head
+    requires { ⌜ 3 ≤ length (now src) ⌝ }
+    requires { ⌜ at + length (now src) ≤ 4294967295 ⌝ }
+    ensures { λ r. ⌜ r ≡ headOf (fielded strict kind (at + 3) (drop 3 (now (src .entry)))) ⌝ }
+{
+    let mut seen = [false; 64];
+    walk_fields(kind, src, at, strict, false, &mut seen)
+}
+
+// A long line: a mark for each tag, so that nothing is looked back for.
+fn parse_long(kind: Kind, src: &[u8], at: usize, strict: bool) -> Head
+    requires { ⌜ 3 ≤ length (now src) ⌝ }
+    requires { ⌜ at + length (now src) ≤ 4294967295 ⌝ }
+    ensures { λ r. ⌜ r ≡ headOf (fielded strict kind (at + 3) (drop 3 (now (src .entry)))) ⌝ }
+{
+    let mut seen = [false; 4350];
+    walk_fields(kind, src, at, strict, true, &mut seen)
+}
+
+// The fields of a line of any kind but CO.
+fn parse_fields(kind: Kind, src: &[u8], at: usize, strict: bool) -> Head
+    requires { ⌜ 3 ≤ length (now src) ⌝ }
+    requires { ⌜ at + length (now src) ≤ 4294967295 ⌝ }
+    ensures { λ r. ⌜ r ≡ headOf (fielded strict kind (at + 3) (drop 3 (now (src .entry)))) ⌝ }
+{
+    if src.len() < 1024 {
+        return parse_short(kind, src, at, strict);
+    }
+    parse_long(kind, src, at, strict)
 }
 
 // Whether LF or CR stands in `src`.

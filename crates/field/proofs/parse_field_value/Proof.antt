@@ -15,15 +15,6 @@ use Rattle.field.proofs.Before.{before-length}
 use Rattle.field.proofs.Judged.{a-value, length-sized, value-length, value-none, value-version, value-kept}
 use Rattle.field.proofs.parse_field_value.Statement.{statement}
 use Rattle.field.proofs.parse_field_value.Tie as tie
-use Rattle.field.proofs.parse_field_value.Reads as reads
-use Rattle.field.proofs.parse_field_value.Lts as lts
-use Rattle.field.proofs.Field.kept.Reads as kept-reads
-use Rattle.field.proofs.Field.refused.Reads as refused-reads
-use Rattle.field.proofs.is_length.Reads as is-length-reads
-use Rattle.field.proofs.is_version.Reads as is-version-reads
-use Rattle.field.proofs.parse_length_value.Reads as parse-length-value-reads
-use Rattle.field.proofs.parse_version_value.Reads as parse-version-value-reads
-use Rattle.field.proofs.value_len.Reads as value-len-reads
 
 -- `n` bytes were taken as a value
 module _ (s : List ℕ) (n : ℕ) (e : n ≡ takenOf (before 9 s)) (z : n ≡ 0 → ⊥) where

@@ -14,10 +14,6 @@ use Rattle.field.proofs.Before.{span-before}
 use Rattle.field.proofs.Judged.{lengthBy, length-sized}
 use Rattle.field.proofs.parse_length_value.Statement.{statement}
 use Rattle.field.proofs.parse_length_value.Tie as tie
-use Rattle.field.proofs.parse_length_value.Reads as reads
-use Rattle.field.proofs.parse_length_value.Lts as lts
-use Rattle.decimal.proofs.read_u64.Reads as read-u64-reads
-use Rattle.field.proofs.Field.refused.Reads as refused-reads
 
 sized : (s : List ℕ) → lengthBy (front (2 ^ 64) s) ≡ parsedOf ReferenceSequence (lengthField 3 (span (before 9 s)))
 unfolding front

@@ -2,7 +2,6 @@
 use Prim.Native.Nat.{ℕ}
 use mathlib.Core.Path.{_≡_, refl, sym, ap, _∙_}
 use mathlib.Core.Option.{Option, none, some}
-use native.Mathlib.Omega.{arith}
 use borrow.Author.Needs.{needs}
 use Rattle.format.specs.Version.{version}
 use Rattle.format.specs.declared.Version.{Version}
@@ -12,10 +11,6 @@ use Rattle.field.specs.declared.Spelled.{Spelled}
 use Rattle.field.specs.declared.Spelled.the-variants.{Is, Invalid}
 use Rattle.field.proofs.parse_version_value.Statement.{statement}
 use Rattle.field.proofs.parse_version_value.Tie as tie
-use Rattle.field.proofs.parse_version_value.Reads as reads
-use Rattle.field.proofs.parse_version_value.Lts as lts
-use Rattle.field.proofs.Field.refused.Reads as refused-reads
-use Rattle.field.proofs.parse_version.Reads as parse-version-reads
 
 -- by what was read
 versionBy : ℕ → Spelled → Field

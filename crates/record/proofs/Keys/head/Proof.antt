@@ -1,5 +1,5 @@
 -- `record::Keys::head` meets its contract: the kind says what is needed.
-use mathlib.Core.Path.{_≡_, refl, sym, ap, _∙_}
+use mathlib.Core.Path.{_≡_, refl, ap, _∙_}
 use mathlib.Core.Bool.{true, false}
 use borrow.Author.Needs.{needs}
 use borrow.Author.Tests.{eq-eqb, ne-eqb, not-true, not-false}
@@ -11,9 +11,6 @@ use Rattle.record.specs.declared.Head.the-variants.{Refused, Header, Ref
 use Rattle.record.specs.Keys.{headFrom}
 use Rattle.record.proofs.Keys.head.Statement.{statement}
 use Rattle.record.proofs.Keys.head.Tie as tie
-use Rattle.record.proofs.Keys.head.Reads as reads
-use Rattle.record.proofs.Keys.head.Lts as lts
-use Rattle.format.proofs.Version.new.Reads as new-reads
 
 -- by kind, and by what is there
 module _ (k : Kind) (keys : Keys) where

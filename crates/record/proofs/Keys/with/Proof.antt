@@ -1,6 +1,6 @@
 -- `record::Keys::with` meets its contract: which key it is, or none.
 use Prim.Native.Nat.{ℕ, _+_}
-use mathlib.Core.Path.{_≡_, refl, sym, ap, _∙_}
+use mathlib.Core.Path.{_≡_, refl, sym, _∙_}
 use mathlib.Core.Bool.{Bool, true, false}
 use native.Mathlib.Numerals.{add-one}
 use borrow.Author.Needs.{needs}
@@ -13,11 +13,6 @@ use Rattle.record.specs.declared.Keys.{Keys}
 use Rattle.record.specs.Keys.{withField, withPlace, withVersion, withLength}
 use Rattle.record.proofs.Keys.with.Statement.{statement}
 use Rattle.record.proofs.Keys.with.Tie as tie
-use Rattle.record.proofs.Keys.with.Reads as reads
-use Rattle.record.proofs.Keys.with.Lts as lts
-use Rattle.field.proofs.is_length.Reads as is-length-reads
-use Rattle.field.proofs.is_version.Reads as is-version-reads
-use Rattle.tags.proofs.is_key.Reads as is-key-reads
 
 module _ (k : Kind) (f : Field) (at : ℕ) (again : Bool) (keys : Keys) where
   module _ (n : isKey k (f .«tag_0») (f .«tag_1») ≡ false) where
