@@ -1,122 +1,128 @@
 -- What the answer to a field says of what was judged: a refusal is that refusal, and any other answer is an accepted field.
 use Prim.Native.Nat.{ℕ, _+_}
-use mathlib.Core.Path.{_≡_, refl, sym, ap, subst, _∙_}
-use mathlib.Core.Bool.{Bool, true, false, _||_, not, cond, false≢true}
+use mathlib.Core.Path.{_≡_, refl, sym, ap, _∙_}
+use mathlib.Core.Bool.{Bool, true, false, not, cond, false≢true}
 use mathlib.Core.List.{List, [], _∷_}
 use mathlib.Core.Logic.{_⊎_, inl, inr}
 use mathlib.Core.Option.{Option, none, some}
 use native.Mathlib.Omega.{arith}
 use lib.Dec.{eqb, ltb}
+use lib.ListN.{length}
+use borrow.Author.Tests.{eqb-false}
 use Rattle.format.specs.Bytes.{none?}
 use Rattle.format.specs.Decimal.{worth}
 use Rattle.format.specs.Decimal.{span}
 use Rattle.format.specs.Fields.{Field, Judged, good, bad, goodThen, isValue, plain, spelled, versionField, lengthField, valueField, isTag, field}
+use Rattle.format.specs.Fields as fields
 use Rattle.format.specs.Version.{version}
 use Rattle.format.specs.declared.Version.{Version}
 use Rattle.format.specs.declared.Kind.{Kind}
-use Rattle.format.specs.declared.Kind.the-variants.{Header, ReferenceSequence, ReadGroup, Program, Comment}
+use Rattle.format.specs.declared.Kind.the-variants.{Header, ReferenceSequence}
 use Rattle.text.specs.Upto.{before}
-use Rattle.field.specs.Parsed.{parsedOf, valued}
-use Rattle.field.specs.declared.Parsed.the-variants.{Bad}
-use Rattle.field.proofs.Judged.{numeric, valued-plain, value-kept, value-version, value-length}
+use Rattle.field.specs.Parsed.{parsedOf, valued, isVersion, isLength}
+use Rattle.field.proofs.Judged.{some-value, judged-length, judged-version, judged-plain}
 use Rattle.field.proofs.Next.{then-onward}
 
--- an accepted field is not answered as a refusal
-unfoldable Sound : Kind → Judged → Type 0
-Sound k (bad n) = Unit
-Sound k (good f) = (n : ℕ) → valued k f ≡ Bad n → ⊥
-Sound k (goodThen f m) = (n : ℕ) → valued k f ≡ Bad n → ⊥
+-- an accepted field is not answered as a refusal, has a value of at least one byte, and LN of SQ is at least 1
+pub record Told (k : Kind) (f : Field) : Type 0 where
+  pub stop : valued k f .stop ≡ 0
+  pub some : length (f .value .bytes) ≡ 0 → ⊥
+  pub sized : isLength k (f .tag₀) (f .tag₁) ≡ true → worth (f .value .bytes) ≡ 0 → ⊥
 
-plain-sound : (k : Kind) (a b at : ℕ) (v : List ℕ) → numeric k a b ≡ false → Sound k (plain a b at v)
-unfolding Sound plain
-plain-sound k a b at v h = go (isValue v)
+-- a refusal has a number
+unfoldable Sound : Kind → Judged → Type 0
+Sound k (bad n) = n ≡ 0 → ⊥
+Sound k (good f) = Told k f
+Sound k (goodThen f m) = Told k f
+
+plain-sound : (k : Kind) (a b at : ℕ) (v : List ℕ) → isLength k a b ≡ false → isVersion k a b ≡ false → Sound k (plain a b at v)
+unfolding Sound plain valued
+plain-sound k a b at v e d = go (isValue v) refl
   where
     f : Field
     f = record { tag₀ = a; tag₁ = b; value = record { at = at; bytes = v } }
 
-    go : (t : Bool) → Sound k (cond t (good f) (bad 10))
-    go true = λ n e. let z : _≡_ {A = ℕ} 0 1 = cc (valued-plain k f h) in omega arith
-    go false = tt
+    go : (t : Bool) → isValue v ≡ t → Sound k (cond t (good f) (bad 10))
+    go true q = record { stop = rw (e, d) refl; some = some-value v q; sized = λ l. absurd (false≢true (sym e ∙ l)) }
+    go false q = λ z. omega arith
 
 version-sound : (at : ℕ) (v : List ℕ) → Sound Header (versionField at v)
-unfolding Sound versionField valued
-version-sound at v = go (isValue v) (version v) refl
+unfolding Sound versionField plain valued isLength
+version-sound at v = go (isValue v) refl (version v) refl
   where
     f : Field
     f = record { tag₀ = 86; tag₁ = 78; value = record { at = at; bytes = v } }
 
-    go : (t : Bool) (o : Option Version) → version v ≡ o → Sound Header (cond t (spelled o (cond t (good f) (bad 10))) (bad 10))
-    go true none k = tt
-    go true (some w) k = λ n e. let e′ = rw k at e in let z : _≡_ {A = ℕ} 0 1 = cc in omega arith
-    go false o k = tt
+    go : (t : Bool) → isValue v ≡ t → (o : Option Version) → version v ≡ o → Sound Header (cond t (spelled o (cond t (good f) (bad 10))) (bad 10))
+    go true q none k = λ z. omega arith
+    go true q (some w) k = record { stop = rw k refl; some = some-value v q; sized = λ l. absurd (false≢true l) }
+    go false q o k = λ z. omega arith
 
 length-sound : (at : ℕ) (ds more : List ℕ) → Sound ReferenceSequence (lengthField at (ds, more))
 unfolding Sound lengthField valued
-length-sound at ds more = go (none? ds || not (ltb (worth ds) 18446744073709551616)) (eqb (worth ds) 0) (none? more)
+length-sound at [] more = λ z. omega arith
+length-sound at (b ∷ ds) more = go (not (ltb (worth (b ∷ ds)) 18446744073709551616)) (eqb (worth (b ∷ ds)) 0) refl (none? more)
   where
     f : Field
-    f = record { tag₀ = 76; tag₁ = 78; value = record { at = at; bytes = ds } }
+    f = record { tag₀ = 76; tag₁ = 78; value = record { at = at; bytes = b ∷ ds } }
 
-    sized : (n : ℕ) → valued ReferenceSequence f ≡ Bad n → ⊥
-    sized n e = let z : _≡_ {A = ℕ} 0 1 = cc in omega arith
+    told : eqb (worth (b ∷ ds)) 0 ≡ false → Told ReferenceSequence f
+    told e = record { stop = refl; some = λ z. omega arith; sized = λ l. eqb-false (worth (b ∷ ds)) 0 e }
 
-    go : (t u w : Bool) → Sound ReferenceSequence (cond t (bad 12) (cond u (bad 13) (cond w (good f) (goodThen f 6))))
-    go true u w = tt
-    go false true w = tt
-    go false false true = sized
-    go false false false = sized
+    go : (t u : Bool) → eqb (worth (b ∷ ds)) 0 ≡ u → (w : Bool) → Sound ReferenceSequence (cond t (bad 12) (cond u (bad 13) (cond w (good f) (goodThen f 6))))
+    go true u e w = λ z. omega arith
+    go false true e w = λ z. omega arith
+    go false false e true = told e
+    go false false e false = told e
 
-module _ (a b at : ℕ) (v : List ℕ) where
-  number-sound : (k : Kind) → numeric k a b ≡ true → Sound k (valueField k a b at v)
-  unfolding numeric
-  number-sound Header e = subst (Sound Header) (sym (value-version a b at v e)) (version-sound at v)
-  number-sound ReferenceSequence e =
-      subst (Sound ReferenceSequence) (sym (value-length a b at v e)) (length-sound at (span v .0) (span v .1))
-  number-sound ReadGroup e = absurd (false≢true e)
-  number-sound Program e = absurd (false≢true e)
-  number-sound Comment e = absurd (false≢true e)
-
-  value-sound : (k : Kind) → Sound k (valueField k a b at v)
-  value-sound k = go (numeric k a b) refl
-    where
-      go : (t : Bool) → numeric k a b ≡ t → Sound k (valueField k a b at v)
-      go true e = number-sound k e
-      go false e = subst (Sound k) (sym (value-kept a b at v k e)) (plain-sound k a b at v e)
+value-sound : (k : Kind) (a b at : ℕ) (v : List ℕ) → Sound k (valueField k a b at v)
+value-sound k a b at v = go (isLength k a b) refl (isVersion k a b) refl
+  where
+    go : (t : Bool) → isLength k a b ≡ t → (u : Bool) → isVersion k a b ≡ u → Sound k (valueField k a b at v)
+    go true e u d =
+        let j = judged-length a b at v k e in
+        rw (j .1, j .0) (length-sound at (span v .0) (span v .1))
+    go false e true d = let j = judged-version a b at v k d in rw (j .1, j .0) (version-sound at v)
+    go false e false d = rw (judged-plain a b at v k e d) (plain-sound k a b at v e d)
 
 field-sound : (k : Kind) (at : ℕ) (p : List ℕ) → Sound k (field k at p)
 unfolding Sound field
-field-sound k at [] = tt
-field-sound k at (a ∷ []) = tt
+field-sound k at [] = λ z. omega arith
+field-sound k at (a ∷ []) = λ z. omega arith
 field-sound k at (a ∷ b ∷ []) = go (isTag a b)
   where
     go : (t : Bool) → Sound k (cond t (bad 9) (bad 8))
-    go true = tt
-    go false = tt
+    go true = λ z. omega arith
+    go false = λ z. omega arith
 field-sound k at (a ∷ b ∷ c ∷ v) = go (isTag a b) (eqb c 58)
   where
     go : (t u : Bool) → Sound k (cond t (cond u (valueField k a b (at + 3) v) (bad 9)) (bad 8))
-    go true true = value-sound a b (at + 3) v k
-    go true false = tt
-    go false u = tt
+    go true true = value-sound k a b (at + 3) v
+    go true false = λ z. omega arith
+    go false u = λ z. omega arith
 
 -- ---- what an answer says
 
-pub parsed-bad : (k : Kind) (at : ℕ) (p : List ℕ) (n : ℕ) → parsedOf k (field k at p) ≡ Bad n → field k at p ≡ bad n
+pub parsed-bad : (k : Kind) (at : ℕ) (p : List ℕ) → (parsedOf k (field k at p) .stop ≡ 0 → ⊥) → field k at p ≡ bad (parsedOf k (field k at p) .stop)
 unfolding Sound parsedOf
-parsed-bad k at p n e = go (field k at p) (field-sound k at p) e
+parsed-bad k at p n = go (field k at p) (field-sound k at p) n
   where
-    go : (j : Judged) → Sound k j → parsedOf k j ≡ Bad n → j ≡ bad n
-    go (bad m) h e = cc
-    go (good f) h e = absurd (h n e)
-    go (goodThen f m) h e = absurd (h n e)
+    go : (j : Judged) → Sound k j → (parsedOf k j .stop ≡ 0 → ⊥) → j ≡ bad (parsedOf k j .stop)
+    go (bad m) h n = refl
+    go (good f) h n = absurd (n (h .stop))
+    go (goodThen f m) h n = absurd (n (h .stop))
 
-pub parsed-found : (k : Kind) (at : ℕ) (s : List ℕ) → ((n : ℕ) → parsedOf k (field k at (before 9 s)) ≡ Bad n → ⊥)
-    → (f : Field) × ((field k at (before 9 s) ≡ good f) ⊎ (field k at (before 9 s) ≡ goodThen f 6))
-unfolding parsedOf
-parsed-found k at s h = go (field k at (before 9 s)) refl
+-- the field that was accepted, whose piece is used up or goes on
+pub record Found (k : Kind) (at : ℕ) (s : List ℕ) : Type 0 where
+  pub field : Field
+  pub told : Told k field
+  pub judged : (fields.field k at (before 9 s) ≡ good field) ⊎ (fields.field k at (before 9 s) ≡ goodThen field 6)
+
+pub parsed-found : (k : Kind) (at : ℕ) (s : List ℕ) → parsedOf k (field k at (before 9 s)) .stop ≡ 0 → Found k at s
+unfolding Sound parsedOf
+parsed-found k at s z = go (field k at (before 9 s)) refl (field-sound k at (before 9 s)) z
   where
-    go : (j : Judged) → field k at (before 9 s) ≡ j
-        → (f : Field) × ((field k at (before 9 s) ≡ good f) ⊎ (field k at (before 9 s) ≡ goodThen f 6))
-    go (bad m) e = absurd (h m (ap (parsedOf k) e))
-    go (good f) e = (f, inl e)
-    go (goodThen f n) e = (f, inr (e ∙ ap (goodThen f) (then-onward k at s f n e .1)))
+    go : (j : Judged) → field k at (before 9 s) ≡ j → Sound k j → parsedOf k j .stop ≡ 0 → Found k at s
+    go (bad m) e h z = absurd (h z)
+    go (good f) e h z = record { field = f; told = h; judged = inl e }
+    go (goodThen f n) e h z = record { field = f; told = h; judged = inr (e ∙ ap (goodThen f) (then-onward k at s f n e .1)) }

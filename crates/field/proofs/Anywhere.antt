@@ -1,46 +1,25 @@
 -- What a field answers does not depend on where its line stands.
 use Prim.Native.Nat.{ℕ, _+_}
-use mathlib.Core.Path.{_≡_, refl, sym, ap, _∙_}
+use mathlib.Core.Path.{_≡_, refl, sym, _∙_}
 use mathlib.Core.Bool.{Bool, true, false, cond}
 use mathlib.Core.List.{List, [], _∷_}
 use lib.Dec.{eqb}
-use Rattle.format.specs.Decimal.{span}
-use Rattle.format.specs.Fields.{bad, field, valueField, versionField, isTag}
+use borrow.Author.Tests.{eqb-true, eqb-false}
+use Rattle.format.specs.Fields.{bad, field, valueField, isTag}
 use Rattle.format.specs.declared.Kind.{Kind}
-use Rattle.format.specs.declared.Kind.the-variants.{Header, ReferenceSequence, ReadGroup, Program, Comment}
-use Rattle.field.specs.Parsed.{takenOf, parsedOf}
-use Rattle.field.specs.declared.Taken.{Taken}
-use Rattle.field.specs.declared.Taken.the-variants.{Value, Wrong}
-use Rattle.field.proofs.Judged.{plain-taken, version-wrong, version-taken, length-sized, numeric, value-version, value-length, value-plain}
+use Rattle.field.specs.Parsed.{takenOf, isVersion, isLength, parsedOf}
+use Rattle.field.proofs.Judged.{value-length, value-none, value-version, value-kept}
 
-version-anywhere : (at to : ℕ) (v : List ℕ) → parsedOf Header (versionField at v) ≡ parsedOf Header (versionField to v)
-version-anywhere at to v = go (takenOf v) refl
-  where
-    go : (t : Taken) → takenOf v ≡ t → parsedOf Header (versionField at v) ≡ parsedOf Header (versionField to v)
-    go Wrong e = version-wrong at v e ∙ sym (version-wrong to v e)
-    go (Value n) e = version-taken at n v e ∙ sym (version-taken to n v e)
-
-module _ (a b at to : ℕ) (v : List ℕ) where
-  value-anywhere : (k : Kind) → parsedOf k (valueField k a b at v) ≡ parsedOf k (valueField k a b to v)
-  unfolding numeric
-  value-anywhere k = go (numeric k a b) refl
+module _ (a b at to : ℕ) (v : List ℕ) (k : Kind) where
+  value-anywhere : parsedOf k (valueField k a b at v) ≡ parsedOf k (valueField k a b to v)
+  value-anywhere = go (isLength k a b) refl (eqb (takenOf v) 0) refl (isVersion k a b) refl
     where
-      number : (l : Kind) → numeric l a b ≡ true → parsedOf l (valueField l a b at v) ≡ parsedOf l (valueField l a b to v)
-      number Header e =
-          ap (parsedOf Header) (value-version a b at v e) ∙ version-anywhere at to v ∙ sym (ap (parsedOf Header) (value-version a b to v e))
-      number ReferenceSequence e =
-          ap (parsedOf ReferenceSequence) (value-length a b at v e)
-          ∙ length-sized at (span v .0) (span v .1)
-          ∙ sym (length-sized to (span v .0) (span v .1))
-          ∙ sym (ap (parsedOf ReferenceSequence) (value-length a b to v e))
-      number ReadGroup e = cc
-      number Program e = cc
-      number Comment e = cc
-
-      go : (t : Bool) → numeric k a b ≡ t → parsedOf k (valueField k a b at v) ≡ parsedOf k (valueField k a b to v)
-      go true e = number k e
-      go false e =
-          value-plain a b at v k e ∙ plain-taken a b at v ∙ sym (plain-taken a b to v) ∙ sym (value-plain a b to v k e)
+      go : (t : Bool) → isLength k a b ≡ t → (z : Bool) → eqb (takenOf v) 0 ≡ z → (u : Bool) → isVersion k a b ≡ u
+          → parsedOf k (valueField k a b at v) ≡ parsedOf k (valueField k a b to v)
+      go true e z f u d = value-length a b at v k e ∙ sym (value-length a b to v k e)
+      go false e true f u d = value-none a b at v k e (eqb-true _ _ f) ∙ sym (value-none a b to v k e (eqb-true _ _ f))
+      go false e false f true d = value-version a b at v k d (eqb-false _ _ f) ∙ sym (value-version a b to v k d (eqb-false _ _ f))
+      go false e false f false d = value-kept a b at v k e d (eqb-false _ _ f) ∙ sym (value-kept a b to v k e d (eqb-false _ _ f))
 
 pub field-anywhere : (k : Kind) (at : ℕ) (p : List ℕ) → parsedOf k (field k at p) ≡ parsedOf k (field k 0 p)
 unfolding field

@@ -1,98 +1,61 @@
 -- What the readers of a value answer, as what is judged of its bytes.
 use Prim.Native.Nat.{ℕ, _^_}
 use mathlib.Core.Path.{_≡_, refl, ap, _∙_}
-use mathlib.Core.Bool.{Bool, true, false, _&&_, not, cond}
+use mathlib.Core.Bool.{Bool, true, false, not, cond, false≢true}
 use mathlib.Core.List.{List, [], _∷_}
 use mathlib.Core.Option.{Option, none, some}
 use native.Mathlib.Omega.{arith}
 use lib.ListN.{length}
 use lib.Dec.{eqb, ltb}
 use Rattle.decimal.specs.Number.{counted}
+use Rattle.decimal.specs.declared.Number.{Number}
 use Rattle.decimal.specs.declared.Number.the-variants as number
 use Rattle.format.specs.Bytes.{none?}
 use Rattle.format.specs.Decimal.{worth}
 use Rattle.format.specs.Decimal.{span}
-use Rattle.format.specs.Fields.{isValue, good, bad, goodThen, plain, spelled, versionField, lengthField, valueField, tagged}
+use Rattle.format.specs.Fields.{isValue, good, bad, goodThen, plain, spelled, versionField, lengthField, valueField}
 use Rattle.format.specs.Fields as fields
 use Rattle.format.specs.Version.{version}
 use Rattle.format.specs.declared.Version.{Version}
 use Rattle.format.specs.declared.Kind.{Kind}
 use Rattle.format.specs.declared.Kind.the-variants.{Header, ReferenceSequence, ReadGroup, Program, Comment}
-use Rattle.field.specs.Parsed.{takenOf, spelledOf, lengthOf, parsedOf, valued, fieldOf}
-use Rattle.field.specs.declared.Taken.{Taken}
-use Rattle.field.specs.declared.Taken.the-variants.{Value, Wrong}
-use Rattle.field.specs.declared.Spelled.{Spelled}
-use Rattle.field.specs.declared.Spelled.the-variants as spelled′
-use Rattle.field.specs.declared.Length.{Length}
-use Rattle.field.specs.declared.Length.the-variants as length′
-use Rattle.field.specs.declared.Parsed.{Parsed}
-use Rattle.field.specs.declared.Parsed.the-variants.{Bad, Good}
-use Rattle.field.specs.declared.Says.the-variants as says
-
--- ---- a value kept as it stands
-
-unfoldable pub plainBy : ℕ → ℕ → Taken → Parsed
-plainBy a b Wrong = Bad 10
-plainBy a b (Value n) = Good (record { tag_0 = a; tag_1 = b; len = n; says = says.Bytes })
-
-pub plain-taken : (a b at : ℕ) (v : List ℕ) → parsedOf Program (plain a b at v) ≡ plainBy a b (takenOf v)
-unfolding parsedOf plain plainBy takenOf
-plain-taken a b at v = go (isValue v)
-  where
-    go : (t : Bool)
-        → parsedOf Program (cond t (good (record { tag₀ = a; tag₁ = b; value = record { at = at; bytes = v } })) (bad 10))
-        ≡ plainBy a b (cond t (Value (length v)) Wrong)
-    go true = refl
-    go false = refl
+use Rattle.field.specs.Parsed.{takenOf, refusedBy, keptBy, versionedBy, sizedBy, isVersion, isLength, parsedOf, valued}
+use Rattle.field.specs.declared.Field.{Field}
 
 -- ---- what taking a value tells
 
-pub a-value : (v : List ℕ) (n : ℕ) → takenOf v ≡ Value n → (isValue v ≡ true) × (n ≡ length v)
-unfolding takenOf
-a-value v n e = go (isValue v) refl e
-  where
-    go : (t : Bool) → isValue v ≡ t → cond t (Value (length v)) Wrong ≡ Value n → (isValue v ≡ true) × (n ≡ length v)
-    go true k e = (k, cc)
-    go false k e = absurd (let z : _≡_ {A = ℕ} 0 1 = cc in omega arith)
+-- a value has at least one byte
+pub some-value : (v : List ℕ) → isValue v ≡ true → length v ≡ 0 → ⊥
+unfolding isValue
+some-value [] h e = false≢true h
+some-value (b ∷ v) h e = omega arith
 
-pub no-value : (v : List ℕ) → takenOf v ≡ Wrong → isValue v ≡ false
+pub a-value : (v : List ℕ) → (takenOf v ≡ 0 → ⊥) → (isValue v ≡ true) × (takenOf v ≡ length v)
+unfolding takenOf
+a-value v n = go (isValue v) refl n
+  where
+    go : (t : Bool) → isValue v ≡ t → (cond t (length v) 0 ≡ 0 → ⊥) → (isValue v ≡ true) × (cond t (length v) 0 ≡ length v)
+    go true k n = (k, refl)
+    go false k n = absurd (n refl)
+
+pub no-value : (v : List ℕ) → takenOf v ≡ 0 → isValue v ≡ false
 unfolding takenOf
 no-value v e = go (isValue v) refl e
   where
-    go : (t : Bool) → isValue v ≡ t → cond t (Value (length v)) Wrong ≡ Wrong → isValue v ≡ false
-    go true k e = cc
+    go : (t : Bool) → isValue v ≡ t → cond t (length v) 0 ≡ 0 → isValue v ≡ false
+    go true k e = absurd (some-value v k e)
     go false k e = k
-
--- ---- VN of HD
-
-unfoldable pub versionBy : ℕ → Spelled → Parsed
-versionBy n spelled′.Invalid = Bad 11
-versionBy n (spelled′.Is w) = Good (record { tag_0 = 86; tag_1 = 78; len = n; says = says.Version w })
-
-pub version-wrong : (at : ℕ) (v : List ℕ) → takenOf v ≡ Wrong → parsedOf Header (versionField at v) ≡ Bad 10
-unfolding parsedOf versionField
-version-wrong at v e = rw (no-value v e) refl
-
-pub version-taken : (at n : ℕ) (v : List ℕ) → takenOf v ≡ Value n → parsedOf Header (versionField at v) ≡ versionBy n (spelledOf (version v))
-unfolding parsedOf versionField versionBy spelledOf
-version-taken at n v e = rw (a-value v n e .0, a-value v n e .1) (go (version v) refl)
-  where
-    f : fields.Field
-    f = record { tag₀ = 86; tag₁ = 78; value = record { at = at; bytes = v } }
-
-    go : (o : Option Version) → version v ≡ o → parsedOf Header (spelled o (good f)) ≡ versionBy (length v) (spelledOf o)
-    go none k = refl
-    go (some w) k = rw k refl
 
 -- ---- LN of SQ
 
-unfoldable pub sizedBy : Length → Parsed
-sizedBy length′.Invalid = Bad 12
-sizedBy length′.Zero = Bad 13
-sizedBy (length′.Is n k) = Good (record { tag_0 = 76; tag_1 = 78; len = k; says = says.Length n })
+-- what stands at the front as a number
+unfoldable pub lengthBy : Number → Field
+lengthBy number.NoDigit = refusedBy 12
+lengthBy number.TooLarge = refusedBy 12
+lengthBy (number.Is n k) = cond (eqb n 0) (refusedBy 13) (sizedBy k n)
 
-pub length-sized : (at : ℕ) (ds rest : List ℕ) → parsedOf ReferenceSequence (lengthField at (ds, rest)) ≡ sizedBy (lengthOf (counted (2 ^ 64) ds))
-unfolding parsedOf lengthField sizedBy lengthOf counted
+pub length-sized : (at : ℕ) (ds rest : List ℕ) → parsedOf ReferenceSequence (lengthField at (ds, rest)) ≡ lengthBy (counted (2 ^ 64) ds)
+unfolding parsedOf lengthField lengthBy counted
 length-sized at [] rest = refl
 length-sized at (b ∷ ds) rest = go (ltb (worth (b ∷ ds)) (2 ^ 64)) (eqb (worth (b ∷ ds)) 0) refl (none? rest)
   where
@@ -104,7 +67,7 @@ length-sized at (b ∷ ds) rest = go (ltb (worth (b ∷ ds)) (2 ^ 64)) (eqb (wor
 
     go : (t u : Bool) → eqb n 0 ≡ u → (w : Bool)
         → parsedOf ReferenceSequence (cond (not t) (bad 12) (cond u (bad 13) (cond w (good f) (goodThen f 6))))
-        ≡ sizedBy (lengthOf (cond t (number.Is n (length (b ∷ ds))) number.TooLarge))
+        ≡ lengthBy (cond t (number.Is n (length (b ∷ ds))) number.TooLarge)
     go true true k w = rw k refl
     go true false k true = rw k refl
     go true false k false = rw k refl
@@ -112,47 +75,65 @@ length-sized at (b ∷ ds) rest = go (ltb (worth (b ∷ ds)) (2 ^ 64)) (eqb (wor
 
 -- ---- by kind and tag
 
-pub value-version : (a b at : ℕ) (v : List ℕ) → (eqb a 86 && eqb b 78) ≡ true → valueField Header a b at v ≡ versionField at v
-unfolding valueField
-value-version a b at v e = rw e refl
-
-pub value-length : (a b at : ℕ) (v : List ℕ) → (eqb a 76 && eqb b 78) ≡ true → valueField ReferenceSequence a b at v ≡ lengthField at (span v)
-unfolding valueField
-value-length a b at v e = rw e refl
-
--- VN of HD and LN of SQ
-unfoldable pub numeric : Kind → ℕ → ℕ → Bool
-numeric Header a b = eqb a 86 && eqb b 78
-numeric ReferenceSequence a b = eqb a 76 && eqb b 78
-numeric ReadGroup a b = false
-numeric Program a b = false
-numeric Comment a b = false
-
--- any other field is plain, whatever the kind
-pub valued-plain : (k : Kind) (f : fields.Field) → numeric k (f .tag₀) (f .tag₁) ≡ false → valued k f ≡ Good (fieldOf says.Bytes f)
-unfolding valued numeric
-valued-plain Header f e = rw e refl
-valued-plain ReferenceSequence f e = rw e refl
-valued-plain ReadGroup f e = refl
-valued-plain Program f e = refl
-valued-plain Comment f e = refl
-
 module _ (a b at : ℕ) (v : List ℕ) where
-  pub value-kept : (k : Kind) → numeric k a b ≡ false → valueField k a b at v ≡ plain a b at v
-  unfolding valueField numeric
-  value-kept Header e = rw e refl
-  value-kept ReferenceSequence e = rw e refl
-  value-kept ReadGroup e = refl
-  value-kept Program e = refl
-  value-kept Comment e = refl
+  -- VN of HD and LN of SQ are judged as numbers
+  pub judged-length : (k : Kind) → isLength k a b ≡ true → (k ≡ ReferenceSequence) × (valueField k a b at v ≡ lengthField at (span v))
+  unfolding valueField isLength
+  judged-length Header e = absurd (false≢true e)
+  judged-length ReferenceSequence e = (refl, rw e refl)
+  judged-length ReadGroup e = absurd (false≢true e)
+  judged-length Program e = absurd (false≢true e)
+  judged-length Comment e = absurd (false≢true e)
 
-  pub value-plain : (k : Kind) → numeric k a b ≡ false → parsedOf k (valueField k a b at v) ≡ parsedOf Program (plain a b at v)
-  unfolding parsedOf plain
-  value-plain k e = ap (parsedOf k) (value-kept k e) ∙ go (isValue v)
+  pub judged-version : (k : Kind) → isVersion k a b ≡ true → (k ≡ Header) × (valueField k a b at v ≡ versionField at v)
+  unfolding valueField isVersion
+  judged-version Header e = (refl, rw e refl)
+  judged-version ReferenceSequence e = absurd (false≢true e)
+  judged-version ReadGroup e = absurd (false≢true e)
+  judged-version Program e = absurd (false≢true e)
+  judged-version Comment e = absurd (false≢true e)
+
+  -- any other field is plain, whatever the kind
+  pub judged-plain : (k : Kind) → isLength k a b ≡ false → isVersion k a b ≡ false → valueField k a b at v ≡ plain a b at v
+  unfolding valueField isLength isVersion
+  judged-plain Header e d = rw d refl
+  judged-plain ReferenceSequence e d = rw e refl
+  judged-plain ReadGroup e d = refl
+  judged-plain Program e d = refl
+  judged-plain Comment e d = refl
+
+  -- ---- what is answered
+
+  pub value-length : (k : Kind) → isLength k a b ≡ true → parsedOf k (valueField k a b at v) ≡ lengthBy (counted (2 ^ 64) (span v .0))
+  value-length k e =
+      let j = judged-length k e in
+      ap (parsedOf k) (j .1) ∙ ap (λ l. parsedOf l (lengthField at (span v))) (j .0) ∙ length-sized at (span v .0) (span v .1)
+
+  pub value-none : (k : Kind) → isLength k a b ≡ false → takenOf v ≡ 0 → parsedOf k (valueField k a b at v) ≡ refusedBy 10
+  unfolding parsedOf plain versionField
+  value-none k e z = go (isVersion k a b) refl
+    where
+      n : isValue v ≡ false
+      n = no-value v z
+
+      go : (t : Bool) → isVersion k a b ≡ t → parsedOf k (valueField k a b at v) ≡ refusedBy 10
+      go true d = ap (parsedOf k) (judged-version k d .1) ∙ rw n refl
+      go false d = ap (parsedOf k) (judged-plain k e d) ∙ rw n refl
+
+  pub value-version : (k : Kind) → isVersion k a b ≡ true → (takenOf v ≡ 0 → ⊥) → parsedOf k (valueField k a b at v) ≡ versionedBy (takenOf v) (version v)
+  unfolding parsedOf plain versionField valued
+  value-version k d z =
+      let j = judged-version k d in
+      ap (parsedOf k) (j .1) ∙ ap (λ l. parsedOf l (versionField at v)) (j .0) ∙ rw (a-value v z .0, a-value v z .1) (go (version v) refl)
     where
       f : fields.Field
-      f = record { tag₀ = a; tag₁ = b; value = record { at = at; bytes = v } }
+      f = record { tag₀ = 86; tag₁ = 78; value = record { at = at; bytes = v } }
 
-      go : (t : Bool) → parsedOf k (cond t (good f) (bad 10)) ≡ parsedOf Program (cond t (good f) (bad 10))
-      go true = valued-plain k f e
-      go false = refl
+      go : (o : Option Version) → version v ≡ o → parsedOf Header (spelled o (good f)) ≡ versionedBy (length v) o
+      go none q = refl
+      go (some w) q = rw q refl
+
+  pub value-kept : (k : Kind) → isLength k a b ≡ false → isVersion k a b ≡ false → (takenOf v ≡ 0 → ⊥)
+      → parsedOf k (valueField k a b at v) ≡ keptBy a b (takenOf v)
+  unfolding parsedOf plain valued
+  value-kept k e d z = ap (parsedOf k) (judged-plain k e d) ∙ rw (a-value v z .0, a-value v z .1, e, d) refl

@@ -6,3 +6,4 @@ pub mod Place
 pub mod Anywhere
 pub mod Next
 pub mod Answer
+pub mod Shown

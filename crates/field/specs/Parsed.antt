@@ -1,6 +1,6 @@
--- What the readers of one field answer, by the definitions of `format`.
+-- What the readers of one field answer, by the definitions of `format`: plain numbers alone.
 use Prim.Native.Nat.{ℕ}
-use mathlib.Core.Bool.{cond}
+use mathlib.Core.Bool.{Bool, false, _&&_, cond}
 use mathlib.Core.List.{List}
 use mathlib.Core.Option.{Option, none, some}
 use lib.ListN.{length}
@@ -9,29 +9,19 @@ use Rattle.format.specs.declared.Kind.{Kind}
 use Rattle.format.specs.declared.Kind.the-variants.{Header, ReferenceSequence, ReadGroup, Program, Comment}
 use Rattle.format.specs.declared.Version.{Version}
 use Rattle.format.specs.Decimal.{worth}
-use Rattle.format.specs.Fields.{isValue, tagged, Judged, bad, good, goodThen}
+use Rattle.format.specs.Fields.{isValue, Judged, bad, good, goodThen}
 use Rattle.format.specs.Fields as fields
 use Rattle.format.specs.Version.{version}
-use Rattle.decimal.specs.declared.Number.{Number}
-use Rattle.decimal.specs.declared.Number.the-variants as number
-use Rattle.field.specs.declared.Taken.{Taken}
-use Rattle.field.specs.declared.Taken.the-variants.{Value, Wrong}
 use Rattle.field.specs.declared.Part.{Part}
 use Rattle.field.specs.declared.Part.the-variants as part
 use Rattle.field.specs.declared.Spelled.{Spelled}
 use Rattle.field.specs.declared.Spelled.the-variants as spelled
-use Rattle.field.specs.declared.Length.{Length}
-use Rattle.field.specs.declared.Length.the-variants as length′
-use Rattle.field.specs.declared.Says.{Says}
-use Rattle.field.specs.declared.Says.the-variants as says
 use Rattle.field.specs.declared.Field.{Field}
-use Rattle.field.specs.declared.Parsed.{Parsed}
-use Rattle.field.specs.declared.Parsed.the-variants.{Bad, Good}
 
--- the bytes before the next tab: a value and its length, or refusal 10 (`Wrong`)
-unfoldable pub takenOf : List ℕ → Taken
+-- how many of the bytes before the next tab are taken as a value: all, or none where they are no value
+unfoldable pub takenOf : List ℕ → ℕ
 unfolding isValue
-takenOf v = cond (isValue v) (Value (length v)) Wrong
+takenOf v = cond (isValue v) (length v) 0
 
 -- one side of a version's dot
 unfoldable pub partOf : Option ℕ → Part
@@ -43,37 +33,52 @@ unfoldable pub spelledOf : Option Version → Spelled
 spelledOf none = spelled.Invalid
 spelledOf (some v) = spelled.Is v
 
--- a length and how many digits it has; 12 (`Invalid`) without a digit or too large, 13 (`Zero`)
-unfoldable pub lengthOf : Number → Length
-lengthOf number.NoDigit = length′.Invalid
-lengthOf number.TooLarge = length′.Invalid
-lengthOf (number.Is n k) = cond (eqb n 0) length′.Zero (length′.Is n k)
-
 -- ---- a field
 
--- its tag, how long its value is, and what it says
-unfoldable pub fieldOf : Says → fields.Field → Field
-fieldOf s f = record { tag_0 = f .tag₀; tag_1 = f .tag₁; len = length (f .value .bytes); says = s }
+-- the refusal `n`
+abbrev pub refusedBy : ℕ → Field
+refusedBy n = record { stop = n; tag_0 = 0; tag_1 = 0; len = 0; major = 0; minor = 0; length = 0 }
 
--- VN of HD with its version
-unfoldable pub versionedBy : fields.Field → Option Version → Parsed
-unfolding fieldOf
-versionedBy f none = Bad 11
-versionedBy f (some v) = Good (fieldOf (says.Version v) f)
+-- a value of `n` bytes that is kept as it stands
+abbrev pub keptBy : ℕ → ℕ → ℕ → Field
+keptBy a b n = record { stop = 0; tag_0 = a; tag_1 = b; len = n; major = 0; minor = 0; length = 0 }
+
+-- VN of HD, whose value has `n` bytes, with its version
+unfoldable pub versionedBy : ℕ → Option Version → Field
+versionedBy n none = refusedBy 11
+versionedBy n (some v) = record { stop = 0; tag_0 = 86; tag_1 = 78; len = n; major = v .major; minor = v .minor; length = 0 }
+
+-- LN of SQ, whose value has `n` bytes, with its number
+abbrev pub sizedBy : ℕ → ℕ → Field
+sizedBy n l = record { stop = 0; tag_0 = 76; tag_1 = 78; len = n; major = 0; minor = 0; length = l }
+
+-- VN of HD
+unfoldable pub isVersion : Kind → ℕ → ℕ → Bool
+isVersion Header a b = eqb a 86 && eqb b 78
+isVersion ReferenceSequence a b = false
+isVersion ReadGroup a b = false
+isVersion Program a b = false
+isVersion Comment a b = false
+
+-- LN of SQ
+unfoldable pub isLength : Kind → ℕ → ℕ → Bool
+isLength Header a b = false
+isLength ReferenceSequence a b = eqb a 76 && eqb b 78
+isLength ReadGroup a b = false
+isLength Program a b = false
+isLength Comment a b = false
 
 -- a field of a record of kind `k`: VN of HD carries its version, LN of SQ its number
-unfoldable pub valued : Kind → fields.Field → Parsed
-unfolding fieldOf versionedBy tagged version worth
-valued Header f = cond (tagged 86 78 f) (versionedBy f (version (f .value .bytes))) (Good (fieldOf says.Bytes f))
-valued ReferenceSequence f =
-    cond (tagged 76 78 f) (Good (fieldOf (says.Length (worth (f .value .bytes))) f)) (Good (fieldOf says.Bytes f))
-valued ReadGroup f = Good (fieldOf says.Bytes f)
-valued Program f = Good (fieldOf says.Bytes f)
-valued Comment f = Good (fieldOf says.Bytes f)
+unfoldable pub valued : Kind → fields.Field → Field
+unfolding versionedBy isVersion isLength version worth
+valued k f =
+    cond (isLength k (f .tag₀) (f .tag₁)) (sizedBy (length (f .value .bytes)) (worth (f .value .bytes)))
+    (cond (isVersion k (f .tag₀) (f .tag₁)) (versionedBy (length (f .value .bytes)) (version (f .value .bytes)))
+    (keptBy (f .tag₀) (f .tag₁) (length (f .value .bytes))))
 
 -- the refusal, or the field; what may follow its value is the next field's affair
-unfoldable pub parsedOf : Kind → Judged → Parsed
+unfoldable pub parsedOf : Kind → Judged → Field
 unfolding valued
-parsedOf k (bad n) = Bad n
+parsedOf k (bad n) = refusedBy n
 parsedOf k (good f) = valued k f
 parsedOf k (goodThen f n) = valued k f

@@ -4,21 +4,16 @@ use format::Kind;
 use format::Version;
 ghost use mathlib.Core.Path.{_≡_};
 ghost use mathlib.Core.Bool.{_&&_};
-ghost use lib.Dec.{eqb};
-ghost use Rattle.format.specs.Bytes.{between, letter, digit};
+ghost use lib.Dec.{eqb, leb};
+ghost use lib.ListN.{length, drop};
+ghost use Rattle.format.specs.Bytes.{between, letter, digit, printable};
 ghost use Rattle.format.specs.Decimal.{number, span};
-ghost use Rattle.format.specs.Fields.{isTag, field, valueField, versionField, lengthField, plain};
+ghost use Rattle.format.specs.Fields.{isTag, field, valueField, lengthField};
 ghost use Rattle.format.specs.Version.{version};
-ghost use Prim.Native.Nat.{_^_};
-ghost use Rattle.decimal.specs.Number.{front};
+ghost use Prim.Native.Nat.{_+_, _*_, _/_, _^_, _≤_};
 ghost use Rattle.text.specs.Upto.{before};
-ghost use Rattle.field.specs.Parsed.{takenOf, partOf, spelledOf, lengthOf, parsedOf};
-
-// How many bytes a value has.
-pub enum Taken {
-    Value(usize),
-    Wrong,
-}
+ghost use Rattle.text.specs.Run.{run};
+ghost use Rattle.field.specs.Parsed.{takenOf, partOf, spelledOf, refusedBy, keptBy, versionedBy, isVersion, isLength, parsedOf};
 
 // The version that a value spells.
 pub enum Spelled {
@@ -32,32 +27,15 @@ enum Part {
     Invalid,
 }
 
-// A length, and how many digits spell it.
-pub enum Length {
-    Invalid,
-    Zero,
-    Is(u64, usize),
-}
-
-// What a field's value says: its bytes alone, VN of HD its version, LN of SQ its number.
-pub enum Says {
-    Bytes,
-    Version(Version),
-    Length(u64),
-}
-
-// A field's tag, how many bytes its value has, and what it says.
+// A field of a line, or the refusal of one, in plain numbers: `stop` is 0 or the refusal, VN of HD says `major` and `minor`, LN of SQ says `length`.
 pub struct Field {
+    pub stop: u8,
     pub tag_0: u8,
     pub tag_1: u8,
     pub len: usize,
-    pub says: Says,
-}
-
-// A refusal, or a field: VN of HD with its version, LN of SQ with its length.
-pub enum Parsed {
-    Bad(u8),
-    Good(Field),
+    pub major: u32,
+    pub minor: u32,
+    pub length: u64,
 }
 
 // ---- tags
@@ -96,28 +74,59 @@ pub fn is_same_tag(a: u8, b: u8, x: u8, y: u8) -> bool
 
 // ---- values
 
-// The value at the front of `src`, up to the next tab or the end.
-pub fn parse_value(src: &[u8]) -> Taken
-    ensures { λ r. ⌜ r ≡ takenOf (before 9 (now (src .entry))) ⌝ }
+// What may stand in a value: space to tilde.
+fn is_printable(b: u8) -> bool
+    ensures { λ r. ⌜ r ≡ printable b ⌝ }
 {
-    let mut i = 0;
-    while i < src.len() {
-        let b = src[i];
-        if b == b'\t' {
-            break;
-        }
-        if b < 32 {
-            return Taken::Wrong;
-        }
-        if 126 < b {
-            return Taken::Wrong;
+    is_between(b' ', b'~', b)
+}
+
+// Whether all 8 bytes of `s` from `at` on may stand in a value: all are looked at, with no way out, so that a processor can take them at once.
+fn is_printable_block(s: &[u8], at: usize) -> bool
+    requires { ⌜ at + 8 ≤ length (now s) ⌝ }
+    ensures { λ r. ⌜ r ≡ leb 8 (run printable (drop at (now (s .entry)))) ⌝ }
+{
+    let mut fine = true;
+    let mut i: usize = 0;
+    while i < 8 {
+        if !is_printable(s[at + i]) {
+            fine = false;
         }
         i += 1;
     }
-    if i == 0 {
-        return Taken::Wrong;
+    fine
+}
+
+// How many bytes of `s` stand in whole blocks of 8 before the first that may not stand in a value.
+fn pass_printable(s: &[u8]) -> usize
+    ensures { λ r. ⌜ r ≡ run printable (now (s .entry)) / 8 * 8 ⌝ }
+{
+    let mut at: usize = 0;
+    while 8 <= s.len() - at {
+        if !is_printable_block(s, at) {
+            return at;
+        }
+        at += 8;
     }
-    Taken::Value(i)
+    at
+}
+
+// How many bytes the value at the front of `src` has, up to the next tab or the end: 0 for one that is none.
+pub fn value_len(src: &[u8]) -> usize
+    ensures { λ r. ⌜ r ≡ takenOf (before 9 (now (src .entry))) ⌝ }
+{
+    let mut i = pass_printable(src);
+    while i < src.len() {
+        let b = src[i];
+        if b == b'\t' {
+            return i;
+        }
+        if !is_printable(b) {
+            return 0;
+        }
+        i += 1;
+    }
+    i
 }
 
 // ---- versions
@@ -156,118 +165,135 @@ pub fn parse_version(src: &[u8]) -> Spelled
     Spelled::Is(Version::new(major, minor))
 }
 
-// ---- lengths
+// ---- fields
 
-// The digits at the front of `src` as a length.
-pub fn parse_length(src: &[u8]) -> Length
-    ensures { λ r. ⌜ r ≡ lengthOf (front (2 ^ 64) (now (src .entry))) ⌝ }
-{
-    match decimal::read_u64(src) {
-        Number::NoDigit => Length::Invalid,
-        Number::TooLarge => Length::Invalid,
-        Number::Is(n, len) => {
-            if n == 0 {
-                Length::Zero
-            } else {
-                Length::Is(n, len)
-            }
+impl Field {
+    fn refused(stop: u8) -> Self
+        ensures { λ r. ⌜ r ≡ refusedBy stop ⌝ }
+    {
+        Field {
+            stop,
+            tag_0: 0,
+            tag_1: 0,
+            len: 0,
+            major: 0,
+            minor: 0,
+            length: 0,
+        }
+    }
+
+    // A value of `len` bytes that is kept as it stands.
+    fn kept(a: u8, b: u8, len: usize) -> Self
+        ensures { λ r. ⌜ r ≡ keptBy a b len ⌝ }
+    {
+        Field {
+            stop: 0,
+            tag_0: a,
+            tag_1: b,
+            len,
+            major: 0,
+            minor: 0,
+            length: 0,
         }
     }
 }
 
-// ---- fields
-
-// A value that is kept byte for byte, as every value of a PG is.
-fn parse_plain_value(a: u8, b: u8, src: &[u8]) -> Parsed
-    ensures { λ r. ⌜ r ≡ parsedOf Kind.Program (plain a b 3 (before 9 (now (src .entry)))) ⌝ }
+// VN of HD, whose value is `src`.
+fn parse_version_value(src: &[u8]) -> Field
+    ensures { λ r. ⌜ r ≡ versionedBy (length (now (src .entry))) (version (now (src .entry))) ⌝ }
 {
-    match parse_value(src) {
-        Taken::Wrong => Parsed::Bad(10),
-        Taken::Value(len) => Parsed::Good(Field {
-            tag_0: a,
-            tag_1: b,
-            len,
-            says: Says::Bytes,
-        }),
-    }
-}
-
-// VN of HD.
-fn parse_version_value(src: &[u8]) -> Parsed
-    ensures { λ r. ⌜ r ≡ parsedOf Kind.Header (versionField 3 (before 9 (now (src .entry)))) ⌝ }
-{
-    let Taken::Value(len) = parse_value(src) else {
-        return Parsed::Bad(10);
-    };
-    match parse_version(&src[..len]) {
-        Spelled::Invalid => Parsed::Bad(11),
-        Spelled::Is(version) => Parsed::Good(Field {
+    match parse_version(src) {
+        Spelled::Invalid => Field::refused(11),
+        Spelled::Is(version) => Field {
+            stop: 0,
             tag_0: b'V',
             tag_1: b'N',
-            len,
-            says: Says::Version(version),
-        }),
+            len: src.len(),
+            major: version.major,
+            minor: version.minor,
+            length: 0,
+        },
     }
 }
 
 // LN of SQ: not a value, so what follows its digits is not judged here.
-fn parse_length_value(src: &[u8]) -> Parsed
+fn parse_length_value(src: &[u8]) -> Field
     ensures { λ r. ⌜ r ≡ parsedOf Kind.ReferenceSequence (lengthField 3 (span (before 9 (now (src .entry))))) ⌝ }
 {
-    match parse_length(src) {
-        Length::Invalid => Parsed::Bad(12),
-        Length::Zero => Parsed::Bad(13),
-        Length::Is(n, len) => Parsed::Good(Field {
-            tag_0: b'L',
-            tag_1: b'N',
-            len,
-            says: Says::Length(n),
-        }),
+    match decimal::read_u64(src) {
+        Number::NoDigit => Field::refused(12),
+        Number::TooLarge => Field::refused(12),
+        Number::Is(n, len) => {
+            if n == 0 {
+                return Field::refused(13);
+            }
+            Field {
+                stop: 0,
+                tag_0: b'L',
+                tag_1: b'N',
+                len,
+                major: 0,
+                minor: 0,
+                length: n,
+            }
+        }
+    }
+}
+
+// Whether the tag `a`, `b` is VN of HD.
+pub fn is_version(kind: Kind, a: u8, b: u8) -> bool
+    ensures { λ r. ⌜ r ≡ isVersion kind a b ⌝ }
+{
+    match kind {
+        Kind::Header => is_same_tag(a, b, b'V', b'N'),
+        Kind::ReferenceSequence | Kind::ReadGroup | Kind::Program | Kind::Comment => false,
+    }
+}
+
+// Whether the tag `a`, `b` is LN of SQ.
+pub fn is_length(kind: Kind, a: u8, b: u8) -> bool
+    ensures { λ r. ⌜ r ≡ isLength kind a b ⌝ }
+{
+    match kind {
+        Kind::ReferenceSequence => is_same_tag(a, b, b'L', b'N'),
+        Kind::Header | Kind::ReadGroup | Kind::Program | Kind::Comment => false,
     }
 }
 
 // What follows the colon of the tag `a`, `b`.
-fn parse_field_value(kind: Kind, a: u8, b: u8, src: &[u8]) -> Parsed
+fn parse_field_value(kind: Kind, a: u8, b: u8, src: &[u8]) -> Field
     ensures { λ r. ⌜ r ≡ parsedOf kind (valueField kind a b 3 (before 9 (now (src .entry)))) ⌝ }
 {
-    match kind {
-        Kind::Header => {
-            if is_same_tag(a, b, b'V', b'N') {
-                parse_version_value(src)
-            } else {
-                parse_plain_value(a, b, src)
-            }
-        }
-        Kind::ReferenceSequence => {
-            if is_same_tag(a, b, b'L', b'N') {
-                parse_length_value(src)
-            } else {
-                parse_plain_value(a, b, src)
-            }
-        }
-        Kind::ReadGroup => parse_plain_value(a, b, src),
-        Kind::Program => parse_plain_value(a, b, src),
-        Kind::Comment => parse_plain_value(a, b, src),
+    if is_length(kind, a, b) {
+        return parse_length_value(src);
     }
+    let len = value_len(src);
+    if len == 0 {
+        return Field::refused(10);
+    }
+    if is_version(kind, a, b) {
+        return parse_version_value(&src[..len]);
+    }
+    Field::kept(a, b, len)
 }
 
 // The field at the front of `src`, which starts after its tab and goes up to the next tab or the end.
-pub fn parse_field(kind: Kind, src: &[u8]) -> Parsed
+pub fn parse_field(kind: Kind, src: &[u8]) -> Field
     ensures { λ r. ⌜ r ≡ parsedOf kind (field kind 0 (before 9 (now (src .entry)))) ⌝ }
 {
     if src.len() < 2 {
-        return Parsed::Bad(8);
+        return Field::refused(8);
     }
     let a = src[0];
     let b = src[1];
     if !is_tag(a, b) {
-        return Parsed::Bad(8);
+        return Field::refused(8);
     }
     if src.len() == 2 {
-        return Parsed::Bad(9);
+        return Field::refused(9);
     }
     if src[2] != b':' {
-        return Parsed::Bad(9);
+        return Field::refused(9);
     }
     parse_field_value(kind, a, b, &src[3..])
 }

@@ -1,13 +1,13 @@
 -- What stands at the front of given fields: nothing, a field, or a refusal.
 use Prim.Native.Nat.{ℕ, suc, _+_, _-_, _<_}
 use mathlib.Core.Path.{_≡_, refl, sym, ap, subst, _∙_}
-use mathlib.Core.Bool.{true}
+use mathlib.Core.Bool.{Bool, true, false}
 use mathlib.Core.List.{List, [], _∷_, _++_, append-nil}
 use native.Mathlib.Omega.{arith}
 use lib.ListN.{length, take, drop, take-append-drop}
 use lib.Seq.{drop-cons}
 use lib.Dec.{eqb, ltb}
-use borrow.Author.Tests.{eqb-true, ne-eqb, ltb-true, ltb-false}
+use borrow.Author.Tests.{eqb-true, eqb-false, ne-eqb, ltb-true, ltb-false}
 use Rattle.format.specs.Fields.{Field, field}
 use Rattle.format.specs.Adding.{given}
 use Rattle.format.specs.Tidy.{fieldText}
@@ -16,8 +16,6 @@ use Rattle.text.specs.Upto.{upto, before}
 use Rattle.text.specs.Stands.{Stands}
 use Rattle.text.proofs.Lines.{upto-le}
 use Rattle.field.specs.declared.Field as code
-use Rattle.field.specs.declared.Parsed.{Parsed}
-use Rattle.field.specs.declared.Parsed.the-variants.{Bad, Good}
 use Rattle.field.specs.Parsed.{parsedOf}
 use Rattle.accepted.proofs.Bools.{split}
 use Rattle.record.proofs.Turn.{tailScan, prepend, upto-not}
@@ -44,12 +42,12 @@ unfolding tailScan
 front at [] = ends
 front at (b ∷ s) = split (eqb b 9) tab (λ n. stops 6 (λ e. omega arith) (rw n refl))
   where
-    at-tab : (p : Parsed) → parsedOf Program (field Program 0 (before 9 s)) ≡ p → Front at (9 ∷ s)
-    at-tab (Bad n) e = let r = refused-here Program at s n e in stops n (r .1) (r .0)
-    at-tab (Good g) e = starts s g (turned Program at s g e)
+    at-tab : (g : code.Field) → g ≡ parsedOf Program (field Program 0 (before 9 s)) → (t : Bool) → eqb (g .stop) 0 ≡ t → Front at (9 ∷ s)
+    at-tab g q true e = starts s g (turned Program at s g q (eqb-true _ _ e))
+    at-tab g q false e = stops (g .stop) (eqb-false _ _ e) (refused-here Program at s g q (eqb-false _ _ e))
 
     tab : eqb b 9 ≡ true → Front at (b ∷ s)
-    tab e = rw (eqb-true b 9 e) (at-tab (parsedOf Program (field Program 0 (before 9 s))) refl)
+    tab e = rw (eqb-true b 9 e) (at-tab (parsedOf Program (field Program 0 (before 9 s))) refl _ refl)
 
 -- ---- a field
 

@@ -21,7 +21,8 @@ use Rattle.accepted.proofs.Tags.{repeats-snoc, repeats-more}
 use Rattle.tags.specs.Occurs.{occurs}
 use Rattle.tags.proofs.Region.{occurs-fields}
 use Rattle.record.proofs.Turn.{tailScan, prepend, prepend-prepend}
-use Rattle.record.proofs.Walked.{Turned, shown}
+use Rattle.record.proofs.Walked.{Turned}
+use Rattle.record.proofs.Step.{turn-shown}
 use Rattle.walk.specs.Run.{Runs}
 use Rattle.walk.proofs.Runs.{runs-none, runs-append}
 use Rattle.given.specs.Given.{marred}
@@ -90,7 +91,7 @@ module _ (src : List ℕ) (pos : ℕ) (w : Going src pos) where
 
     module _ (g : code.Field) (t : Turned Program pos (drop (pos + 1) src) g) where
       len : g .len ≡ length (t .field .value .bytes)
-      len = shown Program (t .field) g (t .answer) .len
+      len = turn-shown Program pos (drop (pos + 1) src) g t .len
 
       end : pos + suc (size pos (drop (pos + 1) src) g t) ≡ pos + 4 + g .len
       end = omega (arith, len)
@@ -103,7 +104,7 @@ module _ (src : List ℕ) (pos : ℕ) (w : Going src pos) where
           ≡ tagged 73 68 (t .field) || any (tagged (t .field .tag₀) (t .field .tag₁)) (w .fields)
       unfolding isKey tagged
       barred =
-          let s = shown Program (t .field) g (t .answer) in
+          let s = turn-shown Program pos (drop (pos + 1) src) g t in
           rw (s .first, s .second, w .done .spells, occurs-fields (t .field .tag₀) (t .field .tag₁) (w .fields) (w .done .clean)) refl
 
       left : given src ≡ prepend (w .fields ++ (t .field ∷ [])) (tailScan Program (pos + 4 + g .len) (drop (pos + 4 + g .len) src))

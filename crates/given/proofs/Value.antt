@@ -14,7 +14,6 @@ use Rattle.format.specs.Fields.{isValue}
 use Rattle.text.specs.Upto.{upto, before}
 use Rattle.text.proofs.Before.{upto-cases, before-length}
 use Rattle.field.specs.Parsed.{takenOf}
-use Rattle.field.specs.declared.Taken.the-variants.{Value, Wrong}
 use Rattle.field.proofs.Judged.{a-value, no-value}
 
 -- a tab can't be printed
@@ -36,17 +35,20 @@ module _ (s : List ℕ) where
   unfolding before
   without-tab h = ap isValue (take-all (upto 9 s) s (omega arith))
 
-  pub value-wrong : takenOf (before 9 s) ≡ Wrong → isValue s ≡ false
+  pub value-wrong : takenOf (before 9 s) ≡ 0 → isValue s ≡ false
   value-wrong e = ⊎-elim with-tab (λ h. sym (without-tab h) ∙ no-value (before 9 s) e) (upto-cases 9 s)
 
-  pub value-taken : (n : ℕ) → takenOf (before 9 s) ≡ Value n → eqb n (length s) ≡ isValue s
-  value-taken n e = ⊎-elim less whole (upto-cases 9 s)
+  pub value-taken : (n : ℕ) → n ≡ takenOf (before 9 s) → (n ≡ 0 → ⊥) → eqb n (length s) ≡ isValue s
+  value-taken n e z = ⊎-elim less whole (upto-cases 9 s)
     where
+      v : (isValue (before 9 s) ≡ true) × (takenOf (before 9 s) ≡ length (before 9 s))
+      v = a-value (before 9 s) (λ q. z (e ∙ q))
+
       l : n ≡ upto 9 s
-      l = a-value (before 9 s) n e .1 ∙ before-length 9 s
+      l = e ∙ v .1 ∙ before-length 9 s
 
       less : upto 9 s < length s → eqb n (length s) ≡ isValue s
       less h = ne-eqb n (length s) (λ q. omega (arith, l)) ∙ sym (with-tab h)
 
       whole : upto 9 s ≡ length s → eqb n (length s) ≡ isValue s
-      whole h = eq-eqb n (length s) (l ∙ h) ∙ sym (sym (without-tab h) ∙ a-value (before 9 s) n e .0)
+      whole h = eq-eqb n (length s) (l ∙ h) ∙ sym (sym (without-tab h) ∙ v .0)

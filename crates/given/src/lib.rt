@@ -1,6 +1,4 @@
 // What a caller gives to have programs added: an ID prefix, and fields as in the body of a PG line, each with its leading tab.
-use field::Parsed;
-use field::Taken;
 use format::Kind;
 ghost use mathlib.Core.Path.{_≡_};
 ghost use mathlib.Core.Bool.{not, _||_};
@@ -20,10 +18,11 @@ pub enum Given {
 fn is_value(src: &[u8]) -> bool
     ensures { λ r. ⌜ r ≡ isValue (now (src .entry)) ⌝ }
 {
-    match field::parse_value(src) {
-        Taken::Wrong => false,
-        Taken::Value(len) => len == src.len(),
+    let len = field::value_len(src);
+    if len == 0 {
+        return false;
     }
+    len == src.len()
 }
 
 // Whether the tag `a`, `b` may not follow the fields `src`: it is ID, or it stands among them.
@@ -45,18 +44,14 @@ fn is_marred(fields: &[u8]) -> bool
         if fields[pos] != b'\t' {
             return true;
         }
-        let parsed = field::parse_field(Kind::Program, &fields[pos + 1..]);
-        match parsed {
-            Parsed::Bad(_) => {
-                return true;
-            }
-            Parsed::Good(f) => {
-                if is_barred(&fields[..pos], f.tag_0, f.tag_1) {
-                    return true;
-                }
-                pos = pos + 4 + f.len;
-            }
+        let f = field::parse_field(Kind::Program, &fields[pos + 1..]);
+        if f.stop != 0 {
+            return true;
         }
+        if is_barred(&fields[..pos], f.tag_0, f.tag_1) {
+            return true;
+        }
+        pos = pos + 4 + f.len;
     }
     false
 }

@@ -3,3 +3,4 @@ pub mod Made
 pub mod Walked
 pub mod Step
 pub mod Dispatch
+pub mod Marks

@@ -1,7 +1,7 @@
 -- The keys of the fields read so far: one field more, and the head that they make when the line ends.
 use Prim.Native.Nat.{ℕ, suc}
 use mathlib.Core.Path.{_≡_, refl, sym, ap, _∙_}
-use mathlib.Core.Bool.{Bool, true, false, _&&_, _||_, cond}
+use mathlib.Core.Bool.{Bool, true, false, _||_, cond}
 use mathlib.Core.List.{List, [], _∷_, _++_, append-nil}
 use mathlib.Core.Option.{Option, none, some}
 use native.Mathlib.Omega.{arith}
@@ -11,32 +11,28 @@ use borrow.Author.Tests.{eqb-true, ne-eqb}
 use Rattle.format.specs.Bytes.{any}
 use Rattle.format.specs.Lines.{Piece}
 use Rattle.format.specs.Decimal.{worth}
-use Rattle.format.specs.Fields.{Field, tagged, later, lastOf, without, put, settled}
+use Rattle.format.specs.Fields.{Field, tagged, later, lastOf, without, settled}
 use Rattle.format.specs.Records as records
 use Rattle.format.specs.Records.{made}
 use Rattle.format.specs.Version.{version}
 use Rattle.format.specs.declared.Version.{Version}
 use Rattle.format.specs.declared.Kind.{Kind}
 use Rattle.format.specs.declared.Kind.the-variants.{Header, ReferenceSequence, ReadGroup, Program, Comment}
-use Rattle.field.specs.declared.Field as field
-use Rattle.field.specs.declared.Says.{Says}
-use Rattle.field.specs.declared.Says.the-variants as says
-use Rattle.field.specs.declared.Parsed.the-variants.{Bad, Good}
-use Rattle.field.specs.Parsed.{fieldOf, versionedBy, valued}
+use Rattle.text.specs.Stands.{Each}
+use Rattle.field.specs.Parsed.{isVersion, isLength, valued, versionedBy}
+use Rattle.field.proofs.Answer.{Told}
+use Rattle.field.proofs.Shown.{valued-length, valued-kept, told-version, valued-version}
 use Rattle.record.specs.declared.Keys.{Keys}
-use Rattle.record.specs.declared.KeyPlace.{KeyPlace}
-use Rattle.record.specs.declared.KeyPlace.the-variants as place
-use Rattle.record.specs.declared.KeyVersion.{KeyVersion}
-use Rattle.record.specs.declared.KeyVersion.the-variants as version′
-use Rattle.record.specs.declared.KeyLength.{KeyLength}
-use Rattle.record.specs.declared.KeyLength.the-variants as length′
+use Rattle.record.specs.declared.Place.{Place}
+use Rattle.record.specs.declared.Head.{Head}
 use Rattle.record.specs.declared.Head.the-variants as head
 use Rattle.record.specs.Head.{placeOf, headOf}
 use Rattle.accepted.specs.Sound.{isKey}
 use Rattle.tags.specs.Others.{unkeyed}
-use Rattle.record.specs.Keys.{placed, spelt, versioned, sized, keyOf, versionOf, lengthOf, keysOf, saying, withField, headFrom, versionHead, sizedHead, keyedHead}
-use Rattle.accepted.proofs.Bools.{or-true, or-false, any-append, any-snoc, split, and-left, and-right}
+use Rattle.record.specs.Keys.{keyOf, spelt, versionOf, sized, lengthOf, placed, there, numbers, plainly, keysOf, withField, headFrom, keyedHead}
+use Rattle.accepted.proofs.Bools.{or-true, split, and-left}
 use Rattle.accepted.proofs.Tags.{lastOf-snoc, settled-snoc, any-settled, length-put}
+use Rattle.accepted.proofs.Fields.{lastOf-of}
 use Rattle.tags.proofs.Firsts.{not-key}
 
 -- ---- one field more
@@ -90,39 +86,43 @@ module _ (a b : ℕ) (fs : List Field) (f : Field) where
   unfolding later
   last-no h = lastOf-snoc a b fs f ∙ rw h refl
 
-keys-path : {p q : KeyPlace} {v w : KeyVersion} {l m : KeyLength} {n o : ℕ} → p ≡ q → v ≡ w → l ≡ m → n ≡ o
-    → _≡_ {A = Keys} (record { key = p; version = v; length = l; others = n }) (record { key = q; version = w; length = m; others = o })
-keys-path a b c d = λ i. record { key = a i; version = b i; length = c i; others = d i }
+-- ---- what the fields say, with one more
+
+plain-path : {p q : Option Piece} {v w : Option Version} {l m n o : ℕ} → p ≡ q → v ≡ w → l ≡ m → n ≡ o → plainly p v l n ≡ plainly q w m o
+plain-path a b c d = λ i. plainly (a i) (b i) (c i) (d i)
 
 module _ (k : Kind) (fs : List Field) (f : Field) where
-  again : Bool
-  again = any (tagged (f .tag₀) (f .tag₁)) fs
+  -- a field that is no key is neither VN nor LN
+  module _ (n : isKey k (f .tag₀) (f .tag₁) ≡ false) (l : isLength k (f .tag₀) (f .tag₁) ≡ false) (v : isVersion k (f .tag₀) (f .tag₁) ≡ false) where
+    other-snoc : keyOf k (fs ++ (f ∷ [])) ≡ keyOf k fs → versionOf k (fs ++ (f ∷ [])) ≡ versionOf k fs → lengthOf k (fs ++ (f ∷ [])) ≡ lengthOf k fs
+        → keysOf k (fs ++ (f ∷ [])) ≡ withField k (valued k f) (f .value .at) (any (tagged (f .tag₀) (f .tag₁)) fs) (keysOf k fs)
+    unfolding keysOf withField
+    other-snoc p q r = plain-path p q r (others-field k fs f n) ∙ rw (valued-kept k f l v, n) refl
 
-  -- a plain field that is no key
-  plain-snoc : isKey k (f .tag₀) (f .tag₁) ≡ false → keyOf k (fs ++ (f ∷ [])) ≡ keyOf k fs → versionOf k (fs ++ (f ∷ [])) ≡ versionOf k fs → lengthOf k (fs ++ (f ∷ [])) ≡ lengthOf k fs
-      → keysOf k (fs ++ (f ∷ [])) ≡ withField k (fieldOf says.Bytes f) (f .value .at) (any (tagged (f .tag₀) (f .tag₁)) fs) (keysOf k fs)
-  unfolding keysOf withField fieldOf
-  plain-snoc n p v l = keys-path p v l (others-field k fs f n) ∙ rw n refl
-
-  -- a key that is kept by its place
-  key-snoc : isKey k (f .tag₀) (f .tag₁) ≡ true → keyOf k (fs ++ (f ∷ [])) ≡ place.At (placeOf (f .value)) → versionOf k (fs ++ (f ∷ [])) ≡ versionOf k fs → lengthOf k (fs ++ (f ∷ [])) ≡ lengthOf k fs
-      → keysOf k (fs ++ (f ∷ [])) ≡ withField k (fieldOf says.Bytes f) (f .value .at) (any (tagged (f .tag₀) (f .tag₁)) fs) (keysOf k fs)
-  unfolding keysOf withField fieldOf placeOf
-  key-snoc n p v l = keys-path p v l (others-key k fs f n) ∙ rw n refl
+  module _ (y : isKey k (f .tag₀) (f .tag₁) ≡ true) where
+    -- a key that is kept by its place
+    place-snoc : isLength k (f .tag₀) (f .tag₁) ≡ false → isVersion k (f .tag₀) (f .tag₁) ≡ false
+        → keyOf k (fs ++ (f ∷ [])) ≡ some (f .value) → versionOf k (fs ++ (f ∷ [])) ≡ versionOf k fs → lengthOf k (fs ++ (f ∷ [])) ≡ lengthOf k fs
+        → keysOf k (fs ++ (f ∷ [])) ≡ withField k (valued k f) (f .value .at) (any (tagged (f .tag₀) (f .tag₁)) fs) (keysOf k fs)
+    unfolding keysOf withField
+    place-snoc l v p q r = plain-path p q r (others-key k fs f y) ∙ rw (valued-kept k f l v, y, v, l) refl
 
 -- VN of HD
-version-snoc : (fs : List Field) (f : Field) (v : Version) → tagged 86 78 f ≡ true → version (f .value .bytes) ≡ some v
-    → keysOf Header (fs ++ (f ∷ [])) ≡ withField Header (fieldOf (says.Version v) f) (f .value .at) (any (tagged (f .tag₀) (f .tag₁)) fs) (keysOf Header fs)
-unfolding keysOf withField fieldOf keyOf versionOf versioned lengthOf isKey tagged
-version-snoc fs f v t q = keys-path refl (ap versioned (last-yes 86 78 fs f t) ∙ ap spelt q) refl (others-key Header fs f t)
+version-snoc : (fs : List Field) (f : Field) → Told Header f → tagged 86 78 f ≡ true
+    → keysOf Header (fs ++ (f ∷ [])) ≡ withField Header (valued Header f) (f .value .at) (any (tagged (f .tag₀) (f .tag₁)) fs) (keysOf Header fs)
+unfolding keysOf withField keyOf versionOf lengthOf isKey isVersion isLength versionedBy tagged
+version-snoc fs f t y =
+    plain-path {p = none} {l = 0} refl (ap spelt (last-yes 86 78 fs f y) ∙ told-version Header f t y .1) refl (others-key Header fs f y)
+    ∙ rw (valued-version Header f t y) refl
 
 -- LN of SQ
 length-snoc : (fs : List Field) (f : Field) → tagged 83 78 f ≡ false → tagged 76 78 f ≡ true
-    → keysOf ReferenceSequence (fs ++ (f ∷ [])) ≡ withField ReferenceSequence (fieldOf (says.Length (worth (f .value .bytes))) f) (f .value .at) (any (tagged (f .tag₀) (f .tag₁)) fs) (keysOf ReferenceSequence fs)
-unfolding keysOf withField fieldOf keyOf versionOf lengthOf sized isKey tagged
-length-snoc fs f n t =
-    keys-path (ap placed (last-no 83 78 fs f n)) refl (ap sized (last-yes 76 78 fs f t))
-    (others-key ReferenceSequence fs f (ap (λ u. tagged 83 78 f || u) t ∙ or-true (tagged 83 78 f)))
+    → keysOf ReferenceSequence (fs ++ (f ∷ []))
+    ≡ withField ReferenceSequence (valued ReferenceSequence f) (f .value .at) (any (tagged (f .tag₀) (f .tag₁)) fs) (keysOf ReferenceSequence fs)
+unfolding keysOf withField keyOf versionOf lengthOf isKey isVersion isLength tagged
+length-snoc fs f n y =
+    plain-path {v = none} (last-no 83 78 fs f n) refl (ap sized (last-yes 76 78 fs f y)) (others-key ReferenceSequence fs f (ap (λ u. tagged 83 78 f || u) y ∙ or-true (tagged 83 78 f)))
+    ∙ rw (valued-length ReferenceSequence f y) refl
 
 -- a tag is one tag alone
 not-both : (f : Field) → tagged 76 78 f ≡ true → tagged 83 78 f ≡ false
@@ -133,86 +133,33 @@ not-both f t =
     let e : f .tag₀ ≡ 76 = eqb-true (f .tag₀) 76 (and-left x y t) in
     rw e refl
 
-good-same : (x y : field.Field) → Good x ≡ Good y → x ≡ y
-good-same x y e = cc
-
-bad-good : {C : Type 0} (n : ℕ) (y : field.Field) → Bad n ≡ Good y → C
-bad-good n y e = absurd (let z : _≡_ {A = ℕ} 0 1 = cc in omega arith)
-
-module _ (fs : List Field) (f : Field) (g : field.Field) where
-  by-field : (k : Kind) (h : field.Field) → Good h ≡ Good g
-      → keysOf k (fs ++ (f ∷ [])) ≡ withField k h (f .value .at) (any (tagged (f .tag₀) (f .tag₁)) fs) (keysOf k fs)
-      → keysOf k (fs ++ (f ∷ [])) ≡ withField k g (f .value .at) (any (tagged (f .tag₀) (f .tag₁)) fs) (keysOf k fs)
-  by-field k h e p = p ∙ ap (λ x. withField k x (f .value .at) (any (tagged (f .tag₀) (f .tag₁)) fs) (keysOf k fs)) (good-same h g e)
-
-  header-snoc : valued Header f ≡ Good g → keysOf Header (fs ++ (f ∷ [])) ≡ withField Header g (f .value .at) (any (tagged (f .tag₀) (f .tag₁)) fs) (keysOf Header fs)
-  unfolding valued isKey tagged keyOf versionOf lengthOf versionedBy
-  header-snoc e = go (tagged 86 78 f) refl e
-    where
-      spell : (o : Option Version) → version (f .value .bytes) ≡ o → versionedBy f o ≡ Good g → tagged 86 78 f ≡ true
-          → keysOf Header (fs ++ (f ∷ [])) ≡ withField Header g (f .value .at) (any (tagged (f .tag₀) (f .tag₁)) fs) (keysOf Header fs)
-      spell none q e t = bad-good 11 g e
-      spell (some v) q e t = by-field Header (fieldOf (says.Version v) f) e (version-snoc fs f v t q)
-
-      go : (t : Bool) → tagged 86 78 f ≡ t → cond t (versionedBy f (version (f .value .bytes))) (Good (fieldOf says.Bytes f)) ≡ Good g
-          → keysOf Header (fs ++ (f ∷ [])) ≡ withField Header g (f .value .at) (any (tagged (f .tag₀) (f .tag₁)) fs) (keysOf Header fs)
-      go true t e = spell (version (f .value .bytes)) refl e t
-      go false t e = by-field Header (fieldOf says.Bytes f) e (plain-snoc Header fs f t refl (ap versioned (last-no 86 78 fs f t)) refl)
-
-  reference-snoc : valued ReferenceSequence f ≡ Good g
-      → keysOf ReferenceSequence (fs ++ (f ∷ [])) ≡ withField ReferenceSequence g (f .value .at) (any (tagged (f .tag₀) (f .tag₁)) fs) (keysOf ReferenceSequence fs)
-  unfolding valued isKey tagged keyOf versionOf lengthOf
-  reference-snoc e = go (tagged 76 78 f) refl e
-    where
-      Sn : Type 0
-      Sn = keysOf ReferenceSequence (fs ++ (f ∷ [])) ≡ withField ReferenceSequence g (f .value .at) (any (tagged (f .tag₀) (f .tag₁)) fs) (keysOf ReferenceSequence fs)
-
-      named : (t : Bool) → tagged 83 78 f ≡ t → tagged 76 78 f ≡ false → Good (fieldOf says.Bytes f) ≡ Good g → Sn
-      named true t n e =
-          by-field ReferenceSequence (fieldOf says.Bytes f) e
-          (key-snoc ReferenceSequence fs f (ap (λ u. u || tagged 76 78 f) t) (ap placed (last-yes 83 78 fs f t)) refl (ap sized (last-no 76 78 fs f n)))
-      named false t n e =
-          by-field ReferenceSequence (fieldOf says.Bytes f) e
-          (plain-snoc ReferenceSequence fs f (ap (λ u. u || tagged 76 78 f) t ∙ n) (ap placed (last-no 83 78 fs f t)) refl (ap sized (last-no 76 78 fs f n)))
-
-      go : (t : Bool) → tagged 76 78 f ≡ t → cond t (Good (fieldOf (says.Length (worth (f .value .bytes))) f)) (Good (fieldOf says.Bytes f)) ≡ Good g → Sn
-      go true t e = by-field ReferenceSequence (fieldOf (says.Length (worth (f .value .bytes))) f) e (length-snoc fs f (not-both f t) t)
-      go false t e = named (tagged 83 78 f) refl t e
-
-  group-snoc : Good (fieldOf says.Bytes f) ≡ Good g → keysOf ReadGroup (fs ++ (f ∷ [])) ≡ withField ReadGroup g (f .value .at) (any (tagged (f .tag₀) (f .tag₁)) fs) (keysOf ReadGroup fs)
-  unfolding isKey tagged keyOf versionOf lengthOf
-  group-snoc e = by-field ReadGroup (fieldOf says.Bytes f) e (go (tagged 73 68 f) refl)
-    where
-      go : (t : Bool) → tagged 73 68 f ≡ t → keysOf ReadGroup (fs ++ (f ∷ [])) ≡ withField ReadGroup (fieldOf says.Bytes f) (f .value .at) (any (tagged (f .tag₀) (f .tag₁)) fs) (keysOf ReadGroup fs)
-      go true t = key-snoc ReadGroup fs f t (ap placed (last-yes 73 68 fs f t)) refl refl
-      go false t = plain-snoc ReadGroup fs f t (ap placed (last-no 73 68 fs f t)) refl refl
-
-  program-snoc : Good (fieldOf says.Bytes f) ≡ Good g → keysOf Program (fs ++ (f ∷ [])) ≡ withField Program g (f .value .at) (any (tagged (f .tag₀) (f .tag₁)) fs) (keysOf Program fs)
-  unfolding isKey tagged keyOf versionOf lengthOf
-  program-snoc e = by-field Program (fieldOf says.Bytes f) e (go (tagged 73 68 f) refl)
-    where
-      go : (t : Bool) → tagged 73 68 f ≡ t → keysOf Program (fs ++ (f ∷ [])) ≡ withField Program (fieldOf says.Bytes f) (f .value .at) (any (tagged (f .tag₀) (f .tag₁)) fs) (keysOf Program fs)
-      go true t = key-snoc Program fs f t (ap placed (last-yes 73 68 fs f t)) refl refl
-      go false t = plain-snoc Program fs f t (ap placed (last-no 73 68 fs f t)) refl refl
-
-  comment-snoc : Good (fieldOf says.Bytes f) ≡ Good g → keysOf Comment (fs ++ (f ∷ [])) ≡ withField Comment g (f .value .at) (any (tagged (f .tag₀) (f .tag₁)) fs) (keysOf Comment fs)
-  unfolding isKey keyOf versionOf lengthOf
-  comment-snoc e = by-field Comment (fieldOf says.Bytes f) e (plain-snoc Comment fs f refl refl refl refl)
-
+module _ (fs : List Field) (f : Field) where
   -- one field more, whatever the kind
-  pub keys-snoc : (k : Kind) → valued k f ≡ Good g → keysOf k (fs ++ (f ∷ [])) ≡ withField k g (f .value .at) (any (tagged (f .tag₀) (f .tag₁)) fs) (keysOf k fs)
-  unfolding valued
-  keys-snoc Header e = header-snoc e
-  keys-snoc ReferenceSequence e = reference-snoc e
-  keys-snoc ReadGroup e = group-snoc e
-  keys-snoc Program e = program-snoc e
-  keys-snoc Comment e = comment-snoc e
+  pub keys-snoc : (k : Kind) → Told k f
+      → keysOf k (fs ++ (f ∷ [])) ≡ withField k (valued k f) (f .value .at) (any (tagged (f .tag₀) (f .tag₁)) fs) (keysOf k fs)
+  unfolding keyOf versionOf lengthOf isKey isVersion isLength tagged
+  keys-snoc Header t =
+      split (tagged 86 78 f)
+      (version-snoc fs f t)
+      (λ n. other-snoc Header fs f n refl n refl (ap spelt (last-no 86 78 fs f n)) refl)
+  keys-snoc ReferenceSequence t =
+      split (tagged 76 78 f)
+      (λ y. length-snoc fs f (not-both f y) y)
+      (λ n.
+      split (tagged 83 78 f)
+      (λ y. place-snoc ReferenceSequence fs f (ap (λ u. u || tagged 76 78 f) y) n refl (last-yes 83 78 fs f y) refl (ap sized (last-no 76 78 fs f n)))
+      (λ m. other-snoc ReferenceSequence fs f (ap (λ u. u || tagged 76 78 f) m ∙ n) n refl (last-no 83 78 fs f m) refl (ap sized (last-no 76 78 fs f n))))
+  keys-snoc ReadGroup t =
+      split (tagged 73 68 f)
+      (λ y. place-snoc ReadGroup fs f y refl refl (last-yes 73 68 fs f y) refl refl)
+      (λ n. other-snoc ReadGroup fs f n refl refl (last-no 73 68 fs f n) refl refl)
+  keys-snoc Program t =
+      split (tagged 73 68 f)
+      (λ y. place-snoc Program fs f y refl refl (last-yes 73 68 fs f y) refl refl)
+      (λ n. other-snoc Program fs f n refl refl (last-no 73 68 fs f n) refl refl)
+  keys-snoc Comment t = other-snoc Comment fs f refl refl refl refl refl refl
 
 -- ---- the line ends
-
--- each VN of HD that was read spells a version
-pub Spelled : Kind → List Field → Type 0
-Spelled k fs = k ≡ Header → (p : Piece) → lastOf 86 78 fs ≡ some p → (v : Version) × (version (p .bytes) ≡ some v)
 
 without-unkeyed : (k : Kind) (a b : ℕ) → ((f : Field) → isKey k (f .tag₀) (f .tag₁) ≡ tagged a b f) → (fs : List Field) → without a b fs ≡ unkeyed k fs
 unfolding without unkeyed
@@ -232,83 +179,81 @@ without-both (f ∷ fs) = go (tagged 76 78 f) refl (tagged 83 78 f) refl (withou
     go false e true d ih = rw d ih
     go false e false d ih = rw d (ap (λ x. f ∷ x) ih)
 
-header-made : (fs : List Field) → Spelled Header fs → headFrom Header (keysOf Header fs) ≡ headOf (made Header fs)
-unfolding headFrom keysOf versionOf headOf made isKey tagged records.versioned records.announcing Spelled
+-- a value that was accepted has at least one byte
+some-bytes : (k : Kind) (fs : List Field) → Each (Told k) fs → (a b : ℕ) (p : Piece) → lastOf a b fs ≡ some p → length (p .bytes) ≡ 0 → ⊥
+some-bytes k fs h a b p e = let o = lastOf-of (Told k) a b fs p h e in rw (o .value) at (o .holds .some)
+
+header-made : (fs : List Field) → Each (Told Header) fs → headFrom Header (keysOf Header fs) ≡ headOf (made Header fs)
+unfolding headFrom keysOf versionOf headOf made isKey tagged records.versioned records.announcing isVersion
 header-made fs h = go (lastOf 86 78 fs) refl ∙ ap (λ l. headOf (records.versioned (settled l) (lastOf 86 78 fs))) (sym (without-unkeyed Header 86 78 (λ f. refl) fs))
   where
+    n : ℕ
+    n = length (settled (unkeyed Header fs))
+
     spell : (o : Option Version) (v : Version) → o ≡ some v
-        → versionHead (length (settled (unkeyed Header fs))) (spelt o) ≡ headOf (records.announcing (settled (unkeyed Header fs)) o)
+        → cond (there o) (head.Header (record { major = numbers o .major; minor = numbers o .minor }) (length (settled (unkeyed Header fs)))) (head.Refused 15)
+        ≡ headOf (records.announcing (settled (unkeyed Header fs)) o)
     spell none v e = absurd (let z : _≡_ {A = ℕ} 0 1 = cc in omega arith)
     spell (some w) v e = refl
 
     go : (o : Option Piece) → lastOf 86 78 fs ≡ o
-        → versionHead (length (settled (unkeyed Header fs))) (versioned o) ≡ headOf (records.versioned (settled (unkeyed Header fs)) o)
+        → cond (there (spelt o)) (head.Header (record { major = numbers (spelt o) .major; minor = numbers (spelt o) .minor }) (length (settled (unkeyed Header fs)))) (head.Refused 15)
+        ≡ headOf (records.versioned (settled (unkeyed Header fs)) o)
     go none e = refl
-    go (some p) e = spell (version (p .bytes)) (h refl p e .0) (h refl p e .1)
+    go (some p) e =
+        let o = lastOf-of (Told Header) 86 78 fs p h e in
+        let w = told-version Header (o .field) (o .holds) (o .tag) in
+        spell (version (p .bytes)) (w .0) (ap (λ q. version (q .bytes)) (sym (o .value)) ∙ w .1)
 
-reference-made : (fs : List Field) → headFrom ReferenceSequence (keysOf ReferenceSequence fs) ≡ headOf (made ReferenceSequence fs)
-unfolding headFrom keysOf keyOf lengthOf headOf made records.measured placeOf
-reference-made fs = go (lastOf 83 78 fs) (lastOf 76 78 fs) ∙ ap (λ l. headOf (records.measured (settled l) (lastOf 83 78 fs) (lastOf 76 78 fs))) (sym (without-both fs))
+keyed-made : (k : Kind) (a b : ℕ) (fs : List Field) → Each (Told k) fs → (h : Place → Head) (r : Piece → records.Record) → ((p : Piece) → h (placeOf p) ≡ headOf (records.read (r p)))
+    → (keys : Keys) → keys .«key_at» ≡ placed (lastOf a b fs) .at → keys .«key_len» ≡ placed (lastOf a b fs) .len
+    → keyedHead h keys ≡ headOf (records.keyed r (lastOf a b fs))
+unfolding keyedHead records.keyed headOf placed placeOf
+keyed-made k a b fs w h r q keys e d = go (lastOf a b fs) refl e d
   where
-    go : (o q : Option Piece)
-        → keyedHead (λ p. sizedHead p (length (settled (unkeyed ReferenceSequence fs))) (sized q)) (placed o) ≡ headOf (records.measured (settled (unkeyed ReferenceSequence fs)) o q)
-    go none q = refl
-    go (some p) none = refl
-    go (some p) (some q) = refl
+    go : (o : Option Piece) → lastOf a b fs ≡ o → keys .«key_at» ≡ placed o .at → keys .«key_len» ≡ placed o .len
+        → cond (eqb (keys .«key_len») 0) (head.Refused 15) (h (record { at = keys .«key_at»; len = keys .«key_len» })) ≡ headOf (records.keyed r o)
+    go none c e d = rw d refl
+    go (some p) c e d = rw (e, d, ne-eqb _ _ (some-bytes k fs w a b p c)) (q p)
 
-group-made : (fs : List Field) → headFrom ReadGroup (keysOf ReadGroup fs) ≡ headOf (made ReadGroup fs)
-unfolding headFrom keysOf keyOf headOf made isKey tagged records.keyed placeOf
-group-made fs = go (lastOf 73 68 fs) ∙ ap (λ l. headOf (records.keyed (λ p. records.group p (settled l)) (lastOf 73 68 fs))) (sym (without-unkeyed ReadGroup 73 68 (λ f. refl) fs))
+reference-made : (fs : List Field) → Each (Told ReferenceSequence) fs → headFrom ReferenceSequence (keysOf ReferenceSequence fs) ≡ headOf (made ReferenceSequence fs)
+unfolding headFrom keysOf keyOf lengthOf headOf made records.measured placeOf keyedHead sized placed isLength
+reference-made fs h =
+    go (lastOf 83 78 fs) refl (lastOf 76 78 fs) refl
+    ∙ ap (λ l. headOf (records.measured (settled l) (lastOf 83 78 fs) (lastOf 76 78 fs))) (sym (without-both fs))
   where
-    go : (o : Option Piece)
-        → keyedHead (λ p. head.ReadGroup p (length (settled (unkeyed ReadGroup fs)))) (placed o) ≡ headOf (records.keyed (λ p. records.group p (settled (unkeyed ReadGroup fs))) o)
-    go none = refl
-    go (some p) = refl
+    some-length : (q : Piece) → lastOf 76 78 fs ≡ some q → worth (q .bytes) ≡ 0 → ⊥
+    some-length q e = let o = lastOf-of (Told ReferenceSequence) 76 78 fs q h e in rw (o .value) at (o .holds .sized (o .tag))
 
-program-made : (fs : List Field) → headFrom Program (keysOf Program fs) ≡ headOf (made Program fs)
-unfolding headFrom keysOf keyOf headOf made isKey tagged records.keyed placeOf
-program-made fs = go (lastOf 73 68 fs) ∙ ap (λ l. headOf (records.keyed (λ p. records.program p (settled l)) (lastOf 73 68 fs))) (sym (without-unkeyed Program 73 68 (λ f. refl) fs))
-  where
-    go : (o : Option Piece)
-        → keyedHead (λ p. head.Program p (length (settled (unkeyed Program fs)))) (placed o) ≡ headOf (records.keyed (λ p. records.program p (settled (unkeyed Program fs))) o)
-    go none = refl
-    go (some p) = refl
+    go : (o : Option Piece) → lastOf 83 78 fs ≡ o → (q : Option Piece) → lastOf 76 78 fs ≡ q
+        → cond (eqb (placed o .len) 0) (head.Refused 15)
+        (cond (eqb (sized q) 0) (head.Refused 16)
+        (head.ReferenceSequence (record { at = placed o .at; len = placed o .len }) (sized q) (length (settled (unkeyed ReferenceSequence fs)))))
+        ≡ headOf (records.measured (settled (unkeyed ReferenceSequence fs)) o q)
+    go none e q d = refl
+    go (some p) e none d = rw (ne-eqb _ _ (some-bytes ReferenceSequence fs h 83 78 p e)) refl
+    go (some p) e (some q) d = rw (ne-eqb _ _ (some-bytes ReferenceSequence fs h 83 78 p e), ne-eqb _ _ (some-length q d)) refl
+
+group-made : (fs : List Field) → Each (Told ReadGroup) fs → headFrom ReadGroup (keysOf ReadGroup fs) ≡ headOf (made ReadGroup fs)
+unfolding headFrom keysOf keyOf headOf made isKey tagged
+group-made fs h =
+    keyed-made ReadGroup 73 68 fs h (λ p. head.ReadGroup p (length (settled (unkeyed ReadGroup fs)))) (λ p. records.group p (settled (unkeyed ReadGroup fs))) (λ p. refl) (keysOf ReadGroup fs) refl refl
+    ∙ ap (λ l. headOf (records.keyed (λ p. records.group p (settled l)) (lastOf 73 68 fs))) (sym (without-unkeyed ReadGroup 73 68 (λ f. refl) fs))
+
+program-made : (fs : List Field) → Each (Told Program) fs → headFrom Program (keysOf Program fs) ≡ headOf (made Program fs)
+unfolding headFrom keysOf keyOf headOf made isKey tagged
+program-made fs h =
+    keyed-made Program 73 68 fs h (λ p. head.Program p (length (settled (unkeyed Program fs)))) (λ p. records.program p (settled (unkeyed Program fs))) (λ p. refl) (keysOf Program fs) refl refl
+    ∙ ap (λ l. headOf (records.keyed (λ p. records.program p (settled l)) (lastOf 73 68 fs))) (sym (without-unkeyed Program 73 68 (λ f. refl) fs))
 
 comment-made : (fs : List Field) → headFrom Comment (keysOf Comment fs) ≡ headOf (made Comment fs)
 unfolding headFrom headOf made
 comment-made fs = refl
 
 -- the keys make the head of the record that the fields make
-pub head-made : (k : Kind) (fs : List Field) → Spelled k fs → headFrom k (keysOf k fs) ≡ headOf (made k fs)
+pub head-made : (k : Kind) (fs : List Field) → Each (Told k) fs → headFrom k (keysOf k fs) ≡ headOf (made k fs)
 head-made Header fs h = header-made fs h
-head-made ReferenceSequence fs h = reference-made fs
-head-made ReadGroup fs h = group-made fs
-head-made Program fs h = program-made fs
+head-made ReferenceSequence fs h = reference-made fs h
+head-made ReadGroup fs h = group-made fs h
+head-made Program fs h = program-made fs h
 head-made Comment fs h = comment-made fs
-
-some-same : (p q : Piece) → _≡_ {A = Option Piece} (some p) (some q) → p ≡ q
-some-same p q e = cc
-
-spelling : (f : Field) (g : field.Field) (o : Option Version) → versionedBy f o ≡ Good g → (v : Version) × (o ≡ some v)
-unfolding versionedBy
-spelling f g none e = bad-good 11 g e
-spelling f g (some v) e = (v, refl)
-
-header-valued : (f : Field) → tagged 86 78 f ≡ true → valued Header f ≡ versionedBy f (version (f .value .bytes))
-unfolding valued
-header-valued f t = rw t refl
-
-pub spelled-none : (k : Kind) → Spelled k []
-unfolding Spelled lastOf
-spelled-none k e p h = absurd (let z : _≡_ {A = ℕ} 0 1 = cc in omega arith)
-
-pub spelled-snoc : (k : Kind) (fs : List Field) (f : Field) (g : field.Field) → valued k f ≡ Good g → Spelled k fs → Spelled k (fs ++ (f ∷ []))
-unfolding Spelled
-spelled-snoc k fs f g e h q p l = go (tagged 86 78 f) refl
-  where
-    go : (t : Bool) → tagged 86 78 f ≡ t → (v : Version) × (version (p .bytes) ≡ some v)
-    go true t =
-        let o : f .value ≡ p = some-same (f .value) p (sym (last-yes 86 78 fs f t) ∙ l) in
-        let w : (v : Version) × (version (f .value .bytes) ≡ some v) = spelling f g (version (f .value .bytes)) (sym (header-valued f t) ∙ ap (λ k. valued k f) (sym q) ∙ e) in
-        (w .0, ap (λ x. version (x .bytes)) (sym o) ∙ w .1)
-    go false t = h q p (sym (last-no 86 78 fs f t) ∙ l)

@@ -1,18 +1,17 @@
 -- One turn of the field loop: a field more, a refusal, or a tag that stands twice.
-use Prim.Native.Nat.{ℕ, zero, suc, _+_, _-_, _≤_, _<_}
+use Prim.Native.Nat.{ℕ, suc, _+_, _-_, _≤_, _<_}
 use mathlib.Core.Path.{_≡_, refl, sym, ap, _∙_}
 use mathlib.Core.Bool.{Bool, true, false, _&&_, _||_, cond}
 use mathlib.Core.List.{List, [], _∷_, _++_, append-nil, append-assoc}
 use native.Mathlib.Omega.{arith}
 use native.Mathlib.Numerals.{add-one}
-use lib.ListN.{length, take, drop, getD, set, replicate, length-drop, length-set, drop-of-length-le}
-use lib.Seq.{drop-cons, drop-drop, take-add, getD-set-same, getD-set-other, getD-drop, take-length}
-use lib.Dec.{eqb}
-use borrow.Author.Tests.{eqb-true, eqb-false, ne-eqb}
+use lib.ListN.{length, take, drop, getD, set, replicate, length-drop, drop-of-length-le}
+use lib.Seq.{drop-cons, drop-drop, take-add}
+use borrow.Author.Tests.{ne-eqb}
 use Rattle.format.specs.Bytes.{any}
 use Rattle.format.specs.Lines.{cut, placed}
-use Rattle.format.specs.Fields.{Field, tagged, repeats, Scan, scan}
-use Rattle.format.specs.Records.{refused, judged, fielded, made}
+use Rattle.format.specs.Fields.{Field, tagged, isTag, repeats, Scan, scan}
+use Rattle.format.specs.Records.{refused, judged, fielded}
 use Rattle.format.specs.Tidy.{fieldText, fieldsText}
 use Rattle.format.specs.declared.Kind.{Kind}
 use Rattle.format.specs.declared.Kind.the-variants.{Header, ReferenceSequence, ReadGroup, Program, Comment}
@@ -20,22 +19,23 @@ use Rattle.text.specs.Upto.{upto}
 use Rattle.text.specs.Stands.{Each}
 use Rattle.text.proofs.Lines.{upto-le}
 use Rattle.text.proofs.Before.{upto-take}
+use Rattle.text.proofs.Run.{upto-onward}
 use Rattle.field.specs.declared.Field as code
-use Rattle.field.specs.declared.Says.{Says}
-use Rattle.field.specs.declared.Says.the-variants as says
+use Rattle.field.specs.Parsed.{isVersion, isLength}
+use Rattle.field.proofs.Answer.{Told}
+use Rattle.field.proofs.Shown.{Shown, shown}
 use Rattle.accepted.specs.Sound.{isKey}
-use Rattle.accepted.proofs.Bools.{any-snoc, split, or-true, or-false, and-left, and-right}
 use Rattle.accepted.proofs.Tags.{repeats-snoc}
 use Rattle.tags.specs.Occurs.{occurs}
 use Rattle.tags.proofs.Region.{Clean, occurs-fields}
 use Rattle.record.specs.declared.Keys.{Keys}
-use Rattle.record.specs.declared.KeyPlace.the-variants as place
 use Rattle.record.specs.Head.{headOf}
-use Rattle.record.specs.Keys.{keysOf, noKeys, saying, withField, headFrom}
-use Rattle.record.specs.Slot.{slotOf}
+use Rattle.record.specs.Keys.{keysOf, noKeys, withField, headFrom}
+use Rattle.record.specs.Marks.{placeOf, marksOf}
+use Rattle.record.proofs.Marks.{marked-none, marked-again, marked-more, place-below}
 use Rattle.record.proofs.Turn.{tailScan, prepend, fielded-tail, judged-stop, judged-twice, judged-end, prepend-prepend, upto-not}
-use Rattle.record.proofs.Made.{Spelled, keys-snoc, spelled-none, spelled-snoc, head-made}
-use Rattle.record.proofs.Walked.{Walked, Shown, shown, Turned, upto-drop}
+use Rattle.record.proofs.Made.{keys-snoc, head-made}
+use Rattle.record.proofs.Walked.{Walked, Turned}
 
 -- one field more at the end of a run
 fields-snoc : (fs : List Field) (f : Field) → fieldsText (fs ++ (f ∷ [])) ≡ fieldsText fs ++ fieldText (f .tag₀) (f .tag₁) (f .value .bytes)
@@ -74,7 +74,7 @@ module _ (kind : Kind) (at : ℕ) (s : List ℕ) (g : code.Field) (t : Turned ki
         second = λ e. upto-not 9 s 1 (omega (arith, t .within)) (sym (t .kept .second) ∙ e);
         value =
             ap (upto 9) (t .kept .bytes)
-            ∙ upto-take 9 (drop 3 s) (length (t .field .value .bytes)) (omega (arith, t .within, upto-drop 9 s 3 (omega (arith, t .within))));
+            ∙ upto-take 9 (drop 3 s) (length (t .field .value .bytes)) (omega (arith, t .within, upto-onward 9 s 3 (omega (arith, t .within))));
       }
 
   pub spelled-text : 9 ∷ take (3 + length (t .field .value .bytes)) s ≡ fieldText (t .field .tag₀) (t .field .tag₁) (t .field .value .bytes)
@@ -83,51 +83,37 @@ module _ (kind : Kind) (at : ℕ) (s : List ℕ) (g : code.Field) (t : Turned ki
       ap (λ l. 9 ∷ l) (three s (length (t .field .value .bytes)) (omega (arith, long)))
       ∙ rw (t .colon, ← t .kept .first, ← t .kept .second, ← t .kept .bytes) refl
 
-pub slot-below : (a b : ℕ) → slotOf a b < 64
-unfolding slotOf
-slot-below a b = omega arith
-
-same-slot : (f : Field) (a b : ℕ) → tagged a b f ≡ true → slotOf a b ≡ slotOf (f .tag₀) (f .tag₁)
-unfolding tagged
-same-slot f a b h =
-    let x : Bool = eqb (f .tag₀) a in
-    let y : Bool = eqb (f .tag₁) b in
-    let e : f .tag₀ ≡ a = eqb-true (f .tag₀) a (and-left x y h) in
-    let d : f .tag₁ ≡ b = eqb-true (f .tag₁) b (and-right x y h) in
-    rw (e, d) refl
+-- what was answered is the field's
+pub turn-shown : (kind : Kind) (at : ℕ) (s : List ℕ) (g : code.Field) (t : Turned kind at s g) → Shown (t .field) g
+turn-shown kind at s g t = rw (t .answer) (shown kind (t .field) (t .told))
 
 -- one field more is at most one other field more
 pub with-few : (k : Kind) (g : code.Field) (at : ℕ) (again : Bool) (keys : Keys) → withField k g at again keys .others ≤ suc (keys .others)
-unfolding withField saying
-with-few k g at again keys = go (g .says)
+unfolding withField
+with-few k g at again keys = go (isKey k (g .«tag_0») (g .«tag_1»)) refl (isVersion k (g .«tag_0») (g .«tag_1»)) refl (isLength k (g .«tag_0») (g .«tag_1»)) refl again
   where
-    go : (s : Says) → saying k g at again keys s .others ≤ suc (keys .others)
-    go (says.Version v) = omega arith
-    go (says.Length n) = omega arith
-    go says.Bytes = by (isKey k (g .«tag_0») (g .«tag_1»)) again
-      where
-        by : (t u : Bool)
-            → cond {A = Keys} t (record { key = place.At (record { at = at; len = g .len }); version = keys .version; length = keys .length; others = keys .others })
-            (record { key = keys .key; version = keys .version; length = keys .length; others = cond u (keys .others) (suc (keys .others)) }) .others
-            ≤ suc (keys .others)
-        by true u = omega arith
-        by false true = omega arith
-        by false false = omega arith
+    go : (x : Bool) → isKey k (g .«tag_0») (g .«tag_1») ≡ x → (y : Bool) → isVersion k (g .«tag_0») (g .«tag_1») ≡ y → (z : Bool) → isLength k (g .«tag_0») (g .«tag_1») ≡ z → (u : Bool)
+        → withField k g at u keys .others ≤ suc (keys .others)
+    go true e true d z f u = rw (e, d) (omega arith)
+    go true e false d true f u = rw (e, d, f) (omega arith)
+    go true e false d false f u = rw (e, d, f) (omega arith)
+    go false e y d z f true = rw e (omega arith)
+    go false e y d z f false = rw e (omega arith)
 
 -- ---- where the loop starts, and where it ends
 
 no-keys : (k : Kind) → keysOf k [] ≡ noKeys
-unfolding keysOf noKeys
+unfolding keysOf
 no-keys Header = refl
 no-keys ReferenceSequence = refl
 no-keys ReadGroup = refl
 no-keys Program = refl
 no-keys Comment = refl
 
-pub walked-start : (kind : Kind) (src : List ℕ) (at : ℕ) (strict : Bool) (keys : Keys) → 3 ≤ length src → keys ≡ noKeys
-    → Walked kind src at strict (replicate 64 false) keys 3
-unfolding fieldsText Each prepend repeats any noKeys
-walked-start kind src at strict keys h e =
+pub walked-start : (kind : Kind) (src : List ℕ) (at : ℕ) (strict exact : Bool) (seen : List Bool) (keys : Keys) → 3 ≤ length src → seen ≡ replicate (marksOf exact) false → keys ≡ noKeys
+    → Walked kind src at strict exact seen keys 3
+unfolding fieldsText Each prepend repeats any
+walked-start kind src at strict exact seen keys h c e =
     record {
       fields = [];
       low = omega arith;
@@ -136,10 +122,9 @@ walked-start kind src at strict keys h e =
       clean = tt;
       left = fielded-tail strict kind (at + 3) (drop 3 src);
       once = never strict;
-      told = e ∙ sym (no-keys kind);
-      spelled = spelled-none kind;
-      marks = λ a b y. absurd (let z : _≡_ {A = ℕ} 0 1 = cc in omega arith);
-      size = refl;
+      says = e ∙ sym (no-keys kind);
+      told = tt;
+      marked = rw c (marked-none exact);
       few = rw e (omega arith);
     }
   where
@@ -147,7 +132,7 @@ walked-start kind src at strict keys h e =
     never true = refl
     never false = refl
 
-module _ (kind : Kind) (src : List ℕ) (at : ℕ) (strict : Bool) (seen : List Bool) (keys : Keys) (pos : ℕ) (w : Walked kind src at strict seen keys pos) where
+module _ (kind : Kind) (src : List ℕ) (at : ℕ) (strict exact : Bool) (seen : List Bool) (keys : Keys) (pos : ℕ) (w : Walked kind src at strict exact seen keys pos) where
   -- a byte that is no tab stands where one is due
   pub turn-six : pos < length src → (getD src pos 0 ≡ 9 → ⊥) → fielded strict kind (at + 3) (drop 3 src) ≡ refused 6
   unfolding tailScan
@@ -161,8 +146,8 @@ module _ (kind : Kind) (src : List ℕ) (at : ℕ) (strict : Bool) (seen : List 
   pub turn-end : length src ≤ pos → headFrom kind keys ≡ headOf (fielded strict kind (at + 3) (drop 3 src))
   unfolding tailScan
   turn-end h =
-      ap (headFrom kind) (w .told)
-      ∙ head-made kind (w .fields) (w .spelled)
+      ap (headFrom kind) (w .says)
+      ∙ head-made kind (w .fields) (w .told)
       ∙ sym
       (ap headOf
       (w .left
@@ -171,8 +156,8 @@ module _ (kind : Kind) (src : List ℕ) (at : ℕ) (strict : Bool) (seen : List 
 
 -- ---- a turn at a tab
 
-module _ (kind : Kind) (src : List ℕ) (at : ℕ) (strict : Bool) (seen : List Bool) (keys : Keys) (pos : ℕ)
-    (w : Walked kind src at strict seen keys pos) (h : pos < length src) (tab : getD src pos 0 ≡ 9) where
+module _ (kind : Kind) (src : List ℕ) (at : ℕ) (strict exact : Bool) (seen : List Bool) (keys : Keys) (pos : ℕ)
+    (w : Walked kind src at strict exact seen keys pos) (h : pos < length src) (tab : getD src pos 0 ≡ 9) where
   open-tail : drop pos src ≡ 9 ∷ drop (pos + 1) src
   open-tail = drop-cons src pos 0 h ∙ rw (tab, add-one pos) refl
 
@@ -190,7 +175,7 @@ module _ (kind : Kind) (src : List ℕ) (at : ℕ) (strict : Bool) (seen : List 
     more = w .fields ++ (t .field ∷ [])
 
     len : g .len ≡ length (t .field .value .bytes)
-    len = shown kind (t .field) g (t .answer) .len
+    len = turn-shown kind (at + pos) (drop (pos + 1) src) g t .len
 
     rest : length (drop (pos + 1) src) ≡ length src - (pos + 1)
     rest = length-drop (pos + 1) src
@@ -198,19 +183,20 @@ module _ (kind : Kind) (src : List ℕ) (at : ℕ) (strict : Bool) (seen : List 
     pub next-within : pos + 4 + g .len ≤ length src
     next-within = omega (arith, len, long kind (at + pos) (drop (pos + 1) src) g t, rest)
 
+    -- its tag is one, and its mark is in the table
+    pub turn-tag : isTag (g .«tag_0») (g .«tag_1») ≡ true
+    turn-tag = let s = turn-shown kind (at + pos) (drop (pos + 1) src) g t in rw (s .first, s .second) (t .tag)
+
+    pub turn-place : placeOf exact (g .«tag_0») (g .«tag_1») < length seen
+    turn-place = omega (arith, w .marked .size, place-below exact (g .«tag_0») (g .«tag_1») turn-tag)
+
     -- what the loop is told of the tag: exactly whether it stood before
-    pub told-again : (getD seen (slotOf (g .«tag_0») (g .«tag_1»)) false && occurs (g .«tag_0») (g .«tag_1») (take (pos - 3) (drop 3 src)))
+    pub told-again : getD seen (placeOf exact (g .«tag_0») (g .«tag_1»)) false && (exact || occurs (g .«tag_0») (g .«tag_1») (take (pos - 3) (drop 3 src)))
         ≡ any (tagged (t .field .tag₀) (t .field .tag₁)) (w .fields)
     told-again =
-        let s = shown kind (t .field) g (t .answer) in
+        let s = turn-shown kind (at + pos) (drop (pos + 1) src) g t in
         rw (s .first, s .second, w .region, occurs-fields (t .field .tag₀) (t .field .tag₁) (w .fields) (w .clean))
-        (split (any (tagged (t .field .tag₀) (t .field .tag₁)) (w .fields))
-        (λ y. rw (w .marks (t .field .tag₀) (t .field .tag₁) y, y) refl)
-        (λ n. rw n (never (getD seen (slotOf (t .field .tag₀) (t .field .tag₁)) false))))
-      where
-        never : (t : Bool) → t && false ≡ false
-        never true = refl
-        never false = refl
+        (marked-again exact seen (w .fields) (w .marked) (t .field .tag₀) (t .field .tag₁) (t .tag))
 
     left : fielded strict kind (at + 3) (drop 3 src)
         ≡ judged strict kind (prepend (w .fields ++ (t .field ∷ [])) (tailScan kind (at + (pos + 4 + g .len)) (drop (pos + 4 + g .len) src)))
@@ -253,35 +239,13 @@ module _ (kind : Kind) (src : List ℕ) (at : ℕ) (strict : Bool) (seen : List 
         go true n o = ap (λ u. u || repeats (w .fields)) n ∙ o
         go false n o = refl
 
-    slot : ℕ
-    slot = slotOf (g .«tag_0») (g .«tag_1»)
-
-    marks : (a b : ℕ) → any (tagged a b) (w .fields ++ (t .field ∷ [])) ≡ true → getD (set seen (slotOf (g .«tag_0») (g .«tag_1»)) true) (slotOf a b) false ≡ true
-    marks a b y = split (tagged a b (t .field)) own old
-      where
-        place : slotOf (g .«tag_0») (g .«tag_1») < length seen
-        place = omega (arith, w .size, slot-below (g .«tag_0») (g .«tag_1»))
-
-        set-here : slotOf a b ≡ slotOf (g .«tag_0») (g .«tag_1») → getD (set seen (slotOf (g .«tag_0») (g .«tag_1»)) true) (slotOf a b) false ≡ true
-        set-here e = ap (λ i. getD (set seen (slotOf (g .«tag_0») (g .«tag_1»)) true) i false) e ∙ getD-set-same seen (slotOf (g .«tag_0») (g .«tag_1»)) true false place
-
-        own : tagged a b (t .field) ≡ true → getD (set seen (slotOf (g .«tag_0») (g .«tag_1»)) true) (slotOf a b) false ≡ true
-        own q = set-here (same-slot (t .field) a b q ∙ sym (ap (λ x. slotOf x (t .field .tag₁)) (shown kind (t .field) g (t .answer) .first)) ∙ sym (ap (λ y. slotOf (g .«tag_0») y) (shown kind (t .field) g (t .answer) .second)))
-
-        old : tagged a b (t .field) ≡ false → getD (set seen (slotOf (g .«tag_0») (g .«tag_1»)) true) (slotOf a b) false ≡ true
-        old q =
-            let m : getD seen (slotOf a b) false ≡ true =
-            w .marks a b (sym (or-false (any (tagged a b) (w .fields))) ∙ sym (ap (λ u. any (tagged a b) (w .fields) || u) q) ∙ sym (any-snoc (tagged a b) (w .fields) (t .field)) ∙ y) in
-            split (eqb (slotOf a b) (slotOf (g .«tag_0») (g .«tag_1»)))
-            (λ e. set-here (eqb-true _ _ e))
-            (λ n. getD-set-other seen (slotOf (g .«tag_0») (g .«tag_1»)) (slotOf a b) true false (eqb-false _ _ n) ∙ m)
-
     -- a field more
     pub walked : strict && any (tagged (t .field .tag₀) (t .field .tag₁)) (w .fields) ≡ false
-        → Walked kind src at strict (set seen (slotOf (g .«tag_0») (g .«tag_1»)) true)
+        → Walked kind src at strict exact (set seen (placeOf exact (g .«tag_0») (g .«tag_1»)) true)
         (withField kind g (at + pos + 4) (any (tagged (t .field .tag₀) (t .field .tag₁)) (w .fields)) keys) (pos + 4 + g .len)
     walked n =
         let a : at + pos + 1 + 3 ≡ at + pos + 4 = omega arith in
+        let s = turn-shown kind (at + pos) (drop (pos + 1) src) g t in
         record {
           fields = w .fields ++ (t .field ∷ []);
           low = omega (arith, w .low);
@@ -290,12 +254,12 @@ module _ (kind : Kind) (src : List ℕ) (at : ℕ) (strict : Bool) (seen : List 
           clean = each-snoc Clean (w .fields) (t .field) (w .clean) (clean-field kind (at + pos) (drop (pos + 1) src) g t);
           left = left;
           once = once n;
-          told =
-              ap (withField kind g (at + pos + 4) (any (tagged (t .field .tag₀) (t .field .tag₁)) (w .fields))) (w .told)
+          says =
+              ap (withField kind g (at + pos + 4) (any (tagged (t .field .tag₀) (t .field .tag₁)) (w .fields))) (w .says)
               ∙ ap (λ p. withField kind g p (any (tagged (t .field .tag₀) (t .field .tag₁)) (w .fields)) (keysOf kind (w .fields))) (sym (t .kept .starts ∙ a))
-              ∙ sym (keys-snoc (w .fields) (t .field) g kind (t .answer));
-          spelled = spelled-snoc kind (w .fields) (t .field) g (t .answer) (w .spelled);
-          marks = marks;
-          size = length-set seen (slotOf (g .«tag_0») (g .«tag_1»)) true ∙ w .size;
+              ∙ ap (λ h. withField kind h (t .field .value .at) (any (tagged (t .field .tag₀) (t .field .tag₁)) (w .fields)) (keysOf kind (w .fields))) (t .answer)
+              ∙ sym (keys-snoc (w .fields) (t .field) kind (t .told));
+          told = each-snoc (Told kind) (w .fields) (t .field) (w .told) (t .told);
+          marked = rw (s .first, s .second) (marked-more exact seen (w .fields) (w .marked) (t .field) (t .tag));
           few = omega (arith, w .few, with-few kind g (at + pos + 4) (any (tagged (t .field .tag₀) (t .field .tag₁)) (w .fields)) keys);
         }

@@ -1,3 +1,3 @@
 pub mod Head
 pub mod Keys
-pub mod Slot
+pub mod Marks

@@ -1,22 +1,19 @@
 // One line of a header: the record that it is, or the refusal that it gets.
 use field::Field;
-use field::Parsed;
-use field::Says;
 use format::Kind;
 use format::Version;
 use kind::ParsedKind;
 ghost use mathlib.Core.Path.{_≡_};
-ghost use mathlib.Core.Bool.{_&&_, _||_};
+ghost use mathlib.Core.Bool.{true, false, _&&_, _||_};
 ghost use Prim.Native.Nat.{_≤_, _+_, _*_, _%_};
-ghost use lib.ListN.{length, drop};
-ghost use lib.Dec.{eqb};
+ghost use lib.ListN.{length, drop, replicate};
 ghost use Rattle.format.specs.Bytes.{any};
+ghost use Rattle.format.specs.Fields.{isTag};
 ghost use Rattle.format.specs.Records.{line, prefixed, body, fielded, remark, breaks};
 ghost use Rattle.record.specs.Head.{headOf, hasFields};
-ghost use Rattle.record.specs.Keys.{noKeys, saying, withField, headFrom};
-ghost use Rattle.field.specs.declared.Says.the-variants.{Bytes};
+ghost use Rattle.record.specs.Keys.{noKeys, withField, headFrom};
 ghost use Rattle.tags.specs.Occurs.{occurs};
-ghost use Rattle.record.specs.Slot.{slotOf};
+ghost use Rattle.record.specs.Marks.{placeOf, marksOf};
 
 // Where a piece of the text stands.
 pub struct Place {
@@ -34,44 +31,46 @@ pub enum Head {
     Comment(Place),
 }
 
+// Where a key stands, where there is one.
 pub enum KeyPlace {
     Missing,
     At(Place),
 }
 
-pub enum KeyVersion {
-    Missing,
-    Is(Version),
-}
-
-pub enum KeyLength {
-    Missing,
-    Is(u64),
-}
-
-// What the fields read so far give.
+// What the fields read so far give, in plain numbers: a key has at least one byte and LN is at least 1, so 0 says that there was none yet.
 pub struct Keys {
-    pub key: KeyPlace,
-    pub version: KeyVersion,
-    pub length: KeyLength,
+    pub key_at: usize,
+    pub key_len: usize,
+    pub length: u64,
+    pub major: u32,
+    pub minor: u32,
+    pub versioned: bool,
     pub others: usize,
 }
 
-// The place of a tag among 64: tags of the specification that stand in one record have different ones.
-fn slot(a: u8, b: u8) -> usize
-    ensures { λ r. ⌜ r ≡ slotOf a b ⌝ }
+// Where the mark of a tag stands. `exact`: each tag has a place of its own among 4,350, since its bytes are 65 to 122 and 48 to 122. Else it is one of
+// 64 places, and tags of the specification that stand in one record have different ones.
+fn mark_of(a: u8, b: u8, exact: bool) -> usize
+    requires { ⌜ isTag a b ≡ true ⌝ }
+    ensures { λ r. ⌜ r ≡ placeOf exact a b ⌝ }
 {
+    if exact {
+        return (a as usize - 65) * 75 + (b as usize - 48);
+    }
     ((a as usize) * 4 + (b as usize)) % 64
 }
 
-// Whether the tag `a`, `b` stands among the fields `src`, which is looked up only where its place was `seen`.
-fn stands_again(src: &[u8], a: u8, b: u8, seen: bool) -> bool
-    ensures { λ r. ⌜ r ≡ (seen && occurs a b (now (src .entry))) ⌝ }
+// Whether the tag `a`, `b`, whose mark is `seen`, stands among the fields `src`: where the marks are not exact, a mark alone does not say so.
+fn stands_again(src: &[u8], a: u8, b: u8, exact: bool, seen: bool) -> bool
+    ensures { λ r. ⌜ r ≡ (seen && (exact || occurs a b (now (src .entry)))) ⌝ }
 {
-    if seen {
-        return tags::occurs(src, a, b);
+    if !seen {
+        return false;
     }
-    false
+    if exact {
+        return true;
+    }
+    tags::occurs(src, a, b)
 }
 
 impl Keys {
@@ -79,161 +78,162 @@ impl Keys {
         ensures { λ r. ⌜ r ≡ noKeys ⌝ }
     {
         Keys {
-            key: KeyPlace::Missing,
-            version: KeyVersion::Missing,
-            length: KeyLength::Missing,
+            key_at: 0,
+            key_len: 0,
+            length: 0,
+            major: 0,
+            minor: 0,
+            versioned: false,
             others: 0,
         }
     }
 
-    // One value of bytes more, which stands at `at`: the last value of a key stands, and a tag that comes `again` is no field more.
-    fn with_bytes(self, kind: Kind, f: Field, at: usize, again: bool) -> Keys
-        requires { ⌜ self .others + 1 ≤ 18446744073709551615 ⌝ }
-        ensures { λ r. ⌜ r ≡ saying kind f at again self Bytes ⌝ }
-    {
-        let key = self.key;
-        let version = self.version;
-        let length = self.length;
-        let others = self.others;
-        if tags::is_key(kind, f.tag_0, f.tag_1) {
-            let place = Place { at, len: f.len };
-            return Keys {
-                key: KeyPlace::At(place),
-                version,
-                length,
-                others,
-            };
-        }
-        if again {
-            return self;
-        }
-        Keys {
-            key,
-            version,
-            length,
-            others: others + 1,
-        }
-    }
-
-    // One field more, whose value stands at `at`: what VN and LN say is a number.
-    fn with(self, kind: Kind, f: Field, at: usize, again: bool) -> Keys
+    // One field more, whose value stands at `at`: the last value of a key stands, and a tag that comes `again` is no field more.
+    fn with(mut self, kind: Kind, f: Field, at: usize, again: bool) -> Keys
         requires { ⌜ self .others + 1 ≤ 18446744073709551615 ⌝ }
         ensures { λ r. ⌜ r ≡ withField kind f at again self ⌝ }
     {
-        let key = self.key;
-        let version = self.version;
-        let length = self.length;
-        let others = self.others;
-        let says = f.says;
-        match says {
-            Says::Version(v) => Keys {
-                key,
-                version: KeyVersion::Is(v),
-                length,
-                others,
-            },
-            Says::Length(n) => Keys {
-                key,
-                version,
-                length: KeyLength::Is(n),
-                others,
-            },
-            Says::Bytes => self.with_bytes(kind, f, at, again),
+        if !tags::is_key(kind, f.tag_0, f.tag_1) {
+            if again {
+                return self;
+            }
+            self.others += 1;
+            return self;
         }
+        if field::is_version(kind, f.tag_0, f.tag_1) {
+            self.major = f.major;
+            self.minor = f.minor;
+            self.versioned = true;
+            return self;
+        }
+        if field::is_length(kind, f.tag_0, f.tag_1) {
+            self.length = f.length;
+            return self;
+        }
+        self.key_at = at;
+        self.key_len = f.len;
+        self
     }
 
     // The line ends: HD needs VN; SQ needs SN, then LN; RG and PG need ID.
     fn head(self, kind: Kind) -> Head
         ensures { λ r. ⌜ r ≡ headFrom kind self ⌝ }
     {
-        let key = self.key;
-        let version = self.version;
-        let length = self.length;
-        let others = self.others;
+        let place = Place {
+            at: self.key_at,
+            len: self.key_len,
+        };
         match kind {
             Kind::Header => {
-                let KeyVersion::Is(v) = version else {
+                if !self.versioned {
                     return Head::Refused(15);
-                };
-                Head::Header(v, others)
+                }
+                Head::Header(Version::new(self.major, self.minor), self.others)
             }
             Kind::ReferenceSequence => {
-                let KeyPlace::At(p) = key else {
+                if self.key_len == 0 {
                     return Head::Refused(15); // also where LN is missing too
-                };
-                let KeyLength::Is(n) = length else {
+                }
+                if self.length == 0 {
                     return Head::Refused(16);
-                };
-                Head::ReferenceSequence(p, n, others)
+                }
+                Head::ReferenceSequence(place, self.length, self.others)
             }
             Kind::ReadGroup => {
-                let KeyPlace::At(p) = key else {
+                if self.key_len == 0 {
                     return Head::Refused(15);
-                };
-                Head::ReadGroup(p, others)
+                }
+                Head::ReadGroup(place, self.others)
             }
             Kind::Program => {
-                let KeyPlace::At(p) = key else {
+                if self.key_len == 0 {
                     return Head::Refused(15);
-                };
-                Head::Program(p, others)
+                }
+                Head::Program(place, self.others)
             }
             Kind::Comment => Head::Refused(15),
         }
     }
 }
 
-// The fields of a line of any kind but CO, from its third byte on: one walk, and each value is looked at once.
-fn parse_fields(kind: Kind, src: &[u8], at: usize, strict: bool) -> Head
+// The fields of a line of any kind but CO, from its third byte on: one walk, and each value is looked at once. `seen` has a mark for each tag, none set.
+fn walk_fields(
+    kind: Kind,
+    src: &[u8],
+    at: usize,
+    strict: bool,
+    exact: bool,
+    seen: &mut [bool],
+) -> Head
     requires { ⌜ 3 ≤ length (now src) ⌝ }
     requires { ⌜ at + length (now src) ≤ 4294967295 ⌝ }
+    requires { ⌜ now seen ≡ replicate (marksOf exact) false ⌝ }
     ensures { λ r. ⌜ r ≡ headOf (fielded strict kind (at + 3) (drop 3 (now (src .entry)))) ⌝ }
 {
-    let mut seen = [false; 64];
     let mut keys = Keys::new();
     let mut pos: usize = 3;
     while pos < src.len() {
         if src[pos] != b'\t' {
             return Head::Refused(6);
         }
-        let parsed = field::parse_field(kind, &src[pos + 1..]);
-        match parsed {
-            Parsed::Bad(n) => {
-                return Head::Refused(n);
-            }
-            Parsed::Good(f) => {
-                let place = slot(f.tag_0, f.tag_1);
-                let again = stands_again(&src[3..pos], f.tag_0, f.tag_1, seen[place]);
-                if strict {
-                    if again {
-                        return Head::Refused(14);
-                    }
-                }
-                seen[place] = true;
-                keys = keys.with(kind, f, at + pos + 4, again);
-                pos = pos + 4 + f.len;
+        let f = field::parse_field(kind, &src[pos + 1..]);
+        if f.stop != 0 {
+            return Head::Refused(f.stop);
+        }
+        let mark = mark_of(f.tag_0, f.tag_1, exact);
+        let again = stands_again(&src[3..pos], f.tag_0, f.tag_1, exact, seen[mark]);
+        if strict {
+            if again {
+                return Head::Refused(14);
             }
         }
+        seen[mark] = true;
+        keys = keys.with(kind, f, at + pos + 4, again);
+        pos = pos + 4 + f.len;
     }
     keys.head(kind)
+}
+
+// A short line: few marks to clear, and little to look back over where one was set before.
+fn parse_short(kind: Kind, src: &[u8], at: usize, strict: bool) -> Head
+    requires { ⌜ 3 ≤ length (now src) ⌝ }
+    requires { ⌜ at + length (now src) ≤ 4294967295 ⌝ }
+    ensures { λ r. ⌜ r ≡ headOf (fielded strict kind (at + 3) (drop 3 (now (src .entry)))) ⌝ }
+{
+    let mut seen = [false; 64];
+    walk_fields(kind, src, at, strict, false, &mut seen)
+}
+
+// A long line: a mark for each tag, so that nothing is looked back for.
+fn parse_long(kind: Kind, src: &[u8], at: usize, strict: bool) -> Head
+    requires { ⌜ 3 ≤ length (now src) ⌝ }
+    requires { ⌜ at + length (now src) ≤ 4294967295 ⌝ }
+    ensures { λ r. ⌜ r ≡ headOf (fielded strict kind (at + 3) (drop 3 (now (src .entry)))) ⌝ }
+{
+    let mut seen = [false; 4350];
+    walk_fields(kind, src, at, strict, true, &mut seen)
+}
+
+// The fields of a line of any kind but CO.
+fn parse_fields(kind: Kind, src: &[u8], at: usize, strict: bool) -> Head
+    requires { ⌜ 3 ≤ length (now src) ⌝ }
+    requires { ⌜ at + length (now src) ≤ 4294967295 ⌝ }
+    ensures { λ r. ⌜ r ≡ headOf (fielded strict kind (at + 3) (drop 3 (now (src .entry)))) ⌝ }
+{
+    if src.len() < 1024 {
+        return parse_short(kind, src, at, strict);
+    }
+    parse_long(kind, src, at, strict)
 }
 
 // Whether LF or CR stands in `src`.
 fn has_break(src: &[u8]) -> bool
     ensures { λ r. ⌜ r ≡ any breaks (now (src .entry)) ⌝ }
 {
-    let mut i: usize = 0;
-    while i < src.len() {
-        let b = src[i];
-        if b == b'\n' {
-            return true;
-        }
-        if b == b'\r' {
-            return true;
-        }
-        i += 1;
+    if text::upto(src, b'\n') < src.len() {
+        return true;
     }
-    false
+    text::upto(src, b'\r') < src.len()
 }
 
 // CO: one tab, then any bytes, also none.

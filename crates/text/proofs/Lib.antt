@@ -7,3 +7,4 @@ pub mod Pieces
 pub mod Stands
 pub mod Little
 pub mod Compared
+pub mod Run

@@ -3,3 +3,4 @@ pub mod Over
 pub mod First
 pub mod Stands
 pub mod Little
+pub mod Run

@@ -1,6 +1,7 @@
 // Bytes of a lent slice: where one stands first, whether two slices are equal, the first line, and runs of bytes and numbers written and read.
 ghost use mathlib.Core.Path.{_≡_};
-ghost use Prim.Native.Nat.{_≤_, _+_};
+ghost use Prim.Native.Nat.{_≤_, _+_, _*_, _/_};
+ghost use lib.Dec.{leb};
 ghost use lib.ListN.{length, take, drop};
 ghost use Rattle.format.specs.Bytes.{same, starts};
 ghost use Rattle.format.specs.Catalogue.{little};
@@ -9,11 +10,41 @@ ghost use Rattle.text.specs.First.{firstLine};
 ghost use Rattle.text.specs.Over.{over};
 ghost use Rattle.text.specs.Little.{ofLittle};
 
-// How many bytes of `s` stand before the first `d`: all where there is none.
+// Whether none of the 16 bytes of `s` from `at` on is `d`: all are looked at, with no way out, so that a processor can take them at once.
+fn is_free_block(s: &[u8], at: usize, d: u8) -> bool
+    requires { ⌜ at + 16 ≤ length (now s) ⌝ }
+    ensures { λ r. ⌜ r ≡ leb 16 (upto d (drop at (now (s .entry)))) ⌝ }
+{
+    let mut free = true;
+    let mut i: usize = 0;
+    while i < 16 {
+        if s[at + i] == d {
+            free = false;
+        }
+        i += 1;
+    }
+    free
+}
+
+// How many bytes of `s` stand in whole blocks of 16 before the first `d`.
+fn pass_blocks(s: &[u8], d: u8) -> usize
+    ensures { λ r. ⌜ r ≡ upto d (now (s .entry)) / 16 * 16 ⌝ }
+{
+    let mut at: usize = 0;
+    while 16 <= s.len() - at {
+        if !is_free_block(s, at, d) {
+            return at;
+        }
+        at += 16;
+    }
+    at
+}
+
+// How many bytes of `s` stand before the first `d`: all where there is none. Whole blocks first, then byte by byte.
 pub fn upto(s: &[u8], d: u8) -> usize
     ensures { λ r. ⌜ r ≡ upto d (now (s .entry)) ⌝ }
 {
-    let mut i: usize = 0;
+    let mut i = pass_blocks(s, d);
     while i < s.len() {
         if s[i] == d {
             return i;

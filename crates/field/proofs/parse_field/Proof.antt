@@ -10,7 +10,7 @@ use Rattle.format.specs.Fields.{field, valueField}
 use Rattle.format.specs.declared.Kind.{Kind}
 use Rattle.text.specs.Upto.{before}
 use Rattle.field.specs.Parsed.{parsedOf}
-use Rattle.field.specs.declared.Parsed.{Parsed}
+use Rattle.field.specs.declared.Field.{Field}
 use Rattle.field.proofs.Before.{rest}
 use Rattle.field.proofs.Place.{colonAt, field-in-place, place-short, place-tag, place-colon, colon-none, colon-other, colon-value}
 use Rattle.field.proofs.parse_field.Statement.{statement}
@@ -31,11 +31,15 @@ tagged c =
     field-in-place (i .kind) 0 (i .src .now)
     ∙ place-colon (i .kind) 0 (i .src .now) (omega arith) (sym (t .is-tag .ensures) ∙ not-false _ (c .if2 .left))
 
+refused-requires : tie.Need-refused-requires
+refused-requires c κs = search needs
+
 returns : tie.Need-returns
 unfolding parsedOf
 returns c =
-    let i = c .before .before .args in
-    sym (ap (parsedOf (i .kind)) (field-in-place (i .kind) 0 (i .src .now) ∙ place-short (i .kind) 0 (i .src .now) (c .if1 .taken)))
+    let b = c .before in
+    let i = b .before .before .args in
+    c .refused .ensures ∙ sym (ap (parsedOf (i .kind)) (field-in-place (i .kind) 0 (i .src .now) ∙ place-short (i .kind) 0 (i .src .now) (b .if1 .taken)))
 
 shared-slice-read-a : tie.Need-shared-slice-read-a
 shared-slice-read-a c = search needs
@@ -46,39 +50,54 @@ shared-slice-read-b c = search needs
 is-tag-requires : tie.Need-is-tag-requires
 is-tag-requires c κs = search needs
 
+refused-requires-2 : tie.Need-refused-requires-2
+refused-requires-2 c κs = search needs
+
 returns-2 : tie.Need-returns-2
 unfolding parsedOf
 returns-2 c =
-    let t = c .before in
+    let b = c .before in
+    let t = b .before in
     let i = t .before .before .before .before .before .args in
-    sym
+    c .refused2 .ensures
+    ∙ sym
     (ap
     (parsedOf (i .kind))
     (field-in-place (i .kind) 0 (i .src .now)
-    ∙ place-tag (i .kind) 0 (i .src .now) (omega arith) (sym (t .is-tag .ensures) ∙ not-true _ (c .if2 .taken))))
+    ∙ place-tag (i .kind) 0 (i .src .now) (omega arith) (sym (t .is-tag .ensures) ∙ not-true _ (b .if2 .taken))))
+
+refused-requires-3 : tie.Need-refused-requires-3
+refused-requires-3 c κs = search needs
 
 returns-3 : tie.Need-returns-3
 unfolding parsedOf
 returns-3 c =
-    let t = c .before in
+    let b = c .before in
+    let t = b .before in
     let i = t .before .before .before .before .before .before .args in
-    sym
+    c .refused3 .ensures
+    ∙ sym
     (ap
     (parsedOf (i .kind))
-    (tagged t ∙ colon-none (i .kind) _ _ 3 (i .src .now) (c .if3 .taken)))
+    (tagged t ∙ colon-none (i .kind) _ _ 3 (i .src .now) (b .if3 .taken)))
 
 shared-slice-read-if4 : tie.Need-shared-slice-read-if4
 shared-slice-read-if4 c = search needs
 
+refused-requires-4 : tie.Need-refused-requires-4
+refused-requires-4 c κs = search needs
+
 returns-4 : tie.Need-returns-4
 unfolding parsedOf
 returns-4 c =
-    let t = c .before .before .before in
+    let b = c .before in
+    let t = b .before .before .before in
     let i = t .before .before .before .before .before .before .args in
-    sym
+    c .refused4 .ensures
+    ∙ sym
     (ap
     (parsedOf (i .kind))
-    (tagged t ∙ colon-other (i .kind) _ _ 3 (i .src .now) (omega arith) (c .if4 .taken)))
+    (tagged t ∙ colon-other (i .kind) _ _ 3 (i .src .now) (omega arith) (b .if4 .taken)))
 
 sub-parse-field-value : tie.Need-sub-parse-field-value
 sub-parse-field-value c = search needs
@@ -93,7 +112,7 @@ parse-field-value-requires : tie.Need-parse-field-value-requires
 parse-field-value-requires c κs = search needs
 
 -- what is read from the rest of the slice is read from the piece
-at-value : (k : Kind) (s : List ℕ) (r : Parsed)
+at-value : (k : Kind) (s : List ℕ) (r : Field)
     → field k 0 (before 9 s) ≡ valueField k (getD s 0 0) (getD s 1 0) 3 (before 9 (drop 3 s))
     → r ≡ parsedOf k (valueField k (getD s 0 0) (getD s 1 0) 3 (before 9 (take (length s - 3) (drop 3 s))))
     → r ≡ parsedOf k (field k 0 (before 9 s))
@@ -115,13 +134,17 @@ pub parse-field-spec : {M : Type 1} → statement M
 parse-field-spec =
     tie.close
     (tie.spec
+    refused-requires
     returns
     shared-slice-read-a
     shared-slice-read-b
     is-tag-requires
+    refused-requires-2
     returns-2
+    refused-requires-3
     returns-3
     shared-slice-read-if4
+    refused-requires-4
     returns-4
     sub-parse-field-value
     part-parse-field-value-start

@@ -1,143 +1,117 @@
 -- `field::parse_field_value` meets its contract: the kind and the tag say how the value is read.
 use Prim.Native.Nat.{ℕ}
-use mathlib.Core.Path.{_≡_, sym, ap, _∙_}
-use mathlib.Core.Bool.{false}
+use mathlib.Core.Path.{_≡_, refl, sym, ap, _∙_}
 use mathlib.Core.List.{List}
+use native.Mathlib.Omega.{arith}
+use lib.ListN.{length, take}
+use lib.Seq.{length-take-le}
 use borrow.Author.Needs.{needs}
-use Rattle.format.specs.Fields.{valueField}
-use Rattle.format.specs.declared.Kind.{Kind}
-use Rattle.format.specs.declared.Kind.the-variants.{Header, ReferenceSequence}
-use Rattle.text.specs.Upto.{before}
-use Rattle.field.specs.Parsed.{parsedOf}
-use Rattle.field.proofs.Judged.{numeric, value-version, value-length, value-plain}
+use Rattle.format.specs.Decimal.{span}
+use Rattle.format.specs.Version.{version}
+use Rattle.text.proofs.Lines.{upto-le}
+use Rattle.text.specs.Upto.{upto, before}
+use Rattle.field.specs.Parsed.{takenOf, keptBy, versionedBy}
+use Rattle.field.proofs.Before.{before-length}
+use Rattle.field.proofs.Judged.{a-value, length-sized, value-length, value-none, value-version, value-kept}
 use Rattle.field.proofs.parse_field_value.Statement.{statement}
 use Rattle.field.proofs.parse_field_value.Tie as tie
 
--- the kind that the arm knows
-by-kind : (a b : ℕ) (v : List ℕ) (k l : Kind) → k ≡ l → parsedOf l (valueField l a b 3 v) ≡ parsedOf k (valueField k a b 3 v)
-by-kind a b v k l e = ap (λ m. parsedOf m (valueField m a b 3 v)) (sym e)
+-- `n` bytes were taken as a value
+module _ (s : List ℕ) (n : ℕ) (e : n ≡ takenOf (before 9 s)) (z : n ≡ 0 → ⊥) where
+  some : takenOf (before 9 s) ≡ 0 → ⊥
+  some q = z (e ∙ q)
 
-enum-told : tie.Need-enum-told
-enum-told c = search needs
+  all-of-it : n ≡ upto 9 s
+  all-of-it = e ∙ a-value (before 9 s) some .1 ∙ before-length 9 s
 
-is-same-tag-requires : tie.Need-is-same-tag-requires
-is-same-tag-requires c κs = search needs
+  fits : n ≡ length (take n s)
+  fits = sym (length-take-le n s (omega (arith, all-of-it, upto-le 9 s)))
 
-parse-version-value-requires : tie.Need-parse-version-value-requires
-parse-version-value-requires c κs = search needs
+  spelt : versionedBy (length (take n s)) (version (take n s)) ≡ versionedBy (takenOf (before 9 s)) (version (before 9 s))
+  unfolding before
+  spelt = rw (sym fits, sym e, sym all-of-it) refl
 
-parse-plain-value-requires : tie.Need-parse-plain-value-requires
-parse-plain-value-requires c κs = search needs
-
-enum-told-2 : tie.Need-enum-told-2
-enum-told-2 c = search needs
-
-is-same-tag-requires-2 : tie.Need-is-same-tag-requires-2
-is-same-tag-requires-2 c κs = search needs
+is-length-requires : tie.Need-is-length-requires
+is-length-requires c κs = search needs
 
 parse-length-value-requires : tie.Need-parse-length-value-requires
 parse-length-value-requires c κs = search needs
 
-parse-plain-value-requires-2 : tie.Need-parse-plain-value-requires-2
-parse-plain-value-requires-2 c κs = search needs
-
-enum-told-3 : tie.Need-enum-told-3
-enum-told-3 c = search needs
-
-parse-plain-value-requires-3 : tie.Need-parse-plain-value-requires-3
-parse-plain-value-requires-3 c κs = search needs
-
-enum-told-4 : tie.Need-enum-told-4
-enum-told-4 c = search needs
-
-parse-plain-value-requires-4 : tie.Need-parse-plain-value-requires-4
-parse-plain-value-requires-4 c κs = search needs
-
-enum-told-5 : tie.Need-enum-told-5
-enum-told-5 c = search needs
-
-parse-plain-value-requires-5 : tie.Need-parse-plain-value-requires-5
-parse-plain-value-requires-5 c κs = search needs
-
 returns : tie.Need-returns
 returns c =
-    let t = c .before .before in
-    let i = t .before .before .before .before .args in
-    let v = before 9 (i .src .now) in
-    c .parse-version-value .ensures
-    ∙ sym (ap (parsedOf Header) (value-version (i .a) (i .b) 3 v (sym (t .is-same-tag .ensures) ∙ c .before .if1 .taken)))
-    ∙ by-kind (i .a) (i .b) v _ _ (t .before .enum-told .given .1)
+    let i = c .before .before in
+    let a = i .before .before .args in
+    let v = before 9 (a .src .now) in
+    let t = sym (i .is-length .ensures) ∙ c .before .if1 .taken in
+    c .parse-length-value .ensures ∙ length-sized 3 (span v .0) (span v .1) ∙ sym (value-length (a .a) (a .b) 3 v (a .kind) t)
+
+value-len-requires : tie.Need-value-len-requires
+value-len-requires c κs = search needs
+
+refused-requires : tie.Need-refused-requires
+refused-requires c κs = search needs
 
 returns-2 : tie.Need-returns-2
-unfolding numeric
 returns-2 c =
-    let t = c .before .before in
-    let i = t .before .before .before .before .args in
-    let n : numeric (i .kind) (i .a) (i .b) ≡ false =
-    ap (λ k. numeric k (i .a) (i .b)) (t .before .enum-told .given .1) ∙ sym (t .is-same-tag .ensures) ∙ c .before .if1 .left in
-    c .parse-plain-value .ensures ∙ sym (value-plain (i .a) (i .b) 3 (before 9 (i .src .now)) (i .kind) n)
+    let b = c .before in
+    let v = b .before in
+    let e = v .before in
+    let i = e .before in
+    let a = i .before .before .args in
+    c .refused .ensures ∙ sym (value-none (a .a) (a .b) 3 (before 9 (a .src .now)) (a .kind) (sym (i .is-length .ensures) ∙ e .if1 .left) (sym (v .value-len .ensures) ∙ b .if2 .taken))
+
+is-version-requires : tie.Need-is-version-requires
+is-version-requires c κs = search needs
+
+slice-aggregate-parse-version-value : tie.Need-slice-aggregate-parse-version-value
+slice-aggregate-parse-version-value c =
+    let b = c .before .before .before in
+    fits _ _ (b .before .value-len .ensures) (b .if2 .left)
+
+parse-version-value-requires : tie.Need-parse-version-value-requires
+parse-version-value-requires c κs = search needs
 
 returns-3 : tie.Need-returns-3
 returns-3 c =
-    let t = c .before .before in
-    let i = t .before .before .before .before .args in
-    let v = before 9 (i .src .now) in
-    c .parse-length-value .ensures
-    ∙ sym (ap (parsedOf ReferenceSequence) (value-length (i .a) (i .b) 3 v (sym (t .is-same-tag2 .ensures) ∙ c .before .if2 .taken)))
-    ∙ by-kind (i .a) (i .b) v _ _ (t .before .enum-told2 .given .1)
+    let w = c .before .before in
+    let i = w .before in
+    let b = i .before in
+    let v = b .before in
+    let a = v .before .before .before .before .args in
+    c .parse-version-value .ensures
+    ∙ spelt _ _ (v .value-len .ensures) (b .if2 .left)
+    ∙ sym (value-version (a .a) (a .b) 3 (before 9 (a .src .now)) (a .kind) (sym (i .is-version .ensures) ∙ w .if3 .taken) (some _ _ (v .value-len .ensures) (b .if2 .left)))
+
+kept-requires : tie.Need-kept-requires
+kept-requires c κs = search needs
 
 returns-4 : tie.Need-returns-4
-unfolding numeric
 returns-4 c =
-    let t = c .before .before in
-    let i = t .before .before .before .before .args in
-    let n : numeric (i .kind) (i .a) (i .b) ≡ false =
-    ap (λ k. numeric k (i .a) (i .b)) (t .before .enum-told2 .given .1) ∙ sym (t .is-same-tag2 .ensures) ∙ c .before .if2 .left in
-    c .parse-plain-value2 .ensures ∙ sym (value-plain (i .a) (i .b) 3 (before 9 (i .src .now)) (i .kind) n)
-
-returns-5 : tie.Need-returns-5
-unfolding numeric
-returns-5 c =
-    let i = c .before .before .before .before .args in
-    let n : numeric (i .kind) (i .a) (i .b) ≡ false = ap (λ k. numeric k (i .a) (i .b)) (c .before .enum-told3 .given .1) in
-    c .parse-plain-value3 .ensures ∙ sym (value-plain (i .a) (i .b) 3 (before 9 (i .src .now)) (i .kind) n)
-
-returns-6 : tie.Need-returns-6
-unfolding numeric
-returns-6 c =
-    let i = c .before .before .before .before .args in
-    let n : numeric (i .kind) (i .a) (i .b) ≡ false = ap (λ k. numeric k (i .a) (i .b)) (c .before .enum-told4 .given .1) in
-    c .parse-plain-value4 .ensures ∙ sym (value-plain (i .a) (i .b) 3 (before 9 (i .src .now)) (i .kind) n)
-
-returns-7 : tie.Need-returns-7
-unfolding numeric
-returns-7 c =
-    let i = c .before .before .before .before .args in
-    let n : numeric (i .kind) (i .a) (i .b) ≡ false = ap (λ k. numeric k (i .a) (i .b)) (c .before .enum-told5 .given .1) in
-    c .parse-plain-value5 .ensures ∙ sym (value-plain (i .a) (i .b) 3 (before 9 (i .src .now)) (i .kind) n)
+    let w = c .before in
+    let i = w .before in
+    let b = i .before in
+    let v = b .before in
+    let l = v .before in
+    let a = l .before .before .before .args in
+    c .kept .ensures
+    ∙ ap (keptBy (a .a) (a .b)) (v .value-len .ensures)
+    ∙ sym
+    (value-kept (a .a) (a .b) 3 (before 9 (a .src .now)) (a .kind) (sym (l .before .is-length .ensures) ∙ l .if1 .left) (sym (i .is-version .ensures) ∙ w .if3 .left)
+    (some _ _ (v .value-len .ensures) (b .if2 .left)))
 
 pub parse-field-value-spec : {M : Type 1} → statement M
 parse-field-value-spec =
     tie.close
     (tie.spec
-    enum-told
-    is-same-tag-requires
-    parse-version-value-requires
-    parse-plain-value-requires
-    enum-told-2
-    is-same-tag-requires-2
+    is-length-requires
     parse-length-value-requires
-    parse-plain-value-requires-2
-    enum-told-3
-    parse-plain-value-requires-3
-    enum-told-4
-    parse-plain-value-requires-4
-    enum-told-5
-    parse-plain-value-requires-5
     returns
+    value-len-requires
+    refused-requires
     returns-2
+    is-version-requires
+    slice-aggregate-parse-version-value
+    parse-version-value-requires
     returns-3
-    returns-4
-    returns-5
-    returns-6
-    returns-7)
+    kept-requires
+    returns-4)

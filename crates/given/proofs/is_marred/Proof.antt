@@ -30,20 +30,22 @@ answer c =
     c .parse-field .ensures ∙ ap (λ s. parsedOf Program (field Program 0 (before 9 s))) (rest (l .loop .pos + 1) (l .before .before .args .fields .now))
 
 -- the field that it found
-turn : (c : tie.After-known-told Inv-loop μ-loop)
-    → let l = c .before .before .before .before .before .before .before .before in
-    Turned Program (l .loop .pos) (drop (l .loop .pos + 1) (l .before .before .args .fields .now)) (c .before .parsed .given .0 .0)
-turn c =
-    let q = c .before .before .before in
+turn : (c : tie.Else2 Inv-loop μ-loop)
+    → let q = c .before .before in
     let l = q .before .before .before .before .before in
-    turned Program (l .loop .pos) (drop (l .loop .pos + 1) (l .before .before .args .fields .now)) (c .before .parsed .given .0 .0) (sym (answer q) ∙ c .before .parsed .given .1)
+    Turned Program (l .loop .pos) (drop (l .loop .pos + 1) (l .before .before .args .fields .now)) (q .parse-field .result)
+turn c =
+    let q = c .before .before in
+    let l = q .before .before .before .before .before in
+    turned Program (l .loop .pos) (drop (l .loop .pos + 1) (l .before .before .args .fields .now)) (q .parse-field .result) (answer q) (c .if2 .left)
 
 -- it ends within the fields
-room : (c : tie.After-known-told Inv-loop μ-loop)
-    → let l = c .before .before .before .before .before .before .before .before in
-    l .loop .pos + 4 + c .before .parsed .given .0 .0 .len ≤ length (l .before .before .args .fields .now)
+room : (c : tie.Else2 Inv-loop μ-loop)
+    → let q = c .before .before in
+    let l = q .before .before .before .before .before in
+    l .loop .pos + 4 + q .parse-field .result .len ≤ length (l .before .before .args .fields .now)
 room c =
-    let q = c .before .before .before in
+    let q = c .before .before in
     let l = q .before .before .before .before .before in
     next-within (l .before .before .args .fields .now) (l .loop .pos) (l .loop .inv) (q .before .before .before .before .loop-test .taken) (q .before .before .if1 .left) _ (turn c)
 
@@ -73,21 +75,16 @@ part-parse-field-end c = search needs
 parse-field-requires : tie.Need-parse-field-requires Inv-loop μ-loop
 parse-field-requires c κs = search needs
 
-enum-told : tie.Need-enum-told Inv-loop μ-loop
-enum-told c = search needs
-
 returns-2 : tie.Need-returns-2 Inv-loop μ-loop
 returns-2 c =
     let q = c .before .before in
     let l = q .before .before .before .before .before in
-    let r = refused-here Program (l .loop .pos) (drop (l .loop .pos + 1) (l .before .before .args .fields .now)) (c .enum-told .given .0 .0) (sym (answer q) ∙ c .enum-told .given .1) in
-    sym (turn-refused (l .before .before .args .fields .now) (l .loop .pos) (l .loop .inv) (q .before .before .before .before .loop-test .taken) (q .before .before .if1 .left) (c .enum-told .given .0 .0) (r .0) (r .1))
-
-enum-known-parsed : tie.Need-enum-known-parsed Inv-loop μ-loop
-enum-known-parsed c = search needs
+    let g = q .parse-field .result in
+    let s = drop (l .loop .pos + 1) (l .before .before .args .fields .now) in
+    sym (turn-refused (l .before .before .args .fields .now) (l .loop .pos) (l .loop .inv) (q .before .before .before .before .loop-test .taken) (q .before .before .if1 .left) (g .stop) (refused-here Program (l .loop .pos) s g (answer q) (c .if2 .taken)) (c .if2 .taken))
 
 slice-aggregate-is-barred : tie.Need-slice-aggregate-is-barred Inv-loop μ-loop
-slice-aggregate-is-barred c = sym (length-take-le _ _ (c .before .before .before .before .before .before .before .before .before .loop .inv .within))
+slice-aggregate-is-barred c = sym (length-take-le _ _ (c .before .before .before .before .before .before .before .before .loop .inv .within))
 
 is-barred-requires : tie.Need-is-barred-requires Inv-loop μ-loop
 is-barred-requires c κs = search needs
@@ -95,9 +92,9 @@ is-barred-requires c κs = search needs
 returns-3 : tie.Need-returns-3 Inv-loop μ-loop
 returns-3 c =
     let k = c .before .before .before in
-    let q = k .before .before .before in
+    let q = k .before .before in
     let l = q .before .before .before .before .before in
-    sym (turn-barred (l .before .before .args .fields .now) (l .loop .pos) (l .loop .inv) (q .before .before .before .before .loop-test .taken) (q .before .before .if1 .left) _ (turn k) (sym (c .before .is-barred .ensures) ∙ c .if2 .taken))
+    sym (turn-barred (l .before .before .args .fields .now) (l .loop .pos) (l .loop .inv) (q .before .before .before .before .loop-test .taken) (q .before .before .if1 .left) _ (turn k) (sym (c .before .is-barred .ensures) ∙ c .if3 .taken))
 
 add-pos : tie.Need-add-pos Inv-loop μ-loop
 add-pos c = omega (arith, room (c .before .before .before))
@@ -111,9 +108,9 @@ loop-less c = omega (arith, room (c .before .before .before .before))
 loop-again : tie.Need-loop-again Inv-loop μ-loop
 loop-again c =
     let k = c .before .before .before .before in
-    let q = k .before .before .before in
+    let q = k .before .before in
     let l = q .before .before .before .before .before in
-    going (l .before .before .args .fields .now) (l .loop .pos) (l .loop .inv) (q .before .before .before .before .loop-test .taken) (q .before .before .if1 .left) _ (turn k) (sym (c .before .before .is-barred .ensures) ∙ c .before .if2 .left)
+    going (l .before .before .args .fields .now) (l .loop .pos) (l .loop .inv) (q .before .before .before .before .loop-test .taken) (q .before .before .if1 .left) _ (turn k) (sym (c .before .before .is-barred .ensures) ∙ c .before .if3 .left)
 
 returns-4 : tie.Need-returns-4 Inv-loop μ-loop
 returns-4 c =
@@ -134,9 +131,7 @@ is-marred-spec =
     part-parse-field-start
     part-parse-field-end
     parse-field-requires
-    enum-told
     returns-2
-    enum-known-parsed
     slice-aggregate-is-barred
     is-barred-requires
     returns-3
