@@ -14,6 +14,7 @@ use Rattle.format.specs.Tidy.{fieldText, fieldsText}
 use Rattle.format.specs.declared.Kind.{Kind}
 use Rattle.format.specs.declared.Kind.the-variants.{Header, ReferenceSequence, ReadGroup, Program}
 use Rattle.text.specs.Upto.{upto}
+use Rattle.text.specs.Stands.{Each}
 use Rattle.text.proofs.Stands.{pieces-free}
 use Rattle.accepted.specs.Pieces.{Pairs}
 use Rattle.accepted.specs.Sound.{isKey, kind}
@@ -26,6 +27,7 @@ use Rattle.tags.specs.Others.{unkeyed, firsts}
 use Rattle.tags.proofs.Firsts.{settled-firsts}
 use Rattle.tags.proofs.Region.{Clean}
 use Rattle.walk.specs.Run.{fieldOf, fieldsOf, Runs, fieldsTo, fieldsFrom, AtField}
+use Rattle.walk.specs.Tables.{HasTag}
 use Rattle.walk.proofs.Runs.{runs-none}
 
 -- ---- the pieces of a line are its fields
@@ -138,6 +140,13 @@ module _ (strict : Bool) (at : ℕ) (s : List ℕ) (r : Record) (a : Spelled str
     rest = rw (fields .places) fields;
     once = ap (λ l. strict && repeats l) (fields .places) ∙ a .once;
   }
+
+  -- each has a tag
+  pub accepted-tags : Each HasTag (fieldsFrom at s 3)
+  unfolding HasTag
+  accepted-tags =
+      rw accepted-fields
+      (pairs-right (λ p f. Good (a .kind) (p .at) (p .bytes) f) (λ p. upto 9 (p .bytes) ≡ length (p .bytes)) HasTag (λ p f h g. g .tag) (placed (at + 4) (cut 9 (a .rest))) (a .fields) (pieces-free 9 (at + 4) (a .rest)) (a .each))
 
   -- from there on, the walk gives the record's other fields
   pub accepted-others : firsts (kind r) [] (fieldsFrom at s 3) ≡ others r
