@@ -31,13 +31,15 @@ use Rattle.record.specs.declared.Place.{Place}
 use Rattle.record.specs.declared.Head.{Head}
 use Rattle.record.specs.declared.Head.the-variants as head
 use Rattle.walk.specs.Run.{AtField, fieldsFrom}
+use Rattle.walk.specs.Next.{standing, orValue, nowhere}
+use Rattle.walk.specs.declared.Value.{Value}
 use Rattle.walk.proofs.Start.{accepted-start, accepted-fields}
 use borrow.Author.Tests.{lt-ltb, not-true}
 use Rattle.format.specs.Bytes.{digit, all, none?}
 use Rattle.decimal.specs.Number.{counted, front}
 use Rattle.decimal.specs.declared.Number.the-variants.{Is}
 use Rattle.decimal.proofs.Whole.{span-all}
-use Rattle.heads.specs.Found.{kindBy, placeIn, uncounted}
+use Rattle.heads.specs.Found.{kindBy, uncounted}
 
 pub first-byte : (k : Kind) → kindBy (kind₀ k) ≡ k
 unfolding kindBy kind₀
@@ -159,25 +161,24 @@ module _ (strict : Bool) (at : ℕ) (s : List ℕ) (h : isRead (line strict (rec
 
 -- ---- a piece by its place
 
-module _ (at : ℕ) (s : List ℕ) (a b : ℕ) (p : Piece) (h : Has at s a b p) where
-  -- the place that is found
-  pub found-place : (q : Place) → q ≡ placeIn (lastOf a b (fieldsFrom at s 3)) → q ≡ placeOf p
-  unfolding placeIn
-  found-place q e = e ∙ ap placeIn (h .last)
+module _ (at : ℕ) (s : List ℕ) (a b : ℕ) (p : Piece) (h : Has at s a b p) (v : Value) (e : v ≡ orValue nowhere (lastOf a b (fieldsFrom at s 3))) where
+  -- the value that is found
+  found : v ≡ standing p
+  unfolding orValue
+  found = e ∙ ap (orValue nowhere) (h .last)
 
-  module _ (q : Place) (e : q ≡ placeIn (lastOf a b (fieldsFrom at s 3))) where
-    pub place-within : (at ≤ q .at) × (q .at - at + q .len ≤ length s)
-    unfolding placeOf
-    place-within =
-        let f = found-place q e in
-        rw f (h .stands .from, h .stands .within)
+  pub found-place : _≡_ {A = Place} (record { at = v .at; len = v .len }) (placeOf p)
+  unfolding placeOf
+  found-place = ap (λ v. record { at = v .at; len = v .len }) found
 
-    -- and the bytes that are lent by it
-    pub place-bytes : take (q .at - at + q .len - (q .at - at)) (drop (q .at - at) s) ≡ p .bytes
-    unfolding placeOf
-    place-bytes =
-        let n : q .at - at + q .len - (q .at - at) ≡ q .len = omega arith in
-        ap (λ n. take n (drop (q .at - at) s)) n ∙ ap (λ q. take (q .len) (drop (q .at - at) s)) (found-place q e) ∙ sym (h .stands .bytes)
+  pub value-within : (at ≤ v .at) × (v .at - at + v .len ≤ length s)
+  value-within = rw found (h .stands .from, h .stands .within)
+
+  -- and the bytes that are lent by it
+  pub value-bytes : take (v .at - at + v .len - (v .at - at)) (drop (v .at - at) s) ≡ p .bytes
+  value-bytes =
+      let n : v .at - at + v .len - (v .at - at) ≡ v .len = omega arith in
+      ap (λ n. take n (drop (v .at - at) s)) n ∙ ap (λ v. take (v .len) (drop (v .at - at) s)) found ∙ sym (h .stands .bytes)
 
 -- ---- what they say
 

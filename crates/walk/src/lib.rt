@@ -1,6 +1,6 @@
 // The fields of an accepted line, one after another: which stand at their tag's first place, and each tag's last value.
 ghost use mathlib.Core.Path.{_≡_};
-ghost use mathlib.Core.Bool.{true, false};
+ghost use mathlib.Core.Bool.{true, false, _||_};
 ghost use mathlib.Core.List.{List};
 ghost use Prim.Native.Nat.{_≤_, _<_, _+_};
 ghost use lib.ListN.{length, drop, replicate};
@@ -36,8 +36,8 @@ pub fn value_at(at: usize, i: usize, end: usize) -> Value
     }
 }
 
-// Whether no tag stands twice in the accepted line at the offset `at`, as far as 1,024 marks tell: where two tags share one, it is not known.
-pub fn is_spread(line: &[u8], at: usize) -> bool
+// Whether the tags of the accepted line at the offset `at` take different marks of 1,024: then none stands twice.
+fn is_spread(line: &[u8], at: usize) -> bool
     requires { ⌜ AtField false at (now line) 3 ⌝ }
     requires { ⌜ at + length (now line) ≤ 4294967295 ⌝ }
     ensures { λ r. ⌜ r ≡ spread (replicate 1024 false) (fieldsFrom at (now (line .entry)) 3) ⌝ }
@@ -54,6 +54,18 @@ pub fn is_spread(line: &[u8], at: usize) -> bool
         i = end;
     }
     true
+}
+
+// Whether it is known that no tag stands twice in the accepted line at the offset `at`: where it is not forbidden, the line may tell.
+pub fn is_once(line: &[u8], at: usize, strict: bool) -> bool
+    requires { ⌜ AtField strict at (now line) 3 ⌝ }
+    requires { ⌜ at + length (now line) ≤ 4294967295 ⌝ }
+    ensures { λ r. ⌜ r ≡ strict || spread (replicate 1024 false) (fieldsFrom at (now (line .entry)) 3) ⌝ }
+{
+    if strict {
+        return true;
+    }
+    is_spread(line, at)
 }
 
 // Notes that a field whose tag has the number `n` stands at the offset `place`.
