@@ -66,3 +66,6 @@ line-lax true p h = go (any breaks (p .bytes)) h
     go : (t : Bool) → isRead (cond t (refused 2) (prefixed true (p .at) (p .bytes))) ≡ true → cond t (refused 2) (prefixed true (p .at) (p .bytes)) ≡ cond t (refused 2) (prefixed false (p .at) (p .bytes))
     go true h = refl
     go false h = prefixed-lax (p .at) (p .bytes) h
+
+pub read-lax : (strict : Bool) (p : Piece) → isRead (line strict p) ≡ true → isRead (line false p) ≡ true
+read-lax strict p h = sym (ap isRead (line-lax strict p h)) ∙ h

@@ -1,6 +1,6 @@
 -- The kind of an accepted line by its second byte, and a head without the number of its other fields.
 use Prim.Native.Nat.{ℕ}
-use mathlib.Core.Bool.{cond}
+use mathlib.Core.Bool.{Bool, true, false, cond}
 use lib.Dec.{eqb}
 use Rattle.format.specs.declared.Kind.{Kind}
 use Rattle.format.specs.declared.Kind.the-variants.{Header, ReferenceSequence, ReadGroup, Program, Comment}
@@ -10,6 +10,14 @@ use Rattle.record.specs.declared.Head.the-variants as head
 -- the kind of an accepted line by the byte after its `@`
 unfoldable pub kindBy : ℕ → Kind
 kindBy b = cond (eqb b 72) Header (cond (eqb b 83) ReferenceSequence (cond (eqb b 82) ReadGroup (cond (eqb b 80) Program Comment)))
+
+-- has a line of the kind no fields?
+abbrev pub isComment : Kind → Bool
+isComment Header = false
+isComment ReferenceSequence = false
+isComment ReadGroup = false
+isComment Program = false
+isComment Comment = true
 
 -- with no number of other fields
 unfoldable pub uncounted : Head → Head

@@ -15,7 +15,7 @@ ghost use Rattle.accepted.specs.Read.{isRead};
 ghost use Rattle.record.specs.Head.{headOf};
 ghost use Rattle.walk.specs.Run.{fieldsFrom};
 ghost use Rattle.walk.specs.Tables.{Walkable};
-ghost use Rattle.heads.specs.Found.{kindBy, uncounted};
+ghost use Rattle.heads.specs.Found.{kindBy, isComment, uncounted};
 ghost use Rattle.heads.specs.Keys.{noKeys, withKey, keysIn};
 
 // Where the last values of a line's keys stand: VN, SN or ID, and LN of SQ.
@@ -66,6 +66,19 @@ pub fn kind_of(src: &[u8]) -> Kind
         return Kind::Program;
     }
     Kind::Comment
+}
+
+// Whether a line of this kind has no fields.
+pub fn is_comment(kind: Kind) -> bool
+    ensures { λ r. ⌜ r ≡ isComment kind ⌝ }
+{
+    match kind {
+        Kind::Header => false,
+        Kind::ReferenceSequence => false,
+        Kind::ReadGroup => false,
+        Kind::Program => false,
+        Kind::Comment => true,
+    }
 }
 
 // The keys of an accepted line of fields.

@@ -11,6 +11,7 @@ use lib.Dec.{eqb}
 use borrow.Author.Tests.{eq-eqb, ne-eqb}
 use Rattle.format.specs.Bytes.{same, starts}
 use Rattle.accepted.proofs.Bools.{never, and-right, eqb-sym}
+use Rattle.entries_same.proofs.Starts.{starts-within, starts-append}
 use Rattle.catalogue.specs.Matched.{matched}
 use Rattle.catalogue.specs.declared.Matched.the-variants.{Differs, Upto}
 
@@ -20,12 +21,6 @@ and-assoc false b c = refl
 
 -- ---- from the front
 
-pub starts-append : (xs ys c : List ℕ) → starts (xs ++ ys) c ≡ (starts xs c && starts ys (drop (length xs) c))
-unfolding starts
-starts-append [] ys c = refl
-starts-append (x ∷ xs) ys [] = refl
-starts-append (x ∷ xs) ys (b ∷ c) = ap (λ t. eqb x b && t) (starts-append xs ys c) ∙ and-assoc (eqb x b) (starts xs c) (starts ys (drop (length xs) c))
-
 pub same-append : (xs ys c : List ℕ) → same c (xs ++ ys) ≡ (starts xs c && same (drop (length xs) c) ys)
 unfolding same starts
 same-append [] ys c = refl
@@ -34,12 +29,6 @@ same-append (x ∷ xs) ys (b ∷ c) =
     ap (λ t. eqb b x && t) (same-append xs ys c)
     ∙ ap (λ t. t && (starts xs c && same (drop (length xs) c) ys)) (eqb-sym b x)
     ∙ and-assoc (eqb x b) (starts xs c) (same (drop (length xs) c) ys)
-
-starts-within : (xs c : List ℕ) → starts xs c ≡ true → length xs ≤ length c
-unfolding starts
-starts-within [] c h = omega arith
-starts-within (x ∷ xs) [] h = absurd (never (cc))
-starts-within (x ∷ xs) (b ∷ c) h = omega (arith, starts-within xs c (and-right (eqb x b) (starts xs c) h))
 
 -- ---- from a place on
 
@@ -53,28 +42,18 @@ module _ (c : List ℕ) (o : ℕ) where
       go [] e = sym (eq-eqb o (length c) (omega arith))
       go (b ∷ s) e = sym (ne-eqb o (length c) (λ q. omega arith))
 
+  pub match-within : (xs : List ℕ) → o ≤ length c → starts xs (drop o c) ≡ true → o + length xs ≤ length c
+  match-within xs h q = omega (arith, starts-within xs (drop o c) q, length-drop o c)
+
+  -- the answer, by whether it is there
   module _ (xs : List ℕ) where
-    pub match-within : o ≤ length c → starts xs (drop o c) ≡ true → o + length xs ≤ length c
-    match-within h q = omega (arith, starts-within xs (drop o c) q, length-drop o c)
-
-    pub same-on : (ys : List ℕ) → same (drop o c) (xs ++ ys) ≡ (starts xs (drop o c) && same (drop (o + length xs) c) ys)
-    same-on ys = same-append xs ys (drop o c) ∙ ap (λ l. starts xs (drop o c) && same l ys) (drop-drop (length xs) o c)
-
-    -- the first run is there: what is left is compared after it
-    pub match-on : (ys : List ℕ) → starts xs (drop o c) ≡ true → matched o (drop o c) (xs ++ ys) ≡ matched (o + length xs) (drop (o + length xs) c) ys
+    pub match-there : (n : ℕ) → n ≡ o + length xs → starts xs (drop o c) ≡ true → Upto n ≡ matched o (drop o c) xs
     unfolding matched
-    match-on ys q =
-        let n : o + length (xs ++ ys) ≡ o + length xs + length ys = omega (arith, length-append xs ys) in
-        rw (starts-append xs ys (drop o c), q, drop-drop (length xs) o c, n) refl
+    match-there n e q = rw q (ap Upto e)
 
-    -- it is not
-    pub match-off : (ys : List ℕ) → starts xs (drop o c) ≡ false → matched o (drop o c) (xs ++ ys) ≡ Differs
+    pub match-gone : starts xs (drop o c) ≡ false → Differs ≡ matched o (drop o c) xs
     unfolding matched
-    match-off ys q = rw (starts-append xs ys (drop o c), q) refl
-
-  pub match-none : matched o (drop o c) [] ≡ Upto o
-  unfolding matched starts
-  match-none = ap Upto (add-zero o)
+    match-gone q = rw q refl
 
   -- what an answer says
   module _ (xs : List ℕ) where
