@@ -1,10 +1,11 @@
 -- One entry, and what follows it: how long the two are, the entry written first, and the entry compared first.
 use Prim.Native.Nat.{ℕ, _+_, _≤_}
 use mathlib.Core.Path.{_≡_, sym, ap, _∙_}
-use mathlib.Core.Bool.{true, false}
-use mathlib.Core.List.{List, _++_}
+use mathlib.Core.Bool.{_&&_}
+use mathlib.Core.List.{List, _++_, append-assoc}
 use native.Mathlib.Omega.{arith}
-use lib.ListN.{length, drop, length-append}
+use lib.ListN.{length, take, drop, length-append}
+use lib.Seq.{length-take-le, take-append-le, take-take, drop-at}
 use Rattle.format.specs.Bytes.{starts}
 use Rattle.text.specs.Over.{over}
 use Rattle.text.proofs.Over.{over-over, over-length}
@@ -12,9 +13,7 @@ use Rattle.entries.specs.declared.Entry.{Entry}
 use Rattle.entries.specs.declared.Entry.the-variants.{End, Header, ReferenceSequence, ReadGroup, Program, Comment, Field}
 use Rattle.entries.specs.Entries.{kindOf, kindSize, sizeOf, entryBytes}
 use Rattle.entries.proofs.Written.{entry-length}
-use Rattle.catalogue.specs.Matched.{matched}
-use Rattle.catalogue.specs.declared.Matched.the-variants.{Differs}
-use Rattle.catalogue.proofs.Compared.{match-within, match-on, match-off}
+use Rattle.entries_same.proofs.Starts.{starts-then}
 
 -- none is longer than that of an SQ
 pub size-most : (e : Entry) → sizeOf e ≤ 17
@@ -26,6 +25,20 @@ size-most (ReadGroup p) = omega arith
 size-most (Program p) = omega arith
 size-most (Comment p) = omega arith
 size-most (Field a b p) = omega arith
+
+-- a run that is written before another is written
+over-before : (out : List ℕ) (o : ℕ) (xs ys : List ℕ) → o + length xs + length ys ≤ length out → over (over out (o + length xs) ys) o xs ≡ over out o (xs ++ ys)
+unfolding over
+over-before out o xs ys h =
+    let n = o + length xs in
+    let front = take n out in
+    let rest = ys ++ drop (n + length ys) out in
+    let l : length front ≡ n = length-take-le n out (omega arith) in
+    let m : n + length ys ≡ o + length (xs ++ ys) = omega (arith, length-append xs ys) in
+    rw (append-assoc front ys (drop (n + length ys) out), take-append-le o front rest (omega arith), take-take o n out (omega arith), drop-at front rest n l)
+    (ap (λ m. (take o out ++ xs) ++ (ys ++ drop m out)) m
+    ∙ sym (append-assoc (take o out ++ xs) ys (drop (o + length (xs ++ ys)) out))
+    ∙ ap (λ l. l ++ drop (o + length (xs ++ ys)) out) (append-assoc (take o out) xs ys))
 
 -- `xs` is the entry `e`, and then `ys`
 module _ (e : Entry) (xs ys : List ℕ) (q : xs ≡ entryBytes e ++ ys) where
@@ -44,14 +57,15 @@ module _ (e : Entry) (xs ys : List ℕ) (q : xs ≡ entryBytes e ++ ys) where
     ap length w ∙ over-length out o (entryBytes e) (omega (arith, entry-then, entry-length e)),
   )
 
-  -- the entry stands at `o` of the catalogue `c`: what is left to compare follows
-  pub found : (c : List ℕ) (o n : ℕ) → o ≤ length c → n ≡ sizeOf e → starts (entryBytes e) (drop o c) ≡ true
-      → (o + n ≤ length c) × (matched o (drop o c) xs ≡ matched (o + n) (drop (o + n) c) ys)
-  found c o n l p h =
-      let k : length (entryBytes e) ≡ n = entry-length e ∙ sym p in (
-        omega (arith, match-within c o (entryBytes e) l h),
-        ap (matched o (drop o c)) q ∙ match-on c o (entryBytes e) ys h ∙ ap (λ m. matched (o + m) (drop (o + m) c) ys) k,
-      )
+  -- what follows the entry was written before it
+  pub wrote-before : (out mid last : List ℕ) (o n : ℕ) → n ≡ sizeOf e → o + length xs ≤ length out → mid ≡ over out (o + n) ys → last ≡ over mid o (entryBytes e) → last ≡ over out o xs
+  wrote-before out mid last o n p h w v =
+      let l : length (entryBytes e) ≡ n = entry-length e ∙ sym p in
+      v
+      ∙ ap (λ m. over m o (entryBytes e)) (w ∙ ap (λ m. over out (o + m) ys) (sym l))
+      ∙ over-before out o (entryBytes e) ys (omega (arith, entry-then, entry-length e))
+      ∙ ap (over out o) (sym q)
 
-  pub missed : (c : List ℕ) (o : ℕ) → starts (entryBytes e) (drop o c) ≡ false → matched o (drop o c) xs ≡ Differs
-  missed c o h = ap (matched o (drop o c)) q ∙ match-off c o (entryBytes e) ys h
+  -- the entry is compared, and what follows it
+  pub compared : (c : List ℕ) (o n : ℕ) → n ≡ sizeOf e → starts xs (drop o c) ≡ (starts (entryBytes e) (drop o c) && starts ys (drop (o + n) c))
+  compared c o n p = ap (λ l. starts l (drop o c)) q ∙ starts-then c o (entryBytes e) ys n (entry-length e ∙ sym p)

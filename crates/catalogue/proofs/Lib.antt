@@ -1,5 +1,5 @@
 pub mod Records
-pub mod Compared
+pub mod Starts
 pub mod Reached
 pub mod Fitting
 pub mod Entries

@@ -13,7 +13,8 @@ use Rattle.catalogue.specs.Line.{recordBytes}
 use Rattle.catalogue.specs.Matched.{matched, Reached}
 use Rattle.catalogue.specs.declared.Matched.the-variants.{Differs, Upto}
 use Rattle.catalogue.proofs.Records.{catalogue-append, catalogue-more, catalogue-length}
-use Rattle.catalogue.proofs.Compared.{starts-append, same-append, same-none, match-within, upto-says, differs-says}
+use Rattle.entries_same.proofs.Starts.{starts-append}
+use Rattle.catalogue.proofs.Starts.{same-append, same-none, match-within, upto-says, differs-says}
 
 pub reached-start : (c : List ℕ) → Reached c [] 0
 unfolding catalogue starts

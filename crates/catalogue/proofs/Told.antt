@@ -1,84 +1,94 @@
--- What the head of an accepted line says of the line's entries: its own comes first, then those that a walk over the other fields gives.
+-- The entries of an accepted line: its own, and then those of its other fields.
 use Prim.Native.Nat.{ℕ, _+_, _≤_}
 use mathlib.Core.Path.{_≡_, refl, sym, ap, _∙_}
-use mathlib.Core.Bool.{Bool, true}
-use mathlib.Core.List.{List, [], _∷_, _++_}
-use native.Mathlib.Omega.{arith}
-use lib.ListN.{length}
-use Rattle.format.specs.Fields.{Field}
-use Rattle.format.specs.Records.{Record, header, reference, group, program, comment, others, Line, refused, read, line}
-use Rattle.format.specs.Catalogue.{tails}
+use mathlib.Core.Bool.{Bool, true, false}
+use mathlib.Core.List.{List, [], _++_}
+use lib.ListN.{length, getD}
+use Rattle.format.specs.Records.{Record, header, reference, group, program, comment, others, Line, read, line}
+use Rattle.format.specs.Catalogue.{head, tails}
 use Rattle.format.specs.declared.Kind.{Kind}
+use Rattle.format.specs.declared.Kind.the-variants as kinds
 use Rattle.accepted.specs.Sound.{kind}
 use Rattle.accepted.specs.Spelled as sp
 use Rattle.accepted.specs.Spelled.{Accepted}
+use Rattle.accepted.specs.Read.{isRead}
 use Rattle.accepted.proofs.Bools.{never}
 use Rattle.accepted.proofs.Spelled.{line-accepted}
-use Rattle.accepted.specs.Read.{isRead}
-use Rattle.record.specs.declared.Head.{Head}
 use Rattle.record.specs.Head.{recordHead, headOf}
-use Rattle.walk.specs.Run.{fieldsOf, AtField}
-use Rattle.walk.proofs.Start.{accepted-start, accepted-others}
+use Rattle.record.specs.declared.Head.{Head}
+use Rattle.record.specs.declared.Head.the-variants as heads
+use Rattle.walk.specs.Run.{fieldsOf}
+use Rattle.walk.proofs.Start.{accepted-others}
+use Rattle.heads.specs.Found.{kindBy, isComment, uncounted}
+use Rattle.heads.proofs.Finds.{accepted-byte, by-record}
 use Rattle.entries.specs.declared.Entry.{Entry}
-use Rattle.entries.specs.Entries.{entryBytes, Fits}
+use Rattle.entries.specs.Entries.{kindOf, kindSize, sizeOf, entryBytes, Fits, headEntry}
 use Rattle.catalogue.specs.Line.{recordBytes}
-use Rattle.catalogue.specs.Parts.{ownEntry, othersOf, kindOfHead, fieldBytes}
-use Rattle.catalogue.proofs.Records.{own-entry, own-bytes, own-others}
+use Rattle.catalogue.specs.Parts.{ownEntry, ownSize, fieldBytes}
+use Rattle.catalogue.proofs.Records.{own-entry, own-bytes}
 use Rattle.catalogue.proofs.Fitting.{head-fits}
 
-pub record Told (strict : Bool) (at : ℕ) (s : List ℕ) (h : Head) : Type 0 where
-  pub fits : Fits (ownEntry h)
-  pub rest : List ℕ
-  pub bytes : (e : Entry) → e ≡ ownEntry h → recordBytes (line strict (record { at = at; bytes = s })) ≡ entryBytes e ++ rest
-  pub alone : (n : ℕ) → n ≡ othersOf h → n ≡ 0 → rest ≡ []
-  pub more : (n : ℕ) (k : Kind) → n ≡ othersOf h → (n ≡ 0 → ⊥) → k ≡ kindOfHead h → AtField strict at s 3 × (rest ≡ fieldBytes k at s 3)
+-- the number of other fields says nothing of the own entry
+pub own-uncounted : (h : Head) → ownEntry (uncounted h) ≡ ownEntry h
+unfolding ownEntry uncounted
+own-uncounted (heads.Refused n) = refl
+own-uncounted (heads.Header v n) = refl
+own-uncounted (heads.ReferenceSequence p l n) = refl
+own-uncounted (heads.ReadGroup p n) = refl
+own-uncounted (heads.Program p n) = refl
+own-uncounted (heads.Comment p) = refl
 
-own-kind : (r : Record) → kindOfHead (recordHead r) ≡ kind r
-unfolding kindOfHead recordHead kind
-own-kind (header v fs) = refl
-own-kind (reference p n fs) = refl
-own-kind (group p fs) = refl
-own-kind (program p fs) = refl
-own-kind (comment p) = refl
+-- its size goes by the kind
+own-long : (r : Record) → sizeOf (ownEntry (recordHead r)) ≡ ownSize (kind r)
+unfolding ownEntry recordHead kind sizeOf kindOf kindSize
+own-long (header v fs) = refl
+own-long (reference p n fs) = refl
+own-long (group p fs) = refl
+own-long (program p fs) = refl
+own-long (comment p) = refl
 
--- a record with other fields is no comment, so that its line can be walked
-walkable : (strict : Bool) (at : ℕ) (s : List ℕ) (r : Record) → (length (others r) ≡ 0 → ⊥) → Accepted strict at s r → AtField strict at s 3 × (fieldBytes (kind r) at s 3 ≡ tails (others r))
-unfolding others fieldBytes fieldsOf
-walkable strict at s r n (sp.of-remark t) = absurd (n refl)
-walkable strict at s r n (sp.of-fields a) = (accepted-start strict at s r a, ap tails (accepted-others strict at s r a))
+-- what follows it
+accepted-rest : (strict : Bool) (at : ℕ) (s : List ℕ) (r : Record) → Accepted strict at s r → isComment (kind r) ≡ false → tails (others r) ≡ fieldBytes (kind r) at s 3
+unfolding kind fieldBytes fieldsOf
+accepted-rest strict at s r (sp.of-remark t) n = absurd (never (cc))
+accepted-rest strict at s r (sp.of-fields a) n = sym (ap tails (accepted-others strict at s r a))
 
-no-tails : (fs : List Field) → length fs ≡ 0 → tails fs ≡ []
-unfolding tails
-no-tails [] e = refl
-no-tails (f ∷ fs) e = absurd (omega arith)
+no-rest : (r : Record) → kind r ≡ kinds.Comment → tails (others r) ≡ []
+unfolding kind others tails
+no-rest (header v fs) e = absurd (never (cc))
+no-rest (reference p n fs) e = absurd (never (cc))
+no-rest (group p fs) e = absurd (never (cc))
+no-rest (program p fs) e = absurd (never (cc))
+no-rest (comment p) e = refl
 
-module _ (strict : Bool) (at : ℕ) (s : List ℕ) (h : Head) (fit : at + length s ≤ 16777216) where
-  module _ (r : Record) (e : line strict (record { at = at; bytes = s }) ≡ read r) (q : h ≡ recordHead r) where
-    bytes : (d : Entry) → d ≡ ownEntry h → recordBytes (line strict (record { at = at; bytes = s })) ≡ entryBytes d ++ tails (others r)
-    unfolding recordBytes
-    bytes d m = ap recordBytes e ∙ ap (λ l. l ++ tails (others r)) (sym (own-bytes r) ∙ ap entryBytes (sym (m ∙ ap ownEntry q)))
+module _ (at : ℕ) (s : List ℕ) (h : isRead (line false (record { at = at; bytes = s })) ≡ true) where
+  abbrev pub own : Entry
+  own = ownEntry (headOf (line false (record { at = at; bytes = s })))
 
-    counted : othersOf h ≡ length (others r)
-    counted = ap othersOf q ∙ own-others r
+  pub own-fits : at + length s ≤ 16777216 → Fits own
+  unfolding headOf
+  own-fits fit = by-record false at s h (λ l. Fits (ownEntry (headOf l))) (λ r e. rw (own-entry r) (head-fits false (record { at = at; bytes = s }) r e fit))
 
-    walk : (n : ℕ) (k : Kind) → n ≡ othersOf h → (n ≡ 0 → ⊥) → k ≡ kindOfHead h → AtField strict at s 3 × (tails (others r) ≡ fieldBytes k at s 3)
-    walk n k m z l =
-        let w = walkable strict at s r (λ y. z (m ∙ counted ∙ y)) (line-accepted strict (record { at = at; bytes = s }) r e) in
-        (w .0, sym (w .1) ∙ ap (λ k. fieldBytes k at s 3) (sym (l ∙ ap kindOfHead q ∙ own-kind r)))
-
-    of-record : Told strict at s h
-    of-record = record {
-      fits = rw (q, own-entry r) (head-fits strict (record { at = at; bytes = s }) r e fit);
-      rest = tails (others r);
-      bytes = bytes;
-      alone = λ n m z. no-tails (others r) (sym (m ∙ counted) ∙ z);
-      more = walk;
-    }
-
-  pub told : isRead (line strict (record { at = at; bytes = s })) ≡ true → h ≡ headOf (line strict (record { at = at; bytes = s })) → Told strict at s h
-  unfolding isRead headOf
-  told t q = go (line strict (record { at = at; bytes = s })) refl t q
+  pub own-size : (k : Kind) → kindBy (getD s 1 0) ≡ k → sizeOf own ≡ ownSize k
+  unfolding headOf
+  own-size k e = by-record false at s h (λ l. sizeOf (ownEntry (headOf l)) ≡ ownSize k) (λ r d. own-long r ∙ ap ownSize (sym (byte r d) ∙ e))
     where
-      go : (l : Line) → line strict (record { at = at; bytes = s }) ≡ l → isRead l ≡ true → h ≡ headOf l → Told strict at s h
-      go (refused n) e t q = absurd (never (cc))
-      go (read r) e t q = of-record r e q
+      byte : (r : Record) → line false (record { at = at; bytes = s }) ≡ read r → kindBy (getD s 1 0) ≡ kind r
+      byte r d = accepted-byte false at s r (line-accepted false (record { at = at; bytes = s }) r d) .1
+
+  parts : (rest : List ℕ) → ((r : Record) → line false (record { at = at; bytes = s }) ≡ read r → tails (others r) ≡ rest) → recordBytes (line false (record { at = at; bytes = s })) ≡ entryBytes own ++ rest
+  unfolding recordBytes headOf
+  parts rest f = by-record false at s h (λ l. recordBytes l ≡ entryBytes (ownEntry (headOf l)) ++ rest) (λ r d. ap (λ l. l ++ tails (others r)) (sym (own-bytes r)) ∙ ap (λ l. entryBytes (ownEntry (recordHead r)) ++ l) (f r d))
+
+  -- a line of fields
+  pub line-bytes : (k : Kind) → kindBy (getD s 1 0) ≡ k → isComment k ≡ false → recordBytes (line false (record { at = at; bytes = s })) ≡ entryBytes own ++ fieldBytes k at s 3
+  line-bytes k e n =
+      parts (fieldBytes k at s 3)
+      (λ r d.
+      let a = line-accepted false (record { at = at; bytes = s }) r d in
+      let b : kind r ≡ k = sym (accepted-byte false at s r a .1) ∙ e in
+      accepted-rest false at s r a (ap isComment b ∙ n) ∙ ap (λ k. fieldBytes k at s 3) b)
+
+  -- a comment
+  pub comment-bytes : kindBy (getD s 1 0) ≡ kinds.Comment → recordBytes (line false (record { at = at; bytes = s })) ≡ entryBytes own ++ []
+  comment-bytes e = parts [] (λ r d. no-rest r (sym (accepted-byte false at s r (line-accepted false (record { at = at; bytes = s }) r d) .1) ∙ e))

@@ -1,51 +1,87 @@
--- A turn of the walk over the other fields of an accepted line: the next entry, and those that are left.
+-- A turn of the walk over the fields of an accepted line: the entries of the other fields that are left, and the keys that are met.
 use Prim.Native.Nat.{ℕ, _+_, _-_, _^_, _≤_, _<_}
 use mathlib.Core.Path.{_≡_, refl, sym, ap, _∙_}
-use mathlib.Core.Bool.{Bool}
+use mathlib.Core.Bool.{Bool, true, false, not, _||_}
 use mathlib.Core.List.{List, [], _++_}
 use native.Mathlib.Omega.{arith}
-use lib.ListN.{length}
+use lib.ListN.{length, drop, getD}
 use Rattle.format.specs.Fields as fields
 use Rattle.format.specs.Catalogue.{tails}
 use Rattle.format.specs.declared.Kind.{Kind}
+use Rattle.text.specs.Upto.{upto}
+use Rattle.accepted.specs.Sound.{isKey}
 use Rattle.tags.specs.Others.{firsts}
 use Rattle.walk.specs.Run.{fieldsTo, fieldsFrom, AtField}
-use Rattle.walk.specs.Next.{nextIn}
-use Rattle.walk.specs.declared.Other.{Other}
-use Rattle.walk.specs.declared.Next.the-variants as next
-use Rattle.walk.proofs.Walked.{Gone, next-end, next-field}
-use Rattle.entries.specs.declared.Entry.{Entry}
+use Rattle.walk.specs.Next.{isFirst, valueAt, keptAt}
+use Rattle.walk.specs.Tables.{Walkable}
+use Rattle.walk.specs.declared.Value.{Value}
+use Rattle.walk.proofs.Here.{ended}
+use Rattle.walk.proofs.Walked.{Taken}
+use Rattle.walk.proofs.Place.{next-at, passed-at, taken-at}
+use Rattle.heads.specs.Keys.{keysFrom, keysIn, noKeys, withKey}
+use Rattle.heads.specs.declared.Keys.{Keys}
+use Rattle.heads.proofs.MetKeys.{keys-none, keys-past, keys-met}
+use Rattle.entries.specs.declared.Place.{Place}
+use Rattle.entries.specs.declared.Entry.the-variants as entry
 use Rattle.entries.specs.Entries.{entryBytes, pieceAt, fieldEntry}
-use Rattle.catalogue.specs.Parts.{otherEntry, fieldBytes}
+use Rattle.catalogue.specs.Parts.{fieldBytes}
 use Rattle.catalogue.proofs.Records.{tails-more}
 
-pub record Turned (strict : Bool) (at : ℕ) (line : List ℕ) (k : Kind) (pos : ℕ) (o : Other) : Type 0 where
-  pub fits : (o .at < 2 ^ 32) × (o .len < 2 ^ 32)
-  pub bytes : (e : Entry) → e ≡ otherEntry o → fieldBytes k at line pos ≡ entryBytes e ++ fieldBytes k at line (o .next)
-  pub after : pos < o .next
-  pub next : AtField strict at line (o .next)
+-- the walk has come to the place `i`, and has met the keys `ks`
+pub record Walked (once : Bool) (at : ℕ) (line : List ℕ) (k : Kind) (i : ℕ) (ks : Keys) : Type 0 where
+  pub here : AtField once at line i
+  pub keys : keysFrom k ks (fieldsFrom at line i) ≡ keysIn k (fieldsFrom at line 3)
 
--- the entry of the field that the walk answers
-same-entry : (f : fields.Field) (o : Other) → f .tag₀ ≡ o .tag_0 → f .tag₁ ≡ o .tag_1 → f .value .at ≡ o .at → length (f .value .bytes) ≡ o .len → fieldEntry f ≡ otherEntry o
+pub walked-start : (once : Bool) (at : ℕ) (line : List ℕ) (k : Kind) (t : List ℕ) (ks : Keys) → Walkable once at line t → ks ≡ noKeys → Walked once at line k 3 ks
+unfolding keysIn
+walked-start once at line k t ks w e = record { here = w .start; keys = ap (λ ks. keysFrom k ks (fieldsFrom at line 3)) e }
+
+-- a field is next, with the value at `v`
+pub record Turned (at : ℕ) (line : List ℕ) (k : Kind) (i end : ℕ) (v : Value) : Type 0 where
+  pub fits : (v .at < 2 ^ 32) × (v .len < 2 ^ 32)
+  pub bytes : (p : Place) → p ≡ record { at = v .at; len = v .len } → fieldBytes k at line i ≡ entryBytes (entry.Field (getD line (i + 1) 0) (getD line (i + 2) 0) p) ++ fieldBytes k at line end
+
+-- its entry
+same-entry : (f : fields.Field) (a b : ℕ) (v : Value) (p : Place) → f .tag₀ ≡ a → f .tag₁ ≡ b → f .value .at ≡ v .at → length (f .value .bytes) ≡ v .len → p ≡ record { at = v .at; len = v .len } → fieldEntry f ≡ entry.Field a b p
 unfolding fieldEntry pieceAt
-same-entry f o a b p n = rw (a, b, p, n) refl
+same-entry f a b v p d e m n q = rw (d, e, m, n, q) refl
 
-module _ (strict : Bool) (at : ℕ) (line : List ℕ) (k : Kind) (pos : ℕ) where
-  pub turned : (o : Other) → AtField strict at line pos → at + length line ≤ 16777216
-      → next.Field o ≡ nextIn k (fieldsTo at line pos) (fieldsFrom at line pos) pos → Turned strict at line k pos o
-  unfolding fieldBytes
-  turned o h fit q =
-      let g : Gone strict at line k pos o = next-field strict at line k pos o h (sym q) in
-      record {
-        fits = (omega (arith, g .place, g .stands .from, g .stands .within), omega (arith, g .size, g .stands .from, g .stands .within));
-        bytes = λ e m.
-            ap tails (g .first)
-            ∙ tails-more (g .field) (firsts k (fieldsTo at line (o .next)) (fieldsFrom at line (o .next)))
-            ∙ ap (λ e. entryBytes e ++ tails (firsts k (fieldsTo at line (o .next)) (fieldsFrom at line (o .next)))) (same-entry (g .field) o (g .tag-0) (g .tag-1) (g .place) (g .size) ∙ sym m);
-        after = g .after;
-        next = g .next;
-      }
+module _ (once : Bool) (at : ℕ) (line : List ℕ) (k : Kind) (i : ℕ) (ks : Keys) (w : Walked once at line k i ks) where
+  -- nothing is left
+  pub walked-end : length line ≤ i → (ks ≡ keysIn k (fieldsFrom at line 3)) × (fieldBytes k at line i ≡ [])
+  unfolding fieldBytes tails firsts
+  walked-end l =
+      let e = ended once at line i (w .here) l in
+      (sym (keys-none k ks (fieldsFrom at line i) e) ∙ w .keys, ap (λ fs. tails (firsts k (fieldsTo at line i) fs)) e)
 
-  pub turned-end : next.End ≡ nextIn k (fieldsTo at line pos) (fieldsFrom at line pos) pos → fieldBytes k at line pos ≡ []
-  unfolding fieldBytes tails
-  turned-end q = ap tails (next-end k (fieldsTo at line pos) (fieldsFrom at line pos) pos (sym q))
+  module _ (l : i < length line) (end : ℕ) (q : end ≡ i + 1 + upto 9 (drop (i + 1) line)) where
+    -- a key is met
+    pub walked-key : isKey k (getD line (i + 1) 0) (getD line (i + 2) 0) ≡ true → (v : Value) → v ≡ valueAt at i end → (ms : Keys) → ms ≡ withKey ks (getD line (i + 1) 0) v → Walked once at line k end ms
+    walked-key t v e ms d = record {
+      here = next-at once at line i (w .here) l end q;
+      keys =
+          ap (λ ms. keysFrom k ms (fieldsFrom at line end)) (d ∙ ap (withKey ks (getD line (i + 1) 0)) e)
+          ∙ sym (keys-met once at line i (w .here) l end q k ks t)
+          ∙ w .keys;
+    }
+
+    -- none is
+    pub walked-past : isKey k (getD line (i + 1) 0) (getD line (i + 2) 0) ≡ false → Walked once at line k end ks
+    walked-past t = record { here = next-at once at line i (w .here) l end q; keys = sym (keys-past once at line i (w .here) l end q k ks t) ∙ w .keys }
+
+    -- a key, or a tag that stands before, has no entry
+    pub same-bytes : isKey k (getD line (i + 1) 0) (getD line (i + 2) 0) || not (isFirst at line i) ≡ true → fieldBytes k at line i ≡ fieldBytes k at line end
+    unfolding fieldBytes
+    same-bytes t = ap tails (passed-at once at line i (w .here) l end q k t)
+
+    pub turned : at + length line ≤ 16777216 → isKey k (getD line (i + 1) 0) (getD line (i + 2) 0) ≡ false → isFirst at line i ≡ true → (v : Value) → v ≡ keptAt at line i end → Turned at line k i end v
+    unfolding fieldBytes
+    turned fit n f v e =
+        let g : Taken at line k i end v = taken-at once at line i (w .here) l end q k v n f e in
+        record {
+          fits = (omega (arith, g .place, g .stands .from, g .stands .within), omega (arith, g .size, g .stands .from, g .stands .within));
+          bytes = λ p d.
+              ap tails (g .first)
+              ∙ tails-more (g .field) (firsts k (fieldsTo at line end) (fieldsFrom at line end))
+              ∙ ap (λ e. entryBytes e ++ tails (firsts k (fieldsTo at line end) (fieldsFrom at line end))) (same-entry (g .field) _ _ v p (g .tag-0) (g .tag-1) (g .place) (g .size) d);
+        }

@@ -9,7 +9,6 @@ use Rattle.record.specs.declared.Head.{Head}
 use Rattle.record.specs.declared.Head.the-variants.{Refused, Header, ReferenceSequence, ReadGroup, Program, Comment}
 use Rattle.tags.specs.Others.{firsts}
 use Rattle.walk.specs.Run.{fieldsTo, fieldsFrom}
-use Rattle.walk.specs.declared.Other.{Other}
 use Rattle.entries.specs.declared.Place.{Place}
 use Rattle.entries.specs.declared.Entry.{Entry}
 use Rattle.entries.specs.declared.Entry.the-variants as entry
@@ -37,23 +36,18 @@ othersOf (ReadGroup p n) = n
 othersOf (Program p n) = n
 othersOf (Comment p) = 0
 
--- the kind of its fields: neither a refusal nor a comment has any
-unfoldable pub kindOfHead : Head → Kind
-kindOfHead (Refused n) = kind.Comment
-kindOfHead (Header v n) = kind.Header
-kindOfHead (ReferenceSequence p l n) = kind.ReferenceSequence
-kindOfHead (ReadGroup p n) = kind.ReadGroup
-kindOfHead (Program p n) = kind.Program
-kindOfHead (Comment p) = kind.Comment
-
 -- how many bytes the entries of a record have: its own, and those of its other fields, which are of kind 6
 unfoldable pub sizeOfHead : Head → ℕ
 unfolding sizeOf ownEntry othersOf kindSize
 sizeOfHead h = sizeOf (ownEntry h) + othersOf h * kindSize 6
 
--- the entry of an other field
-abbrev pub otherEntry : Other → Entry
-otherEntry o = entry.Field (o .tag_0) (o .tag_1) (record { at = o .at; len = o .len })
+-- how long the own entry of a record of a kind is
+abbrev pub ownSize : Kind → ℕ
+ownSize kind.Header = 9
+ownSize kind.ReferenceSequence = 17
+ownSize kind.ReadGroup = 9
+ownSize kind.Program = 9
+ownSize kind.Comment = 9
 
 -- the entries of the other fields from the place `pos` of a line on
 unfoldable pub fieldBytes : Kind → ℕ → List ℕ → ℕ → List ℕ

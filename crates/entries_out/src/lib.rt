@@ -39,7 +39,7 @@ fn put_sequence(out: &mut [u8], at: usize, name: Place, n: u64)
 }
 
 // Writes the entry of a field: its tag, and where its value stands.
-fn put_field(out: &mut [u8], at: usize, a: u8, b: u8, value: Place)
+pub fn put_field(out: &mut [u8], at: usize, a: u8, b: u8, value: Place)
     requires { ⌜ at + 11 ≤ length (now out) ⌝ }
     ensures { λ _. ⌜ now (out .exit) ≡ over (now (out .entry)) at (entryBytes (Entry.Field a b value)) ⌝ }
 {

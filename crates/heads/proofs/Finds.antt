@@ -31,13 +31,16 @@ use Rattle.record.specs.declared.Place.{Place}
 use Rattle.record.specs.declared.Head.{Head}
 use Rattle.record.specs.declared.Head.the-variants as head
 use Rattle.walk.specs.Run.{AtField, fieldsFrom}
-use Rattle.walk.proofs.Start.{accepted-start, accepted-fields}
+use Rattle.walk.specs.Next.{standing, orValue, nowhere}
+use Rattle.walk.specs.declared.Value.{Value}
+use Rattle.walk.specs.Tables.{HasTag}
+use Rattle.walk.proofs.Start.{accepted-start, accepted-fields, accepted-tags}
 use borrow.Author.Tests.{lt-ltb, not-true}
 use Rattle.format.specs.Bytes.{digit, all, none?}
 use Rattle.decimal.specs.Number.{counted, front}
 use Rattle.decimal.specs.declared.Number.the-variants.{Is}
 use Rattle.decimal.proofs.Whole.{span-all}
-use Rattle.heads.specs.Found.{kindBy, placeIn, uncounted}
+use Rattle.heads.specs.Found.{kindBy, isComment, uncounted}
 
 pub first-byte : (k : Kind) → kindBy (kind₀ k) ≡ k
 unfolding kindBy kind₀
@@ -46,6 +49,13 @@ first-byte ReferenceSequence = refl
 first-byte ReadGroup = refl
 first-byte Program = refl
 first-byte Comment = refl
+
+pub comment-is : (k : Kind) → isComment k ≡ true → k ≡ Comment
+comment-is Header e = absurd (never (cc))
+comment-is ReferenceSequence e = absurd (never (cc))
+comment-is ReadGroup e = absurd (never (cc))
+comment-is Program e = absurd (never (cc))
+comment-is Comment e = refl
 
 -- ---- by kind
 
@@ -128,7 +138,7 @@ accepted-held strict at s r (sp.of-fields a) =
     (made-held strict at s (a .fields) (a .kind) r (accepted-start strict at s r a) (has strict at s r a) (number strict at s r a) (a .made))
 
 -- its second byte
-accepted-byte : (strict : Bool) (at : ℕ) (s : List ℕ) (r : Record) → Accepted strict at s r → (3 ≤ length s) × (kindBy (getD s 1 0) ≡ kind r)
+pub accepted-byte : (strict : Bool) (at : ℕ) (s : List ℕ) (r : Record) → Accepted strict at s r → (3 ≤ length s) × (kindBy (getD s 1 0) ≡ kind r)
 unfolding kind kind₀
 accepted-byte strict at s r (sp.of-remark t) = (omega arith, first-byte Comment)
 accepted-byte strict at s r (sp.of-fields a) = (
@@ -136,48 +146,60 @@ accepted-byte strict at s r (sp.of-fields a) = (
   ap (λ l. kindBy (getD l 1 0)) (a .spells) ∙ first-byte (a .kind) ∙ sym (made-kind (a .fields) (a .kind) r (a .made)),
 )
 
+-- fields
+accepted-fielded : (strict : Bool) (at : ℕ) (s : List ℕ) (r : Record) → Accepted strict at s r → isComment (kind r) ≡ false → AtField strict at s 3 × Each HasTag (fieldsFrom at s 3)
+unfolding kind
+accepted-fielded strict at s r (sp.of-remark t) n = absurd (never (cc))
+accepted-fielded strict at s r (sp.of-fields a) n = (accepted-start strict at s r a, accepted-tags strict at s r a)
+
 -- ---- an accepted line
 
 module _ (strict : Bool) (at : ℕ) (s : List ℕ) (h : isRead (line strict (record { at = at; bytes = s })) ≡ true) where
-  by-record : (P : Line → Type 0) → ((r : Record) → Accepted strict at s r → P (read r)) → P (line strict (record { at = at; bytes = s }))
+  pub by-record : (P : Line → Type 0) → ((r : Record) → line strict (record { at = at; bytes = s }) ≡ read r → P (read r)) → P (line strict (record { at = at; bytes = s }))
   unfolding isRead
   by-record P f = go (line strict (record { at = at; bytes = s })) refl h
     where
       go : (l : Line) → line strict (record { at = at; bytes = s }) ≡ l → isRead l ≡ true → P l
       go (refused n) e q = absurd (never (cc))
-      go (read r) e q = f r (line-accepted strict (record { at = at; bytes = s }) r e)
+      go (read r) e q = f r e
+
+  by-accepted : (P : Line → Type 0) → ((r : Record) → Accepted strict at s r → P (read r)) → P (line strict (record { at = at; bytes = s }))
+  by-accepted P f = by-record P (λ r e. f r (line-accepted strict (record { at = at; bytes = s }) r e))
 
   pub three : 3 ≤ length s
-  three = by-record (λ l. 3 ≤ length s) (λ r a. accepted-byte strict at s r a .0)
+  three = by-accepted (λ l. 3 ≤ length s) (λ r a. accepted-byte strict at s r a .0)
 
   -- the head by the kind that the second byte tells
   pub held : (k : Kind) → kindBy (getD s 1 0) ≡ k → Held strict k at s (uncounted (headOf (line strict (record { at = at; bytes = s }))))
   unfolding headOf
   held k e =
-      by-record (λ l. Held strict k at s (uncounted (headOf l)))
+      by-accepted (λ l. Held strict k at s (uncounted (headOf l)))
       (λ r a. subst (λ k. Held strict k at s (uncounted (recordHead r))) (sym (accepted-byte strict at s r a .1) ∙ e) (accepted-held strict at s r a))
+
+  -- a line of fields can be walked
+  pub fielded : isComment (kindBy (getD s 1 0)) ≡ false → AtField strict at s 3 × Each HasTag (fieldsFrom at s 3)
+  fielded n = by-accepted (λ l. AtField strict at s 3 × Each HasTag (fieldsFrom at s 3)) (λ r a. accepted-fielded strict at s r a (sym (ap isComment (accepted-byte strict at s r a .1)) ∙ n))
 
 -- ---- a piece by its place
 
-module _ (at : ℕ) (s : List ℕ) (a b : ℕ) (p : Piece) (h : Has at s a b p) where
-  -- the place that is found
-  pub found-place : (q : Place) → q ≡ placeIn (lastOf a b (fieldsFrom at s 3)) → q ≡ placeOf p
-  unfolding placeIn
-  found-place q e = e ∙ ap placeIn (h .last)
+module _ (at : ℕ) (s : List ℕ) (a b : ℕ) (p : Piece) (h : Has at s a b p) (v : Value) (e : v ≡ orValue nowhere (lastOf a b (fieldsFrom at s 3))) where
+  -- the value that is found
+  found : v ≡ standing p
+  unfolding orValue
+  found = e ∙ ap (orValue nowhere) (h .last)
 
-  module _ (q : Place) (e : q ≡ placeIn (lastOf a b (fieldsFrom at s 3))) where
-    pub place-within : (at ≤ q .at) × (q .at - at + q .len ≤ length s)
-    unfolding placeOf
-    place-within =
-        let f = found-place q e in
-        rw f (h .stands .from, h .stands .within)
+  pub found-place : _≡_ {A = Place} (record { at = v .at; len = v .len }) (placeOf p)
+  unfolding placeOf
+  found-place = ap (λ v. record { at = v .at; len = v .len }) found
 
-    -- and the bytes that are lent by it
-    pub place-bytes : take (q .at - at + q .len - (q .at - at)) (drop (q .at - at) s) ≡ p .bytes
-    unfolding placeOf
-    place-bytes =
-        let n : q .at - at + q .len - (q .at - at) ≡ q .len = omega arith in
-        ap (λ n. take n (drop (q .at - at) s)) n ∙ ap (λ q. take (q .len) (drop (q .at - at) s)) (found-place q e) ∙ sym (h .stands .bytes)
+  pub value-within : (at ≤ v .at) × (v .at - at + v .len ≤ length s)
+  value-within = rw found (h .stands .from, h .stands .within)
+
+  -- and the bytes that are lent by it
+  pub value-bytes : take (v .at - at + v .len - (v .at - at)) (drop (v .at - at) s) ≡ p .bytes
+  value-bytes =
+      let n : v .at - at + v .len - (v .at - at) ≡ v .len = omega arith in
+      ap (λ n. take n (drop (v .at - at) s)) n ∙ ap (λ v. take (v .len) (drop (v .at - at) s)) found ∙ sym (h .stands .bytes)
 
 -- ---- what they say
 

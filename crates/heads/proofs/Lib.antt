@@ -1,1 +1,3 @@
+pub mod Lax
 pub mod Finds
+pub mod MetKeys

@@ -1,13 +1,9 @@
 -- The kind of an accepted line by its second byte, and a head without the number of its other fields.
 use Prim.Native.Nat.{ℕ}
-use mathlib.Core.Bool.{cond}
-use mathlib.Core.Option.{Option, none, some}
+use mathlib.Core.Bool.{Bool, true, false, cond}
 use lib.Dec.{eqb}
-use Rattle.format.specs.Lines.{Piece}
 use Rattle.format.specs.declared.Kind.{Kind}
 use Rattle.format.specs.declared.Kind.the-variants.{Header, ReferenceSequence, ReadGroup, Program, Comment}
-use Rattle.record.specs.Head.{placeOf}
-use Rattle.record.specs.declared.Place.{Place}
 use Rattle.record.specs.declared.Head.{Head}
 use Rattle.record.specs.declared.Head.the-variants as head
 
@@ -15,11 +11,13 @@ use Rattle.record.specs.declared.Head.the-variants as head
 unfoldable pub kindBy : ℕ → Kind
 kindBy b = cond (eqb b 72) Header (cond (eqb b 83) ReferenceSequence (cond (eqb b 82) ReadGroup (cond (eqb b 80) Program Comment)))
 
--- where a piece stands, if there is one
-unfoldable pub placeIn : Option Piece → Place
-unfolding placeOf
-placeIn none = record { at = 0; len = 0 }
-placeIn (some p) = placeOf p
+-- has a line of the kind no fields?
+abbrev pub isComment : Kind → Bool
+isComment Header = false
+isComment ReferenceSequence = false
+isComment ReadGroup = false
+isComment Program = false
+isComment Comment = true
 
 -- with no number of other fields
 unfoldable pub uncounted : Head → Head

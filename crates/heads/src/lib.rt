@@ -1,20 +1,51 @@
-// The head of an accepted line: its kind, its key and its number, found by their tags. Nothing is judged again.
+// The head of an accepted line: its kind, its key and its number, by where their values stand. Nothing is judged again.
 use decimal::Number;
 use field::Spelled;
 use format::Kind;
 use record::Head;
 use record::Place;
+use walk::Value;
 ghost use mathlib.Core.Path.{_≡_};
-ghost use mathlib.Core.Bool.{true};
+ghost use mathlib.Core.Bool.{true, false};
 ghost use Prim.Native.Nat.{_≤_, _+_};
 ghost use lib.ListN.{length, getD};
-ghost use Rattle.format.specs.Fields.{lastOf};
 ghost use Rattle.format.specs.Records.{line};
 ghost use Rattle.format.specs.declared.Kind.the-variants.{Header, ReferenceSequence};
 ghost use Rattle.accepted.specs.Read.{isRead};
 ghost use Rattle.record.specs.Head.{headOf};
-ghost use Rattle.walk.specs.Run.{AtField, fieldsFrom};
-ghost use Rattle.heads.specs.Found.{kindBy, placeIn, uncounted};
+ghost use Rattle.walk.specs.Run.{fieldsFrom};
+ghost use Rattle.walk.specs.Tables.{Walkable};
+ghost use Rattle.heads.specs.Found.{kindBy, isComment, uncounted};
+ghost use Rattle.heads.specs.Keys.{noKeys, withKey, keysIn};
+
+// Where the last values of a line's keys stand: VN, SN or ID, and LN of SQ.
+pub struct Keys {
+    pub key: Value,
+    pub number: Value,
+}
+
+impl Keys {
+    pub fn new() -> Self
+        ensures { λ r. ⌜ r ≡ noKeys ⌝ }
+    {
+        Keys {
+            key: Value { at: 0, len: 0 },
+            number: Value { at: 0, len: 0 },
+        }
+    }
+
+    // With the value of a key whose tag starts with `a`: that of LN alone starts with L.
+    pub fn with(self, a: u8, v: Value) -> Keys
+        ensures { λ r. ⌜ r ≡ withKey self a v ⌝ }
+    {
+        let key = self.key;
+        let number = self.number;
+        if a == b'L' {
+            return Keys { key, number: v };
+        }
+        Keys { key: v, number }
+    }
+}
 
 // The kind of an accepted line: its second byte tells it.
 pub fn kind_of(src: &[u8]) -> Kind
@@ -37,29 +68,57 @@ pub fn kind_of(src: &[u8]) -> Kind
     Kind::Comment
 }
 
-// Where the last value with the tag `a`, `b` stands.
-fn find_place(src: &[u8], at: usize, a: u8, b: u8, strict: bool) -> Place
-    requires { ⌜ AtField strict at (now src) 3 ⌝ }
-    requires { ⌜ at + length (now src) ≤ 4294967295 ⌝ }
-    ensures { λ r. ⌜ r ≡ placeIn (lastOf a b (fieldsFrom at (now (src .entry)) 3)) ⌝ }
+// Whether a line of this kind has no fields.
+pub fn is_comment(kind: Kind) -> bool
+    ensures { λ r. ⌜ r ≡ isComment kind ⌝ }
 {
-    let v = walk::find_value(src, at, a, b, strict);
-    Place {
-        at: v.at,
-        len: v.len,
+    match kind {
+        Kind::Header => false,
+        Kind::ReferenceSequence => false,
+        Kind::ReadGroup => false,
+        Kind::Program => false,
+        Kind::Comment => true,
+    }
+}
+
+// The keys of an accepted line of fields.
+pub fn find_keys(kind: Kind, src: &[u8], at: usize, once: bool, tables: &[u32]) -> Keys
+    requires { ⌜ Walkable once at (now src) (now tables) ⌝ }
+    requires { ⌜ at + length (now src) ≤ 4294967295 ⌝ }
+    ensures { λ r. ⌜ r ≡ keysIn kind (fieldsFrom at (now (src .entry)) 3) ⌝ }
+{
+    let nowhere = Value { at: 0, len: 0 };
+    match kind {
+        Kind::Header => Keys {
+            key: walk::find_value(src, at, b'V', b'N', once, tables),
+            number: nowhere,
+        },
+        Kind::ReferenceSequence => Keys {
+            key: walk::find_value(src, at, b'S', b'N', once, tables),
+            number: walk::find_value(src, at, b'L', b'N', once, tables),
+        },
+        Kind::ReadGroup => Keys {
+            key: walk::find_value(src, at, b'I', b'D', once, tables),
+            number: nowhere,
+        },
+        Kind::Program => Keys {
+            key: walk::find_value(src, at, b'I', b'D', once, tables),
+            number: nowhere,
+        },
+        Kind::Comment => Keys::new(),
     }
 }
 
 // The head of an accepted HD: the version that its VN spells.
-fn find_header(src: &[u8], at: usize, strict: bool) -> Head
-    requires { ⌜ isRead (line strict (record { at = at; bytes = now src })) ≡ true ⌝ }
+fn header_of(src: &[u8], at: usize, version: Value) -> Head
+    requires { ⌜ isRead (line false (record { at = at; bytes = now src })) ≡ true ⌝ }
     requires { ⌜ kindBy (getD (now src) 1 0) ≡ Header ⌝ }
+    requires { ⌜ version ≡ keysIn Header (fieldsFrom at (now src) 3) .key ⌝ }
     requires { ⌜ at + length (now src) ≤ 4294967295 ⌝ }
-    ensures { λ r. ⌜ r ≡ uncounted (headOf (line strict (record { at = at; bytes = now (src .entry) }))) ⌝ }
+    ensures { λ r. ⌜ r ≡ uncounted (headOf (line false (record { at = at; bytes = now (src .entry) }))) ⌝ }
 {
-    let p = find_place(src, at, b'V', b'N', strict);
-    let from = p.at - at;
-    let len = p.len;
+    let from = version.at - at;
+    let len = version.len;
     match field::parse_version(&src[from..from + len]) {
         Spelled::Is(v) => Head::Header(v, 0),
         Spelled::Invalid => Head::Refused(11),
@@ -67,34 +126,46 @@ fn find_header(src: &[u8], at: usize, strict: bool) -> Head
 }
 
 // The head of an accepted SQ: where its SN stands, and the number that its LN spells.
-fn find_reference_sequence(src: &[u8], at: usize, strict: bool) -> Head
-    requires { ⌜ isRead (line strict (record { at = at; bytes = now src })) ≡ true ⌝ }
+fn sequence_of(src: &[u8], at: usize, keys: Keys) -> Head
+    requires { ⌜ isRead (line false (record { at = at; bytes = now src })) ≡ true ⌝ }
     requires { ⌜ kindBy (getD (now src) 1 0) ≡ ReferenceSequence ⌝ }
+    requires { ⌜ keys ≡ keysIn ReferenceSequence (fieldsFrom at (now src) 3) ⌝ }
     requires { ⌜ at + length (now src) ≤ 4294967295 ⌝ }
-    ensures { λ r. ⌜ r ≡ uncounted (headOf (line strict (record { at = at; bytes = now (src .entry) }))) ⌝ }
+    ensures { λ r. ⌜ r ≡ uncounted (headOf (line false (record { at = at; bytes = now (src .entry) }))) ⌝ }
 {
-    let name = find_place(src, at, b'S', b'N', strict);
-    let p = find_place(src, at, b'L', b'N', strict);
-    let from = p.at - at;
-    let len = p.len;
+    let name = keys.key;
+    let number = keys.number;
+    let from = number.at - at;
+    let len = number.len;
+    let place = Place {
+        at: name.at,
+        len: name.len,
+    };
     match decimal::read_u64(&src[from..from + len]) {
-        Number::Is(n, _) => Head::ReferenceSequence(name, n, 0),
+        Number::Is(n, _) => Head::ReferenceSequence(place, n, 0),
         Number::NoDigit => Head::Refused(12),
         Number::TooLarge => Head::Refused(12),
     }
 }
 
-// The head of an accepted line at the offset `at`, without the number of its other fields.
-pub fn find_head(src: &[u8], at: usize, strict: bool) -> Head
-    requires { ⌜ isRead (line strict (record { at = at; bytes = now src })) ≡ true ⌝ }
+// The head of an accepted line at the offset `at` by its keys, without the number of its other fields.
+pub fn head_of(kind: Kind, src: &[u8], at: usize, keys: Keys) -> Head
+    requires { ⌜ isRead (line false (record { at = at; bytes = now src })) ≡ true ⌝ }
+    requires { ⌜ kindBy (getD (now src) 1 0) ≡ kind ⌝ }
+    requires { ⌜ keys ≡ keysIn kind (fieldsFrom at (now src) 3) ⌝ }
     requires { ⌜ at + length (now src) ≤ 4294967295 ⌝ }
-    ensures { λ r. ⌜ r ≡ uncounted (headOf (line strict (record { at = at; bytes = now (src .entry) }))) ⌝ }
+    ensures { λ r. ⌜ r ≡ uncounted (headOf (line false (record { at = at; bytes = now (src .entry) }))) ⌝ }
 {
-    match kind_of(src) {
-        Kind::Header => find_header(src, at, strict),
-        Kind::ReferenceSequence => find_reference_sequence(src, at, strict),
-        Kind::ReadGroup => Head::ReadGroup(find_place(src, at, b'I', b'D', strict), 0),
-        Kind::Program => Head::Program(find_place(src, at, b'I', b'D', strict), 0),
+    let key = keys.key;
+    let place = Place {
+        at: key.at,
+        len: key.len,
+    };
+    match kind {
+        Kind::Header => header_of(src, at, key),
+        Kind::ReferenceSequence => sequence_of(src, at, keys),
+        Kind::ReadGroup => Head::ReadGroup(place, 0),
+        Kind::Program => Head::Program(place, 0),
         Kind::Comment => Head::Comment(Place {
             at: at + 4,
             len: src.len() - 4,

@@ -4,19 +4,21 @@ use mathlib.Core.Path.{_≡_, refl, sym, ap, subst, _∙_}
 use mathlib.Core.Bool.{Bool, true, false}
 use mathlib.Core.List.{List, [], _∷_, _++_, append-assoc, append-nil}
 use native.Mathlib.Omega.{arith}
-use lib.ListN.{length, take, drop, length-append, length-drop, drop-of-length-le}
-use lib.Seq.{drop-drop, length-take-le}
+use lib.ListN.{length, take, drop, length-take, length-drop, drop-of-length-le}
+use lib.Seq.{drop-drop}
 use Rattle.format.specs.Lines.{Piece, lines, linesFrom}
 use Rattle.format.specs.Records as records
 use Rattle.format.specs.Records.{Record, Line, refused, read}
 use Rattle.format.specs.Reading.{accept, readText}
 use Rattle.text.specs.First.{firstLine}
+use Rattle.text.specs.declared.Cut.{Cut}
 use Rattle.text.proofs.Lines.{lines-none}
 use Rattle.text.proofs.First.{lines-first, first-le, first-within, first-some}
+use Rattle.field.proofs.Before.{rest}
 use Rattle.accepted.specs.Pieces.{Pairs}
 use Rattle.accepted.specs.Admits.{strictly}
 use Rattle.accepted.proofs.Text.{text-lines, text-fits}
-use Rattle.accepted.specs.Read.{recordsOf}
+use Rattle.accepted.specs.Read.{isRead, recordsOf}
 use Rattle.parser.specs.Accepted.{Accepted}
 
 -- at the line that starts at `at`
@@ -27,7 +29,7 @@ pub record Walking (strict : Bool) (t : List ℕ) (at : ℕ) : Type 0 where
   pub ahead : Pairs (λ p r. records.line strict p ≡ read r) (linesFrom at (drop at t)) rest
   pub inside : at ≤ length t
 
-pub text-size : (strict : Bool) (t : List ℕ) → Accepted strict t → length t ≤ 16777216
+text-size : (strict : Bool) (t : List ℕ) → Accepted strict t → length t ≤ 16777216
 text-size strict t a = text-fits t (recordsOf t) (a .reads)
 
 unfoldable pub walking-start : (strict : Bool) (t : List ℕ) → Accepted strict t → Walking strict t 0
@@ -55,13 +57,13 @@ module _ (strict : Bool) (t : List ℕ) (at : ℕ) (w : Walking strict t at) whe
     some-left : 0 < length (drop at t)
     some-left = omega (arith, length-drop at t)
 
-    pub next-in : at + firstLine (drop at t) .next ≤ length t
+    next-in : at + firstLine (drop at t) .next ≤ length t
     next-in = omega (arith, first-within (drop at t), length-drop at t)
 
-    pub len-in : at + firstLine (drop at t) .len ≤ length t
+    len-in : at + firstLine (drop at t) .len ≤ length t
     len-in = omega (arith, next-in, first-le (drop at t))
 
-    pub next-more : 0 < firstLine (drop at t) .next
+    next-more : 0 < firstLine (drop at t) .next
     next-more = first-some (drop at t) some-left
 
     -- the next line is the next record
@@ -74,7 +76,7 @@ module _ (strict : Bool) (t : List ℕ) (at : ℕ) (w : Walking strict t at) whe
       pub done-is : next .done ≡ w .done ++ (here ∷ [])
       pub whole-is : recordsOf t ≡ (w .done ++ (here ∷ [])) ++ others
 
-    pub walking-turn : Turn
+    walking-turn : Turn
     unfolding Pairs
     walking-turn = go (w .rest) refl (subst (λ l. Pairs (λ p r. records.line strict p ≡ read r) l (w .rest)) opened (w .ahead))
       where
@@ -98,7 +100,29 @@ module _ (strict : Bool) (t : List ℕ) (at : ℕ) (w : Walking strict t at) whe
               whole-is = all;
             }
 
--- what a callee is lent of a line is the line
-pub lent : (strict : Bool) (t : List ℕ) (at n : ℕ) → n ≡ firstLine (drop at t) .len
-    → records.line strict (record { at = at; bytes = take (at + n - at) (drop at t) }) ≡ records.line strict (record { at = at; bytes = take (firstLine (drop at t) .len) (drop at t) })
-lent strict t at n e = ap (λ m. records.line strict (record { at = at; bytes = take m (drop at t) })) (let z : at + n - at ≡ n = omega arith in z ∙ e)
+-- the next line as it is cut off and lent
+pub record Lent (strict : Bool) (t : List ℕ) (at : ℕ) (w : Walking strict t at) (h : at < length t) (cut : Cut) : Type 0 where
+  pub cut-is : cut ≡ firstLine (drop at t)
+  pub turn : Turn strict t at w h
+  pub inside : (at + cut .len ≤ length t) × (at + cut .next ≤ length t) × (0 < cut .next)
+  pub line-is : records.line strict (record { at = at; bytes = take (at + cut .len - at) (drop at t) }) ≡ read (turn .here)
+  pub accepted : isRead (records.line strict (record { at = at; bytes = take (at + cut .len - at) (drop at t) })) ≡ true
+  pub fits : at + length (take (at + cut .len - at) (drop at t)) ≤ 16777216
+
+pub lent : (strict : Bool) (t : List ℕ) (at : ℕ) (w : Walking strict t at) (h : at < length t) (cut : Cut) → Accepted strict t → cut ≡ firstLine (take (length t - at) (drop at t)) → Lent strict t at w h cut
+unfolding isRead
+lent strict t at w h cut a e =
+    let told : cut ≡ firstLine (drop at t) = e ∙ ap firstLine (rest at t) in
+    let turn : Turn strict t at w h = walking-turn strict t at w h in
+    let n : at + cut .len - at ≡ cut .len = omega arith in
+    let is : records.line strict (record { at = at; bytes = take (at + cut .len - at) (drop at t) }) ≡ read (turn .here) =
+    ap (λ m. records.line strict (record { at = at; bytes = take m (drop at t) })) (n ∙ ap (λ c. c .len) told) ∙ turn .line-is in
+    let len : at + cut .len ≤ length t = rw told (len-in strict t at w h) in
+    record {
+      cut-is = told;
+      turn = turn;
+      inside = (len, rw told (next-in strict t at w h), rw told (next-more strict t at w h));
+      line-is = is;
+      accepted = ap isRead is;
+      fits = omega (arith, length-take (at + cut .len - at) (drop at t), len, text-size strict t a);
+    }

@@ -1,6 +1,8 @@
 pub mod Runs
 pub mod Here
 pub mod Turn
-pub mod Place
 pub mod Walked
+pub mod Spread
+pub mod Noted
+pub mod Place
 pub mod Start

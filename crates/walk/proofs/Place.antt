@@ -1,20 +1,26 @@
 -- A turn of a walk over a line, as its bytes say it: from the tab at `i` to the end of the field there.
-use Prim.Native.Nat.{ℕ, _+_, _≤_, _<_}
-use mathlib.Core.Path.{_≡_, refl, sym, ap, _∙_}
-use mathlib.Core.Bool.{Bool, true, false, _&&_}
-use mathlib.Core.List.{List}
+use Prim.Native.Nat.{ℕ, _+_, _%_, _≤_, _<_}
+use mathlib.Core.Path.{_≡_, refl, sym, ap, ap₂, subst, _∙_}
+use mathlib.Core.Bool.{Bool, true, false, not, _&&_, _||_, cond}
+use mathlib.Core.List.{List, _∷_}
 use native.Mathlib.Omega.{arith}
-use lib.ListN.{length, drop, getD}
+use lib.ListN.{length, drop, getD, set}
 use lib.Dec.{eqb}
-use Rattle.format.specs.Fields.{Field, tagged, lastOf}
+use Rattle.format.specs.Fields.{tagged, isTag, lastOf}
 use Rattle.format.specs.declared.Kind.{Kind}
 use Rattle.text.specs.Upto.{upto}
+use Rattle.text.specs.Stands.{Each}
+use Rattle.tag_number.specs.Number.{tagNumber}
+use Rattle.accepted.specs.Sound.{isKey}
+use Rattle.tags.specs.Others.{firsts}
 use Rattle.walk.specs.Run.{fieldsTo, fieldsFrom, AtField}
-use Rattle.walk.specs.Next.{isFirst, orValue, valueAt, keptAt, fieldLength, nextIn}
+use Rattle.walk.specs.Next.{isFirst, orValue, lastIn, valueAt, keptAt, fieldLength}
+use Rattle.walk.specs.Tables.{numberOf, HasTag, spread, marked, noted, Noted}
 use Rattle.walk.specs.declared.Value.{Value}
-use Rattle.walk.specs.declared.Next.the-variants as next
 use Rattle.walk.proofs.Here.{Found, found}
-use Rattle.walk.proofs.Turn.{pass, stop, last-same, last-other, kept-own, kept-other}
+use Rattle.walk.proofs.Turn.{first-once, last-same, last-other, kept-own}
+use Rattle.walk.proofs.Walked.{Taken, taken, passed}
+use Rattle.walk.proofs.Noted.{number-below, tags-here, first-noted, kept-last}
 
 module _ (strict : Bool) (at : ℕ) (line : List ℕ) (i : ℕ) (h : AtField strict at line i) (l : i < length line) (end : ℕ) (q : end ≡ i + 1 + upto 9 (drop (i + 1) line)) where
   -- the field there
@@ -30,18 +36,15 @@ module _ (strict : Bool) (at : ℕ) (line : List ℕ) (i : ℕ) (h : AtField str
   pub bounds : (i + 4 ≤ end) × (end ≤ length line)
   bounds = (omega (arith, ends, own .here .size), next-at .within)
 
-  pub pass-at : (k : Kind) → isFirst k strict line i ≡ false
-      → nextIn k (fieldsTo at line i) (fieldsFrom at line i) i ≡ nextIn k (fieldsTo at line end) (fieldsFrom at line end) end
-  pass-at k n = rw ends (pass strict at line i h (own .field) (own .here) k n)
+  pub first-at : strict ≡ true → isFirst at line i ≡ true
+  first-at s = first-once strict at line i h (own .field) (own .here) s
 
-  pub stop-at : (k : Kind) (v : Value) → isFirst k strict line i ≡ true → v ≡ keptAt at line i end
-      → nextIn k (fieldsTo at line i) (fieldsFrom at line i) i
-      ≡ next.Field (record { tag_0 = getD line (i + 1) 0; tag_1 = getD line (i + 2) 0; at = v .at; len = v .len; next = end })
-  stop-at k v n e =
-      stop strict at line i h (own .field) (own .here) k n
-      ∙ ap next.Field
-      (sym (kept-other strict at line i h (own .field) (own .here) v (e ∙ ap (keptAt at line i) ends))
-      ∙ ap (λ m. record { tag_0 = getD line (i + 1) 0; tag_1 = getD line (i + 2) 0; at = v .at; len = v .len; next = m }) (sym ends))
+  pub passed-at : (k : Kind) → isKey k (getD line (i + 1) 0) (getD line (i + 2) 0) || not (isFirst at line i) ≡ true
+      → firsts k (fieldsTo at line i) (fieldsFrom at line i) ≡ firsts k (fieldsTo at line end) (fieldsFrom at line end)
+  passed-at k n = rw ends (passed strict at line i h (own .field) (own .here) k n)
+
+  pub taken-at : (k : Kind) (v : Value) → isKey k (getD line (i + 1) 0) (getD line (i + 2) 0) ≡ false → isFirst at line i ≡ true → v ≡ keptAt at line i end → Taken at line k i end v
+  taken-at k v n t q = rw (q, ends) (taken strict at line i h (own .field) (own .here) k n t)
 
   tag : (a b : ℕ) → tagged a b (own .field) ≡ eqb (getD line (i + 1) 0) a && eqb (getD line (i + 2) 0) b
   unfolding tagged
@@ -57,3 +60,40 @@ module _ (strict : Bool) (at : ℕ) (line : List ℕ) (i : ℕ) (h : AtField str
 
   pub own-at : strict ≡ true → keptAt at line i end ≡ valueAt at i end
   own-at s = rw ends (kept-own strict at line i h (own .field) (own .here) s)
+
+  -- ---- by the number of its tag
+
+  number-at : tagNumber (getD line (i + 1) 0) (getD line (i + 2) 0) ≡ numberOf (own .field)
+  unfolding numberOf
+  number-at = rw (own .here .tag-0, own .here .tag-1) refl
+
+  rest-at : fieldsFrom at line i ≡ own .field ∷ fieldsFrom at line end
+  rest-at = own .here .rest ∙ ap (λ n. own .field ∷ fieldsFrom at line n) (sym ends)
+
+  pub spread-at : (seen : List Bool) (n : ℕ) → n ≡ tagNumber (getD line (i + 1) 0) (getD line (i + 2) 0)
+      → spread seen (fieldsFrom at line i) ≡ cond (getD seen (n % 1024) false) false (spread (set seen (n % 1024) true) (fieldsFrom at line end))
+  unfolding spread
+  spread-at seen n e = ap (spread seen) rest-at ∙ rw (e ∙ number-at) refl
+
+  pub noted-at : (t : List ℕ) (n : ℕ) → n ≡ tagNumber (getD line (i + 1) 0) (getD line (i + 2) 0)
+      → noted t (at + i) (fieldsFrom at line i) ≡ noted (marked t n (at + i)) (at + end) (fieldsFrom at line end)
+  unfolding noted
+  noted-at t n e =
+      ap (noted t (at + i)) rest-at
+      ∙ ap (λ m. noted (marked t m (at + i)) (at + i + fieldLength (own .field)) (fieldsFrom at line end)) (sym (e ∙ number-at))
+      ∙ ap (λ p. noted (marked t n (at + i)) p (fieldsFrom at line end)) (omega (arith, ends))
+
+  pub tags-at : Each HasTag (fieldsFrom at line i) → (tagNumber (getD line (i + 1) 0) (getD line (i + 2) 0) < 3224) × Each HasTag (fieldsFrom at line end)
+  unfolding Each
+  tags-at g = let r = subst (Each HasTag) rest-at g in (rw number-at (number-below (own .field) (r .0)), r .1)
+
+  module _ (t : List ℕ) (n : Noted at line t) where
+    pub tag-at : isTag (getD line (i + 1) 0) (getD line (i + 2) 0) ≡ true
+    unfolding HasTag
+    tag-at = rw (own .here .tag-0, own .here .tag-1) (tags-here strict at line i h (own .field) (own .here) (n .tags) .1)
+
+    pub first-tabled : eqb (getD t (tagNumber (getD line (i + 1) 0) (getD line (i + 2) 0)) 0) (at + i) ≡ isFirst at line i
+    first-tabled = ap (λ m. eqb (getD t m 0) (at + i)) number-at ∙ first-noted strict at line i h (own .field) (own .here) t n
+
+  pub kept-tabled : lastIn at line (getD line (i + 1) 0) (getD line (i + 2) 0) ≡ keptAt at line i end
+  kept-tabled = ap₂ (lastIn at line) (own .here .tag-0) (own .here .tag-1) ∙ sym (ap (keptAt at line i) ends ∙ kept-last strict at line i h (own .field) (own .here))

@@ -4,9 +4,9 @@ use mathlib.Core.Path.{_≡_, refl, sym, ap, _∙_}
 use mathlib.Core.Bool.{Bool, true, false, _&&_, _||_, cond}
 use mathlib.Core.List.{List, [], _∷_, _++_, map}
 use native.Mathlib.Omega.{arith}
-use lib.ListN.{length, drop, getD}
-use lib.Dec.{eqb}
-use borrow.Author.Tests.{eqb-true, eqb-false}
+use lib.ListN.{length, drop, getD, replicate, length-replicate, getD-replicate, List·getD-eq-default}
+use lib.Dec.{eqb, ltb}
+use borrow.Author.Tests.{eqb-true, eqb-false, ltb-true, ltb-false}
 use Rattle.format.specs.Lines.{Piece, onto, cut, placed}
 use Rattle.format.specs.Fields.{Field, tagged, repeats, settled, without}
 use Rattle.format.specs.Records.{Record, others}
@@ -14,19 +14,23 @@ use Rattle.format.specs.Tidy.{fieldText, fieldsText}
 use Rattle.format.specs.declared.Kind.{Kind}
 use Rattle.format.specs.declared.Kind.the-variants.{Header, ReferenceSequence, ReadGroup, Program}
 use Rattle.text.specs.Upto.{upto}
+use Rattle.text.specs.Stands.{Each}
 use Rattle.text.proofs.Stands.{pieces-free}
 use Rattle.accepted.specs.Pieces.{Pairs}
 use Rattle.accepted.specs.Sound.{isKey, kind}
 use Rattle.accepted.specs.Spelled as sp
 use Rattle.accepted.specs.Spelled.{Good, Made, Spelled}
-use Rattle.accepted.proofs.Bools.{never}
+use Rattle.accepted.proofs.Bools.{never, split, or-split}
 use Rattle.accepted.proofs.Pairs.{pairs-right}
 use Rattle.accepted.proofs.Sound.{made-kind}
 use Rattle.tags.specs.Others.{unkeyed, firsts}
 use Rattle.tags.proofs.Firsts.{settled-firsts}
 use Rattle.tags.proofs.Region.{Clean}
 use Rattle.walk.specs.Run.{fieldOf, fieldsOf, Runs, fieldsTo, fieldsFrom, AtField}
+use Rattle.walk.specs.Tables.{HasTag, spread, noted, Blank, Walkable}
 use Rattle.walk.proofs.Runs.{runs-none}
+use Rattle.walk.proofs.Here.{laxly}
+use Rattle.walk.proofs.Spread.{spread-once}
 
 -- ---- the pieces of a line are its fields
 
@@ -139,6 +143,13 @@ module _ (strict : Bool) (at : ℕ) (s : List ℕ) (r : Record) (a : Spelled str
     once = ap (λ l. strict && repeats l) (fields .places) ∙ a .once;
   }
 
+  -- each has a tag
+  pub accepted-tags : Each HasTag (fieldsFrom at s 3)
+  unfolding HasTag
+  accepted-tags =
+      rw accepted-fields
+      (pairs-right (λ p f. Good (a .kind) (p .at) (p .bytes) f) (λ p. upto 9 (p .bytes) ≡ length (p .bytes)) HasTag (λ p f h g. g .tag) (placed (at + 4) (cut 9 (a .rest))) (a .fields) (pieces-free 9 (at + 4) (a .rest)) (a .each))
+
   -- from there on, the walk gives the record's other fields
   pub accepted-others : firsts (kind r) [] (fieldsFrom at s 3) ≡ others r
   accepted-others =
@@ -146,3 +157,32 @@ module _ (strict : Bool) (at : ℕ) (s : List ℕ) (r : Record) (a : Spelled str
       ∙ ap (firsts (a .kind) []) (fields .places)
       ∙ sym (settled-firsts (a .kind) (a .fields))
       ∙ made-others (a .fields) (a .kind) r (a .made)
+
+-- ---- what a walk is lent
+
+-- no tag stands twice: it is forbidden, or the marks tell
+pub once-start : (strict : Bool) (at : ℕ) (s : List ℕ) → AtField strict at s 3 → strict || spread (replicate 1024 false) (fieldsFrom at s 3) ≡ true → AtField true at s 3
+unfolding fieldsOf
+once-start strict at s h t = record {
+  from = h .from;
+  within = h .within;
+  done = h .done;
+  rest = h .rest;
+  once =
+      or-split strict (spread (replicate 1024 false) (fieldsFrom at s 3)) t
+      (λ k. ap (λ b. b && repeats (fieldsFrom at s 3)) (sym k) ∙ h .once)
+      (spread-once (replicate 1024 false) (fieldsFrom at s 3) (length-replicate 1024 false));
+}
+
+pub once-walkable : (at : ℕ) (s t : List ℕ) → AtField true at s 3 → Walkable true at s t
+once-walkable at s t h = record { start = h; tables = λ e. absurd (never (cc)) }
+
+-- an array of zeros
+pub blank-tables : Blank (replicate 6448 0)
+blank-tables = record {
+  size = length-replicate {A = ℕ} 6448 0;
+  zero = λ n. split (ltb n 6448) (λ l. getD-replicate {A = ℕ} 6448 n 0 0 (ltb-true n 6448 l)) (λ l. List·getD-eq-default {A = ℕ} (replicate 6448 0) 0 {n = n} (omega (arith, ltb-false n 6448 l, length-replicate {A = ℕ} 6448 0)));
+}
+
+pub noted-walkable : (strict : Bool) (at : ℕ) (s blank t : List ℕ) → AtField strict at s 3 → Each HasTag (fieldsFrom at s 3) → Blank blank → t ≡ noted blank (at + 3) (fieldsFrom at s 3) → Walkable false at s t
+noted-walkable strict at s blank t h g b e = record { start = laxly strict at s 3 h; tables = λ z. record { blank = blank; start = b; tags = g; is = e } }

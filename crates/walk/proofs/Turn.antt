@@ -1,12 +1,11 @@
--- One field further: what the walk answers at a place, by the field there.
+-- One field further: what a walk finds at a place, by the field there.
 use Prim.Native.Nat.{ℕ, _+_, _-_}
 use mathlib.Core.Path.{_≡_, refl, sym, ap, _∙_}
 use mathlib.Core.Bool.{Bool, true, false, not, _&&_, _||_, cond}
 use mathlib.Core.List.{List, [], _∷_, _++_}
 use mathlib.Core.Option.{Option, none, some}
 use native.Mathlib.Omega.{arith}
-use lib.ListN.{length, take, drop, getD}
-use borrow.Author.Tests.{not-true, not-false}
+use lib.ListN.{length}
 use Rattle.format.specs.Bytes.{any}
 use Rattle.format.specs.Lines.{Piece}
 use Rattle.format.specs.Fields.{Field, tagged, repeats, later, lastOf}
@@ -14,13 +13,10 @@ use Rattle.format.specs.declared.Kind.{Kind}
 use Rattle.accepted.specs.Sound.{isKey}
 use Rattle.accepted.proofs.Bools.{or-left, or-right, any-append}
 use Rattle.accepted.proofs.Tags.{tagged-sym}
-use Rattle.tags.specs.Occurs.{occurs}
-use Rattle.tags.specs.Others.{orLast, latest}
-use Rattle.tags.proofs.Region.{occurs-fields}
+use Rattle.tags.specs.Others.{orLast, latest, firsts}
 use Rattle.walk.specs.Run.{fieldsTo, fieldsFrom, AtField}
-use Rattle.walk.specs.Next.{isFirst, standing, orValue, valueAt, keptAt, fieldLength, otherOf, nextIn}
+use Rattle.walk.specs.Next.{isFirst, standing, orValue, valueAt, keptAt, fieldLength}
 use Rattle.walk.specs.declared.Value.{Value}
-use Rattle.walk.specs.declared.Next.the-variants as next
 use Rattle.walk.proofs.Here.{Here}
 
 -- ---- no tag twice
@@ -72,47 +68,32 @@ module _ (strict : Bool) (at : ℕ) (line : List ℕ) (pos : ℕ) (h : AtField s
       apart (fieldsTo at line pos) f (fieldsFrom at line (pos + fieldLength f))
       (ap (λ l. repeats (fieldsTo at line pos ++ l)) (sym (e .rest)) ∙ ap (λ t. t && repeats (fieldsTo at line pos ++ fieldsFrom at line pos)) (sym s) ∙ h .once)
 
-  pub first-here : (k : Kind) → isFirst k strict line pos ≡ not (isKey k (f .tag₀) (f .tag₁) || any (tagged (f .tag₀) (f .tag₁)) (fieldsTo at line pos))
+  -- does its tag stand before it?
+  pub first-here : isFirst at line pos ≡ not (any (tagged (f .tag₀) (f .tag₁)) (fieldsTo at line pos))
   unfolding isFirst
-  first-here k =
-      let o : occurs (f .tag₀) (f .tag₁) (take (pos - 3) (drop 3 line)) ≡ any (tagged (f .tag₀) (f .tag₁)) (fieldsTo at line pos) =
-      ap (occurs (f .tag₀) (f .tag₁)) (h .done .spells) ∙ occurs-fields (f .tag₀) (f .tag₁) (fieldsTo at line pos) (h .done .clean) in
-      rw (e .tag-0, e .tag-1, o) (go (isKey k (f .tag₀) (f .tag₁)) strict (any (tagged (f .tag₀) (f .tag₁)) (fieldsTo at line pos)) (λ s. alone s .0))
-    where
-      go : (t s u : Bool) → (s ≡ true → u ≡ false) → not t && (s || not u) ≡ not (t || u)
-      go true s u g = refl
-      go false true u g = sym (ap not (g refl))
-      go false false u g = refl
+  first-here = rw (e .tag-0, e .tag-1) refl
 
-  turned : (k : Kind) → nextIn k (fieldsTo at line pos) (fieldsFrom at line pos) pos
+  pub first-once : strict ≡ true → isFirst at line pos ≡ true
+  first-once s = first-here ∙ ap not (alone s .0)
+
+  -- the other fields that are still to come, a field further
+  pub further : (k : Kind) → firsts k (fieldsTo at line pos) (fieldsFrom at line pos)
       ≡ cond (isKey k (f .tag₀) (f .tag₁) || any (tagged (f .tag₀) (f .tag₁)) (fieldsTo at line pos))
-      (nextIn k (fieldsTo at line (pos + fieldLength f)) (fieldsFrom at line (pos + fieldLength f)) (pos + fieldLength f))
-      (next.Field (otherOf (latest (fieldsFrom at line (pos + fieldLength f)) f) (pos + fieldLength f)))
-  unfolding nextIn
-  turned k =
-      ap (λ l. nextIn k (fieldsTo at line pos) l pos) (e .rest)
+      (firsts k (fieldsTo at line (pos + fieldLength f)) (fieldsFrom at line (pos + fieldLength f)))
+      (latest (fieldsFrom at line (pos + fieldLength f)) f ∷ firsts k (fieldsTo at line (pos + fieldLength f)) (fieldsFrom at line (pos + fieldLength f)))
+  unfolding firsts
+  further k =
+      ap (firsts k (fieldsTo at line pos)) (e .rest)
       ∙ ap
       (λ d.
       cond (isKey k (f .tag₀) (f .tag₁) || any (tagged (f .tag₀) (f .tag₁)) (fieldsTo at line pos))
-      (nextIn k d (fieldsFrom at line (pos + fieldLength f)) (pos + fieldLength f))
-      (next.Field (otherOf (latest (fieldsFrom at line (pos + fieldLength f)) f) (pos + fieldLength f))))
+      (firsts k d (fieldsFrom at line (pos + fieldLength f)))
+      (latest (fieldsFrom at line (pos + fieldLength f)) f ∷ firsts k d (fieldsFrom at line (pos + fieldLength f))))
       (sym (e .done))
-
-  -- a field that is not taken is passed
-  pub pass : (k : Kind) → isFirst k strict line pos ≡ false
-      → nextIn k (fieldsTo at line pos) (fieldsFrom at line pos) pos
-      ≡ nextIn k (fieldsTo at line (pos + fieldLength f)) (fieldsFrom at line (pos + fieldLength f)) (pos + fieldLength f)
-  pass k n = turned k ∙ rw (not-false (isKey k (f .tag₀) (f .tag₁) || any (tagged (f .tag₀) (f .tag₁)) (fieldsTo at line pos)) (sym (first-here k) ∙ n)) refl
-
-  -- one that is taken comes with its tag's last value
-  pub stop : (k : Kind) → isFirst k strict line pos ≡ true
-      → nextIn k (fieldsTo at line pos) (fieldsFrom at line pos) pos
-      ≡ next.Field (otherOf (latest (fieldsFrom at line (pos + fieldLength f)) f) (pos + fieldLength f))
-  stop k n = turned k ∙ rw (not-true (isKey k (f .tag₀) (f .tag₁) || any (tagged (f .tag₀) (f .tag₁)) (fieldsTo at line pos)) (sym (first-here k) ∙ n)) refl
 
   -- ---- the last value
 
-  own : valueAt at pos (pos + fieldLength f) ≡ standing (f .value)
+  pub own : valueAt at pos (pos + fieldLength f) ≡ standing (f .value)
   unfolding fieldLength
   own =
       let l : pos + fieldLength f - (pos + 4) ≡ length (f .value .bytes) = omega (arith, e .size) in
@@ -138,12 +119,7 @@ module _ (strict : Bool) (at : ℕ) (line : List ℕ) (pos : ℕ) (h : AtField s
   unfolding keptAt orValue
   kept-own s = rw (e .tag-0, e .tag-1, lastOf-none (f .tag₀) (f .tag₁) (fieldsFrom at line (pos + fieldLength f)) (alone s .1)) refl
 
-  -- the field as the walk answers it
-  pub kept-other : (v : Value) → v ≡ keptAt at line pos (pos + fieldLength f)
-      → record { tag_0 = getD line (pos + 1) 0; tag_1 = getD line (pos + 2) 0; at = v .at; len = v .len; next = pos + fieldLength f }
-      ≡ otherOf (latest (fieldsFrom at line (pos + fieldLength f)) f) (pos + fieldLength f)
-  unfolding keptAt otherOf latest
-  kept-other v q =
-      let l : v ≡ standing (orLast (f .value) (lastOf (f .tag₀) (f .tag₁) (fieldsFrom at line (pos + fieldLength f)))) =
-      q ∙ rw (e .tag-0, e .tag-1, own) (or-latest (f .value) (lastOf (f .tag₀) (f .tag₁) (fieldsFrom at line (pos + fieldLength f)))) in
-      rw (l, e .tag-0, e .tag-1) refl
+  -- the last value, as the walk finds it
+  pub kept-latest : keptAt at line pos (pos + fieldLength f) ≡ standing (latest (fieldsFrom at line (pos + fieldLength f)) f .value)
+  unfolding keptAt latest
+  kept-latest = rw (e .tag-0, e .tag-1, own) (or-latest (f .value) (lastOf (f .tag₀) (f .tag₁) (fieldsFrom at line (pos + fieldLength f))))

@@ -1,13 +1,15 @@
-// The other fields of an accepted line, one after another: each tag at its first place, with its last value.
-use format::Kind;
+// The fields of an accepted line, one after another: which stand at their tag's first place, and each tag's last value.
 ghost use mathlib.Core.Path.{_≡_};
-ghost use mathlib.Core.Bool.{false};
+ghost use mathlib.Core.Bool.{true, false, _||_};
+ghost use mathlib.Core.List.{List};
 ghost use Prim.Native.Nat.{_≤_, _<_, _+_};
-ghost use lib.ListN.{length, drop};
-ghost use Rattle.format.specs.Fields.{lastOf};
+ghost use lib.ListN.{length, drop, replicate};
+ghost use Rattle.format.specs.Fields.{isTag};
+ghost use Rattle.text.specs.Stands.{Each};
 ghost use Rattle.text.specs.Upto.{upto};
-ghost use Rattle.walk.specs.Run.{AtField, fieldsTo, fieldsFrom};
-ghost use Rattle.walk.specs.Next.{isFirst, valueAt, orValue, keptAt, nextIn};
+ghost use Rattle.walk.specs.Run.{AtField, fieldsFrom};
+ghost use Rattle.walk.specs.Next.{isFirst, valueAt, keptAt, lastIn};
+ghost use Rattle.walk.specs.Tables.{HasTag, spread, marked, noted, Noted, Walkable};
 
 // Where a value stands in the text.
 pub struct Value {
@@ -15,46 +17,16 @@ pub struct Value {
     pub len: usize,
 }
 
-// A field that is no key: its tag, where its value stands in the text, and the place in the line to go on from.
-pub struct Other {
-    pub tag_0: u8,
-    pub tag_1: u8,
-    pub at: usize,
-    pub len: usize,
-    pub next: usize,
-}
-
-pub enum Next {
-    End,
-    Field(Other),
-}
-
 // Where the field ends that starts with the tab at `i`.
-fn field_end(line: &[u8], i: usize) -> usize
+pub fn field_end(line: &[u8], i: usize) -> usize
     requires { ⌜ i < length (now line) ⌝ }
     ensures { λ r. ⌜ r ≡ i + 1 + upto 9 (drop (i + 1) (now (line .entry))) ⌝ }
 {
     i + 1 + text::upto(&line[i + 1..], b'\t')
 }
 
-// Whether the field at `i` is no key and its tag stands nowhere before: where repeats are forbidden, it never does.
-fn is_first(kind: Kind, line: &[u8], i: usize, strict: bool) -> bool
-    requires { ⌜ (3 ≤ i) × (i + 2 < length (now line)) ⌝ }
-    ensures { λ r. ⌜ r ≡ isFirst kind strict (now (line .entry)) i ⌝ }
-{
-    let a = line[i + 1];
-    let b = line[i + 2];
-    if tags::is_key(kind, a, b) {
-        return false;
-    }
-    if strict {
-        return true;
-    }
-    !tags::occurs(&line[3..i], a, b)
-}
-
 // The value of the field from the tab at `i` up to `end`, in a line at the offset `at`.
-fn value_at(at: usize, i: usize, end: usize) -> Value
+pub fn value_at(at: usize, i: usize, end: usize) -> Value
     requires { ⌜ (i + 4 ≤ end) × (at + end ≤ 4294967295) ⌝ }
     ensures { λ r. ⌜ r ≡ valueAt at i end ⌝ }
 {
@@ -64,76 +36,142 @@ fn value_at(at: usize, i: usize, end: usize) -> Value
     }
 }
 
-// The last value with the tag `a`, `b` from the place `from` on, or else `own`.
-fn last_value(line: &[u8], at: usize, from: usize, a: u8, b: u8, own: Value) -> Value
-    requires { ⌜ AtField false at (now line) from ⌝ }
+// Whether the tags of the accepted line at the offset `at` take different marks of 1,024: then none stands twice.
+fn is_spread(line: &[u8], at: usize) -> bool
+    requires { ⌜ AtField false at (now line) 3 ⌝ }
     requires { ⌜ at + length (now line) ≤ 4294967295 ⌝ }
-    ensures { λ r. ⌜ r ≡ orValue own (lastOf a b (fieldsFrom at (now (line .entry)) from)) ⌝ }
+    ensures { λ r. ⌜ r ≡ spread (replicate 1024 false) (fieldsFrom at (now (line .entry)) 3) ⌝ }
 {
-    let mut last = own;
-    let mut j = from;
-    while j < line.len() {
-        let end = field_end(line, j);
-        if field::is_same_tag(line[j + 1], line[j + 2], a, b) {
-            last = value_at(at, j, end);
+    let mut seen = [false; 1024];
+    let mut i: usize = 3;
+    while i < line.len() {
+        let end = field_end(line, i);
+        let n = tag_number::tag_number(line[i + 1], line[i + 2]) % 1024;
+        if seen[n] {
+            return false;
         }
-        j = end;
+        seen[n] = true;
+        i = end;
     }
-    last
+    true
 }
 
-// The last value of the tag of the field from `i` up to `end`: its own, where repeats are forbidden.
-fn kept_value(line: &[u8], at: usize, i: usize, end: usize, strict: bool) -> Value
-    requires { ⌜ AtField strict at (now line) i ⌝ }
+// Whether it is known that no tag stands twice in the accepted line at the offset `at`: where it is not forbidden, the line may tell.
+pub fn is_once(line: &[u8], at: usize, strict: bool) -> bool
+    requires { ⌜ AtField strict at (now line) 3 ⌝ }
+    requires { ⌜ at + length (now line) ≤ 4294967295 ⌝ }
+    ensures { λ r. ⌜ r ≡ strict || spread (replicate 1024 false) (fieldsFrom at (now (line .entry)) 3) ⌝ }
+{
+    if strict {
+        return true;
+    }
+    is_spread(line, at)
+}
+
+// Notes that a field whose tag has the number `n` stands at the offset `place`.
+fn mark(tables: &mut [u32], n: usize, place: u32)
+    requires { ⌜ (n < 3224) × (length (now tables) ≡ 6448) ⌝ }
+    ensures { λ _. ⌜ now (tables .exit) ≡ marked (now (tables .entry)) n place ⌝ }
+{
+    if tables[n] == 0 {
+        tables[n] = place;
+    }
+    tables[3224 + n] = place;
+}
+
+// Notes the tags of an accepted line at the offset `at`: where each stands first, and last.
+pub fn note_tags(line: &[u8], at: usize, tables: &mut [u32])
+    requires { ⌜ AtField false at (now line) 3 ⌝ }
+    requires { ⌜ Each HasTag (fieldsFrom at (now line) 3) ⌝ }
+    requires { ⌜ at + length (now line) ≤ 4294967295 ⌝ }
+    requires { ⌜ length (now tables) ≡ 6448 ⌝ }
+    ensures { λ _. ⌜ now (tables .exit) ≡ noted (now (tables .entry)) (at + 3) (fieldsFrom at (now (line .entry)) 3) ⌝ }
+{
+    let mut i: usize = 3;
+    while i < line.len() {
+        let end = field_end(line, i);
+        mark(tables, tag_number::tag_number(line[i + 1], line[i + 2]), (at + i) as u32);
+        i = end;
+    }
+}
+
+// The last value with the tag `a`, `b`, from the tables of the line.
+fn noted_value(line: &[u8], at: usize, a: u8, b: u8, tables: &[u32]) -> Value
+    requires { ⌜ AtField false at (now line) 3 ⌝ }
+    requires { ⌜ Noted at (now line) (now tables) ⌝ }
+    requires { ⌜ isTag a b ≡ true ⌝ }
+    requires { ⌜ at + length (now line) ≤ 4294967295 ⌝ }
+    ensures { λ r. ⌜ r ≡ lastIn at (now (line .entry)) a b ⌝ }
+{
+    let place = tables[3224 + tag_number::tag_number(a, b)] as usize;
+    if place == 0 {
+        return Value { at: 0, len: 0 };
+    }
+    let i = place - at;
+    value_at(at, i, field_end(line, i))
+}
+
+// Whether the field at `i` stands at its tag's first place: where no tag stands twice, it does.
+pub fn is_first(line: &[u8], at: usize, i: usize, once: bool, tables: &[u32]) -> bool
+    requires { ⌜ Walkable once at (now line) (now tables) ⌝ }
+    requires { ⌜ AtField once at (now line) i ⌝ }
+    requires { ⌜ i < length (now line) ⌝ }
+    requires { ⌜ at + length (now line) ≤ 4294967295 ⌝ }
+    ensures { λ r. ⌜ r ≡ isFirst at (now (line .entry)) i ⌝ }
+{
+    if once {
+        return true;
+    }
+    tables[tag_number::tag_number(line[i + 1], line[i + 2])] as usize == at + i
+}
+
+// The last value of the tag of the field from `i` up to `end`: its own, where no tag stands twice.
+pub fn kept_value(
+    line: &[u8],
+    at: usize,
+    i: usize,
+    end: usize,
+    once: bool,
+    tables: &[u32],
+) -> Value
+    requires { ⌜ Walkable once at (now line) (now tables) ⌝ }
+    requires { ⌜ AtField once at (now line) i ⌝ }
     requires { ⌜ (i < length (now line)) × (end ≡ i + 1 + upto 9 (drop (i + 1) (now line))) ⌝ }
     requires { ⌜ at + length (now line) ≤ 4294967295 ⌝ }
     ensures { λ r. ⌜ r ≡ keptAt at (now (line .entry)) i end ⌝ }
 {
-    let own = value_at(at, i, end);
-    if strict {
-        return own;
+    if once {
+        return value_at(at, i, end);
     }
-    last_value(line, at, end, line[i + 1], line[i + 2], own)
+    noted_value(line, at, line[i + 1], line[i + 2], tables)
 }
 
-// The last value with the tag `a`, `b` in the accepted line at the offset `at`: where repeats are forbidden, the first such field has it.
-pub fn find_value(line: &[u8], at: usize, a: u8, b: u8, strict: bool) -> Value
-    requires { ⌜ AtField strict at (now line) 3 ⌝ }
+// The first value with the tag `a`, `b` in a line in which no tag stands twice.
+fn only_value(line: &[u8], at: usize, a: u8, b: u8) -> Value
+    requires { ⌜ AtField true at (now line) 3 ⌝ }
     requires { ⌜ at + length (now line) ≤ 4294967295 ⌝ }
-    ensures { λ r. ⌜ r ≡ orValue (record { at = 0; len = 0 }) (lastOf a b (fieldsFrom at (now (line .entry)) 3)) ⌝ }
+    ensures { λ r. ⌜ r ≡ lastIn at (now (line .entry)) a b ⌝ }
 {
     let mut i: usize = 3;
     while i < line.len() {
         let end = field_end(line, i);
         if field::is_same_tag(line[i + 1], line[i + 2], a, b) {
-            return kept_value(line, at, i, end, strict);
+            return value_at(at, i, end);
         }
         i = end;
     }
     Value { at: 0, len: 0 }
 }
 
-// The next field of the accepted line at the offset `at`, from the place `pos` on, that is no key and stands at its tag's first place.
-// Where repeats are forbidden, it looks neither back nor ahead.
-pub fn next_other(kind: Kind, line: &[u8], at: usize, pos: usize, strict: bool) -> Next
-    requires { ⌜ AtField strict at (now line) pos ⌝ }
+// The last value with the tag `a`, `b` in the accepted line at the offset `at`.
+pub fn find_value(line: &[u8], at: usize, a: u8, b: u8, once: bool, tables: &[u32]) -> Value
+    requires { ⌜ Walkable once at (now line) (now tables) ⌝ }
+    requires { ⌜ isTag a b ≡ true ⌝ }
     requires { ⌜ at + length (now line) ≤ 4294967295 ⌝ }
-    ensures { λ r. ⌜ r ≡ nextIn kind (fieldsTo at (now (line .entry)) pos) (fieldsFrom at (now (line .entry)) pos) pos ⌝ }
+    ensures { λ r. ⌜ r ≡ lastIn at (now (line .entry)) a b ⌝ }
 {
-    let mut i = pos;
-    while i < line.len() {
-        let end = field_end(line, i);
-        if is_first(kind, line, i, strict) {
-            let v = kept_value(line, at, i, end, strict);
-            return Next::Field(Other {
-                tag_0: line[i + 1],
-                tag_1: line[i + 2],
-                at: v.at,
-                len: v.len,
-                next: end,
-            });
-        }
-        i = end;
+    if once {
+        return only_value(line, at, a, b);
     }
-    Next::End
+    noted_value(line, at, a, b, tables)
 }

@@ -1,118 +1,115 @@
--- `catalogue::put_record` meets its contract: the own entry is written, and the entries of the other fields are the rest.
-use Prim.Native.Nat.{_+_}
+-- `catalogue::put_record` meets its contract: a line that is accepted is accepted where repeated tags are allowed too, as the same record.
+use Prim.Native.Nat.{_+_, _≤_}
 use mathlib.Core.Path.{_≡_, sym, ap, _∙_}
-use mathlib.Core.List.{_++_}
+use mathlib.Core.Bool.{true, false}
 use native.Mathlib.Omega.{arith}
-use lib.ListN.{length}
-use Rattle.format.specs.Records.{line}
-use Rattle.text.specs.Over.{over}
-use Rattle.text.proofs.Over.{over-none}
-use Rattle.walk.specs.Run.{AtField}
-use Rattle.entries.specs.Entries.{entryBytes}
-use Rattle.catalogue.specs.Line.{recordBytes}
-use Rattle.catalogue.specs.Parts.{fieldBytes}
-use Rattle.catalogue.proofs.Entries.{entry-then, wrote}
-use Rattle.catalogue.proofs.Told.{Told, told}
+use lib.ListN.{length, getD}
 use borrow.Author.Needs.{needs}
+use Rattle.format.specs.Records.{line}
+use Rattle.accepted.specs.Read.{isRead}
+use Rattle.walk.specs.Tables.{Walkable}
+use Rattle.walk.proofs.Start.{once-start, once-walkable}
+use Rattle.heads.specs.Found.{kindBy, isComment}
+use Rattle.heads.proofs.Lax.{line-lax, read-lax}
+use Rattle.heads.proofs.Finds.{comment-is, three, fielded}
+use Rattle.catalogue.specs.Line.{recordBytes}
+use Rattle.text.specs.Over.{over}
 use Rattle.catalogue.proofs.put_record.Statement.{statement}
 use Rattle.catalogue.proofs.put_record.Tie as tie
 
-parse-record-requires : tie.Need-parse-record-requires
-parse-record-requires c κs = search needs
+-- where repeated tags are allowed
+read : (s : tie.Start) → (let a = s .args in isRead (line false (record { at = a .at; bytes = a .src .now })) ≡ true)
+read s = read-lax (s .args .strict) (record { at = s .args .at; bytes = s .args .src .now }) (s .pre .0)
 
--- what the head says of the line
-line-told : (c : tie.After-parse-record) → let a = c .before .before .before .args in Told (a .strict) (a .at) (a .src .now) (c .parse-record .result)
-line-told c =
-    let s = c .before .before .before in
-    let a = s .args in
-    told (a .strict) (a .at) (a .src .now) (c .parse-record .result) (s .pre .1 .0) (s .pre .0) (c .parse-record .ensures)
+same : (s : tie.Start) → (let a = s .args in recordBytes (line (a .strict) (record { at = a .at; bytes = a .src .now })) ≡ recordBytes (line false (record { at = a .at; bytes = a .src .now })))
+same s = ap recordBytes (line-lax (s .args .strict) (record { at = s .args .at; bytes = s .args .src .now }) (s .pre .0))
 
--- the bytes of the line, from its own entry on
-line-bytes : (c : tie.After-own-entry)
-    → let h = c .before .before in
-    let a = h .before .before .before .args in
-    recordBytes (line (a .strict) (record { at = a .at; bytes = a .src .now })) ≡ entryBytes (c .own-entry .result) ++ line-told h .rest
-line-bytes c = line-told (c .before .before) .bytes (c .own-entry .result) (c .own-entry .ensures)
+room : (s : tie.Start) → (let a = s .args in a .o + length (recordBytes (line false (record { at = a .at; bytes = a .src .now }))) ≤ length (a .out .now))
+room s = omega (arith, ap length (same s), s .pre .1 .1)
 
--- the own entry is written
-own-wrote : (c : tie.After-put-entry)
-    → let h = c .before .before .before in
-    let a = h .before .before .before .args in
-    let xs = recordBytes (line (a .strict) (record { at = a .at; bytes = a .src .now })) in
-    let n = c .put-entry .result in
-    (n + length (line-told h .rest) ≡ a .o + length xs) × (over (c .put-entry .last .0) n (line-told h .rest) ≡ over (a .out .now) (a .o) xs) × (length (c .put-entry .last .0) ≡ length (a .out .now))
-own-wrote c =
-    let e = c .before in
-    let h = e .before .before in
-    let s = h .before .before .before in
-    let a = s .args in
-    wrote (e .own-entry .result) _ (line-told h .rest) (line-bytes e) (a .out .now) (c .put-entry .last .0) (a .o) (c .put-entry .result) (s .pre .1 .1) (c .put-entry .ensures .0) (c .put-entry .ensures .1)
+-- the kind is the line's
+fieldless : (c : tie.Else1) → (let a = c .before .before .before .before .before .args in isComment (kindBy (getD (a .src .now) 1 0)) ≡ false)
+fieldless c = let k = c .before in ap isComment (sym (k .before .kind-of .ensures)) ∙ sym (k .is-comment .ensures) ∙ c .if1 .left
 
-own-entry-requires : tie.Need-own-entry-requires
-own-entry-requires c κs = line-told (c .before) .fits
+kind-of-requires : tie.Need-kind-of-requires
+kind-of-requires c κs = let s = c .before .before in three (s .args .strict) (s .args .at) (s .args .src .now) (s .pre .0)
 
-put-entry-requires : tie.Need-put-entry-requires
-put-entry-requires c κs =
-    let h = c .before .before in
-    omega (arith, h .before .before .before .pre .1 .1, entry-then (c .own-entry .result) _ (line-told h .rest) (line-bytes c))
+is-comment-requires : tie.Need-is-comment-requires
+is-comment-requires c κs = search needs
 
-others-of-requires : tie.Need-others-of-requires
-others-of-requires c κs = search needs
+put-comment-requires : tie.Need-put-comment-requires
+put-comment-requires c κs =
+    let t = c .before in
+    let k = t .before in
+    let s = k .before .before .before .before in
+    (read s, (sym (k .before .kind-of .ensures) ∙ comment-is (k .before .kind-of .result) (sym (k .is-comment .ensures) ∙ t .if1 .taken), (s .pre .1 .0, room s)))
 
 same-length : tie.Need-same-length
 same-length c = search needs
 
 returns : tie.Need-returns
 returns c =
-    let p = c .before .before .before .before in
-    let h = p .before .before .before in
-    let w = own-wrote p in
-    let z = line-told h .alone (c .before .others-of .result) (c .before .others-of .ensures) (c .if1 .taken) in
-    (omega (arith, w .0, ap length z), sym (over-none (p .put-entry .last .0) (p .put-entry .result)) ∙ ap (over (p .put-entry .last .0) (p .put-entry .result)) (sym z) ∙ w .1)
+    let p = c .before .before in
+    let s = p .before .before .before .before .before .before .before in
+    (p .put-comment .ensures .0 ∙ ap (λ l. s .args .o + length l) (sym (same s)), p .put-comment .ensures .1 ∙ ap (over (s .args .out .now) (s .args .o)) (sym (same s)))
 
-kind-of-requires : tie.Need-kind-of-requires
-kind-of-requires c κs = search needs
+is-once-requires : tie.Need-is-once-requires
+is-once-requires c κs =
+    let s = c .before .before .before .before .before in
+    (fielded (s .args .strict) (s .args .at) (s .args .src .now) (s .pre .0) (fieldless c) .0, omega (arith, s .pre .1 .0))
 
--- there are other fields, and their entries are the rest
-others-rest : (c : tie.After-kind-of)
-    → let h = c .before .before .before .before .before .before .before .before .before in
-    let a = h .before .before .before .args in
-    AtField (a .strict) (a .at) (a .src .now) 3 × (line-told h .rest ≡ fieldBytes (c .kind-of .result) (a .at) (a .src .now) 3)
-others-rest c =
+slice-aggregate-put-line : tie.Need-slice-aggregate-put-line
+slice-aggregate-put-line c = search needs
+
+put-line-requires : tie.Need-put-line-requires
+put-line-requires c κs =
     let t = c .before .before in
-    line-told (t .before .before .before .before .before .before .before) .more (t .before .others-of .result) (c .kind-of .result) (t .before .others-of .ensures) (t .if1 .left) (c .kind-of .ensures)
-
-put-fields-requires : tie.Need-put-fields-requires
-put-fields-requires c κs =
-    let p = c .before .before .before .before .before .before in
-    let s = p .before .before .before .before .before .before in
-    let w = own-wrote p in
-    let r = others-rest c in
-    (r .0, (s .pre .1 .0, omega (arith, s .pre .1 .1, w .0, w .2, ap length (r .1))))
+    let e = t .before .before in
+    let k = e .before in
+    let s = k .before .before .before .before in
+    let a = s .args in
+    let h = fielded (a .strict) (a .at) (a .src .now) (s .pre .0) (fieldless e) .0 in
+    (read s, ((sym (k .before .kind-of .ensures), sym (k .is-comment .ensures) ∙ e .if1 .left), (once-walkable (a .at) (a .src .now) _ (once-start (a .strict) (a .at) (a .src .now) h (sym (t .before .is-once .ensures) ∙ t .if2 .taken)), (s .pre .1 .0, room s))))
 
 same-length-2 : tie.Need-same-length-2
 same-length-2 c = search needs
 
 returns-2 : tie.Need-returns-2
 returns-2 c =
-    let f = c .before .before in
-    let k = f .before in
-    let p = k .before .before .before .before .before .before in
-    let w = own-wrote p in
-    let r = others-rest k in
-    (omega (arith, f .put-fields .ensures .0, w .0, ap length (r .1)), f .put-fields .ensures .1 ∙ ap (over (p .put-entry .last .0) (p .put-entry .result)) (sym (r .1)) ∙ w .1)
+    let p = c .before .before in
+    let s = p .before .before .before .before .before .before .before .before .before .before in
+    (p .put-line .ensures .0 ∙ ap (λ l. s .args .o + length l) (sym (same s)), p .put-line .ensures .1 ∙ ap (over (s .args .out .now) (s .args .o)) (sym (same s)))
+
+put-noted-requires : tie.Need-put-noted-requires
+put-noted-requires c κs =
+    let e = c .before .before .before in
+    let k = e .before in
+    let s = k .before .before .before .before in
+    (read s, ((sym (k .before .kind-of .ensures), sym (k .is-comment .ensures) ∙ e .if1 .left), (s .pre .1 .0, room s)))
+
+same-length-3 : tie.Need-same-length-3
+same-length-3 c = search needs
+
+returns-3 : tie.Need-returns-3
+returns-3 c =
+    let p = c .before .before in
+    let s = p .before .before .before .before .before .before .before .before .before in
+    (p .put-noted .ensures .0 ∙ ap (λ l. s .args .o + length l) (sym (same s)), p .put-noted .ensures .1 ∙ ap (over (s .args .out .now) (s .args .o)) (sym (same s)))
 
 pub put-record-spec : {M : Type 1} → statement M
 put-record-spec =
     tie.close
     (tie.spec
-    parse-record-requires
-    own-entry-requires
-    put-entry-requires
-    others-of-requires
+    kind-of-requires
+    is-comment-requires
+    put-comment-requires
     same-length
     returns
-    kind-of-requires
-    put-fields-requires
+    is-once-requires
+    slice-aggregate-put-line
+    put-line-requires
     same-length-2
-    returns-2)
+    returns-2
+    put-noted-requires
+    same-length-3
+    returns-3)

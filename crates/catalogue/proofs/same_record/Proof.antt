@@ -1,124 +1,95 @@
--- `catalogue::same_record` meets its contract: the own entry is compared first, and the entries of the other fields are the rest.
+-- `catalogue::same_record` meets its contract: a line that is accepted is accepted where repeated tags are allowed too, as the same record.
 use Prim.Native.Nat.{_+_, _≤_}
 use mathlib.Core.Path.{_≡_, sym, ap, _∙_}
-use mathlib.Core.List.{_++_}
+use mathlib.Core.Bool.{true, false}
 use native.Mathlib.Omega.{arith}
-use lib.ListN.{length, drop}
-use borrow.Author.Tests.{not-true, not-false}
-use Rattle.format.specs.Records.{line}
-use Rattle.walk.specs.Run.{AtField}
-use Rattle.entries.specs.Entries.{entryBytes}
-use Rattle.catalogue.specs.Line.{recordBytes}
-use Rattle.catalogue.specs.Parts.{fieldBytes}
-use Rattle.catalogue.specs.Matched.{matched}
-use Rattle.catalogue.proofs.Compared.{match-none}
-use Rattle.catalogue.proofs.Entries.{found, missed}
-use Rattle.catalogue.proofs.Told.{Told, told}
+use lib.ListN.{length, drop, getD}
 use borrow.Author.Needs.{needs}
+use Rattle.format.specs.Records.{line}
+use Rattle.accepted.specs.Read.{isRead}
+use Rattle.walk.specs.Tables.{Walkable}
+use Rattle.walk.proofs.Start.{once-start, once-walkable}
+use Rattle.heads.specs.Found.{kindBy, isComment}
+use Rattle.heads.proofs.Lax.{line-lax, read-lax}
+use Rattle.heads.proofs.Finds.{comment-is, three, fielded}
+use Rattle.catalogue.specs.Line.{recordBytes}
+use Rattle.catalogue.specs.Matched.{matched}
 use Rattle.catalogue.proofs.same_record.Statement.{statement}
 use Rattle.catalogue.proofs.same_record.Tie as tie
 
-parse-record-requires : tie.Need-parse-record-requires
-parse-record-requires c κs = search needs
+-- where repeated tags are allowed
+read : (s : tie.Start) → (let a = s .args in isRead (line false (record { at = a .at; bytes = a .src .now })) ≡ true)
+read s = read-lax (s .args .strict) (record { at = s .args .at; bytes = s .args .src .now }) (s .pre .0)
 
--- what the head says of the line
-line-told : (c : tie.After-parse-record) → let a = c .before .before .before .args in Told (a .strict) (a .at) (a .src .now) (c .parse-record .result)
-line-told c =
-    let s = c .before .before .before in
+same : (s : tie.Start)
+    → (let a = s .args in
+    matched (a .o) (drop (a .o) (a .catalogue .now)) (recordBytes (line false (record { at = a .at; bytes = a .src .now })))
+    ≡ matched (a .o) (drop (a .o) (a .catalogue .now)) (recordBytes (line (a .strict) (record { at = a .at; bytes = a .src .now }))))
+same s =
     let a = s .args in
-    told (a .strict) (a .at) (a .src .now) (c .parse-record .result) (s .pre .1 .0) (s .pre .0) (c .parse-record .ensures)
+    ap (λ l. matched (a .o) (drop (a .o) (a .catalogue .now)) (recordBytes l)) (sym (line-lax (a .strict) (record { at = a .at; bytes = a .src .now }) (s .pre .0)))
 
--- the bytes of the line, from its own entry on
-line-bytes : (c : tie.After-own-entry)
-    → let h = c .before in
-    let a = h .before .before .before .args in
-    recordBytes (line (a .strict) (record { at = a .at; bytes = a .src .now })) ≡ entryBytes (c .own-entry .result) ++ line-told h .rest
-line-bytes c = line-told (c .before) .bytes (c .own-entry .result) (c .own-entry .ensures)
-
--- the catalogue has the own entry
-here : (c : tie.After-size)
-    → let h = c .before .before .before .before in
-    let a = h .before .before .before .args in
-    (a .o + c .size .result ≤ length (a .catalogue .now))
-    × (matched (a .o) (drop (a .o) (a .catalogue .now)) (recordBytes (line (a .strict) (record { at = a .at; bytes = a .src .now })))
-    ≡ matched (a .o + c .size .result) (drop (a .o + c .size .result) (a .catalogue .now)) (line-told h .rest))
-here c =
-    let t = c .before .before in
-    let e = t .before in
-    let h = e .before in
-    let s = h .before .before .before in
-    let a = s .args in
-    found (e .own-entry .result) _ (line-told h .rest) (line-bytes e)
-    (a .catalogue .now) (a .o) (c .size .result) (s .pre .1 .1) (c .size .ensures) (sym (t .same-entry .ensures) ∙ not-false (t .same-entry .result) (c .before .if1 .left))
-
-own-entry-requires : tie.Need-own-entry-requires
-own-entry-requires c κs = line-told c .fits
-
-same-entry-requires : tie.Need-same-entry-requires
-same-entry-requires c κs = search needs
-
-returns : tie.Need-returns
-returns c =
-    let t = c .before in
-    let e = t .before in
-    let h = e .before in
-    let a = h .before .before .before .args in
-    sym (missed (e .own-entry .result) _ (line-told h .rest) (line-bytes e) (a .catalogue .now) (a .o) (sym (t .same-entry .ensures) ∙ not-true (t .same-entry .result) (c .if1 .taken)))
-
-size-requires : tie.Need-size-requires
-size-requires c κs = search needs
-
-add-next : tie.Need-add-next
-add-next c = record { fits = omega (arith, here c .0) }
-
-others-of-requires : tie.Need-others-of-requires
-others-of-requires c κs = search needs
-
-returns-2 : tie.Need-returns-2
-returns-2 c =
-    let z = c .before .before in
-    let h = z .before .before .before .before in
-    let a = h .before .before .before .args in
-    let n = a .o + z .size .result in
-    sym (here z .1 ∙ ap (matched n (drop n (a .catalogue .now))) (line-told h .alone (c .before .others-of .result) (c .before .others-of .ensures) (c .if2 .taken)) ∙ match-none (a .catalogue .now) n)
+-- the kind is the line's
+fieldless : (c : tie.Else1) → (let a = c .before .before .before .before .before .args in isComment (kindBy (getD (a .src .now) 1 0)) ≡ false)
+fieldless c = let k = c .before in ap isComment (sym (k .before .kind-of .ensures)) ∙ sym (k .is-comment .ensures) ∙ c .if1 .left
 
 kind-of-requires : tie.Need-kind-of-requires
-kind-of-requires c κs = search needs
+kind-of-requires c κs = let s = c .before .before in three (s .args .strict) (s .args .at) (s .args .src .now) (s .pre .0)
 
--- there are other fields, and their entries are the rest
-others-rest : (c : tie.After-kind-of)
-    → let h = c .before .before .before .before .before .before .before in
-    let a = h .before .before .before .args in
-    AtField (a .strict) (a .at) (a .src .now) 3 × (line-told h .rest ≡ fieldBytes (c .kind-of .result) (a .at) (a .src .now) 3)
-others-rest c =
+is-comment-requires : tie.Need-is-comment-requires
+is-comment-requires c κs = search needs
+
+same-comment-requires : tie.Need-same-comment-requires
+same-comment-requires c κs =
+    let k = c .before in
+    let s = k .before .before .before .before in
+    (read s, (sym (k .before .kind-of .ensures) ∙ comment-is (k .before .kind-of .result) (sym (k .is-comment .ensures) ∙ c .if1 .taken), s .pre .1))
+
+returns : tie.Need-returns
+returns c = c .same-comment .ensures ∙ same (c .before .before .before .before .before .before)
+
+is-once-requires : tie.Need-is-once-requires
+is-once-requires c κs =
+    let s = c .before .before .before .before .before in
+    (fielded (s .args .strict) (s .args .at) (s .args .src .now) (s .pre .0) (fieldless c) .0, omega (arith, s .pre .1 .0))
+
+slice-aggregate-same-line : tie.Need-slice-aggregate-same-line
+slice-aggregate-same-line c = search needs
+
+same-line-requires : tie.Need-same-line-requires
+same-line-requires c κs =
     let t = c .before in
-    line-told (t .before .before .before .before .before .before) .more (t .before .others-of .result) (c .kind-of .result) (t .before .others-of .ensures) (t .if2 .left) (c .kind-of .ensures)
+    let e = t .before .before in
+    let k = e .before in
+    let s = k .before .before .before .before in
+    let a = s .args in
+    let h = fielded (a .strict) (a .at) (a .src .now) (s .pre .0) (fieldless e) .0 in
+    (read s, ((sym (k .before .kind-of .ensures), sym (k .is-comment .ensures) ∙ e .if1 .left), (once-walkable (a .at) (a .src .now) _ (once-start (a .strict) (a .at) (a .src .now) h (sym (t .before .is-once .ensures) ∙ t .if2 .taken)), s .pre .1)))
 
-same-fields-requires : tie.Need-same-fields-requires
-same-fields-requires c κs =
-    let z = c .before .before .before in
-    (others-rest c .0, (z .before .before .before .before .before .before .before .pre .1 .0, here z .0))
+returns-2 : tie.Need-returns-2
+returns-2 c = c .same-line .ensures ∙ same (c .before .before .before .before .before .before .before .before .before)
+
+same-noted-requires : tie.Need-same-noted-requires
+same-noted-requires c κs =
+    let e = c .before .before in
+    let k = e .before in
+    let s = k .before .before .before .before in
+    (read s, ((sym (k .before .kind-of .ensures), sym (k .is-comment .ensures) ∙ e .if1 .left), s .pre .1))
 
 returns-3 : tie.Need-returns-3
-returns-3 c =
-    let k = c .before in
-    let z = k .before .before .before in
-    let a = z .before .before .before .before .before .before .before .args in
-    let n = a .o + z .size .result in
-    c .same-fields .ensures ∙ ap (matched n (drop n (a .catalogue .now))) (sym (others-rest k .1)) ∙ sym (here z .1)
+returns-3 c = c .same-noted .ensures ∙ same (c .before .before .before .before .before .before .before .before)
 
 pub same-record-spec : {M : Type 1} → statement M
 same-record-spec =
     tie.close
     (tie.spec
-    parse-record-requires
-    own-entry-requires
-    same-entry-requires
-    returns
-    size-requires
-    add-next
-    others-of-requires
-    returns-2
     kind-of-requires
-    same-fields-requires
+    is-comment-requires
+    same-comment-requires
+    returns
+    is-once-requires
+    slice-aggregate-same-line
+    same-line-requires
+    returns-2
+    same-noted-requires
     returns-3)

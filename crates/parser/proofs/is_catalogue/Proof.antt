@@ -1,30 +1,18 @@
 -- `parser::is_catalogue` meets its contract: the catalogue starts with the entries of the lines behind.
-use Prim.Native.Nat.{ℕ, _+_, _-_, _≤_, _<_}
+use Prim.Native.Nat.{_+_, _-_}
 use mathlib.Core.Path.{_≡_, refl, sym, ap, subst, _∙_}
-use mathlib.Core.List.{List, [], _∷_, _++_, append-nil}
 use native.Mathlib.Omega.{arith}
+use lib.ListN.{length, drop}
 use borrow.Author.Needs.{needs}
-use lib.ListN.{length, take, drop, length-take, length-append}
 use Rattle.format.specs.Bytes.{same}
-use Rattle.format.specs.Records.{Record, read, line}
+use Rattle.format.specs.Records.{read}
 use Rattle.format.specs.Catalogue.{catalogue}
-use Rattle.text.specs.First.{firstLine}
-use Rattle.text.specs.Over.{over}
-use Rattle.text.proofs.Over.{over-none, over-over, over-length}
-use Rattle.field.proofs.Before.{rest}
 use Rattle.catalogue.specs.Line.{recordBytes}
 use Rattle.catalogue.specs.Matched.{matched, Reached}
-use Rattle.catalogue.specs.declared.Matched.the-variants.{Differs, Upto}
-use Rattle.catalogue.proofs.Records.{catalogue-length, catalogue-more, catalogue-append}
 use Rattle.catalogue.proofs.Reached.{reached-start, reached-within, reached-on, reached-off, reached-end}
-use Rattle.parser.proofs.Walking.{Walking, text-size, walking-start, walking-end, Turn, walking-turn, next-in, len-in, next-more, lent}
+use Rattle.parser.proofs.Walking.{Walking, walking-start, walking-end, Lent, lent}
 use Rattle.parser.proofs.is_catalogue.Statement.{statement}
 use Rattle.parser.proofs.is_catalogue.Tie as tie
-use Rattle.parser.proofs.is_catalogue.Reads as reads
-use Rattle.parser.proofs.is_catalogue.Lts as lts
-use Rattle.catalogue.proofs.same_record.Reads as same-record-reads
-use Rattle.text.proofs.first_line.Reads as first-line-reads
-use Rattle.accepted.specs.Read.{isRead, recordsOf}
 
 abbrev Inv-loop : tie.InvT-loop
 Inv-loop text strict kept at₀ o₀ at o = (w : Walking strict text at) × Reached kept (w .done) o
@@ -32,53 +20,24 @@ Inv-loop text strict kept at₀ o₀ at o = (w : Walking strict text at) × Reac
 abbrev μ-loop : tie.MeasureT-loop
 μ-loop text strict kept at₀ o₀ at o = length text - at
 
--- ---- in a turn
-
--- the first of the lines ahead
-cut : (c : tie.After-first-line Inv-loop μ-loop) → c .first-line .result ≡ firstLine (drop (c .before .before .before .loop .at) (c .before .before .before .before .before .before .args .text .now))
-cut c = c .first-line .ensures ∙ ap firstLine (rest (c .before .before .before .loop .at) (c .before .before .before .before .before .before .args .text .now))
-
-inside : (c : tie.After-first-line Inv-loop μ-loop)
-    → let l = c .before .before .before in
-    let t = l .before .before .before .args .text .now in
-    (l .loop .at + c .first-line .result .len ≤ length t) × (l .loop .at + c .first-line .result .next ≤ length t) × (0 < c .first-line .result .next)
-inside c =
-    let l = c .before .before .before in
-    let a = l .before .before .before .args in
-    let h = c .before .before .loop-test .taken in
-    let e = cut c in (
-      rw e (len-in (a .strict) (a .text .now) (l .loop .at) (l .loop .inv .0) h),
-      rw e (next-in (a .strict) (a .text .now) (l .loop .at) (l .loop .inv .0) h),
-      rw e (next-more (a .strict) (a .text .now) (l .loop .at) (l .loop .inv .0) h),
-    )
-
-turn : (c : tie.After-first-line Inv-loop μ-loop)
+-- the next line
+next : (c : tie.After-first-line Inv-loop μ-loop)
     → let l = c .before .before .before in
     let a = l .before .before .before .args in
-    Turn (a .strict) (a .text .now) (l .loop .at) (l .loop .inv .0) (c .before .before .loop-test .taken)
-turn c =
+    Lent (a .strict) (a .text .now) (l .loop .at) (l .loop .inv .0) (c .before .before .loop-test .taken) (c .first-line .result)
+next c =
     let l = c .before .before .before in
-    let a = l .before .before .before .args in
-    walking-turn (a .strict) (a .text .now) (l .loop .at) (l .loop .inv .0) (c .before .before .loop-test .taken)
-
--- the line that is lent is the record that comes next
-lent-is : (c : tie.After-first-line Inv-loop μ-loop)
-    → let l = c .before .before .before in
-    let a = l .before .before .before .args in
-    line (a .strict) (record { at = l .loop .at; bytes = take (l .loop .at + c .first-line .result .len - l .loop .at) (drop (l .loop .at) (a .text .now)) }) ≡ read (turn c .here)
-lent-is c =
-    let l = c .before .before .before in
-    let a = l .before .before .before .args in
-    lent (a .strict) (a .text .now) (l .loop .at) (c .first-line .result .len) (ap (λ x. x .len) (cut c)) ∙ turn c .line-is
+    let s = l .before .before .before in
+    lent (s .args .strict) (s .args .text .now) (l .loop .at) (l .loop .inv .0) (c .before .before .loop-test .taken) (c .first-line .result) (s .pre) (c .first-line .ensures)
 
 compared : (c : tie.After-same-record Inv-loop μ-loop)
     → let q = c .before .before .before in
     let l = q .before .before .before in
-    c .same-record .result ≡ matched (l .loop .o) (drop (l .loop .o) (l .before .before .before .args .kept .now)) (recordBytes (read (turn q .here)))
+    c .same-record .result ≡ matched (l .loop .o) (drop (l .loop .o) (l .before .before .before .args .kept .now)) (recordBytes (read (next q .turn .here)))
 compared c =
     let q = c .before .before .before in
     let l = q .before .before .before in
-    c .same-record .ensures ∙ ap (λ x. matched (l .loop .o) (drop (l .loop .o) (l .before .before .before .args .kept .now)) (recordBytes x)) (lent-is q)
+    c .same-record .ensures ∙ ap (λ x. matched (l .loop .o) (drop (l .loop .o) (l .before .before .before .args .kept .now)) (recordBytes x)) (next q .line-is)
 
 loop-holds : tie.Need-loop-holds Inv-loop μ-loop
 unfolding walking-start
@@ -97,7 +56,7 @@ first-line-requires : tie.Need-first-line-requires Inv-loop μ-loop
 first-line-requires c κs = search needs
 
 add-end : tie.Need-add-end Inv-loop μ-loop
-add-end c = omega (arith, inside (c .before))
+add-end c = omega (arith, next (c .before) .inside)
 
 sub-same-record : tie.Need-sub-same-record Inv-loop μ-loop
 sub-same-record c = omega arith
@@ -106,21 +65,14 @@ part-same-record-start : tie.Need-part-same-record-start Inv-loop μ-loop
 part-same-record-start c = omega arith
 
 part-same-record-end : tie.Need-part-same-record-end Inv-loop μ-loop
-part-same-record-end c = omega (arith, inside (c .before))
+part-same-record-end c = omega (arith, next (c .before) .inside)
 
 same-record-requires : tie.Need-same-record-requires Inv-loop μ-loop
-unfolding isRead
 same-record-requires c κs =
     let q = c .before .before in
     let l = q .before .before .before in
     let a = l .before .before .before .args in
-    let n = length-take (l .loop .at + q .first-line .result .len - l .loop .at) (drop (l .loop .at) (a .text .now)) in (
-      ap isRead (lent-is q),
-      (
-        omega (arith, n, inside q .0, text-size (a .strict) (a .text .now) (l .before .before .before .pre)),
-        reached-within (a .kept .now) (l .loop .inv .0 .done) (l .loop .o) (l .loop .inv .1),
-      ),
-    )
+    (next q .accepted, (next q .fits, reached-within (a .kept .now) (l .loop .inv .0 .done) (l .loop .o) (l .loop .inv .1)))
 
 enum-known-next : tie.Need-enum-known-next Inv-loop μ-loop
 enum-known-next c = search needs
@@ -136,14 +88,14 @@ returns c =
     let a = l .before .before .before .args in
     let w = l .loop .inv .0 in
     sym
-    (ap (λ rs. same (a .kept .now) (catalogue rs)) (turn q .whole-is)
-    ∙ reached-off (a .kept .now) (w .done) (l .loop .o) (l .loop .inv .1) (turn q .here) (sym (compared s) ∙ c .enum-told .given .1) (turn q .others))
+    (ap (λ rs. same (a .kept .now) (catalogue rs)) (next q .turn .whole-is)
+    ∙ reached-off (a .kept .now) (w .done) (l .loop .o) (l .loop .inv .1) (next q .turn .here) (sym (compared s) ∙ c .enum-told .given .1) (next q .turn .others))
 
 add-at : tie.Need-add-at Inv-loop μ-loop
-add-at c = omega (arith, inside (c .before .before .before .before .before .before .before))
+add-at c = omega (arith, next (c .before .before .before .before .before .before .before) .inside)
 
 loop-less : tie.Need-loop-less Inv-loop μ-loop
-loop-less c = omega (arith, inside (c .before .before .before .before .before .before .before))
+loop-less c = omega (arith, next (c .before .before .before .before .before .before .before) .inside)
 
 loop-again : tie.Need-loop-again Inv-loop μ-loop
 loop-again c =
@@ -153,8 +105,8 @@ loop-again c =
     let a = l .before .before .before .args in
     let w = l .loop .inv .0 in
     let n = c .before .before .next .given .0 .0 in
-    rw (cut q)
-    (turn q .next, subst (λ d. Reached (a .kept .now) d n) (sym (turn q .done-is)) (reached-on (a .kept .now) (w .done) (l .loop .o) (l .loop .inv .1) (turn q .here) n (sym (compared s) ∙ c .before .before .next .given .1)))
+    rw (next q .cut-is)
+    (next q .turn .next, subst (λ d. Reached (a .kept .now) d n) (sym (next q .turn .done-is)) (reached-on (a .kept .now) (w .done) (l .loop .o) (l .loop .inv .1) (next q .turn .here) n (sym (compared s) ∙ c .before .before .next .given .1)))
 
 returns-2 : tie.Need-returns-2 Inv-loop μ-loop
 returns-2 c =

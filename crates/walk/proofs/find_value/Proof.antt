@@ -1,124 +1,27 @@
--- `walk::find_value` meets its contract: what is the last value from the place on is what is still asked.
-use Prim.Native.Nat.{ℕ, _+_, _-_, _≤_}
-use mathlib.Core.Path.{_≡_, refl, sym, ap, ap₂, _∙_}
-use mathlib.Core.Bool.{true, _&&_}
-use mathlib.Core.List.{List, []}
-use native.Mathlib.Omega.{arith}
-use lib.ListN.{length, getD}
-use lib.Dec.{eqb}
-use borrow.Author.Tests.{eqb-true}
-use Rattle.format.specs.Fields.{Field, lastOf}
-use Rattle.accepted.proofs.Bools.{and-left, and-right}
-use Rattle.walk.specs.Run.{fieldsFrom, AtField}
-use Rattle.walk.specs.Next.{orValue, valueAt, keptAt}
-use Rattle.walk.specs.declared.Value.{Value}
-use Rattle.walk.proofs.Here.{ended}
-use Rattle.walk.proofs.Place.{next-at, bounds, same-at, other-at}
+-- `walk::find_value` meets its contract: a search where no tag stands twice, and else the tables.
+use mathlib.Core.Path.{subst}
+use borrow.Author.Needs.{needs}
+use Rattle.walk.specs.Run.{AtField}
+use Rattle.walk.proofs.Here.{laxly}
 use Rattle.walk.proofs.find_value.Statement.{statement}
 use Rattle.walk.proofs.find_value.Tie as tie
 
-abbrev nothing : Value
-nothing = record { at = 0; len = 0 }
+only-value-requires : tie.Need-only-value-requires
+only-value-requires c κs =
+    let s = c .before .before .before in
+    (subst (λ t. AtField t (s .args .at) (s .args .line .now) 3) (c .if1 .taken) (s .pre .0 .start), s .pre .1 .1)
 
-none-left : (a b : ℕ) (fs : List Field) → fs ≡ [] → orValue nothing (lastOf a b fs) ≡ nothing
-unfolding orValue lastOf
-none-left a b fs e = rw e refl
+returns : tie.Need-returns
+returns c = search needs
 
--- the tag of the field at `i` is `a`, `b`
-kept-same : (at : ℕ) (line : List ℕ) (i end a b : ℕ) → eqb (getD line (i + 1) 0) a && eqb (getD line (i + 2) 0) b ≡ true
-    → keptAt at line i end ≡ orValue (valueAt at i end) (lastOf a b (fieldsFrom at line end))
-unfolding keptAt
-kept-same at line i end a b h =
-    let x = eqb (getD line (i + 1) 0) a in
-    let y = eqb (getD line (i + 2) 0) b in
-    ap₂ (λ c d. orValue (valueAt at i end) (lastOf c d (fieldsFrom at line end))) (eqb-true _ _ (and-left x y h)) (eqb-true _ _ (and-right x y h))
+noted-value-requires : tie.Need-noted-value-requires
+noted-value-requires c κs =
+    let s = c .before .before .before in
+    let a = s .args in
+    (laxly (a .once) (a .at) (a .line .now) 3 (s .pre .0 .start), (s .pre .0 .tables (c .if1 .left), s .pre .1))
 
-abbrev Inv-loop : tie.InvT-loop
-Inv-loop line at a b strict i₀ i = AtField strict at line i × (orValue nothing (lastOf a b (fieldsFrom at line 3)) ≡ orValue nothing (lastOf a b (fieldsFrom at line i)))
-
-abbrev μ-loop : tie.MeasureT-loop
-μ-loop line at a b strict i₀ i = length line - i
-
--- the field of a turn ends in the line
-reach : (c : tie.After-field-end Inv-loop μ-loop) → (c .before .before .loop .i + 4 ≤ c .field-end .result) × (c .field-end .result ≤ length (c .before .before .before .before .args .line .now))
-reach c =
-    let l = c .before .before in
-    let a = l .before .before .args in
-    bounds (a .strict) (a .at) (a .line .now) (l .loop .i) (l .loop .inv .0) (omega arith) (c .field-end .result) (c .field-end .ensures)
-
-loop-holds : tie.Need-loop-holds Inv-loop μ-loop
-loop-holds c = (c .before .pre .0, refl)
-
-field-end-requires : tie.Need-field-end-requires Inv-loop μ-loop
-field-end-requires c κs = omega arith
-
-add-is-same-tag : tie.Need-add-is-same-tag Inv-loop μ-loop
-add-is-same-tag c = omega (arith, reach c)
-
-shared-slice-read-is-same-tag : tie.Need-shared-slice-read-is-same-tag Inv-loop μ-loop
-shared-slice-read-is-same-tag c = omega (arith, reach (c .before))
-
-add-is-same-tag-2 : tie.Need-add-is-same-tag-2 Inv-loop μ-loop
-add-is-same-tag-2 c = omega (arith, reach (c .before))
-
-shared-slice-read-is-same-tag-2 : tie.Need-shared-slice-read-is-same-tag-2 Inv-loop μ-loop
-shared-slice-read-is-same-tag-2 c = omega (arith, reach (c .before .before))
-
-is-same-tag-requires : tie.Need-is-same-tag-requires Inv-loop μ-loop
-is-same-tag-requires c κs = tt
-
-kept-value-requires : tie.Need-kept-value-requires Inv-loop μ-loop
-kept-value-requires c κs =
-    let f = c .before .before .before .before in
-    let l = f .before .before in
-    (l .loop .inv .0, ((omega arith, f .field-end .ensures), l .before .before .pre .1))
-
-returns : tie.Need-returns Inv-loop μ-loop
-returns c =
-    let t = c .before .before in
-    let f = t .before .before .before in
-    let l = f .before .before in
-    let a = l .before .before .args in
-    let hit = sym (t .is-same-tag .ensures) ∙ c .before .if1 .taken in
-    c .kept-value .ensures
-    ∙ kept-same (a .at) (a .line .now) (l .loop .i) (f .field-end .result) (a .a) (a .b) hit
-    ∙ sym (l .loop .inv .1 ∙ same-at (a .strict) (a .at) (a .line .now) (l .loop .i) (l .loop .inv .0) (omega arith) (f .field-end .result) (f .field-end .ensures) (a .a) (a .b) nothing hit)
-
-loop-less : tie.Need-loop-less Inv-loop μ-loop
-loop-less c = omega (arith, reach (c .before .before .before .before))
-
-loop-again : tie.Need-loop-again Inv-loop μ-loop
-loop-again c =
-    let t = c .before in
-    let f = t .before .before .before in
-    let l = f .before .before in
-    let a = l .before .before .args in (
-      next-at (a .strict) (a .at) (a .line .now) (l .loop .i) (l .loop .inv .0) (omega arith) (f .field-end .result) (f .field-end .ensures),
-      l .loop .inv .1
-          ∙ other-at (a .strict) (a .at) (a .line .now) (l .loop .i) (l .loop .inv .0) (omega arith) (f .field-end .result) (f .field-end .ensures) (a .a) (a .b) nothing (sym (t .is-same-tag .ensures) ∙ c .if1 .left),
-    )
-
-returns-2 : tie.Need-returns-2 Inv-loop μ-loop
-returns-2 c =
-    let l = c .before in
-    let a = l .before .before .args in
-    sym (l .loop .inv .1 ∙ none-left (a .a) (a .b) _ (ended (a .strict) (a .at) (a .line .now) (l .loop .i) (l .loop .inv .0) (c .loop-test .left)))
+returns-2 : tie.Need-returns-2
+returns-2 c = search needs
 
 pub find-value-spec : {M : Type 1} → statement M
-find-value-spec =
-    tie.close
-    (tie.spec
-    Inv-loop
-    μ-loop
-    loop-holds
-    field-end-requires
-    add-is-same-tag
-    shared-slice-read-is-same-tag
-    add-is-same-tag-2
-    shared-slice-read-is-same-tag-2
-    is-same-tag-requires
-    kept-value-requires
-    returns
-    loop-less
-    loop-again
-    returns-2)
+find-value-spec = tie.close (tie.spec only-value-requires returns noted-value-requires returns-2)

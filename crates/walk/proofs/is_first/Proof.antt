@@ -1,87 +1,92 @@
--- `walk::is_first` meets its contract: a key is not, and of the others the bytes before tell, where repeats are allowed.
-use Prim.Native.Nat.{ℕ, _+_, _-_}
+-- `walk::is_first` meets its contract: where no tag stands twice it is known, and else the tables tell.
+use Prim.Native.Nat.{_+_, _≤_, _<_}
 use mathlib.Core.Path.{_≡_, refl, sym, ap, _∙_}
-use mathlib.Core.Bool.{Bool, true, false, not}
-use mathlib.Core.List.{List}
-use lib.ListN.{take, drop, getD}
+use mathlib.Core.Bool.{false}
+use native.Mathlib.Omega.{arith}
+use lib.ListN.{length, getD}
+use lib.Dec.{eqb}
 use borrow.Author.Needs.{needs}
-use Rattle.format.specs.declared.Kind.{Kind}
-use Rattle.accepted.specs.Sound.{isKey}
-use Rattle.tags.specs.Occurs.{occurs}
-use Rattle.walk.specs.Next.{isFirst}
+use Rattle.tag_number.proofs.Apart.{tag-below}
+use Rattle.walk.specs.Tables.{Noted}
+use Rattle.walk.proofs.Noted.{tables-size}
+use Rattle.walk.proofs.Place.{bounds, first-at, tag-at, first-tabled}
 use Rattle.walk.proofs.is_first.Statement.{statement}
 use Rattle.walk.proofs.is_first.Tie as tie
 
--- by the key test and by `strict`
-module _ (k : Kind) (strict : Bool) (line : List ℕ) (i : ℕ) where
-  key : isKey k (getD line (i + 1) 0) (getD line (i + 2) 0) ≡ true → false ≡ isFirst k strict line i
-  unfolding isFirst
-  key h = rw h refl
+-- the field has a tag
+reach : (s : tie.Start) → (let a = s .args in a .i + 4 ≤ length (a .line .now))
+reach s =
+    let a = s .args in
+    let b = bounds (a .once) (a .at) (a .line .now) (a .i) (s .pre .1 .0) (s .pre .1 .1 .0) _ refl in
+    omega (arith, b)
 
-  strictly : isKey k (getD line (i + 1) 0) (getD line (i + 2) 0) ≡ false → strict ≡ true → true ≡ isFirst k strict line i
-  unfolding isFirst
-  strictly h s = rw (h, s) refl
+-- the tables are lent
+lent : (c : tie.Else1) → (let a = c .before .before .before .args in Noted (a .at) (a .line .now) (a .tables .now))
+lent c = c .before .before .before .pre .0 .tables (c .if1 .left)
 
-  by-bytes : isKey k (getD line (i + 1) 0) (getD line (i + 2) 0) ≡ false → strict ≡ false → not (occurs (getD line (i + 1) 0) (getD line (i + 2) 0) (take (i - 3) (drop 3 line))) ≡ isFirst k strict line i
-  unfolding isFirst
-  by-bytes h s = rw (h, s) refl
-
-add-a : tie.Need-add-a
-add-a c = search needs
-
-shared-slice-read-a : tie.Need-shared-slice-read-a
-shared-slice-read-a c = search needs
-
-add-b : tie.Need-add-b
-add-b c = search needs
-
-shared-slice-read-b : tie.Need-shared-slice-read-b
-shared-slice-read-b c = search needs
-
-is-key-requires : tie.Need-is-key-requires
-is-key-requires c κs = search needs
+number : (c : tie.After-tag-number) → (let s = c .before .before .before .before .before .before in (c .tag-number .result < 3224) × (length (s .args .tables .now) ≡ 6448))
+number c =
+    let e = c .before .before .before in
+    let s = e .before .before .before in
+    let a = s .args in (
+      omega (arith, c .tag-number .ensures, tag-below _ _ (tag-at (a .once) (a .at) (a .line .now) (a .i) (s .pre .1 .0) (s .pre .1 .1 .0) _ refl (a .tables .now) (lent e))),
+      tables-size (a .at) (a .line .now) (a .tables .now) (lent e),
+    )
 
 returns : tie.Need-returns
 returns c =
-    let a = c .before .before .before .before .before .args in
-    key (a .kind) (a .strict) (a .line .now) (a .i) (sym (c .before .is-key .ensures) ∙ c .if1 .taken)
+    let s = c .before .before .before in
+    let a = s .args in
+    sym (first-at (a .once) (a .at) (a .line .now) (a .i) (s .pre .1 .0) (s .pre .1 .1 .0) _ refl (c .if1 .taken))
+
+add-tag-number : tie.Need-add-tag-number
+add-tag-number c = omega (arith, reach (c .before .before .before))
+
+shared-slice-read-tag-number : tie.Need-shared-slice-read-tag-number
+shared-slice-read-tag-number c = omega (arith, reach (c .before .before .before .before))
+
+add-tag-number-2 : tie.Need-add-tag-number-2
+add-tag-number-2 c = omega (arith, reach (c .before .before .before .before))
+
+shared-slice-read-tag-number-2 : tie.Need-shared-slice-read-tag-number-2
+shared-slice-read-tag-number-2 c = omega (arith, reach (c .before .before .before .before .before))
+
+tag-number-requires : tie.Need-tag-number-requires
+tag-number-requires c κs = search needs
+
+mul-result : tie.Need-mul-result
+mul-result c = omega (arith, number c)
+
+shared-slice-read-result : tie.Need-shared-slice-read-result
+shared-slice-read-result c = omega (arith, number (c .before))
+
+cast-result : tie.Need-cast-result
+cast-result c = omega (arith, c .shared-slice-known5 .given (c .before .tag-number .result))
+
+add-result : tie.Need-add-result
+add-result c = search needs
 
 returns-2 : tie.Need-returns-2
 returns-2 c =
-    let a = c .before .before .before .before .before .before .args in
-    strictly (a .kind) (a .strict) (a .line .now) (a .i) (sym (c .before .before .is-key .ensures) ∙ c .before .if1 .left) (c .if2 .taken)
-
-sub-occurs : tie.Need-sub-occurs
-sub-occurs c = search needs
-
-part-occurs-start : tie.Need-part-occurs-start
-part-occurs-start c = search needs
-
-part-occurs-end : tie.Need-part-occurs-end
-part-occurs-end c = search needs
-
-occurs-requires : tie.Need-occurs-requires
-occurs-requires c κs = search needs
-
-returns-3 : tie.Need-returns-3
-returns-3 c =
-    let a = c .before .before .before .before .before .before .before .before .args in
-    let n = c .before .before in
-    ap not (c .occurs .ensures) ∙ by-bytes (a .kind) (a .strict) (a .line .now) (a .i) (sym (n .before .before .is-key .ensures) ∙ n .before .if1 .left) (n .if2 .left)
+    let n = c .before in
+    let e = n .before .before .before in
+    let s = e .before .before .before in
+    let a = s .args in
+    ap (λ m. eqb (getD (a .tables .now) m 0) (a .at + a .i)) (n .tag-number .ensures)
+    ∙ first-tabled (a .once) (a .at) (a .line .now) (a .i) (s .pre .1 .0) (s .pre .1 .1 .0) _ refl (a .tables .now) (lent e)
 
 pub is-first-spec : {M : Type 1} → statement M
 is-first-spec =
     tie.close
     (tie.spec
-    add-a
-    shared-slice-read-a
-    add-b
-    shared-slice-read-b
-    is-key-requires
     returns
-    returns-2
-    sub-occurs
-    part-occurs-start
-    part-occurs-end
-    occurs-requires
-    returns-3)
+    add-tag-number
+    shared-slice-read-tag-number
+    add-tag-number-2
+    shared-slice-read-tag-number-2
+    tag-number-requires
+    mul-result
+    shared-slice-read-result
+    cast-result
+    add-result
+    returns-2)
