@@ -16,7 +16,7 @@ use Rattle.entries.specs.declared.Entry.{Entry}
 use Rattle.lookup.specs.declared.Found.{Found}
 use Rattle.lookup.specs.declared.Found.the-variants.{Nothing, At}
 use Rattle.lookup.specs.Lookup.{keyIn}
-use Rattle.lookup.specs.Parents.{bytesAt}
+use Rattle.lookup.specs.Places.{bytesAt}
 use Rattle.ids.specs.Taken.{foundBytes, idIn}
 use Rattle.added.specs.Lines.{newLines, addedText}
 use Rattle.added.specs.Line.{joining, linking, ending, newLine}

@@ -6,7 +6,7 @@ ghost use lib.ListN.{length};
 ghost use Rattle.text.specs.Over.{over};
 ghost use Rattle.text.specs.Stands.{Each};
 ghost use Rattle.entries.specs.Entries.{entriesIn};
-ghost use Rattle.lookup.specs.Parents.{Within};
+ghost use Rattle.lookup.specs.Places.{Within};
 ghost use Rattle.added.specs.Line.{joining, linking, ending, newLine};
 ghost use Rattle.added.specs.Lines.{newLines, addedText};
 

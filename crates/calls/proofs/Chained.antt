@@ -17,7 +17,8 @@ use Rattle.text.specs.Stands.{Each}
 use Rattle.accepted.specs.Read.{recordsOf}
 use Rattle.chains.specs.Parents.{linksOf, within, inArray}
 use Rattle.entries.specs.Entries.{entriesIn, counted}
-use Rattle.lookup.specs.Parents.{Within, parentsIn, strays}
+use Rattle.lookup.specs.Places.{Within}
+use Rattle.lookup.specs.Parents.{parentsIn, strays}
 use Rattle.lookup.proofs.Kept.{text-inside, text-few}
 use Rattle.lookup.proofs.Numbers.{array-front, parents-few, parents-count, parents-dangling, parents-roots, parents-links, parents-within}
 use Rattle.parser.specs.Answers.{outputOf}

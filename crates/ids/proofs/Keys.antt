@@ -16,7 +16,7 @@ use Rattle.entries.specs.Entries.{kindOf}
 use Rattle.lookup.specs.declared.Found.{Found}
 use Rattle.lookup.specs.declared.Found.the-variants.{Nothing, At}
 use Rattle.lookup.specs.Lookup.{entriesFrom, front, keyOf, keyIn}
-use Rattle.lookup.specs.Parents.{Inside, Within, bytesAt}
+use Rattle.lookup.specs.Places.{Inside, Within, bytesAt}
 use Rattle.ids.specs.Taken.{joined, known, foundBytes, idIn, taken}
 
 -- ---- the place of a key

@@ -17,7 +17,8 @@ use Rattle.entries.specs.declared.Place.{Place}
 use Rattle.entries.specs.declared.Entry.{Entry}
 use Rattle.entries.specs.declared.Entry.the-variants.{End, Header, ReferenceSequence, ReadGroup, Program, Comment, Field}
 use Rattle.entries.specs.Entries.{sizeOf, entryOf, entriesIn}
-use Rattle.lookup.specs.Parents.{Inside, Within, bytesAt, ordinalIn}
+use Rattle.lookup.specs.Places.{Inside, Within, bytesAt}
+use Rattle.lookup.specs.Parents.{ordinalIn}
 use Rattle.ids.specs.Taken.{known}
 
 -- ---- one entry

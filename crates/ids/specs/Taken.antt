@@ -7,7 +7,8 @@ use Rattle.entries.specs.declared.Entry.{Entry}
 use Rattle.lookup.specs.declared.Found.{Found}
 use Rattle.lookup.specs.declared.Found.the-variants.{Nothing, At}
 use Rattle.lookup.specs.Lookup.{keyIn}
-use Rattle.lookup.specs.Parents.{bytesAt, ordinalIn}
+use Rattle.lookup.specs.Places.{bytesAt}
+use Rattle.lookup.specs.Parents.{ordinalIn}
 
 -- prefix, `-`, ID
 unfoldable pub joined : List ℕ → List ℕ → List ℕ

@@ -7,7 +7,7 @@ ghost use lib.ListN.{length};
 ghost use Rattle.format.specs.Bytes.{same};
 ghost use Rattle.text.specs.Stands.{Each};
 ghost use Rattle.entries.specs.Entries.{entriesIn};
-ghost use Rattle.lookup.specs.Parents.{Within};
+ghost use Rattle.lookup.specs.Places.{Within};
 ghost use Rattle.ids.specs.Taken.{joined, known, idIn, taken};
 
 // Whether an ID is the prefix, `-` and another ID: the lengths first, then part by part.

@@ -25,7 +25,7 @@ use Rattle.entries.specs.declared.Entry.{Entry}
 use Rattle.entries.specs.Entries.{pieceAt, headEntry, fieldEntry, entriesOf, entriesIn, counted, FitsPlace, Fits}
 use Rattle.entries.proofs.Records.{counted-records}
 use Rattle.entries.proofs.Found.{entries-catalogue}
-use Rattle.lookup.specs.Parents.{Inside, Within, bytesAt}
+use Rattle.lookup.specs.Places.{Inside, Within, bytesAt}
 
 -- ---- from records to entries
 

@@ -20,7 +20,8 @@ use Rattle.entries.specs.declared.Place.{Place}
 use Rattle.entries.specs.declared.Entry.{Entry}
 use Rattle.entries.specs.declared.Entry.the-variants.{End, Header, ReferenceSequence, ReadGroup, Program, Comment, Field}
 use Rattle.entries.specs.Entries.{kindOf, sizeOf, entryOf, entriesIn, counted}
-use Rattle.lookup.specs.Parents.{Inside, Within, bytesAt, ordinalIn}
+use Rattle.lookup.specs.Places.{Inside, Within, bytesAt}
+use Rattle.lookup.specs.Parents.{ordinalIn}
 
 -- ---- two keys, byte by byte
 

@@ -21,7 +21,8 @@ use Rattle.entries.specs.declared.Entry.the-variants.{End, Header, ReferenceSeq
 use Rattle.lookup.specs.declared.Found.{Found}
 use Rattle.lookup.specs.declared.Found.the-variants.{Nothing, At}
 use Rattle.lookup.specs.Lookup.{valueIn}
-use Rattle.lookup.specs.Parents.{Inside, Within, stranger, parentOf, parentsFrom, parentsIn, strays}
+use Rattle.lookup.specs.Places.{Inside, Within}
+use Rattle.lookup.specs.Parents.{stranger, parentOf, parentsFrom, parentsIn, strays}
 
 -- a place that is found is within
 unfoldable Held : ℕ → Found → Type 0

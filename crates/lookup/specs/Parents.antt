@@ -1,14 +1,12 @@
 -- The parents of the programs, by the entries of a catalogue and the places of the text that they name.
-use Prim.Native.Nat.{ℕ, _+_, _≤_}
+use Prim.Native.Nat.{ℕ, _+_}
 use mathlib.Core.Bool.{Bool, cond}
 use mathlib.Core.List.{List, [], _∷_}
 use mathlib.Core.Option.{Option, none, some}
-use lib.ListN.{take, drop}
 use lib.Dec.{eqb}
 use Rattle.format.specs.Bytes.{same, any}
 use Rattle.format.specs.Programs.{Link, root, dangling, child}
 use Rattle.chains.specs.Parents.{nobody}
-use Rattle.entries.specs.declared.Place.{Place}
 use Rattle.entries.specs.declared.Entry.{Entry}
 use Rattle.entries.specs.declared.Entry.the-variants.{End, Header, ReferenceSequence, ReadGroup, Program, Comment, Field}
 use Rattle.entries.specs.Entries.{kindOf}
@@ -17,26 +15,7 @@ use Rattle.lookup.specs.declared.Found.the-variants.{Nothing, At}
 use Rattle.lookup.specs.declared.Named.{Named}
 use Rattle.lookup.specs.declared.Named.the-variants.{Nobody, Is}
 use Rattle.lookup.specs.Lookup.{valueIn}
-
--- ---- places
-
--- a place is within `n` bytes
-abbrev pub Inside : ℕ → Place → Type 0
-Inside n p = p .at + p .len ≤ n
-
--- the place that an entry names, if it names one, is within `n` bytes
-unfoldable pub Within : ℕ → Entry → Type 0
-Within n End = Unit
-Within n (Header v) = Unit
-Within n (ReferenceSequence p m) = Inside n p
-Within n (ReadGroup p) = Inside n p
-Within n (Program p) = Inside n p
-Within n (Comment p) = Inside n p
-Within n (Field a b p) = Inside n p
-
--- the bytes of a text at a place
-unfoldable pub bytesAt : List ℕ → Place → List ℕ
-bytesAt t p = take (p .len) (drop (p .at) t)
+use Rattle.lookup.specs.Places.{bytesAt}
 
 -- ---- the program with an ID
 

@@ -9,7 +9,8 @@ ghost use Rattle.text.specs.Stands.{Each};
 ghost use Rattle.chains.specs.Parents.{inArray};
 ghost use Rattle.entries.specs.Entries.{entriesIn, counted};
 ghost use Rattle.lookup.specs.Lookup.{keyOf, lengthOf, valueIn, keyIn, lengthIn, fieldIn};
-ghost use Rattle.lookup.specs.Parents.{Inside, Within, bytesAt, ordinalIn, namedOf, parentOf, parentsIn, strays};
+ghost use Rattle.lookup.specs.Places.{Inside, Within, bytesAt};
+ghost use Rattle.lookup.specs.Parents.{ordinalIn, namedOf, parentOf, parentsIn, strays};
 
 // A place of the text, if there is one.
 pub enum Found {
@@ -68,7 +69,7 @@ pub fn find_length(catalogue: &[u8], ordinal: u32) -> Sized
 }
 
 // The value of the field entry with a tag among those from `from` on, up to the next record's entry.
-fn field_from(catalogue: &[u8], from: usize, a: u8, b: u8) -> Found
+pub fn field_from(catalogue: &[u8], from: usize, a: u8, b: u8) -> Found
     ensures { λ r. ⌜ r ≡ valueIn a b (entriesIn (drop from (now (catalogue .entry)))) ⌝ }
 {
     let mut at: usize = from;

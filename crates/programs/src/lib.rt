@@ -27,7 +27,7 @@ ghost use Rattle.text.specs.Over.{over};
 ghost use Rattle.text.specs.Stands.{Each};
 ghost use Rattle.accepted.specs.Read.{isAccepted, recordsOf};
 ghost use Rattle.entries.specs.Entries.{entriesIn, counted};
-ghost use Rattle.lookup.specs.Parents.{Within};
+ghost use Rattle.lookup.specs.Places.{Within};
 ghost use Rattle.parser.specs.Answers.{answerOf, outputOf};
 ghost use Rattle.ids.specs.Taken.{known};
 ghost use Rattle.given.specs.Given.{givenOf};

@@ -14,7 +14,8 @@ use Rattle.lookup.specs.declared.Found.the-variants.{At}
 use Rattle.lookup.specs.declared.Named.{Named}
 use Rattle.lookup.specs.declared.Named.the-variants.{Nobody, Is}
 use Rattle.lookup.specs.Lookup.{valueIn}
-use Rattle.lookup.specs.Parents.{stranger, namedOf, orStranger, bytesAt, ordinalIn, parentOf}
+use Rattle.lookup.specs.Places.{bytesAt}
+use Rattle.lookup.specs.Parents.{stranger, namedOf, orStranger, ordinalIn, parentOf}
 use Rattle.lookup.proofs.Turns.{value-inside}
 use Rattle.lookup.proofs.parent_at.Statement.{statement}
 use Rattle.lookup.proofs.parent_at.Tie as tie

@@ -20,7 +20,7 @@ use Rattle.accepted.specs.Read.{recordsOf}
 use Rattle.accepted.proofs.Read.{accepted-reads}
 use Rattle.field.proofs.Before.{rest}
 use Rattle.entries.specs.Entries.{entriesIn, counted}
-use Rattle.lookup.specs.Parents.{Within}
+use Rattle.lookup.specs.Places.{Within}
 use Rattle.lookup.proofs.Kept.{text-inside, text-few}
 use Rattle.lookup.proofs.Numbers.{parents-count, parents-few}
 use Rattle.parser.specs.Answers.{answerOf, outputOf}
