@@ -1,12 +1,11 @@
 -- What is gathered from the catalogue of an accepted text: the IDs that are lent, and the parent of each program.
-use Prim.Native.Nat.{ℕ, zero, suc, _+_, _-_, _≤_, _<_}
+use Prim.Native.Nat.{ℕ, _≤_, _<_}
 use mathlib.Core.Path.{_≡_, refl, sym, ap, ap₂, subst, _∙_}
 use mathlib.Core.Bool.{true}
 use mathlib.Core.List.{List, [], _∷_, map}
 use mathlib.Core.Option.{none}
 use native.Mathlib.Omega.{arith}
-use lib.ListN.{length, take, getD, replicate, length-map}
-use lib.Seq.{take-at}
+use lib.ListN.{length, take, getD, length-map}
 use Rattle.format.specs.Records.{Record}
 use Rattle.format.specs.Reading.{readText, ofKind}
 use Rattle.format.specs.Catalogue.{catalogue}
@@ -18,7 +17,7 @@ use Rattle.accepted.proofs.Pairs.{pairs-length, pairs-at}
 use Rattle.accepted.proofs.Read.{accepted-reads}
 use Rattle.accepted.proofs.Text.{text-fits, text-programs}
 use Rattle.chains.specs.Parents.{inArray}
-use Rattle.chains.proofs.Arrays.{array-length, array-at}
+use Rattle.chains.proofs.Arrays.{front, front-at}
 use Rattle.chains.proofs.Walks.{map-at}
 use Rattle.entries.specs.declared.Place.{Place}
 use Rattle.entries.specs.Entries.{entriesIn}
@@ -28,11 +27,7 @@ use Rattle.gathered.specs.Gathered.{Noted, nowhere, notedIn, arraysOf, g
 use Rattle.gathered.specs.Parents.{numberOf, parentOf}
 use Rattle.gathered.proofs.Says.{Says, says-ids, says-inside, before-inside, before-parent, text-says}
 
--- ---- the front of an array
-
-pub array-front : (xs : List ℕ) → take (length xs) (inArray xs) ≡ xs
-unfolding inArray
-array-front xs = take-at xs (replicate (1024 - length xs) 0) (length xs) refl
+-- ---- numbers in arrays
 
 -- the places whose numbers are in arrays
 places-back : (f : Noted → Place) (ns : List Noted) → placesOf (map (λ n. f n .at) ns) (map (λ n. f n .len) ns) ≡ map f ns
@@ -46,15 +41,16 @@ module _ (f : Noted → ℕ) (ns : List Noted) (xs : List ℕ) (count : ℕ) (e 
   same-count = m ∙ sym (length-map ns f)
 
   kept-front : take count xs ≡ map f ns
-  kept-front = ap₂ take same-count e ∙ array-front (map f ns)
+  kept-front = front (map f ns) xs count e same-count
 
   kept-at : (i : ℕ) (d : Noted) → i < count → getD xs i 0 ≡ f (getD ns i d)
-  kept-at i d h = ap (λ l. getD l i 0) e ∙ array-at (map f ns) i (omega (arith, same-count)) ∙ map-at f ns i d 0 (omega arith)
-
-  kept-length : count ≤ 1024 → length xs ≡ 1024
-  kept-length h = ap length e ∙ array-length (map f ns) (omega (arith, same-count))
+  kept-at i d h = front-at (map f ns) xs count e same-count i h ∙ map-at f ns i d 0 (omega arith)
 
 -- ---- of an accepted text
+
+pub few-programs : (t : List ℕ) → isAccepted (readText t) ≡ true → length (programs (recordsOf t)) ≤ 1024
+unfolding programs
+few-programs t accepted = rw (length-map (ofKind 4 (recordsOf t)) programOf) (text-programs t (recordsOf t) (accepted-reads t accepted))
 
 module _ (t : List ℕ) (accepted : isAccepted (readText t) ≡ true) (p : Programs) (e : p ≡ gatheredOf (notedIn (entriesIn (catalogue (recordsOf t))))) where
   abbrev ns : List Noted
@@ -74,12 +70,8 @@ module _ (t : List ℕ) (accepted : isAccepted (readText t) ≡ true) (p : Progr
   pub own-count : p .count ≡ length ps
   own-count = noted-count ∙ pairs-length (Says t) ns ps says
 
-  pub few-programs : length ps ≤ 1024
-  unfolding programs
-  few-programs = rw (length-map (ofKind 4 (recordsOf t)) programOf) (text-programs t (recordsOf t) (accepted-reads t accepted))
-
   pub own-few : p .count ≤ 1024
-  own-few = omega (arith, own-count, few-programs)
+  own-few = omega (arith, own-count, few-programs t accepted)
 
   -- ---- the IDs, as they are lent
 

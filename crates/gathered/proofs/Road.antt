@@ -4,17 +4,17 @@ use mathlib.Core.Path.{_≡_, refl, sym, ap, ap₂, subst, _∙_}
 use mathlib.Core.Bool.{Bool, true, false, cond}
 use mathlib.Core.List.{List, []}
 use native.Mathlib.Omega.{arith}
-use lib.ListN.{length, take, length-take}
+use lib.ListN.{length, take}
 use lib.Dec.{eqb}
 use Rattle.format.specs.Bytes.{any}
 use Rattle.format.specs.Programs.{Program, Link, links, isDangling, loopsFrom, tangled, roots, leaves}
 use Rattle.chains.specs.declared.Ordinals.{Ordinals}
+use Rattle.chains.proofs.Arrays.{front, front-count, front-inside}
 use Rattle.chains.specs.Parents.{linksOf, within, inArray}
 use Rattle.gathered.specs.declared.Parents.{Parents}
 use Rattle.gathered.specs.declared.Graph.{Graph}
 use Rattle.gathered.specs.Parents.{numberOf, parentsOf, leavesIn, ordinalsOf, graphOf}
 use Rattle.gathered.proofs.Numbers.{numbers, links-count, numbers-count, numbers-roots, numbers-links, numbers-within}
-use Rattle.gathered.proofs.Own.{array-front}
 
 -- ---- what links say
 
@@ -26,6 +26,22 @@ module _ (ls : List Link) where
   tangled-loops : (b : Bool) → any isDangling ls ≡ false → loopsFrom ls 0 ls ≡ b → tangled ls ≡ cond b 23 0
   unfolding tangled
   tangled-loops b d e = rw (d, e) refl
+
+  -- where nothing is tangled, nothing dangles, and no program comes back to itself
+  module _ (z : tangled ls ≡ 0) where
+    pub none-dangles : any isDangling ls ≡ false
+    none-dangles = go (any isDangling ls) refl
+      where
+        go : (b : Bool) → any isDangling ls ≡ b → b ≡ false
+        go true q = absurd (omega (arith, z, tangled-dangling q))
+        go false q = refl
+
+    pub none-loops : loopsFrom ls 0 ls ≡ false
+    none-loops = go (loopsFrom ls 0 ls) refl
+      where
+        go : (b : Bool) → loopsFrom ls 0 ls ≡ b → b ≡ false
+        go true q = absurd (omega (arith, z, tangled-loops true none-dangles q))
+        go false q = refl
 
   -- a refusal, and no leaves
   graph-refused : (n : ℕ) → tangled ls ≡ n → eqb n 0 ≡ false → (g : Graph) → g ≡ record { refusal = n; parents = parentsOf ls; leaves = ordinalsOf [] } → g ≡ graphOf ls
@@ -43,22 +59,25 @@ module _ (ps : List Program) (few : length ps ≤ 1024) (q : Parents) (is : q �
   abbrev lent : List ℕ
   lent = take (q .count) (q .list)
 
-  parents-count : q .count ≡ length ps
+  parents-count : q .count ≡ length (numbers ps)
   unfolding parentsOf
-  parents-count = ap (λ x. x .count) is ∙ links-count ps
+  parents-count = ap (λ x. x .count) is ∙ links-count ps ∙ sym (numbers-count ps)
+
+  parents-list : q .list ≡ inArray (numbers ps)
+  unfolding parentsOf
+  parents-list = ap (λ x. x .list) is
 
   lent-is : lent ≡ numbers ps
-  unfolding parentsOf
-  lent-is = ap₂ take (parents-count ∙ sym (numbers-count ps)) (ap (λ x. x .list) is) ∙ array-front (numbers ps)
+  lent-is = front (numbers ps) (q .list) (q .count) parents-list parents-count
 
   pub lent-count : q .count ≡ length lent
-  lent-count = parents-count ∙ sym (ap length lent-is ∙ numbers-count ps)
+  lent-count = front-count (numbers ps) (q .list) (q .count) parents-list parents-count
 
   pub lent-inside : q .count ≤ length (q .list)
-  lent-inside = omega (arith, lent-count, length-take (q .count) (q .list))
+  lent-inside = front-inside (numbers ps) (q .list) (q .count) parents-list parents-count
 
   pub lent-few : length lent ≤ 1024
-  lent-few = omega (arith, lent-count, parents-count)
+  lent-few = omega (arith, ap length lent-is, numbers-count ps)
 
   -- the programs without PP
   pub lent-roots : roots (linksOf lent) ≡ roots (links ps)
@@ -94,3 +113,32 @@ module _ (ps : List Program) (few : length ps ≤ 1024) (q : Parents) (is : q �
         ap₂ (λ x l. record { refusal = 0; parents = x; leaves = l }) is
         (ap₂ (λ l n. record { list = l; count = n }) (found .0) (found .1) ∙ ap (λ ls. ordinalsOf (leaves ls)) lent-links)
         ∙ graph-accepted (links ps) (loops false c)
+
+-- ---- what the road comes to
+
+module _ (ls : List Link) (g : Graph) (is : g ≡ graphOf ls) where
+  pub graph-refusal : g .refusal ≡ tangled ls
+  unfolding graphOf
+  graph-refusal = ap (λ x. x .refusal) is
+
+  pub graph-parents : g .parents ≡ parentsOf ls
+  unfolding graphOf
+  graph-parents = ap (λ x. x .parents) is
+
+  -- nothing is tangled
+  module _ (z : g .refusal ≡ 0) where
+    pub graph-undangled : g .parents .dangling ≡ false
+    unfolding parentsOf
+    graph-undangled = ap (λ x. x .dangling) graph-parents ∙ none-dangles ls (sym graph-refusal ∙ z)
+
+    found : g .leaves ≡ ordinalsOf (leaves ls)
+    unfolding graphOf leavesIn
+    found = ap (λ x. x .leaves) is ∙ ap (λ n. ordinalsOf (cond (eqb n 0) (leaves ls) [])) (sym graph-refusal ∙ z)
+
+    pub graph-list : g .leaves .list ≡ inArray (leaves ls)
+    unfolding ordinalsOf
+    graph-list = ap (λ x. x .list) found
+
+    pub graph-count : g .leaves .count ≡ length (leaves ls)
+    unfolding ordinalsOf
+    graph-count = ap (λ x. x .count) found

@@ -21,7 +21,7 @@ abbrev ps : tie.Start → List Program
 ps s = programs (recordsOf (s .args .text .now))
 
 few : (s : tie.Start) → length (ps s) ≤ 1024
-few s = few-programs (s .args .text .now) (s .pre .0) (s .args .p) (s .pre .1)
+few s = few-programs (s .args .text .now) (s .pre .0)
 
 refused-requires : tie.Need-refused-requires
 refused-requires c κs = search needs

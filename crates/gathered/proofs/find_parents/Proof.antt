@@ -80,7 +80,7 @@ loop-again c =
     let p = c .before .find-parent in
     let h : l .i < length ps = omega (arith, own-count (s .args .text .now) (s .pre .0) (s .args .p) (s .pre .1)) in
     let is = p .ensures ∙ own-parent (s .args .text .now) (s .pre .0) (s .args .p) (s .pre .1) (l .i) (omega arith) in
-    let m = few-programs (s .args .text .now) (s .pre .0) (s .args .p) (s .pre .1) in
+    let m = few-programs (s .args .text .now) (s .pre .0) in
     (⊎-elim
     (λ w. subst (λ d. Found ps (set (l .list) (l .i) (p .result)) d (l .i + 1)) (sym (w .1)) (found-stray ps m (l .list) (l .dangling) (l .i) (l .inv .0) h (p .result) is (w .0 .taken)))
     (λ w. subst (λ d. Found ps (set (l .list) (l .i) (p .result)) d (l .i + 1)) (sym (w .1)) (found-known ps m (l .list) (l .dangling) (l .i) (l .inv .0) h (p .result) is (w .0 .left)))
