@@ -12,10 +12,9 @@ use Rattle.format.specs.Programs.{Program, Link, programs, links, hops, leaves,
 use Rattle.format.specs.Calls.{Answer, no, yes, then, fitting, leafing}
 use Rattle.accepted.proofs.Bools.{split}
 use Rattle.accepted.specs.Read.{recordsOf}
-use Rattle.chains.specs.Listed.{named}
-use Rattle.chains.proofs.Bound.{hops-bound, within-below}
+use Rattle.chains.proofs.Bound.{hops-bound}
 use Rattle.chains.proofs.Leaf.{leaves-length}
-use Rattle.gathered.proofs.Numbers.{numbers, links-count, numbers-count, numbers-links, numbers-within}
+use Rattle.gathered.proofs.Numbers.{links-count, links-named}
 use Rattle.gathered.proofs.Road.{none-dangles, none-loops}
 use Rattle.calls.proofs.Fresh.{Current, refused, passed}
 use Rattle.calls.proofs.Chained.{too-short, fits, few-own, leaves-tangled, leaves-own}
@@ -58,8 +57,7 @@ module _ (t c : List ℕ) (own : Current t c) where
   summed z =
       let d = none-dangles ls z in
       subst (λ n. 2 * hops ls ≤ n * (n - 1)) (links-count ps)
-      (hops-bound ls (none-loops ls z) (λ k m.
-          omega (arith, numbers-count ps, links-count ps, within-below (length (numbers ps)) (numbers ps) (numbers-within ps (few-own t c own) d) k (ap (named k) (numbers-links ps (few-own t c own) d) ∙ m))))
+      (hops-bound ls (none-loops ls z) (λ k m. omega (arith, links-count ps, links-named ps (few-own t c own) d k m)))
 
 -- leaves that are answered are of the text's own catalogue
 current : (t c : List ℕ) (room : ℕ) (a : List ℕ × ℕ) → leafing t c room ≡ yes a → Current t c

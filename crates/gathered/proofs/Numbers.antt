@@ -17,7 +17,9 @@ use Rattle.text.specs.Stands.{Each}
 use Rattle.accepted.proofs.Bools.{never, or-true, or-false, any-snoc}
 use Rattle.accepted.proofs.Pairs.{each-at}
 use Rattle.chains.specs.Parents.{nobody, linksOf, within, inArray}
+use Rattle.chains.specs.Listed.{named}
 use Rattle.chains.proofs.Arrays.{array-push}
+use Rattle.chains.proofs.Bound.{within-below}
 use Rattle.chains.proofs.Walks.{map-at, link-none, link-some}
 use Rattle.gathered.specs.declared.Parents.{Parents}
 use Rattle.gathered.specs.Parents.{stranger, numberOf, parentsOf}
@@ -112,6 +114,10 @@ module _ (ps : List Program) (few : length ps ≤ 1024) where
 
     pub numbers-within : within (length (numbers ps)) (numbers ps) ≡ true
     numbers-within = ap (λ n. within n (numbers ps)) (numbers-count ps) ∙ all-within (length ps) few (links ps) (links-below ps) d
+
+    -- each parent is one of the programs
+    pub links-named : (k : ℕ) → named k (links ps) ≡ true → k < length ps
+    links-named k m = omega (arith, numbers-count ps, within-below (length (numbers ps)) (numbers ps) numbers-within k (ap (named k) numbers-links ∙ m))
 
 -- ---- one after another
 

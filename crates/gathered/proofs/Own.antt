@@ -5,7 +5,7 @@ use mathlib.Core.Bool.{true}
 use mathlib.Core.List.{List, [], _∷_, map}
 use mathlib.Core.Option.{none}
 use native.Mathlib.Omega.{arith}
-use lib.ListN.{length, take, getD, length-map}
+use lib.ListN.{length, take, getD, length-map, length-take}
 use Rattle.format.specs.Records.{Record}
 use Rattle.format.specs.Reading.{readText, ofKind}
 use Rattle.format.specs.Catalogue.{catalogue}
@@ -24,7 +24,7 @@ use Rattle.entries.specs.Entries.{entriesIn}
 use Rattle.lookup.specs.Places.{Inside, bytesAt}
 use Rattle.gathered.specs.declared.Programs.{Programs}
 use Rattle.gathered.specs.Gathered.{Noted, nowhere, notedIn, arraysOf, gatheredOf, placesOf, idsAt, Placed, Somewhere}
-use Rattle.gathered.specs.Parents.{numberOf, parentOf}
+use Rattle.gathered.specs.Parents.{idsOf, numberOf, parentOf}
 use Rattle.gathered.proofs.Says.{Says, says-ids, says-inside, before-inside, before-parent, text-says}
 
 -- ---- numbers in arrays
@@ -104,6 +104,12 @@ module _ (t : List ℕ) (accepted : isAccepted (readText t) ≡ true) (p : Progr
   pub own-lens : length lens ≡ p .count
   own-lens = ap length lens-are ∙ length-map ns (λ n. n .id .len) ∙ sym noted-count
 
+  pub ats-inside : p .count ≤ length (p .id .at)
+  ats-inside = omega (arith, own-ats, length-take (p .count) (p .id .at))
+
+  pub lens-inside : p .count ≤ length (p .id .len)
+  lens-inside = omega (arith, own-lens, length-take (p .count) (p .id .len))
+
   pub own-placed : Placed t ats lens
   own-placed = record {
     even = own-ats ∙ sym own-lens;
@@ -111,7 +117,7 @@ module _ (t : List ℕ) (accepted : isAccepted (readText t) ≡ true) (p : Progr
     inside = subst (Each (Inside (length t))) (sym places-are) (says-inside t ns ps says);
   }
 
-  pub own-ids : idsAt t ats lens ≡ map (λ q. q .id) ps
+  pub own-ids : idsAt t ats lens ≡ idsOf ps
   unfolding idsAt
   own-ids = ap (map (bytesAt t)) places-are ∙ says-ids t ns ps says
 

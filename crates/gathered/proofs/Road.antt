@@ -1,5 +1,5 @@
 -- The laws of the road to the leaves: the parents that are lent say the links, and 22 and 23 come before the leaves.
-use Prim.Native.Nat.{ℕ, _≤_}
+use Prim.Native.Nat.{ℕ, _≤_, _<_}
 use mathlib.Core.Path.{_≡_, refl, sym, ap, ap₂, subst, _∙_}
 use mathlib.Core.Bool.{Bool, true, false, cond}
 use mathlib.Core.List.{List, []}
@@ -10,11 +10,12 @@ use Rattle.format.specs.Bytes.{any}
 use Rattle.format.specs.Programs.{Program, Link, links, isDangling, loopsFrom, tangled, roots, leaves}
 use Rattle.chains.specs.declared.Ordinals.{Ordinals}
 use Rattle.chains.proofs.Arrays.{front, front-count, front-inside}
+use Rattle.chains.proofs.Some.{leaves-some}
 use Rattle.chains.specs.Parents.{linksOf, within, inArray}
 use Rattle.gathered.specs.declared.Parents.{Parents}
 use Rattle.gathered.specs.declared.Graph.{Graph}
 use Rattle.gathered.specs.Parents.{numberOf, parentsOf, leavesIn, ordinalsOf, graphOf}
-use Rattle.gathered.proofs.Numbers.{numbers, links-count, numbers-count, numbers-roots, numbers-links, numbers-within}
+use Rattle.gathered.proofs.Numbers.{numbers, links-count, numbers-count, numbers-roots, numbers-links, numbers-within, links-named}
 
 -- ---- what links say
 
@@ -142,3 +143,8 @@ module _ (ls : List Link) (g : Graph) (is : g ≡ graphOf ls) where
     pub graph-count : g .leaves .count ≡ length (leaves ls)
     unfolding ordinalsOf
     graph-count = ap (λ x. x .count) found
+
+-- where there are programs there is a leaf
+pub some-leaf : (ps : List Program) → length ps ≤ 1024 → tangled (links ps) ≡ 0 → 0 < length ps → 0 < length (leaves (links ps))
+some-leaf ps few z h =
+    leaves-some (links ps) (none-loops (links ps) z) (λ k m. omega (arith, links-count ps, links-named ps few (none-dangles (links ps) z) k m)) (omega (arith, links-count ps))

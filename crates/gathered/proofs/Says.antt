@@ -28,7 +28,7 @@ use Rattle.lookup.specs.Places.{Inside, bytesAt}
 use Rattle.lookup.proofs.Kept.{record-values, last-value, stands-inside, stands-bytes, text-entries}
 use Rattle.lookup.proofs.Answers.{value-fields}
 use Rattle.gathered.specs.Gathered.{Noted, nowhere, orNowhere, notedIn, Somewhere}
-use Rattle.gathered.specs.Parents.{ordinalIn, numberOf, orStranger, parentOf}
+use Rattle.gathered.specs.Parents.{idsOf, ordinalIn, numberOf, orStranger, parentOf}
 
 -- ---- one program
 
@@ -83,7 +83,7 @@ module _ (t : List ℕ) where
 -- ---- IDs and parents
 
 -- the first program with an ID
-pub ordinal-ids : (id : List ℕ) (k : ℕ) (ps : List Program) → ordinalIn id k (map (λ p. p .id) ps) ≡ ordinalFrom k id ps
+pub ordinal-ids : (id : List ℕ) (k : ℕ) (ps : List Program) → ordinalIn id k (idsOf ps) ≡ ordinalFrom k id ps
 unfolding ordinalIn ordinalFrom
 ordinal-ids id k [] = refl
 ordinal-ids id k (p ∷ ps) = ap (λ o. cond (same id (p .id)) (some k) o) (ordinal-ids id (k + 1) ps)
@@ -98,7 +98,7 @@ unfolding parentOf
 parent-some t ids q h = rw (ne-eqb (q .at) 4294967295 h) refl
 
 module _ (t : List ℕ) where
-  pub says-ids : (ns : List Noted) (ps : List Program) → Pairs (Says t) ns ps → map (bytesAt t) (map (λ n. n .id) ns) ≡ map (λ p. p .id) ps
+  pub says-ids : (ns : List Noted) (ps : List Program) → Pairs (Says t) ns ps → map (bytesAt t) (map (λ n. n .id) ns) ≡ idsOf ps
   unfolding Pairs
   says-ids [] [] h = refl
   says-ids [] (p ∷ ps) h = absurd h
@@ -120,13 +120,13 @@ module _ (t : List ℕ) where
 
   -- and it names the program that the definitions say
   module _ (fits : length t ≤ 16777216) where
-    pub before-parent : (ps : List Program) (q : Place) (o : Option Piece) → Before t q o → parentOf t (map (λ p. p .id) ps) q ≡ numberOf (link ps o)
+    pub before-parent : (ps : List Program) (q : Place) (o : Option Piece) → Before t q o → parentOf t (idsOf ps) q ≡ numberOf (link ps o)
     unfolding Before nowhere pieceAt parentOf numberOf link nobody
-    before-parent ps q none b = ap (parentOf t (map (λ p. p .id) ps)) b
+    before-parent ps q none b = ap (parentOf t (idsOf ps)) b
     before-parent ps q (some p) b =
-        ap (parentOf t (map (λ p. p .id) ps)) (b .0)
-        ∙ parent-some t (map (λ p. p .id) ps) (pieceAt p) (λ e. omega (arith, b .1 .within, fits))
-        ∙ ap (λ s. orStranger (ordinalIn s 0 (map (λ p. p .id) ps))) (stands-bytes t p (b .1))
+        ap (parentOf t (idsOf ps)) (b .0)
+        ∙ parent-some t (idsOf ps) (pieceAt p) (λ e. omega (arith, b .1 .within, fits))
+        ∙ ap (λ s. orStranger (ordinalIn s 0 (idsOf ps))) (stands-bytes t p (b .1))
         ∙ ap orStranger (ordinal-ids (p .bytes) 0 ps)
         ∙ number-found (ordinalFrom 0 (p .bytes) ps)
 

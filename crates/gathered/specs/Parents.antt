@@ -6,7 +6,7 @@ use mathlib.Core.Option.{Option, none, some}
 use lib.ListN.{length}
 use lib.Dec.{eqb}
 use Rattle.format.specs.Bytes.{same, any}
-use Rattle.format.specs.Programs.{Link, root, dangling, child, isDangling, tangled, leaves}
+use Rattle.format.specs.Programs.{Program, Link, root, dangling, child, isDangling, tangled, leaves}
 use Rattle.chains.specs.Parents.{nobody, inArray}
 use Rattle.chains.specs.declared.Ordinals.{Ordinals}
 use Rattle.entries.specs.declared.Place.{Place}
@@ -17,6 +17,10 @@ use Rattle.gathered.specs.declared.Parents.{Parents}
 use Rattle.gathered.specs.declared.Graph.{Graph}
 
 -- ---- the program with an ID
+
+-- the IDs of programs
+abbrev pub idsOf : List Program → List (List ℕ)
+idsOf ps = map (λ p. p .id) ps
 
 -- the ordinal of the first ID that is `id`, counted from `k`
 unfoldable pub ordinalIn : List ℕ → ℕ → List (List ℕ) → Option ℕ

@@ -19,7 +19,7 @@ use Rattle.accepted.proofs.Bools.{or-left, or-right, or-false, or-true, and-lef
 use Rattle.accepted.proofs.Pairs.{each-all, each-both}
 use Rattle.chains.specs.Listed.{named, distinct}
 use Rattle.chains.proofs.Leaf.{leaves-exactly, leaves-distinct}
-use Rattle.gathered.specs.Parents.{ordinalIn}
+use Rattle.gathered.specs.Parents.{idsOf, ordinalIn}
 use Rattle.gathered.proofs.Says.{ordinal-ids}
 use Rattle.ids.specs.Taken.{joined, known, idIn, taken}
 use Rattle.ids.proofs.Joined.{joined-same, joined-prefix}
@@ -61,7 +61,7 @@ module _ (t : List ℕ) (rs : List Record) (h : readText t ≡ accept rs) (prefi
   ps = programs rs
 
   abbrev ids : List (List ℕ)
-  ids = map (λ p. p .id) (programs rs)
+  ids = idsOf (programs rs)
 
   abbrev made : ℕ → List ℕ
   made k = joined prefix (getD (programs rs) k nobody .id)

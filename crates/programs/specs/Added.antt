@@ -13,7 +13,6 @@ use Rattle.format.specs.Tidy.{tidy, unwritable}
 use Rattle.format.specs.Adding.{added, used}
 use Rattle.format.specs.Calls.{Answer, then, untangled, writing}
 use Rattle.format.specs.declared.Kind.the-variants.{Comment}
-use Rattle.entries.specs.declared.Entry.{Entry}
 use Rattle.tidy_text.specs.Kinds.{textOfKind, frontText}
 use Rattle.ids.specs.Taken.{known}
 use Rattle.given.specs.declared.Given.{Given}
@@ -36,10 +35,10 @@ isNothing given.Nothing = true
 isNothing (given.At at len) = false
 
 -- a given PP that equals no ID
-unfoldable pub stray : List ℕ → List Entry → Option Piece → Bool
+unfoldable pub stray : List (List ℕ) → Option Piece → Bool
 unfolding known
-stray t es none = false
-stray t es (some p) = not (known t (p .bytes) es)
+stray ids none = false
+stray ids (some p) = not (known (p .bytes) ids)
 
 -- the leaves of the programs that are there
 unfoldable pub leavesOf : List Record → List ℕ

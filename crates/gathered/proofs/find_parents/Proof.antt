@@ -4,11 +4,11 @@ use mathlib.Core.Path.{_≡_, sym, subst, _∙_}
 use mathlib.Core.Logic.{⊎-elim}
 use native.Mathlib.Omega.{arith}
 use borrow.Author.Needs.{needs}
-use lib.ListN.{length, take, set, length-take}
+use lib.ListN.{length, set}
 use Rattle.format.specs.Programs.{programs}
 use Rattle.accepted.specs.Read.{recordsOf}
 use Rattle.gathered.proofs.Numbers.{Found, found-none, found-all, found-stray, found-known}
-use Rattle.gathered.proofs.Own.{own-count, few-programs, own-few, own-ats, own-lens, own-placed, own-somewhere, own-parent}
+use Rattle.gathered.proofs.Own.{own-count, few-programs, own-few, own-ats, own-lens, ats-inside, lens-inside, own-placed, own-somewhere, own-parent}
 use Rattle.gathered.proofs.find_parents.Statement.{statement}
 use Rattle.gathered.proofs.find_parents.Tie as tie
 
@@ -21,15 +21,9 @@ abbrev μ-loop : tie.MeasureT-loop
 loop-holds : tie.Need-loop-holds Inv-loop μ-loop
 loop-holds c = (found-none (programs (recordsOf (c .before .before .before .before .before .before .before .args .text .now))), omega arith)
 
--- there are at most 1,024, and as many offsets and lengths are lent
+-- there are at most 1,024
 few : (s : tie.Start Inv-loop μ-loop) → s .args .p .count ≤ 1024
 few s = own-few (s .args .text .now) (s .pre .0) (s .args .p) (s .pre .1)
-
-ats : (s : tie.Start Inv-loop μ-loop) → length (take (s .args .p .count) (s .args .p .id .at)) ≡ s .args .p .count
-ats s = own-ats (s .args .text .now) (s .pre .0) (s .args .p) (s .pre .1)
-
-lens : (s : tie.Start Inv-loop μ-loop) → length (take (s .args .p .count) (s .args .p .id .len)) ≡ s .args .p .count
-lens s = own-lens (s .args .text .now) (s .pre .0) (s .args .p) (s .pre .1)
 
 mul-t16 : tie.Need-mul-t16 Inv-loop μ-loop
 mul-t16 c = omega (arith, few (c .before .before .before .before .before .before .before .before .before))
@@ -44,16 +38,16 @@ array-read-t23 : tie.Need-array-read-t23 Inv-loop μ-loop
 array-read-t23 c = omega (arith, few (c .before .before .before .before .before .before .before .before .before))
 
 array-share-prefix-ats : tie.Need-array-share-prefix-ats Inv-loop μ-loop
-array-share-prefix-ats c = let s = c .before .before .before .before .before .before .before .before .before in omega (arith, ats s, length-take (s .args .p .count) (s .args .p .id .at))
+array-share-prefix-ats c = let s = c .before .before .before .before .before .before .before .before .before in ats-inside (s .args .text .now) (s .pre .0) (s .args .p) (s .pre .1)
 
 slice-aggregate-find-parent : tie.Need-slice-aggregate-find-parent Inv-loop μ-loop
-slice-aggregate-find-parent c = sym (ats (c .before .before .before .before .before .before .before .before .before .before))
+slice-aggregate-find-parent c = let s = c .before .before .before .before .before .before .before .before .before .before in sym (own-ats (s .args .text .now) (s .pre .0) (s .args .p) (s .pre .1))
 
 array-share-prefix-lens : tie.Need-array-share-prefix-lens Inv-loop μ-loop
-array-share-prefix-lens c = let s = c .before .before .before .before .before .before .before .before .before .before in omega (arith, lens s, length-take (s .args .p .count) (s .args .p .id .len))
+array-share-prefix-lens c = let s = c .before .before .before .before .before .before .before .before .before .before in lens-inside (s .args .text .now) (s .pre .0) (s .args .p) (s .pre .1)
 
 slice-aggregate-find-parent-2 : tie.Need-slice-aggregate-find-parent-2 Inv-loop μ-loop
-slice-aggregate-find-parent-2 c = sym (lens (c .before .before .before .before .before .before .before .before .before .before .before))
+slice-aggregate-find-parent-2 c = let s = c .before .before .before .before .before .before .before .before .before .before .before in sym (own-lens (s .args .text .now) (s .pre .0) (s .args .p) (s .pre .1))
 
 find-parent-requires : tie.Need-find-parent-requires Inv-loop μ-loop
 find-parent-requires c κs =
