@@ -21,9 +21,8 @@ use Rattle.chains.proofs.Arrays.{front, front-at}
 use Rattle.chains.proofs.Walks.{map-at}
 use Rattle.entries.specs.declared.Place.{Place}
 use Rattle.entries.specs.Entries.{entriesIn}
-use Rattle.lookup.specs.Places.{Inside, bytesAt}
 use Rattle.gathered.specs.declared.Programs.{Programs}
-use Rattle.gathered.specs.Gathered.{Noted, nowhere, notedIn, arraysOf, gatheredOf, placesOf, idsAt, Placed, Somewhere}
+use Rattle.gathered.specs.Gathered.{Inside, bytesAt, Noted, nowhere, notedIn, arraysOf, gatheredOf, placesOf, idsAt, Placed, Somewhere}
 use Rattle.gathered.specs.Parents.{idsOf, numberOf, parentOf}
 use Rattle.gathered.proofs.Says.{Says, says-ids, says-inside, before-inside, before-parent, text-says}
 

@@ -1,11 +1,11 @@
 -- The programs that are noted in the catalogue of an accepted text say the text's programs: their IDs, and what their PP link to.
-use Prim.Native.Nat.{ℕ, _+_, _≤_, _<_}
+use Prim.Native.Nat.{ℕ, _+_, _-_, _≤_}
 use mathlib.Core.Path.{_≡_, refl, sym, ap, ap₂, subst, _∙_}
 use mathlib.Core.Bool.{Bool, true, false, cond}
 use mathlib.Core.List.{List, [], _∷_, _++_, map}
 use mathlib.Core.Option.{Option, none, some}
 use native.Mathlib.Omega.{arith}
-use lib.ListN.{length}
+use lib.ListN.{length, take, drop}
 use lib.Dec.{eqb}
 use borrow.Author.Tests.{ne-eqb}
 use Rattle.format.specs.Bytes.{same}
@@ -24,11 +24,22 @@ use Rattle.entries.specs.declared.Place.{Place}
 use Rattle.entries.specs.declared.Entry.{Entry}
 use Rattle.entries.specs.Entries.{pieceAt, headEntry, fieldEntry, entriesOf, entriesIn}
 use Rattle.lookup.specs.Lookup.{foundOf, valueIn}
-use Rattle.lookup.specs.Places.{Inside, bytesAt}
-use Rattle.lookup.proofs.Kept.{record-values, last-value, stands-inside, stands-bytes, text-entries}
+use Rattle.lookup.proofs.Kept.{record-values, last-value, text-entries}
 use Rattle.lookup.proofs.Answers.{value-fields}
-use Rattle.gathered.specs.Gathered.{Noted, nowhere, orNowhere, notedIn, Somewhere}
+use Rattle.gathered.specs.Gathered.{Inside, bytesAt, Noted, nowhere, orNowhere, notedIn, Somewhere}
 use Rattle.gathered.specs.Parents.{idsOf, ordinalIn, numberOf, orStranger, parentOf}
+
+-- ---- places
+
+module _ (t : List ℕ) where
+  stands-inside : (p : Piece) → Stands t 0 p → Inside (length t) (pieceAt p)
+  unfolding pieceAt
+  stands-inside p s = omega (arith, s .within)
+
+  -- the bytes there are the piece's
+  stands-bytes : (p : Piece) → Stands t 0 p → bytesAt t (pieceAt p) ≡ p .bytes
+  unfolding bytesAt pieceAt
+  stands-bytes p s = let z : p .at - 0 ≡ p .at = omega arith in sym (s .bytes ∙ ap (λ n. take (length (p .bytes)) (drop n t)) z)
 
 -- ---- one program
 

@@ -18,8 +18,7 @@ use Rattle.accepted.proofs.Bools.{never, and-left}
 use Rattle.accepted.proofs.Pairs.{each-at}
 use Rattle.chains.proofs.Walks.{map-at}
 use Rattle.entries.specs.declared.Place.{Place}
-use Rattle.lookup.specs.Places.{Inside, bytesAt}
-use Rattle.gathered.specs.Gathered.{nowhere, placesOf, idsAt, Placed, endsAlike}
+use Rattle.gathered.specs.Gathered.{Inside, bytesAt, nowhere, placesOf, idsAt, Placed, endsAlike}
 use Rattle.gathered.specs.Parents.{ordinalIn}
 
 -- ---- places by numbers

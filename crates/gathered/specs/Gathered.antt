@@ -1,9 +1,9 @@
 -- The programs of a catalogue: where the ID and the PP of each stand, as numbers in arrays and as bytes of the text.
-use Prim.Native.Nat.{ℕ, _-_, _≤_}
+use Prim.Native.Nat.{ℕ, _+_, _-_, _≤_}
 use mathlib.Core.Path.{_≡_}
 use mathlib.Core.Bool.{Bool, _&&_}
 use mathlib.Core.List.{List, [], _∷_, map}
-use lib.ListN.{length, getD}
+use lib.ListN.{length, take, drop, getD}
 use lib.Dec.{eqb}
 use Rattle.text.specs.Stands.{Each}
 use Rattle.chains.specs.Parents.{inArray}
@@ -13,9 +13,18 @@ use Rattle.entries.specs.declared.Entry.the-variants.{End, Header, ReferenceSeq
 use Rattle.lookup.specs.declared.Found.{Found}
 use Rattle.lookup.specs.declared.Found.the-variants.{Nothing, At}
 use Rattle.lookup.specs.Lookup.{valueIn}
-use Rattle.lookup.specs.Places.{Inside, bytesAt}
 use Rattle.gathered.specs.declared.Places.{Places}
 use Rattle.gathered.specs.declared.Programs.{Programs}
+
+-- ---- places
+
+-- a place is within `n` bytes
+abbrev pub Inside : ℕ → Place → Type 0
+Inside n p = p .at + p .len ≤ n
+
+-- the bytes of a text at a place
+unfoldable pub bytesAt : List ℕ → Place → List ℕ
+bytesAt t p = take (p .len) (drop (p .at) t)
 
 -- ---- by entries
 

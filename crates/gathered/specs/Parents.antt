@@ -10,7 +10,7 @@ use Rattle.format.specs.Programs.{Program, Link, root, dangling, child, isDangl
 use Rattle.chains.specs.Parents.{nobody, inArray}
 use Rattle.chains.specs.declared.Ordinals.{Ordinals}
 use Rattle.entries.specs.declared.Place.{Place}
-use Rattle.lookup.specs.Places.{bytesAt}
+use Rattle.gathered.specs.Gathered.{bytesAt}
 use Rattle.gathered.specs.declared.Named.{Named}
 use Rattle.gathered.specs.declared.Named.the-variants.{Nobody, Is}
 use Rattle.gathered.specs.declared.Parents.{Parents}

@@ -15,7 +15,6 @@ ghost use Rattle.format.specs.Programs.{programs, links};
 ghost use Rattle.accepted.specs.Read.{isAccepted, recordsOf};
 ghost use Rattle.entries.specs.Entries.{entriesIn, counted};
 ghost use Rattle.lookup.specs.Lookup.{valueIn};
-ghost use Rattle.lookup.specs.Places.{bytesAt};
 ghost use Rattle.gathered.specs.Gathered.{orNowhere, notedIn, gatheredOf, idsAt, Placed, Somewhere, endsAlike};
 ghost use Rattle.gathered.specs.Parents.{ordinalIn, namedOf, parentOf, parentsOf, ordinalsOf, graphOf};
 

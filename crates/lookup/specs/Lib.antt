@@ -1,3 +1,1 @@
 pub mod Lookup
-pub mod Places
-pub mod Parents

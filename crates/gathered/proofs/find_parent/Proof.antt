@@ -10,10 +10,9 @@ use borrow.Author.Needs.{needs}
 use borrow.Author.Tests.{eq-eqb, ne-eqb}
 use Rattle.chains.specs.Parents.{nobody}
 use Rattle.entries.specs.declared.Place.{Place}
-use Rattle.lookup.specs.Places.{bytesAt}
 use Rattle.gathered.specs.declared.Named.{Named}
 use Rattle.gathered.specs.declared.Named.the-variants.{Nobody, Is}
-use Rattle.gathered.specs.Gathered.{idsAt}
+use Rattle.gathered.specs.Gathered.{bytesAt, idsAt}
 use Rattle.gathered.specs.Parents.{ordinalIn, namedOf, stranger, orStranger, parentOf}
 use Rattle.gathered.proofs.find_parent.Statement.{statement}
 use Rattle.gathered.proofs.find_parent.Tie as tie
