@@ -6,7 +6,6 @@ use mathlib.Core.List.{List, [], _∷_, map}
 use mathlib.Core.Option.{none}
 use native.Mathlib.Omega.{arith}
 use lib.ListN.{length, take, getD, length-map, length-take}
-use Rattle.format.specs.Records.{Record}
 use Rattle.format.specs.Reading.{readText, ofKind}
 use Rattle.format.specs.Catalogue.{catalogue}
 use Rattle.format.specs.Programs.{Program, root, programs, programOf, link, links}

@@ -14,7 +14,7 @@ use Rattle.chains.proofs.Some.{leaves-some}
 use Rattle.chains.specs.Parents.{linksOf, within, inArray}
 use Rattle.gathered.specs.declared.Parents.{Parents}
 use Rattle.gathered.specs.declared.Graph.{Graph}
-use Rattle.gathered.specs.Parents.{numberOf, parentsOf, leavesIn, ordinalsOf, graphOf}
+use Rattle.gathered.specs.Parents.{parentsOf, leavesIn, ordinalsOf, graphOf}
 use Rattle.gathered.proofs.Numbers.{numbers, links-count, numbers-count, numbers-roots, numbers-links, numbers-within, links-named}
 
 -- ---- what links say

@@ -1,12 +1,11 @@
 -- The programs that are noted in the catalogue of an accepted text say the text's programs: their IDs, and what their PP link to.
 use Prim.Native.Nat.{ℕ, _+_, _-_, _≤_}
 use mathlib.Core.Path.{_≡_, refl, sym, ap, ap₂, subst, _∙_}
-use mathlib.Core.Bool.{Bool, true, false, cond}
+use mathlib.Core.Bool.{cond}
 use mathlib.Core.List.{List, [], _∷_, _++_, map}
 use mathlib.Core.Option.{Option, none, some}
 use native.Mathlib.Omega.{arith}
 use lib.ListN.{length, take, drop}
-use lib.Dec.{eqb}
 use borrow.Author.Tests.{ne-eqb}
 use Rattle.format.specs.Bytes.{same}
 use Rattle.format.specs.Lines.{Piece}
@@ -18,7 +17,7 @@ use Rattle.format.specs.Programs.{Program, programs, programOf, bytesOf, ordina
 use Rattle.text.specs.Stands.{Each, Stands}
 use Rattle.accepted.specs.Pieces.{pieces, Pairs}
 use Rattle.accepted.specs.Sound.{Sound}
-use Rattle.accepted.proofs.Text.{text-fits, text-sound, text-stand}
+use Rattle.accepted.proofs.Text.{text-sound, text-stand}
 use Rattle.chains.specs.Parents.{nobody}
 use Rattle.entries.specs.declared.Place.{Place}
 use Rattle.entries.specs.declared.Entry.{Entry}

@@ -1,7 +1,7 @@
 -- The laws of the search for a program: the IDs stand one after another, and what is still ahead decides.
 use Prim.Native.Nat.{ℕ, zero, suc, _+_, _-_, _≤_, _<_}
 use mathlib.Core.Path.{_≡_, refl, sym, ap, ap₂, _∙_}
-use mathlib.Core.Bool.{Bool, true, false, _&&_, cond}
+use mathlib.Core.Bool.{Bool, true, false, cond}
 use mathlib.Core.List.{List, [], _∷_}
 use mathlib.Core.Option.{none, some}
 use native.Mathlib.Omega.{arith}
@@ -11,7 +11,6 @@ use lib.Seq.{length-take-le, getD-take, getD-drop, drop-cons}
 use lib.Dec.{eqb}
 use borrow.Author.Tests.{eqb-true, eq-eqb, ne-eqb}
 use Rattle.format.specs.Bytes.{same}
-use Rattle.text.specs.Stands.{Each}
 use Rattle.text.proofs.Equal.{same-other}
 use Rattle.text.proofs.Compared.{part}
 use Rattle.accepted.proofs.Bools.{never, and-left}

@@ -1,22 +1,18 @@
 -- What adding answers over a catalogue that is the text's own, refusal by refusal.
 use Prim.Native.Nat.{ℕ, zero, suc}
-use mathlib.Core.Path.{_≡_, refl, sym, ap, ap₂, subst, _∙_}
-use mathlib.Core.Bool.{Bool, true, false, not, _||_, cond}
-use mathlib.Core.List.{List, [], _∷_, _++_}
+use mathlib.Core.Path.{_≡_, refl, sym, ap, _∙_}
+use mathlib.Core.Bool.{Bool, true, false, not}
+use mathlib.Core.List.{List, _++_}
 use mathlib.Core.Option.{Option, none, some}
-use native.Mathlib.Omega.{arith}
-use lib.ListN.{length, length-map}
-use lib.Dec.{eqb}
 use Rattle.format.specs.Bytes.{any}
 use Rattle.format.specs.Lines.{Piece}
 use Rattle.format.specs.Fields.{Field, lastOf}
 use Rattle.format.specs.Records.{Record}
-use Rattle.format.specs.Reading.{readText}
-use Rattle.format.specs.Programs.{Program, Link, programs, link, links, leaves, found, isDangling, ordinalFrom, loopsFrom, tangled}
+use Rattle.format.specs.Programs.{Program, programs, link, links, found, isDangling, ordinalFrom, loopsFrom, tangled}
 use Rattle.format.specs.Tidy.{tidy, unwritable}
-use Rattle.format.specs.Adding.{given, misformed, isKnown, added, used, unaddable}
+use Rattle.format.specs.Adding.{given, misformed, isKnown, added, unaddable}
 use Rattle.format.specs.Calls.{no, then, fresh, untangled, writing, adding}
-use Rattle.accepted.specs.Read.{isAccepted, recordsOf}
+use Rattle.accepted.specs.Read.{recordsOf}
 use Rattle.gathered.specs.Parents.{idsOf}
 use Rattle.gathered.proofs.Says.{ordinal-ids}
 use Rattle.gathered.proofs.Road.{none-dangles}

@@ -1,11 +1,11 @@
 -- Adding once the leaves are known: 18, 19, and then what is written.
 use Prim.Native.Nat.{ℕ, _+_, _≤_, _<_, min}
-use mathlib.Core.Path.{_≡_, refl, sym, ap, ap₂, _∙_}
+use mathlib.Core.Path.{_≡_, refl, sym, ap, _∙_}
 use mathlib.Core.Bool.{Bool, true, false, not, cond}
 use mathlib.Core.List.{List, [], _∷_, _++_}
 use native.Mathlib.Omega.{arith}
 use lib.ListN.{length, drop}
-use lib.Dec.{eqb, ltb}
+use lib.Dec.{eqb}
 use borrow.Author.Tests.{lt-ltb, le-ltb, ne-eqb}
 use Rattle.format.specs.Bytes.{none?}
 use Rattle.format.specs.Fields.{Field, lastOf}
@@ -15,7 +15,7 @@ use Rattle.format.specs.Programs.{Program, programs, links, leaves, ordinalFrom
 use Rattle.format.specs.Tidy.{tidy, unwritable, fieldsText}
 use Rattle.format.specs.Adding.{isKnown, added, used}
 use Rattle.format.specs.Calls.{no, then, untangled, writing}
-use Rattle.gathered.specs.Parents.{idsOf, ordinalIn}
+use Rattle.gathered.specs.Parents.{idsOf}
 use Rattle.gathered.proofs.Says.{ordinal-ids}
 use Rattle.ids.specs.Taken.{known, taken}
 use Rattle.ids.proofs.Used.{used-added, added-count}

@@ -4,16 +4,16 @@ use mathlib.Core.Path.{_≡_, refl, sym, ap, ap₂, _∙_}
 use mathlib.Core.Bool.{Bool, true, false, not, cond}
 use mathlib.Core.List.{List, [], _∷_, _++_, append-assoc, append-nil}
 use mathlib.Core.Option.{Option, none, some}
-use lib.ListN.{length, getD, List·getD-map}
+use lib.ListN.{getD, List·getD-map}
 use lib.Dec.{eqb}
 use Rattle.format.specs.Bytes.{none?}
 use Rattle.format.specs.Lines.{Piece}
 use Rattle.format.specs.Fields.{Field, lastOf}
 use Rattle.format.specs.Records.{Record, program, code}
 use Rattle.format.specs.Reading.{ofKind}
-use Rattle.format.specs.Programs.{Program, programs, links, leaves, ordinalFrom}
+use Rattle.format.specs.Programs.{Program, links, leaves, ordinalFrom}
 use Rattle.format.specs.Tidy.{tidy, text, recordText, fieldText, fieldsText}
-use Rattle.format.specs.Adding.{given, nobody, unplaced, orElse, chained, isKnown, after, added}
+use Rattle.format.specs.Adding.{nobody, unplaced, orElse, chained, isKnown, after, added}
 use Rattle.format.specs.declared.Kind.{Kind}
 use Rattle.format.specs.declared.Kind.the-variants as kind
 use Rattle.text.specs.Stands.{Each}

@@ -1,7 +1,7 @@
 -- The tidy text with new programs, and why nothing is added once the leaves are known.
 use Prim.Native.Nat.{ℕ, _+_}
 use mathlib.Core.Bool.{Bool, true, false, not, cond}
-use mathlib.Core.List.{List, [], _∷_, _++_}
+use mathlib.Core.List.{List, _++_}
 use mathlib.Core.Option.{Option, none, some}
 use lib.ListN.{length}
 use lib.Dec.{ltb}
@@ -17,7 +17,6 @@ use Rattle.tidy_text.specs.Kinds.{textOfKind, frontText}
 use Rattle.ids.specs.Taken.{known}
 use Rattle.given.specs.declared.Given.{Given}
 use Rattle.given.specs.declared.Given.the-variants as given
-use Rattle.added.specs.Lines.{addedText}
 
 -- the new programs stand behind the old ones, and the comments last
 unfoldable pub withAdded : List Record → List ℕ → List ℕ

@@ -132,9 +132,10 @@ returns-3 c =
     let sum = h .hops .ensures ∙ ap hops (lent-links (ps f) (few f) (g .parents) (graph-parents (links (ps f)) g is) (graph-undangled (links (ps f)) g is (l .if1 .left))) in
     let found = front (xs l) (g .leaves .list) (g .leaves .count) (listed l) (counted l) in
     let told = written-leaves (h .hops .result) (leafing (a .text .now) (a .kept .now) room) room (xs l) (a .out .now)
-    (leaves-own (a .text .now) (a .kept .now) (own e) room (sym (graph-refusal (links (ps f)) g is) ∙ l .if1 .left) ∙ ap (λ k. then (fitting room (xs l)) (λ ys. yes (ys, k))) (sym sum)) in
-    (c .with-hops .ensures ∙ ap (λ x. withHops x (h .hops .result)) (w .put-ordinals .ensures .0 ∙ ap (λ ys. answerOf (fitting room ys)) found) ∙ told .0,
-    w .put-ordinals .ensures .1 ∙ ap (λ ys. outputOf (fitting room ys) (a .out .now)) found ∙ told .1)
+    (leaves-own (a .text .now) (a .kept .now) (own e) room (sym (graph-refusal (links (ps f)) g is) ∙ l .if1 .left) ∙ ap (λ k. then (fitting room (xs l)) (λ ys. yes (ys, k))) (sym sum)) in (
+      c .with-hops .ensures ∙ ap (λ x. withHops x (h .hops .result)) (w .put-ordinals .ensures .0 ∙ ap (λ ys. answerOf (fitting room ys)) found) ∙ told .0,
+      w .put-ordinals .ensures .1 ∙ ap (λ ys. outputOf (fitting room ys) (a .out .now)) found ∙ told .1,
+    )
 
 pub leaves-spec : {M : Type 1} → statement M
 leaves-spec =

@@ -4,7 +4,6 @@ use mathlib.Core.Path.{_≡_, refl, sym, ap, _∙_}
 use mathlib.Core.List.{List}
 use native.Mathlib.Omega.{arith}
 use native.Mathlib.Numerals.{add-one}
-use borrow.Author.Needs.{needs}
 use lib.ListN.{length, length-set, set, getD}
 use lib.Seq.{paste, paste-zero, paste-suc, take-length}
 use Rattle.format.specs.Calls.{fitting}

@@ -1,12 +1,10 @@
 -- `gathered::find_leaves` meets its contract: 22, then 23, then the leaves.
-use Prim.Native.Nat.{ℕ, _≤_}
-use mathlib.Core.Path.{_≡_, sym, _∙_}
-use mathlib.Core.Bool.{true, false}
+use Prim.Native.Nat.{_≤_}
+use mathlib.Core.Path.{sym, _∙_}
 use mathlib.Core.List.{List}
-use lib.ListN.{length, take}
-use Rattle.format.specs.Programs.{Program, programs, loopsFrom}
+use lib.ListN.{length}
+use Rattle.format.specs.Programs.{Program, programs}
 use Rattle.accepted.specs.Read.{recordsOf}
-use Rattle.chains.specs.Parents.{linksOf, within}
 use Rattle.gathered.proofs.Own.{few-programs}
 use Rattle.gathered.proofs.Road.{lent-count, lent-inside, lent-few, lent-within, road-dangling, road-cycle, road-leaves}
 use borrow.Author.Needs.{needs}

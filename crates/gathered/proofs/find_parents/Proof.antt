@@ -1,9 +1,8 @@
 -- `gathered::find_parents` meets its contract: the parents of the first `i` programs are listed.
-use Prim.Native.Nat.{ℕ, _+_, _-_, _≤_, _<_}
-use mathlib.Core.Path.{_≡_, sym, subst, _∙_}
+use Prim.Native.Nat.{_+_, _-_, _≤_, _<_}
+use mathlib.Core.Path.{sym, subst, _∙_}
 use mathlib.Core.Logic.{⊎-elim}
 use native.Mathlib.Omega.{arith}
-use borrow.Author.Needs.{needs}
 use lib.ListN.{length, set}
 use Rattle.format.specs.Programs.{programs}
 use Rattle.accepted.specs.Read.{recordsOf}
@@ -74,11 +73,13 @@ loop-again c =
     let p = c .before .find-parent in
     let h : l .i < length ps = omega (arith, own-count (s .args .text .now) (s .pre .0) (s .args .p) (s .pre .1)) in
     let is = p .ensures ∙ own-parent (s .args .text .now) (s .pre .0) (s .args .p) (s .pre .1) (l .i) (omega arith) in
-    let m = few-programs (s .args .text .now) (s .pre .0) in
-    (⊎-elim
-    (λ w. subst (λ d. Found ps (set (l .list) (l .i) (p .result)) d (l .i + 1)) (sym (w .1)) (found-stray ps m (l .list) (l .dangling) (l .i) (l .inv .0) h (p .result) is (w .0 .taken)))
-    (λ w. subst (λ d. Found ps (set (l .list) (l .i) (p .result)) d (l .i + 1)) (sym (w .1)) (found-known ps m (l .list) (l .dangling) (l .i) (l .inv .0) h (p .result) is (w .0 .left)))
-    (c .if1 .came), omega arith)
+    let m = few-programs (s .args .text .now) (s .pre .0) in (
+      ⊎-elim
+          (λ w. subst (λ d. Found ps (set (l .list) (l .i) (p .result)) d (l .i + 1)) (sym (w .1)) (found-stray ps m (l .list) (l .dangling) (l .i) (l .inv .0) h (p .result) is (w .0 .taken)))
+          (λ w. subst (λ d. Found ps (set (l .list) (l .i) (p .result)) d (l .i + 1)) (sym (w .1)) (found-known ps m (l .list) (l .dangling) (l .i) (l .inv .0) h (p .result) is (w .0 .left)))
+          (c .if1 .came),
+      omega arith,
+    )
 
 returns : tie.Need-returns Inv-loop μ-loop
 returns c =

@@ -1,5 +1,5 @@
 -- `gathered::find_previous` meets its contract: the PP that is found, or no place.
-use mathlib.Core.Path.{_≡_, sym, ap, _∙_}
+use mathlib.Core.Path.{sym, ap, _∙_}
 use borrow.Author.Needs.{needs}
 use Rattle.gathered.specs.Gathered.{nowhere, orNowhere}
 use Rattle.gathered.proofs.find_previous.Statement.{statement}

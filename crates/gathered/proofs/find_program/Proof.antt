@@ -1,10 +1,9 @@
 -- `gathered::find_program` meets its contract: what the IDs ahead say is the answer, and what is left of two equally long keys decides.
-use Prim.Native.Nat.{ℕ, _+_, _-_, _≤_, _<_}
-use mathlib.Core.Path.{_≡_, refl, sym, ap, _∙_}
+use Prim.Native.Nat.{_+_, _-_, _≤_, _<_}
+use mathlib.Core.Path.{refl, sym, ap, _∙_}
 use mathlib.Core.Logic.{⊎-elim}
 use native.Mathlib.Omega.{arith}
-use borrow.Author.Needs.{needs}
-use lib.ListN.{length, take, drop, getD}
+use lib.ListN.{length, getD}
 use Rattle.text.proofs.Compared.{Left, left-none, left-other, left-on}
 use Rattle.gathered.specs.Gathered.{idsAt}
 use Rattle.gathered.specs.Parents.{namedOf}

@@ -1,5 +1,5 @@
 -- `gathered::gather` meets its contract: the programs that are in the arrays, and those from `at` on, are all.
-use Prim.Native.Nat.{ℕ, _+_, _-_, _≤_, _<_}
+use Prim.Native.Nat.{_+_, _-_, _≤_, _<_}
 use native.Mathlib.Omega.{arith}
 use borrow.Author.Needs.{needs}
 use lib.ListN.{length}

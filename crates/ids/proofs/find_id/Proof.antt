@@ -1,5 +1,5 @@
 -- `ids::find_id` meets its contract: the bytes at the place that the numbers say, or none at the text's front.
-use Prim.Native.Nat.{ℕ, _+_, _≤_}
+use Prim.Native.Nat.{_+_, _≤_}
 use mathlib.Core.Path.{refl, sym}
 use native.Mathlib.Omega.{arith}
 use lib.ListN.{length, getD}

@@ -8,7 +8,7 @@ use lib.ListN.{length, drop}
 use Rattle.format.specs.Bytes.{same}
 use Rattle.gathered.specs.Gathered.{idsAt}
 use Rattle.gathered.proofs.Search.{ids-length}
-use Rattle.ids.specs.Taken.{joined, known, idIn}
+use Rattle.ids.specs.Taken.{joined, known}
 use Rattle.ids.proofs.Search.{known-end, known-step}
 use Rattle.ids.proofs.is_known.Statement.{statement}
 use Rattle.ids.proofs.is_known.Tie as tie

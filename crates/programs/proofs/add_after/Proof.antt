@@ -1,16 +1,16 @@
 -- `programs::add_after` meets its contract: 18 and 19 by the IDs and the counts, and then what is written.
-use Prim.Native.Nat.{ℕ, _+_, _-_, _≤_, _<_}
-use mathlib.Core.Path.{_≡_, refl, sym, ap, ap₂, _∙_}
+use Prim.Native.Nat.{ℕ, _+_, _-_, _≤_}
+use mathlib.Core.Path.{_≡_, sym, ap, ap₂, _∙_}
 use mathlib.Core.Bool.{Bool, true, false, not, cond}
 use mathlib.Core.List.{List, _++_}
 use native.Mathlib.Omega.{arith}
 use lib.ListN.{length, take, drop, length-map}
 use lib.Dec.{eqb}
 use borrow.Author.Tests.{eqb-false}
-use Rattle.format.specs.Fields.{Field, lastOf}
+use Rattle.format.specs.Fields.{Field}
 use Rattle.format.specs.Records.{Record}
 use Rattle.format.specs.Reading.{readText, accept}
-use Rattle.format.specs.Programs.{programs, link, links, leaves, ordinalFrom}
+use Rattle.format.specs.Programs.{programs, links, leaves, ordinalFrom}
 use Rattle.format.specs.Tidy.{tidy, unwritable}
 use Rattle.format.specs.Adding.{given, isKnown, added, used}
 use Rattle.format.specs.Calls.{writing}

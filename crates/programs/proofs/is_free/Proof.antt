@@ -1,8 +1,7 @@
 -- `programs::is_free` meets its contract: nobody has this ID.
 use Rattle.gathered.specs.Gathered.{idsAt}
 use Rattle.programs.proofs.Prior.{free-nobody, free-somebody}
-use mathlib.Core.Path.{_≡_, refl, sym, ap, _∙_}
-use mathlib.Core.Bool.{Bool, true, false, not}
+use mathlib.Core.Path.{sym, _∙_}
 use borrow.Author.Needs.{needs}
 use Rattle.programs.proofs.is_free.Statement.{statement}
 use Rattle.programs.proofs.is_free.Tie as tie

@@ -6,9 +6,9 @@ use Rattle.gathered.specs.Gathered.{idsAt}
 use Rattle.ids.specs.Taken.{known}
 use Rattle.programs.specs.Added.{stray}
 use Rattle.programs.proofs.Prior.{stray-nothing, stray-at}
-use Prim.Native.Nat.{ℕ, _+_, _-_, _≤_}
-use mathlib.Core.Path.{_≡_, refl, sym, ap, _∙_}
-use mathlib.Core.Bool.{Bool, true, false, not}
+use Prim.Native.Nat.{_+_, _-_, _≤_}
+use mathlib.Core.Path.{_≡_, sym, _∙_}
+use mathlib.Core.Bool.{not}
 use native.Mathlib.Omega.{arith}
 use borrow.Author.Needs.{needs}
 use Rattle.programs.proofs.is_stray.Statement.{statement}

@@ -1,17 +1,16 @@
 -- `programs::put_all` meets its contract: the records, the new programs, the comments.
 use Prim.Native.Nat.{ℕ, _+_, _≤_}
 use mathlib.Core.Path.{_≡_, ap, ap₂, _∙_}
-use mathlib.Core.List.{List, _++_}
+use mathlib.Core.List.{List}
 use native.Mathlib.Omega.{arith}
-use lib.ListN.{length, length-append}
+use lib.ListN.{length}
 use Rattle.format.specs.Records.{Record}
-use Rattle.format.specs.Reading.{readText}
 use Rattle.format.specs.Tidy.{tidy}
 use Rattle.format.specs.declared.Kind.the-variants.{Comment}
 use Rattle.accepted.specs.Read.{recordsOf}
 use Rattle.gathered.specs.Gathered.{idsAt}
 use Rattle.tidy_text.specs.Kinds.{textOfKind, frontText}
-use Rattle.tidy_text.specs.Sizes.{get, front, sizesOf}
+use Rattle.tidy_text.specs.Sizes.{get, front}
 use Rattle.text.specs.Over.{over}
 use Rattle.tidy_text.proofs.Lines.{opened}
 use Rattle.tidy_text.proofs.Total.{tidy-small}
