@@ -16,7 +16,7 @@ use Rattle.chains.proofs.Leaf.{leaves-length}
 use Rattle.gathered.proofs.Numbers.{links-count, links-named}
 use Rattle.gathered.proofs.Road.{none-dangles, none-loops}
 use Rattle.calls.proofs.Fresh.{Current, refused, passed}
-use Rattle.calls.proofs.Chained.{too-short, fits, few-own, leaves-tangled, leaves-own}
+use Rattle.calls.proofs.Chained.{too-short, fits, opened, leaves-tangled, leaves-own}
 
 unfoldable toldOf : List ℕ × ℕ → Answer (List ℕ × ℕ) → List ℕ × ℕ
 toldOf z (no n l) = z
@@ -56,7 +56,7 @@ module _ (t c : List ℕ) (own : Current t c) where
   summed z =
       let d = none-dangles ls z in
       subst (λ n. 2 * hops ls ≤ n * (n - 1)) (links-count ps)
-      (hops-bound ls (none-loops ls z) (λ k m. omega (arith, links-count ps, links-named ps (few-own t c own) d k m)))
+      (hops-bound ls (none-loops ls z) (λ k m. omega (arith, links-count ps, links-named ps (opened t c own .few) d k m)))
 
 -- leaves that are answered are of the text's own catalogue
 current : (t c : List ℕ) (room : ℕ) (a : List ℕ × ℕ) → leafing t c room ≡ yes a → Current t c
@@ -74,12 +74,12 @@ leaves-bound t c room xs h is =
 pub leaves-few : (t c : List ℕ) (room : ℕ) (xs : List ℕ) (h : ℕ) → leafing t c room ≡ yes (xs, h) → length xs ≤ 1024
 leaves-few t c room xs h is =
     let own = current t c room (xs, h) is in
-    let few = few-own t c own in
+    let few = opened t c own .few in
     answered t c own (λ a. length (a .0) ≤ 1024) room (xs, h) is (λ z. omega (arith, few, links-count (ps t c own), leaves-length (ls t c own)))
 
 -- so that the hops are at most 523,776
 pub hops-few : (t c : List ℕ) (room : ℕ) (xs : List ℕ) (h : ℕ) → leafing t c room ≡ yes (xs, h) → h ≤ 523776
 hops-few t c room xs h is =
     let n = length (programs (recordsOf t)) in
-    let few : n ≤ 1024 = few-own t c (current t c room (xs, h) is) in
+    let few : n ≤ 1024 = opened t c (current t c room (xs, h) is) .few in
     omega (arith, few, leaves-bound t c room xs h is, mul-le-mul-right (n - 1) few)

@@ -46,6 +46,14 @@ module _ (t c : List ℕ) (n l : ℕ) (e : fresh t c ≡ no n l) (room : ℕ) wh
 
 -- ---- over the text's own catalogue
 
+-- what is gathered from it is what the text's programs are
+pub record Opened (t c : List ℕ) : Type 0 where
+  pub own : Current t c
+  pub accepted : isAccepted (readText t) ≡ true
+  pub entries : counted 4 (entriesIn c) ≤ 1024
+  pub gathers : (p : Programs) → p ≡ gatheredOf (notedIn (entriesIn c)) → p ≡ gatheredOf (notedIn (entriesIn (catalogue (recordsOf t))))
+  pub few : length (programs (recordsOf t)) ≤ 1024
+
 module _ (t c : List ℕ) (own : Current t c) where
   abbrev rs : List Record
   rs = recordsOf t
@@ -53,19 +61,19 @@ module _ (t c : List ℕ) (own : Current t c) where
   abbrev ps : List Program
   ps = programs rs
 
-  pub own-accepted : isAccepted (readText t) ≡ true
+  own-accepted : isAccepted (readText t) ≡ true
   unfolding isAccepted
   own-accepted = ap isAccepted (own .reads)
 
-  -- what gathering asks, and what is gathered
-  pub few-entries : counted 4 (entriesIn c) ≤ 1024
-  few-entries = subst (λ s. counted 4 (entriesIn s) ≤ 1024) (sym (own .own)) (text-few t rs (own .reads))
-
-  pub own-gathered : (p : Programs) → p ≡ gatheredOf (notedIn (entriesIn c)) → p ≡ gatheredOf (notedIn (entriesIn (catalogue rs)))
-  own-gathered p e = e ∙ ap (λ s. gatheredOf (notedIn (entriesIn s))) (own .own)
-
-  pub few-own : length ps ≤ 1024
-  few-own = few-programs t own-accepted
+  -- what gathering and the search for parents ask
+  pub opened : Opened t c
+  opened = record {
+    own = own;
+    accepted = own-accepted;
+    entries = subst (λ s. counted 4 (entriesIn s) ≤ 1024) (sym (own .own)) (text-few t rs (own .reads));
+    gathers = λ p e. e ∙ ap (λ s. gatheredOf (notedIn (entriesIn s))) (own .own);
+    few = few-programs t own-accepted;
+  }
 
   pub rooted : (room : ℕ) → rooting t c room ≡ fitting room (roots (links ps))
   unfolding rooting

@@ -1,5 +1,5 @@
 -- `calls::leaves` meets its contract: reading, 21, 22, 23, 20, then the leaves and the hops.
-use Prim.Native.Nat.{ℕ, _≤_}
+use Prim.Native.Nat.{ℕ}
 use mathlib.Core.Path.{_≡_, sym, ap, _∙_}
 use mathlib.Core.List.{List}
 use lib.ListN.{length}
@@ -11,8 +11,8 @@ use Rattle.chains.proofs.Arrays.{front, front-count, front-inside}
 use Rattle.gathered.proofs.Road.{lent-count, lent-inside, lent-few, lent-within, lent-links, graph-refusal, graph-parents, graph-undangled, graph-list, graph-count}
 use Rattle.parser.specs.Answers.{answerOf, outputOf}
 use Rattle.calls.specs.Answers.{withHops}
-use Rattle.calls.proofs.Fresh.{Current, check-refused, check-fresh}
-use Rattle.calls.proofs.Chained.{leaves-refused, own-accepted, few-entries, own-gathered, few-own, leaves-tangled, leaves-own, refused-leaves, written-leaves}
+use Rattle.calls.proofs.Fresh.{refused-by, fresh-by}
+use Rattle.calls.proofs.Chained.{leaves-refused, Opened, opened, leaves-tangled, leaves-own, refused-leaves, written-leaves}
 use borrow.Author.Needs.{needs}
 use Rattle.calls.proofs.leaves.Statement.{statement}
 use Rattle.calls.proofs.leaves.Tie as tie
@@ -27,29 +27,18 @@ enum-told : tie.Need-enum-told
 enum-told c = search needs
 
 -- the catalogue is the text's own
-own : (c : tie.After-enum-told) → let a = c .before .before .before .before .before .before .args in Current (a .text .now) (a .kept .now)
-own c =
-    let a = c .before .before .before .before .before .before .args in
-    check-fresh (a .text .now) (a .kept .now) (sym (c .before .before .check .ensures) ∙ c .enum-told .given .1)
+own : (c : tie.After-enum-told) → let a = c .before .before .before .before .before .before .args in Opened (a .text .now) (a .kept .now)
+own c = let a = c .before .before .before .before .before .before .args in opened (a .text .now) (a .kept .now) (fresh-by (a .text .now) (a .kept .now) (c .before .before .check .ensures) (c .enum-told .given .1))
 
 gather-requires : tie.Need-gather-requires
-gather-requires c κs = let a = c .before .before .before .before .before .before .args in few-entries (a .text .now) (a .kept .now) (own c)
+gather-requires c κs = own c .entries
 
 find-leaves-requires : tie.Need-find-leaves-requires
-find-leaves-requires c κs =
-    let e = c .before in
-    let a = e .before .before .before .before .before .before .args in
-    (own-accepted (a .text .now) (a .kept .now) (own e), own-gathered (a .text .now) (a .kept .now) (own e) (c .gather .result) (c .gather .ensures))
+find-leaves-requires c κs = (own (c .before) .accepted, own (c .before) .gathers (c .gather .result) (c .gather .ensures))
 
--- the programs of the text, and how many they are
+-- the programs of the text
 abbrev ps : tie.After-find-leaves → List Program
 ps c = programs (recordsOf (c .before .before .before .before .before .before .before .before .args .text .now))
-
-few : (c : tie.After-find-leaves) → length (ps c) ≤ 1024
-few c =
-    let e = c .before .before in
-    let a = e .before .before .before .before .before .before .args in
-    few-own (a .text .now) (a .kept .now) (own e)
 
 returns : tie.Need-returns
 returns c =
@@ -59,26 +48,26 @@ returns c =
     let room = length (a .out .now) in
     let g = f .find-leaves .result in
     refused-leaves (leafing (a .text .now) (a .kept .now) room) (a .out .now) (g .refusal) (record { 0 = 0 })
-    (leaves-tangled (a .text .now) (a .kept .now) (own e) room (g .refusal) (graph-refusal (links (ps f)) g (f .find-leaves .ensures)) (c .if1 .taken))
+    (leaves-tangled (a .text .now) (a .kept .now) (own e .own) room (g .refusal) (graph-refusal (links (ps f)) g (f .find-leaves .ensures)) (c .if1 .taken))
 
 array-share-prefix-list : tie.Need-array-share-prefix-list
 array-share-prefix-list c =
     let f = c .before .before .before .before in
     let g = f .find-leaves .result in
-    lent-inside (ps f) (few f) (g .parents) (graph-parents (links (ps f)) g (f .find-leaves .ensures))
+    lent-inside (ps f) (own (f .before .before) .few) (g .parents) (graph-parents (links (ps f)) g (f .find-leaves .ensures))
 
 slice-aggregate-hops : tie.Need-slice-aggregate-hops
 slice-aggregate-hops c =
     let f = c .before .before .before .before .before in
     let g = f .find-leaves .result in
-    lent-count (ps f) (few f) (g .parents) (graph-parents (links (ps f)) g (f .find-leaves .ensures))
+    lent-count (ps f) (own (f .before .before) .few) (g .parents) (graph-parents (links (ps f)) g (f .find-leaves .ensures))
 
 hops-requires : tie.Need-hops-requires
 hops-requires c κs =
     let f = c .before .before .before .before .before in
     let g = f .find-leaves .result in
     let q = graph-parents (links (ps f)) g (f .find-leaves .ensures) in
-    (lent-within (ps f) (few f) (g .parents) q (graph-undangled (links (ps f)) g (f .find-leaves .ensures) (c .before .before .before .if1 .left)), lent-few (ps f) (few f) (g .parents) q)
+    (lent-within (ps f) (own (f .before .before) .few) (g .parents) q (graph-undangled (links (ps f)) g (f .find-leaves .ensures) (c .before .before .before .if1 .left)), lent-few (ps f) (own (f .before .before) .few) (g .parents) q)
 
 -- what is found: the leaves in an array, as they are lent
 module _ (e : tie.Else1) where
@@ -113,7 +102,7 @@ returns-2 c =
     let g = c .before .n .given in
     let room = length (a .out .now) in
     refused-leaves (leafing (a .text .now) (a .kept .now) room) (a .out .now) (g .0 .0) (g .0 .1 .0)
-    (leaves-refused (a .text .now) (a .kept .now) (g .0 .0) (g .0 .1 .0 .0) (check-refused (a .text .now) (a .kept .now) (g .0 .0) (g .0 .1 .0) (sym (k .check .ensures) ∙ g .1)) room)
+    (leaves-refused (a .text .now) (a .kept .now) (g .0 .0) (g .0 .1 .0 .0) (refused-by (a .text .now) (a .kept .now) (k .check .ensures) (g .0 .0) (g .0 .1 .0) (g .1)) room)
 
 same-length : tie.Need-same-length
 same-length c = search needs
@@ -129,10 +118,10 @@ returns-3 c =
     let room = length (a .out .now) in
     let g = f .find-leaves .result in
     let is = f .find-leaves .ensures in
-    let sum = h .hops .ensures ∙ ap hops (lent-links (ps f) (few f) (g .parents) (graph-parents (links (ps f)) g is) (graph-undangled (links (ps f)) g is (l .if1 .left))) in
+    let sum = h .hops .ensures ∙ ap hops (lent-links (ps f) (own (f .before .before) .few) (g .parents) (graph-parents (links (ps f)) g is) (graph-undangled (links (ps f)) g is (l .if1 .left))) in
     let found = front (xs l) (g .leaves .list) (g .leaves .count) (listed l) (counted l) in
     let told = written-leaves (h .hops .result) (leafing (a .text .now) (a .kept .now) room) room (xs l) (a .out .now)
-    (leaves-own (a .text .now) (a .kept .now) (own e) room (sym (graph-refusal (links (ps f)) g is) ∙ l .if1 .left) ∙ ap (λ k. then (fitting room (xs l)) (λ ys. yes (ys, k))) (sym sum)) in (
+    (leaves-own (a .text .now) (a .kept .now) (own e .own) room (sym (graph-refusal (links (ps f)) g is) ∙ l .if1 .left) ∙ ap (λ k. then (fitting room (xs l)) (λ ys. yes (ys, k))) (sym sum)) in (
       c .with-hops .ensures ∙ ap (λ x. withHops x (h .hops .result)) (w .put-ordinals .ensures .0 ∙ ap (λ ys. answerOf (fitting room ys)) found) ∙ told .0,
       w .put-ordinals .ensures .1 ∙ ap (λ ys. outputOf (fitting room ys) (a .out .now)) found ∙ told .1,
     )
