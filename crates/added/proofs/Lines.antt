@@ -1,23 +1,23 @@
 -- The parts of a new program's line: what they are, and how long.
-use Prim.Native.Nat.{ℕ, _+_, _≤_, _<_}
+use Prim.Native.Nat.{ℕ, _+_, _-_, _≤_, _<_}
 use mathlib.Core.Path.{_≡_, refl, sym, ap, _∙_}
 use mathlib.Core.Bool.{Bool, true, false}
 use mathlib.Core.List.{List, [], _∷_, _++_}
 use native.Mathlib.Omega.{arith}
 use native.Mathlib.Numerals.{add-one}
-use lib.ListN.{length, take, drop, getD, length-append, length-take, length-drop, drop-of-length-le}
+use lib.ListN.{length, drop, getD, length-append, length-take, length-drop, drop-of-length-le}
 use lib.Seq.{drop-cons}
+use lib.Dec.{ltb}
+use borrow.Author.Tests.{ltb-true, ltb-false}
 use Rattle.format.specs.Tidy.{fieldText}
 use Rattle.format.specs.declared.Kind.the-variants.{Program}
 use Rattle.text.proofs.Over.{over-none}
 use Rattle.writer.specs.Parts.{prefixText}
 use Rattle.writer.proofs.Wrote.{Wrote}
-use Rattle.entries.specs.declared.Entry.{Entry}
-use Rattle.lookup.specs.declared.Found.{Found}
-use Rattle.lookup.specs.declared.Found.the-variants.{Nothing, At}
-use Rattle.lookup.specs.Lookup.{keyIn}
-use Rattle.lookup.specs.Parents.{bytesAt}
-use Rattle.ids.specs.Taken.{foundBytes, idIn}
+use Rattle.accepted.proofs.Bools.{split}
+use Rattle.gathered.specs.Gathered.{idsAt, Placed}
+use Rattle.ids.specs.Taken.{idIn}
+use Rattle.ids.proofs.Search.{id-none, id-some}
 use Rattle.added.specs.Lines.{newLines, addedText}
 use Rattle.added.specs.Line.{joining, linking, ending, newLine}
 
@@ -71,33 +71,33 @@ line-size alone linked prefix fields id =
 
 -- ---- one after each leaf
 
-module _ (t : List ℕ) (es : List Entry) (linked : Bool) (prefix fields ks : List ℕ) where
+module _ (ids : List (List ℕ)) (linked : Bool) (prefix fields ks : List ℕ) where
   pub lines-more : (first : Bool) (i : ℕ) → i < length ks
-      → newLines t es first linked prefix fields (drop i ks)
-      ≡ newLine first linked prefix fields (idIn t es (getD ks i 0)) ++ newLines t es false linked prefix fields (drop (i + 1) ks)
+      → newLines ids first linked prefix fields (drop i ks)
+      ≡ newLine first linked prefix fields (idIn ids (getD ks i 0)) ++ newLines ids false linked prefix fields (drop (i + 1) ks)
   unfolding newLines
   lines-more first i h = rw (drop-cons ks i 0 h, add-one i) refl
 
-  pub lines-done : (first : Bool) (i : ℕ) → length ks ≤ i → newLines t es first linked prefix fields (drop i ks) ≡ []
+  pub lines-done : (first : Bool) (i : ℕ) → length ks ≤ i → newLines ids first linked prefix fields (drop i ks) ≡ []
   unfolding newLines
   lines-done first i h = rw (drop-of-length-le ks h) refl
 
 -- an ID is no longer than the text
-pub id-most : (t : List ℕ) (es : List Entry) (k : ℕ) → length (idIn t es k) ≤ length t
-unfolding idIn foundBytes bytesAt
-id-most t es k = go (keyIn 4 k es)
+pub id-most : (t ats lens : List ℕ) → Placed t ats lens → (k : ℕ) → length (idIn (idsAt t ats lens) k) ≤ length t
+id-most t ats lens p k = split (ltb k (length ats)) (λ q. within (ltb-true k (length ats) q)) (λ q. omega (arith, ap length (id-none t ats lens p k (ltb-false k (length ats) q))))
   where
-    go : (f : Found) → length (foundBytes t f) ≤ length t
-    go Nothing = omega arith
-    go (At p) = omega (arith, length-take (p .len) (drop (p .at) t), length-drop (p .at) t)
+    within : k < length ats → length (idIn (idsAt t ats lens) k) ≤ length t
+    within h =
+        let a = getD ats k 0 in
+        omega (arith, ap length (id-some t ats lens p k h), length-take (a + getD lens k 0 - a) (drop a t), length-drop a t)
 
 -- ---- all of them
 
-module _ (t : List ℕ) (es : List Entry) (empty alone linked : Bool) (prefix fields ks : List ℕ) where
-  pub added-one : empty ≡ true → addedText t es empty alone linked prefix fields ks ≡ newLine true false prefix fields []
+module _ (ids : List (List ℕ)) (empty alone linked : Bool) (prefix fields ks : List ℕ) where
+  pub added-one : empty ≡ true → addedText ids empty alone linked prefix fields ks ≡ newLine true false prefix fields []
   unfolding addedText
   added-one e = rw e refl
 
-  pub added-each : empty ≡ false → addedText t es empty alone linked prefix fields ks ≡ newLines t es alone linked prefix fields ks
+  pub added-each : empty ≡ false → addedText ids empty alone linked prefix fields ks ≡ newLines ids alone linked prefix fields ks
   unfolding addedText
   added-each e = rw e refl

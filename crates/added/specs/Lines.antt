@@ -2,16 +2,15 @@
 use Prim.Native.Nat.{ℕ}
 use mathlib.Core.Bool.{Bool, true, false, cond}
 use mathlib.Core.List.{List, [], _∷_, _++_}
-use Rattle.entries.specs.declared.Entry.{Entry}
 use Rattle.ids.specs.Taken.{idIn}
 use Rattle.added.specs.Line.{newLine}
 
-unfoldable pub newLines : List ℕ → List Entry → Bool → Bool → List ℕ → List ℕ → List ℕ → List ℕ
+unfoldable pub newLines : List (List ℕ) → Bool → Bool → List ℕ → List ℕ → List ℕ → List ℕ
 unfolding newLine idIn
-newLines t es alone linked prefix fields [] = []
-newLines t es alone linked prefix fields (k ∷ ks) = newLine alone linked prefix fields (idIn t es k) ++ newLines t es false linked prefix fields ks
+newLines ids alone linked prefix fields [] = []
+newLines ids alone linked prefix fields (k ∷ ks) = newLine alone linked prefix fields (idIn ids k) ++ newLines ids false linked prefix fields ks
 
 -- all of them: with no programs there is one, whose ID is the prefix and to which no PP is added
-unfoldable pub addedText : List ℕ → List Entry → Bool → Bool → Bool → List ℕ → List ℕ → List ℕ → List ℕ
+unfoldable pub addedText : List (List ℕ) → Bool → Bool → Bool → List ℕ → List ℕ → List ℕ → List ℕ
 unfolding newLine newLines
-addedText t es empty alone linked prefix fields ks = cond empty (newLine true false prefix fields []) (newLines t es alone linked prefix fields ks)
+addedText ids empty alone linked prefix fields ks = cond empty (newLine true false prefix fields []) (newLines ids alone linked prefix fields ks)

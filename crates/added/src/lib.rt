@@ -1,14 +1,13 @@
 // New programs as lines of a tidy text.
 use format::Kind;
+use format::ProgramNo;
 ghost use mathlib.Core.Path.{_≡_};
 ghost use Prim.Native.Nat.{_≤_, _+_};
 ghost use lib.ListN.{length};
 ghost use Rattle.text.specs.Over.{over};
-ghost use Rattle.text.specs.Stands.{Each};
-ghost use Rattle.entries.specs.Entries.{entriesIn};
-ghost use Rattle.lookup.specs.Parents.{Within};
+ghost use Rattle.gathered.specs.Gathered.{idsAt, Placed};
 ghost use Rattle.added.specs.Line.{joining, linking, ending, newLine};
-ghost use Rattle.added.specs.Lines.{newLines, addedText};
+ghost use Rattle.added.specs.Lines.{addedText};
 
 // How new programs look: there are none yet; the first one's ID is the prefix alone; PP with the leaf's ID is added.
 pub struct Shape {
@@ -117,86 +116,34 @@ pub fn line_len(prefix: &[u8], fields: &[u8], id: &[u8], alone: bool, linked: bo
     8 + prefix.len() + fields.len() + joined + previous
 }
 
-// How many bytes the lines of the new programs have, one after each leaf; `alone` says that the first one's ID is the prefix.
-pub fn lines_len(
-    text: &[u8],
-    catalogue: &[u8],
-    prefix: &[u8],
-    fields: &[u8],
-    leaves: &[u32],
-    alone: bool,
-    linked: bool,
-) -> usize
-    requires { ⌜ Each (Within (length (now text))) (entriesIn (now catalogue)) ⌝ }
-    requires { ⌜ (length (now text) ≤ 16777216) × (length (now prefix) ≤ 16777216) × (length (now fields) ≤ 16777216) × (length (now leaves) ≤ 1024) ⌝ }
-    ensures { λ r. ⌜ r ≡ length (newLines (now (text .entry)) (entriesIn (now (catalogue .entry))) alone linked (now (prefix .entry)) (now (fields .entry)) (now (leaves .entry))) ⌝ }
-{
-    let mut n: usize = 0;
-    let mut first = alone;
-    let mut i: usize = 0;
-    while i < leaves.len() {
-        let id = ids::find_id(text, catalogue, leaves[i]);
-        n += line_len(prefix, fields, id, first, linked);
-        first = false;
-        i += 1;
-    }
-    n
-}
-
-// Writes the lines of the new programs, one after each leaf.
-pub fn put_lines(
-    out: &mut [u8],
-    o: usize,
-    text: &[u8],
-    catalogue: &[u8],
-    prefix: &[u8],
-    fields: &[u8],
-    leaves: &[u32],
-    alone: bool,
-    linked: bool,
-) -> usize
-    requires { ⌜ Each (Within (length (now text))) (entriesIn (now catalogue)) ⌝ }
-    requires { ⌜ o + length (newLines (now text) (entriesIn (now catalogue)) alone linked (now prefix) (now fields) (now leaves)) ≤ length (now out) ⌝ }
-    ensures next { λ r. ⌜ r ≡ o + length (newLines (now (text .entry)) (entriesIn (now (catalogue .entry))) alone linked (now (prefix .entry)) (now (fields .entry)) (now (leaves .entry))) ⌝ }
-    ensures wrote { λ _. ⌜ now (out .exit) ≡ over (now (out .entry)) o (newLines (now (text .entry)) (entriesIn (now (catalogue .entry))) alone linked (now (prefix .entry)) (now (fields .entry)) (now (leaves .entry))) ⌝ }
-{
-    let mut n = o;
-    let mut first = alone;
-    let mut i: usize = 0;
-    while i < leaves.len() {
-        let id = ids::find_id(text, catalogue, leaves[i]);
-        n = put_line(out, n, prefix, fields, id, first, linked);
-        first = false;
-        i += 1;
-    }
-    n
-}
-
-// How many bytes the new programs have: with no programs there is one, whose ID is the prefix and to which no PP is added.
+// How many bytes the new programs have: one line after each leaf. With no programs there is one, whose ID is the prefix and to
+// which no PP is added.
 pub fn added_len(
     text: &[u8],
-    catalogue: &[u8],
+    ats: &[u32],
+    lens: &[u32],
     prefix: &[u8],
     fields: &[u8],
     leaves: &[u32],
     shape: Shape,
 ) -> usize
-    requires { ⌜ Each (Within (length (now text))) (entriesIn (now catalogue)) ⌝ }
+    requires { ⌜ Placed (now text) (now ats) (now lens) ⌝ }
     requires { ⌜ (length (now text) ≤ 16777216) × (length (now prefix) ≤ 16777216) × (length (now fields) ≤ 16777216) × (length (now leaves) ≤ 1024) ⌝ }
-    ensures { λ r. ⌜ r ≡ length (addedText (now (text .entry)) (entriesIn (now (catalogue .entry))) (shape .empty) (shape .alone) (shape .linked) (now (prefix .entry)) (now (fields .entry)) (now (leaves .entry))) ⌝ }
+    ensures { λ r. ⌜ r ≡ length (addedText (idsAt (now (text .entry)) (now (ats .entry)) (now (lens .entry))) (shape .empty) (shape .alone) (shape .linked) (now (prefix .entry)) (now (fields .entry)) (now (leaves .entry))) ⌝ }
 {
     if shape.empty {
         return line_len(prefix, fields, &text[..0], true, false);
     }
-    lines_len(
-        text,
-        catalogue,
-        prefix,
-        fields,
-        leaves,
-        shape.alone,
-        shape.linked,
-    )
+    let mut n: usize = 0;
+    let mut first = shape.alone;
+    let mut i: usize = 0;
+    while i < leaves.len() {
+        let id = ids::find_id(text, ats, lens, ProgramNo(leaves[i]));
+        n += line_len(prefix, fields, id, first, shape.linked);
+        first = false;
+        i += 1;
+    }
+    n
 }
 
 // Writes the new programs, and answers the place after them.
@@ -204,29 +151,29 @@ pub fn put_added(
     out: &mut [u8],
     o: usize,
     text: &[u8],
-    catalogue: &[u8],
+    ats: &[u32],
+    lens: &[u32],
     prefix: &[u8],
     fields: &[u8],
     leaves: &[u32],
     shape: Shape,
 ) -> usize
-    requires { ⌜ Each (Within (length (now text))) (entriesIn (now catalogue)) ⌝ }
-    requires { ⌜ o + length (addedText (now text) (entriesIn (now catalogue)) (shape .empty) (shape .alone) (shape .linked) (now prefix) (now fields) (now leaves)) ≤ length (now out) ⌝ }
-    ensures next { λ r. ⌜ r ≡ o + length (addedText (now (text .entry)) (entriesIn (now (catalogue .entry))) (shape .empty) (shape .alone) (shape .linked) (now (prefix .entry)) (now (fields .entry)) (now (leaves .entry))) ⌝ }
-    ensures wrote { λ _. ⌜ now (out .exit) ≡ over (now (out .entry)) o (addedText (now (text .entry)) (entriesIn (now (catalogue .entry))) (shape .empty) (shape .alone) (shape .linked) (now (prefix .entry)) (now (fields .entry)) (now (leaves .entry))) ⌝ }
+    requires { ⌜ Placed (now text) (now ats) (now lens) ⌝ }
+    requires { ⌜ o + length (addedText (idsAt (now text) (now ats) (now lens)) (shape .empty) (shape .alone) (shape .linked) (now prefix) (now fields) (now leaves)) ≤ length (now out) ⌝ }
+    ensures next { λ r. ⌜ r ≡ o + length (addedText (idsAt (now (text .entry)) (now (ats .entry)) (now (lens .entry))) (shape .empty) (shape .alone) (shape .linked) (now (prefix .entry)) (now (fields .entry)) (now (leaves .entry))) ⌝ }
+    ensures wrote { λ _. ⌜ now (out .exit) ≡ over (now (out .entry)) o (addedText (idsAt (now (text .entry)) (now (ats .entry)) (now (lens .entry))) (shape .empty) (shape .alone) (shape .linked) (now (prefix .entry)) (now (fields .entry)) (now (leaves .entry))) ⌝ }
 {
     if shape.empty {
         return put_line(out, o, prefix, fields, &text[..0], true, false);
     }
-    put_lines(
-        out,
-        o,
-        text,
-        catalogue,
-        prefix,
-        fields,
-        leaves,
-        shape.alone,
-        shape.linked,
-    )
+    let mut n = o;
+    let mut first = shape.alone;
+    let mut i: usize = 0;
+    while i < leaves.len() {
+        let id = ids::find_id(text, ats, lens, ProgramNo(leaves[i]));
+        n = put_line(out, n, prefix, fields, id, first, shape.linked);
+        first = false;
+        i += 1;
+    }
+    n
 }

@@ -1,43 +1,27 @@
--- What roots and leaves answer over a catalogue that is the text's own, by the parents that are found in it.
-use Prim.Native.Nat.{ℕ, _-_, _≤_, _<_}
-use mathlib.Core.Path.{_≡_, refl, sym, ap, ap₂, subst, _∙_}
-use mathlib.Core.Bool.{Bool, true, false, cond}
+-- What roots and leaves answer over a catalogue that is the text's own, by the links of its programs.
+use Prim.Native.Nat.{ℕ, zero, suc, _≤_, _<_}
+use mathlib.Core.Path.{_≡_, refl, sym, ap, subst, _∙_}
+use mathlib.Core.Bool.{true}
 use mathlib.Core.List.{List}
-use native.Mathlib.Omega.{arith}
-use lib.ListN.{length, take, replicate, length-append}
+use lib.ListN.{length}
 use borrow.Author.Tests.{lt-ltb, le-ltb}
-use Rattle.format.specs.Bytes.{any}
 use Rattle.format.specs.Records.{Record}
+use Rattle.format.specs.Reading.{readText}
 use Rattle.format.specs.Catalogue.{catalogue}
-use Rattle.format.specs.Programs.{Link, programs, links, roots, leaves, hops, tangled, isDangling, loopsFrom}
+use Rattle.format.specs.Programs.{Program, programs, links, roots, leaves, hops, tangled}
 use Rattle.format.specs.Calls.{Answer, no, yes, then, fitting, untangled, fresh, rooting, leafing}
 use Rattle.format.specs.declared.LineNo.{LineNo}
-use Rattle.text.specs.Over.{over}
-use Rattle.text.specs.Stands.{Each}
-use Rattle.accepted.specs.Read.{recordsOf}
-use Rattle.chains.specs.Parents.{linksOf, within, inArray}
+use Rattle.accepted.specs.Read.{isAccepted, recordsOf}
 use Rattle.entries.specs.Entries.{entriesIn, counted}
-use Rattle.lookup.specs.Parents.{Within, parentsIn, strays}
-use Rattle.lookup.proofs.Kept.{text-inside, text-few}
-use Rattle.lookup.proofs.Numbers.{array-front, parents-few, parents-count, parents-dangling, parents-roots, parents-links, parents-within}
-use Rattle.parser.specs.Answers.{outputOf}
-use Rattle.parser.proofs.Told.{refused-answer, written-answer}
-use Rattle.calls.specs.declared.LeavesAnswer.the-variants.{Refused, Counted}
-use Rattle.calls.specs.Answers.{leavesOf, listOf}
+use Rattle.lookup.proofs.Kept.{text-few}
+use Rattle.gathered.specs.declared.Programs.{Programs}
+use Rattle.gathered.specs.Gathered.{notedIn, gatheredOf}
+use Rattle.gathered.proofs.Own.{few-programs}
+use Rattle.parser.specs.Answers.{answerOf, outputOf}
+use Rattle.parser.proofs.Told.{refused-answer}
+use Rattle.calls.specs.declared.LeavesAnswer.the-variants.{Refused}
+use Rattle.calls.specs.Answers.{leavesOf, listOf, withHops}
 use Rattle.calls.proofs.Fresh.{Current, goes-on, stops}
-
--- ---- a list in an array
-
-module _ (xs list : List ℕ) (n : ℕ) (e : list ≡ inArray xs) (m : n ≡ length xs) where
-  pub front : take n list ≡ xs
-  front = ap₂ take m e ∙ array-front xs
-
-  pub front-counted : n ≡ length (take n list)
-  front-counted = m ∙ sym (ap length front)
-
-  pub front-within : n ≤ length list
-  unfolding inArray
-  front-within = omega (arith, m, ap length e, length-append xs (replicate (1024 - length xs) 0))
 
 -- ---- 20 comes last
 
@@ -62,85 +46,58 @@ module _ (t c : List ℕ) (n l : ℕ) (e : fresh t c ≡ no n l) (room : ℕ) wh
 
 -- ---- over the text's own catalogue
 
+-- what is gathered from it is what the text's programs are
+pub record Opened (t c : List ℕ) : Type 0 where
+  pub own : Current t c
+  pub accepted : isAccepted (readText t) ≡ true
+  pub entries : counted 4 (entriesIn c) ≤ 1024
+  pub gathers : (p : Programs) → p ≡ gatheredOf (notedIn (entriesIn c)) → p ≡ gatheredOf (notedIn (entriesIn (catalogue (recordsOf t))))
+  pub few : length (programs (recordsOf t)) ≤ 1024
+
 module _ (t c : List ℕ) (own : Current t c) where
   abbrev rs : List Record
   rs = recordsOf t
 
-  abbrev parents : List ℕ
-  parents = parentsIn t (entriesIn c)
+  abbrev ps : List Program
+  ps = programs rs
 
-  -- what the search for parents asks
-  pub inside : Each (Within (length t)) (entriesIn c)
-  inside = subst (λ s. Each (Within (length t)) (entriesIn s)) (sym (own .own)) (text-inside t rs (own .reads))
+  own-accepted : isAccepted (readText t) ≡ true
+  unfolding isAccepted
+  own-accepted = ap isAccepted (own .reads)
 
-  pub few : counted 4 (entriesIn c) ≤ 1024
-  few = subst (λ s. counted 4 (entriesIn s) ≤ 1024) (sym (own .own)) (text-few t rs (own .reads))
+  -- what gathering and the search for parents ask
+  pub opened : Opened t c
+  opened = record {
+    own = own;
+    accepted = own-accepted;
+    entries = subst (λ s. counted 4 (entriesIn s) ≤ 1024) (sym (own .own)) (text-few t rs (own .reads));
+    gathers = λ p e. e ∙ ap (λ s. gatheredOf (notedIn (entriesIn s))) (own .own);
+    few = few-programs t own-accepted;
+  }
 
-  found : parents ≡ parentsIn t (entriesIn (catalogue rs))
-  found = ap (λ s. parentsIn t (entriesIn s)) (own .own)
-
-  pub few-parents : length parents ≤ 1024
-  few-parents = omega (arith, ap length found, parents-few t rs (own .reads))
-
-  pub parents-programs : length parents ≡ length (programs rs)
-  parents-programs = ap length found ∙ parents-count t rs (own .reads)
-
-  pub rooted : (room : ℕ) → rooting t c room ≡ fitting room (roots (linksOf parents))
+  pub rooted : (room : ℕ) → rooting t c room ≡ fitting room (roots (links ps))
   unfolding rooting
-  rooted room =
-      goes-on t c (λ rs. fitting room (roots (links (programs rs)))) own
-      ∙ ap (fitting room) (sym (ap (λ ps. roots (linksOf ps)) found ∙ parents-roots t rs (own .reads)))
+  rooted room = goes-on t c (λ rs. fitting room (roots (links (programs rs)))) own
 
   -- ---- leaves
 
-  abbrev own-links : List Link
-  own-links = links (programs rs)
+  module _ (room : ℕ) where
+    leaved : (n : ℕ) → tangled (links ps) ≡ n → leafing t c room ≡ then (untangled rs n) (λ rs. then (fitting room (leaves (links (programs rs)))) (λ xs. yes (xs, hops (links (programs rs)))))
+    unfolding leafing
+    leaved n e =
+        goes-on t c (λ rs. then (untangled rs (tangled (links (programs rs)))) (λ rs. then (fitting room (leaves (links (programs rs)))) (λ xs. yes (xs, hops (links (programs rs)))))) own
+        ∙ ap (λ n. then (untangled rs n) (λ rs. then (fitting room (leaves (links (programs rs)))) (λ xs. yes (xs, hops (links (programs rs)))))) e
 
-  pub dangles : strays parents ≡ any isDangling own-links
-  dangles = ap strays found ∙ parents-dangling t rs (own .reads)
-
-  leaved : (room n : ℕ) → tangled own-links ≡ n
-      → leafing t c room ≡ then (untangled rs n) (λ rs. then (fitting room (leaves (links (programs rs)))) (λ xs. yes (xs, hops (links (programs rs)))))
-  unfolding leafing
-  leaved room n e =
-      goes-on t c (λ rs. then (untangled rs (tangled (links (programs rs)))) (λ rs. then (fitting room (leaves (links (programs rs)))) (λ xs. yes (xs, hops (links (programs rs)))))) own
-      ∙ ap (λ n. then (untangled rs n) (λ rs. then (fitting room (leaves (links (programs rs)))) (λ xs. yes (xs, hops (links (programs rs)))))) e
-
-  pub leaves-dangling : (room : ℕ) → strays parents ≡ true → leafing t c room ≡ no 22 0
-  unfolding tangled untangled then
-  leaves-dangling room d = leaved room 22 (rw (sym dangles ∙ d) refl)
-
-  module _ (d : strays parents ≡ false) where
-    pub none-dangle : any isDangling own-links ≡ false
-    none-dangle = sym dangles ∙ d
-
-    pub same-links : linksOf parents ≡ own-links
-    same-links = ap linksOf found ∙ parents-links t rs (own .reads) none-dangle
-
-    pub all-within : within (length parents) parents ≡ true
-    all-within = subst (λ ps. within (length ps) ps ≡ true) (sym found) (parents-within t rs (own .reads) none-dangle)
-
-    pub loops : (b : Bool) → loopsFrom (linksOf parents) 0 (linksOf parents) ≡ b → tangled own-links ≡ cond b 23 0
-    unfolding tangled
-    loops b e = rw (none-dangle, sym (ap (λ ls. loopsFrom ls 0 ls) same-links) ∙ e) refl
-
-    pub leaves-cycle : (room : ℕ) → loopsFrom (linksOf parents) 0 (linksOf parents) ≡ true → leafing t c room ≡ no 23 0
+    -- 22 or 23
+    pub leaves-tangled : (n : ℕ) → n ≡ tangled (links ps) → (n ≡ 0 → ⊥) → leafing t c room ≡ no n 0
     unfolding untangled then
-    leaves-cycle room e = leaved room 23 (loops true e)
+    leaves-tangled zero e z = absurd (z refl)
+    leaves-tangled (suc n) e z = leaved (suc n) (sym e)
 
     -- where nothing is tangled
-    module _ (room : ℕ) (e : loopsFrom (linksOf parents) 0 (linksOf parents) ≡ false) where
-      leaves-own : leafing t c room ≡ then (fitting room (leaves (linksOf parents))) (λ xs. yes (xs, hops (linksOf parents)))
-      unfolding untangled then
-      leaves-own = leaved room 0 (loops false e) ∙ ap (λ ls. then (fitting room (leaves ls)) (λ xs. yes (xs, hops ls))) (sym same-links)
-
-      pub leaves-short : room < length (leaves (linksOf parents)) → leafing t c room ≡ no 20 0
-      unfolding then
-      leaves-short h = leaves-own ∙ ap (λ a. then a (λ xs. yes (xs, hops (linksOf parents)))) (too-short room (leaves (linksOf parents)) h)
-
-      pub leaves-fit : length (leaves (linksOf parents)) ≤ room → leafing t c room ≡ yes (leaves (linksOf parents), hops (linksOf parents))
-      unfolding then
-      leaves-fit h = leaves-own ∙ ap (λ a. then a (λ xs. yes (xs, hops (linksOf parents)))) (fits room (leaves (linksOf parents)) h)
+    pub leaves-own : tangled (links ps) ≡ 0 → leafing t c room ≡ then (fitting room (leaves (links ps))) (λ xs. yes (xs, hops (links ps)))
+    unfolding untangled then
+    leaves-own e = leaved 0 e
 
 -- ---- the answer of leaves in the code's numbers
 
@@ -149,6 +106,21 @@ module _ (a : Answer (List ℕ × ℕ)) (out : List ℕ) where
   unfolding leavesOf listOf
   refused-leaves n l e = (sym (ap leavesOf e), refused-answer (listOf a) out n l (ap listOf e) .1)
 
-  pub written-leaves : (xs last : List ℕ) (n h : ℕ) → a ≡ yes (xs, h) → n ≡ length xs → last ≡ over out 0 xs → (Counted n h ≡ leavesOf a) × (last ≡ outputOf (listOf a) out)
-  unfolding leavesOf listOf
-  written-leaves xs last n h e m w = (ap (λ k. Counted k h) m ∙ sym (ap leavesOf e), written-answer (listOf a) out xs last n (ap listOf e) m w .1)
+module _ (h : ℕ) where
+  hops-told : (a : Answer (List ℕ)) → withHops (answerOf a) h ≡ leavesOf (then a (λ xs. yes (xs, h)))
+  unfolding withHops answerOf leavesOf then
+  hops-told (no n l) = refl
+  hops-told (yes xs) = refl
+
+  list-told : (a : Answer (List ℕ)) → a ≡ listOf (then a (λ xs. yes (xs, h)))
+  unfolding listOf then
+  list-told (no n l) = refl
+  list-told (yes xs) = refl
+
+  -- what is fitted into the output is the list of the answer with the hops
+  pub written-leaves : (a : Answer (List ℕ × ℕ)) (room : ℕ) (xs out : List ℕ) → a ≡ then (fitting room xs) (λ xs. yes (xs, h))
+      → (withHops (answerOf (fitting room xs)) h ≡ leavesOf a) × (outputOf (fitting room xs) out ≡ outputOf (listOf a) out)
+  written-leaves a room xs out e = (
+    hops-told (fitting room xs) ∙ ap leavesOf (sym e),
+    ap (λ b. outputOf b out) (list-told (fitting room xs) ∙ ap listOf (sym e)),
+  )

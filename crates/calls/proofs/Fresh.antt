@@ -13,6 +13,7 @@ use Rattle.format.specs.declared.LineNo.{LineNo}
 use Rattle.text.proofs.Equal.{same-equal}
 use Rattle.accepted.proofs.Bools.{never}
 use Rattle.accepted.specs.Read.{kept, recordsOf}
+use Rattle.parser.specs.declared.Checked.{Checked}
 use Rattle.parser.specs.declared.Checked.the-variants.{Refused, Fresh}
 use Rattle.parser.specs.Answers.{checkedOf}
 use Rattle.parser.proofs.Told.{fresh-refused, fresh-reads}
@@ -35,9 +36,6 @@ module _ (t c : List ℕ) where
       let y : _≡_ {A = LineNo} (record { 0 = k }) l = cc in
       rw (x, ← y) refl
   answer-refused (yes rs) n l e = absurd (let z : _≡_ {A = ℕ} 0 1 = cc in omega arith)
-
-  pub check-refused : (n : ℕ) (l : LineNo) → checkedOf (fresh t c) ≡ Refused n l → fresh t c ≡ no n (l .0)
-  check-refused n l e = answer-refused (fresh t c) n l e
 
   -- a refusal is not fresh
   never-fresh : (n l : ℕ) → checkedOf (no n l) ≡ Fresh → ⊥
@@ -62,6 +60,13 @@ module _ (t c : List ℕ) where
       go : (r : Reading) → readText t ≡ r → Current t c
       go (refuse n l) q = absurd (never-fresh n l (sym (ap checkedOf (fresh-refused t c n l q)) ∙ e))
       go (accept rs) q = judged rs q (same c (catalogue rs)) refl
+
+  -- by the word of the check
+  pub refused-by : {w : Checked} → w ≡ checkedOf (fresh t c) → (n : ℕ) (l : LineNo) → w ≡ Refused n l → fresh t c ≡ no n (l .0)
+  refused-by said n l e = answer-refused (fresh t c) n l (sym said ∙ e)
+
+  pub fresh-by : {w : Checked} → w ≡ checkedOf (fresh t c) → w ≡ Fresh → Current t c
+  fresh-by said e = check-fresh (sym said ∙ e)
 
   -- ---- what a call goes on with
 

@@ -1,6 +1,6 @@
 -- What each call answers over a catalogue that is the text's own.
 use Prim.Native.Nat.{ℕ, _+_, _-_, _≤_, _<_}
-use mathlib.Core.Path.{_≡_, refl, sym, ap, subst, _∙_}
+use mathlib.Core.Path.{_≡_, refl, sym, ap, _∙_}
 use mathlib.Core.Bool.{_&&_, cond, and-false}
 use mathlib.Core.List.{List}
 use mathlib.Core.Option.{Option, none, some}

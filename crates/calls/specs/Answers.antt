@@ -40,6 +40,11 @@ unfoldable pub listOf : Answer (List ℕ × ℕ) → Answer (List ℕ)
 listOf (no n l) = no n l
 listOf (yes a) = yes (a .0)
 
+-- an answer in the code's numbers, with the hops
+unfoldable pub withHops : parser.Answer → ℕ → LeavesAnswer
+withHops (Refused n l) h = leaves.Refused n l
+withHops (Count n) h = leaves.Counted n h
+
 -- where the value of a field stands and how long it is, or that the stand-in takes its place
 unfoldable pub placeOf : Answer Piece → ValuePlace
 placeOf (no n l) = place.StandIn

@@ -5,12 +5,10 @@ use lookup::Sized;
 use parser::Answer;
 use parser::Checked;
 ghost use mathlib.Core.Path.{_≡_};
-ghost use Prim.Native.Nat.{_≤_};
 ghost use lib.ListN.{length};
-ghost use Rattle.format.specs.Calls.{counting, keying, sizing, valuing, looking, rooting, leafing};
-ghost use Rattle.text.specs.Over.{over};
+ghost use Rattle.format.specs.Calls.{fitting, counting, keying, sizing, valuing, looking, rooting, leafing};
 ghost use Rattle.parser.specs.Answers.{answerOf, outputOf};
-ghost use Rattle.calls.specs.Answers.{countOf, keyOf, lengthOf, leavesOf, listOf, placeOf, standing};
+ghost use Rattle.calls.specs.Answers.{countOf, keyOf, lengthOf, leavesOf, listOf, withHops, placeOf, standing};
 
 // A refusal and its line, or the key's offset and length.
 pub enum KeyAnswer {
@@ -116,16 +114,20 @@ pub fn field<'a>(
     }
 }
 
-// Writes ordinals to the front of `out`.
-fn put_ordinals(out: &mut [u32], from: &[u32])
-    requires { ⌜ length (now from) ≤ length (now out) ⌝ }
-    ensures { λ _. ⌜ now (out .exit) ≡ over (now (out .entry)) 0 (now (from .entry)) ⌝ }
+// Writes ordinals to the front of `out`, and answers how many: 20 where it is too short.
+fn put_ordinals(out: &mut [u32], from: &[u32]) -> Answer
+    ensures answer { λ r. ⌜ r ≡ answerOf (fitting (length (now (out .entry))) (now (from .entry))) ⌝ }
+    ensures wrote { λ _. ⌜ now (out .exit) ≡ outputOf (fitting (length (now (out .entry))) (now (from .entry))) (now (out .entry)) ⌝ }
 {
+    if out.len() < from.len() {
+        return Answer::Refused(20, LineNo(0));
+    }
     let mut i: usize = 0;
     while i < from.len() {
         out[i] = from[i];
         i += 1;
     }
+    Answer::Count(i)
 }
 
 // The programs without PP at the front of `out`: no graph check.
@@ -136,16 +138,22 @@ pub fn roots(text: &[u8], kept: &[u8], out: &mut [u32]) -> Answer
     match parser::check(text, kept) {
         Checked::Refused(n, line) => Answer::Refused(n, line),
         Checked::Fresh => {
-            let parents = lookup::find_parents(text, kept);
+            let parents = gathered::find_parents(text, gathered::gather(kept));
             let list = parents.list;
             let found = chains::roots(&list[..parents.count]);
-            if out.len() < found.count {
-                return Answer::Refused(20, LineNo(0));
-            }
             let ordinals = found.list;
-            put_ordinals(out, &ordinals[..found.count]);
-            Answer::Count(found.count)
+            put_ordinals(out, &ordinals[..found.count])
         }
+    }
+}
+
+// An answer with the hops beside the number of leaves.
+fn with_hops(a: Answer, hops: u32) -> LeavesAnswer
+    ensures { λ r. ⌜ r ≡ withHops a hops ⌝ }
+{
+    match a {
+        Answer::Refused(n, line) => LeavesAnswer::Refused(n, line),
+        Answer::Count(n) => LeavesAnswer::Counted(n, hops),
     }
 }
 
@@ -157,23 +165,16 @@ pub fn leaves(text: &[u8], kept: &[u8], out: &mut [u32]) -> LeavesAnswer
     match parser::check(text, kept) { // 21 comes before 22
         Checked::Refused(n, line) => LeavesAnswer::Refused(n, line),
         Checked::Fresh => {
-            let parents = lookup::find_parents(text, kept);
-            if parents.dangling {
-                return LeavesAnswer::Refused(22, LineNo(0));
+            let graph = gathered::find_leaves(text, gathered::gather(kept));
+            if graph.refusal != 0 {
+                return LeavesAnswer::Refused(graph.refusal, LineNo(0));
             }
+            let parents = graph.parents;
             let list = parents.list;
-            let links = &list[..parents.count];
-            if chains::has_cycle(links) {
-                return LeavesAnswer::Refused(23, LineNo(0));
-            }
-            let found = chains::leaves(links);
-            if out.len() < found.count {
-                return LeavesAnswer::Refused(20, LineNo(0));
-            }
-            let hops = chains::hops(links);
-            let ordinals = found.list;
-            put_ordinals(out, &ordinals[..found.count]);
-            LeavesAnswer::Counted(found.count, hops)
+            let hops = chains::hops(&list[..parents.count]);
+            let leaves = graph.leaves;
+            let ordinals = leaves.list;
+            with_hops(put_ordinals(out, &ordinals[..leaves.count]), hops)
         }
     }
 }

@@ -1,10 +1,10 @@
 -- A list of ordinals in an array of 1,024: one more at its end, and one less. Assumes nothing.
 use Prim.Native.Nat.{ℕ, suc, _-_, _≤_, _<_}
-use mathlib.Core.Path.{_≡_, sym, ap, _∙_}
+use mathlib.Core.Path.{_≡_, refl, sym, ap, ap₂, _∙_}
 use mathlib.Core.List.{List, [], _∷_, _++_}
 use native.Mathlib.Omega.{arith}
-use lib.ListN.{length, getD, set, replicate, length-append, length-replicate, length-set, List·getD-append}
-use lib.Seq.{set-append-seam, set-append-left, append-snoc}
+use lib.ListN.{length, take, getD, set, replicate, length-append, length-take, length-replicate, length-set, List·getD-append}
+use lib.Seq.{take-at, set-append-seam, set-append-left, append-snoc}
 use Rattle.chains.specs.Parents.{inArray}
 
 pub array-length : (xs : List ℕ) → length xs ≤ 1024 → length (inArray xs) ≡ 1024
@@ -36,3 +36,20 @@ array-pop xs v h = go (1024 - length (xs ++ v ∷ [])) (omega (arith, length-app
   where
     go : (n : ℕ) → 1024 - length xs ≡ suc n → set ((xs ++ v ∷ []) ++ replicate n 0) (length xs) 0 ≡ xs ++ replicate (1024 - length xs) 0
     go n e = rw (e, append-snoc xs v (replicate n 0)) (set-append-seam xs v (replicate n 0) 0)
+
+-- ---- a list in an array, and how long it is
+
+module _ (xs list : List ℕ) (n : ℕ) (e : list ≡ inArray xs) (m : n ≡ length xs) where
+  -- the front of the array, as it is lent
+  pub front : take n list ≡ xs
+  unfolding inArray
+  front = ap₂ take m e ∙ take-at xs (replicate (1024 - length xs) 0) (length xs) refl
+
+  pub front-count : n ≡ length (take n list)
+  front-count = m ∙ sym (ap length front)
+
+  pub front-inside : n ≤ length list
+  front-inside = omega (arith, front-count, length-take n list)
+
+  pub front-at : (i : ℕ) → i < n → getD list i 0 ≡ getD xs i 0
+  front-at i h = ap (λ l. getD l i 0) e ∙ array-at xs i (omega arith)

@@ -1,11 +1,10 @@
--- The IDs of an accepted text's programs: what the entries name, and no two are equal.
-use Prim.Native.Nat.{ℕ, zero, suc, _<_}
-use mathlib.Core.Path.{_≡_, refl, ap, _∙_}
+-- The IDs of an accepted text's programs: no two are equal.
+use Prim.Native.Nat.{ℕ, _<_}
+use mathlib.Core.Path.{_≡_, refl, _∙_}
 use mathlib.Core.Bool.{true, false}
-use mathlib.Core.List.{List, [], _∷_, map}
-use mathlib.Core.Option.{Option, none, some}
+use mathlib.Core.List.{List, []}
 use native.Mathlib.Omega.{arith}
-use lib.ListN.{length, getD, getElem?, length-map}
+use lib.ListN.{length, getD, length-map}
 use lib.Dec.{eqb, ltb}
 use borrow.Author.Tests.{ltb-true, ltb-false}
 use Rattle.format.specs.Bytes.{same}
@@ -13,11 +12,8 @@ use Rattle.format.specs.Lines.{Piece}
 use Rattle.format.specs.Fields.{Field}
 use Rattle.format.specs.Records.{Record, header, reference, group, program, comment, code, key}
 use Rattle.format.specs.Reading.{readText, accept, clash, sameKeys, ofKind}
-use Rattle.format.specs.Catalogue.{catalogue}
 use Rattle.format.specs.Programs.{bytesOf, programOf, programs}
 use Rattle.format.specs.Adding.{nobody, unplaced}
-use Rattle.format.specs.Calls.{keyed}
-use Rattle.text.specs.Stands.{Stands}
 use Rattle.accepted.specs.Admits.{Apart}
 use Rattle.accepted.proofs.Bools.{never, split}
 use Rattle.accepted.proofs.Pairs.{each-at}
@@ -25,19 +21,6 @@ use Rattle.accepted.proofs.OfKind.{ofKind-code, apart-ofKind}
 use Rattle.accepted.proofs.Apart.{clash-sym, apart-at}
 use Rattle.accepted.proofs.Text.{text-apart}
 use Rattle.chains.proofs.Walks.{map-at}
-use Rattle.entries.specs.Entries.{entriesIn}
-use Rattle.lookup.specs.Lookup.{foundOf}
-use Rattle.lookup.proofs.Kept.{stands-bytes, text-keyed}
-use Rattle.lookup.proofs.Answers.{text-key}
-use Rattle.ids.specs.Taken.{foundBytes, idIn}
-
--- ---- the ID of an ordinal
-
-id-record : (rs : List Record) (k : ℕ) → bytesOf (keyed (getElem? rs k)) ≡ getD (map programOf rs) k nobody .id
-unfolding bytesOf keyed nobody programOf
-id-record [] k = refl
-id-record (r ∷ rs) zero = refl
-id-record (r ∷ rs) (suc k) = id-record rs k
 
 -- ---- two programs
 
@@ -59,18 +42,6 @@ id-clash r q h g = is r h (λ p fs e. is q g (λ p' fs' e'. rw (e, e') (two p p'
 -- ---- an accepted text
 
 module _ (t : List ℕ) (rs : List Record) (h : readText t ≡ accept rs) where
-  -- the entries name the ID of each program; no bytes where there is no program
-  pub text-id : (k : ℕ) → idIn t (entriesIn (catalogue rs)) k ≡ getD (programs rs) k nobody .id
-  unfolding idIn programs
-  text-id k =
-      ap (foundBytes t) (text-key t rs h 4 k)
-      ∙ go (keyed (getElem? (ofKind 4 rs) k)) (text-keyed t rs h 4 k)
-      ∙ id-record (ofKind 4 rs) k
-    where
-      go : (o : Option Piece) → ((p : Piece) → o ≡ some p → Stands t 0 p) → foundBytes t (foundOf o) ≡ bytesOf o
-      go none s = unfold foundBytes foundOf bytesOf in refl
-      go (some p) s = unfold foundBytes foundOf bytesOf in stands-bytes t p (s p refl)
-
   -- no two programs have one ID
   pub ids-apart : (j k : ℕ) → j < length (programs rs) → k < length (programs rs) → (j ≡ k → ⊥)
       → same (getD (programs rs) j nobody .id) (getD (programs rs) k nobody .id) ≡ false

@@ -1,113 +1,74 @@
--- The laws of the search among the entries: one after another, and what is still ahead decides.
-use Prim.Native.Nat.{ℕ, _+_, _-_}
+-- The laws of the search among the IDs, and of the IDs that are made: one after another, and what is still ahead decides.
+use Prim.Native.Nat.{ℕ, suc, _+_, _-_, _≤_, _<_}
 use mathlib.Core.Path.{_≡_, refl, sym, ap, _∙_}
 use mathlib.Core.Bool.{Bool, true, false, _||_, cond}
 use mathlib.Core.List.{List, [], _∷_}
-use mathlib.Core.Option.{none, some}
+use mathlib.Core.Option.{some}
 use native.Mathlib.Omega.{arith}
-use lib.ListN.{length, take, drop}
-use denote.Enum.Declared.{tagOf}
-use types.Run.{OneOf, miss}
+use native.Mathlib.Numerals.{add-one}
+use lib.ListN.{length, take, drop, getD, drop-of-length-le, List·getD-eq-default}
+use lib.Seq.{drop-cons}
 use Rattle.format.specs.Bytes.{same}
 use Rattle.format.specs.Adding.{isKnown}
-use Rattle.text.specs.Stands.{Each}
-use Rattle.entries.proofs.Entry.{the-type}
-use Rattle.entries.proofs.Walk.{turn-end, turn-on}
-use Rattle.entries.specs.declared.Place.{Place}
-use Rattle.entries.specs.declared.Entry.{Entry}
-use Rattle.entries.specs.declared.Entry.the-variants.{End, Header, ReferenceSequence, ReadGroup, Program, Comment, Field}
-use Rattle.entries.specs.Entries.{sizeOf, entryOf, entriesIn}
-use Rattle.lookup.specs.Parents.{Inside, Within, bytesAt, ordinalIn}
-use Rattle.ids.specs.Taken.{known}
+use Rattle.gathered.specs.Gathered.{idsAt, Placed}
+use Rattle.gathered.specs.Parents.{ordinalIn}
+use Rattle.gathered.proofs.Search.{ids-length, ids-at}
+use Rattle.ids.specs.Taken.{joined, known, idIn, standing, taken}
 
--- ---- one entry
+-- ---- one ID
 
-known-one : (b : Bool) → isKnown (cond b (some 0) none) ≡ b
-unfolding isKnown
-known-one true = refl
-known-one false = refl
+module _ (t ats lens : List ℕ) (p : Placed t ats lens) (k : ℕ) where
+  pub id-none : length ats ≤ k → idIn (idsAt t ats lens) k ≡ []
+  unfolding idIn
+  id-none h = List·getD-eq-default (idsAt t ats lens) [] (omega (arith, ids-length t ats lens p))
 
--- a program's, with the bytes that are lent
-pub known-program : (t id : List ℕ) (p : Place) → known t id (Program p ∷ []) ≡ same id (take (p .at + p .len - p .at) (drop (p .at) t))
-unfolding known ordinalIn bytesAt
-known-program t id p =
-    let e : p .at + p .len - p .at ≡ p .len = omega arith in
-    known-one (same id (bytesAt t p)) ∙ ap (λ n. same id (take n (drop (p .at) t))) (sym e)
+  -- as it is lent
+  pub id-some : k < length ats → idIn (idsAt t ats lens) k ≡ take (getD ats k 0 + getD lens k 0 - getD ats k 0) (drop (getD ats k 0) t)
+  unfolding idIn
+  id-some h =
+      let z : getD lens k 0 ≡ getD ats k 0 + getD lens k 0 - getD ats k 0 = omega arith in
+      ids-at t ats lens p k h ∙ ap (λ n. take n (drop (getD ats k 0) t)) z
 
--- its place is within the text
-pub program-inside : (n : ℕ) (e : Entry) (p : Place) → e ≡ Program p → Within n e → Inside n p
-unfolding Within
-program-inside n e p q h = rw q at h
-
--- any other
-pub known-other : (t id : List ℕ) (e : Entry) → OneOf (0 ∷ 1 ∷ 2 ∷ 3 ∷ 5 ∷ 6 ∷ []) (tagOf the-type e) → known t id (e ∷ []) ≡ false
-unfolding known ordinalIn isKnown
-known-other t id End h = refl
-known-other t id (Header v) h = refl
-known-other t id (ReferenceSequence p n) h = refl
-known-other t id (ReadGroup p) h = refl
-known-other t id (Program p) h = absurd (miss (0 ∷ 1 ∷ 2 ∷ 3 ∷ 5 ∷ 6 ∷ []) 4 tt h)
-known-other t id (Comment p) h = refl
-known-other t id (Field a b p) h = refl
+  -- where no bytes stand
+  pub standing-none : (text : ℕ × ℕ) → length ats ≤ k → text ≡ standing ats k text
+  unfolding standing
+  standing-none text h = let z : text .1 ≡ getD ats k 0 + text .1 = omega (arith, List·getD-eq-default ats 0 h) in ap (λ n. (text .0, n)) z
 
 -- ---- one after another
 
 -- from where ordinals are counted does not matter
-known-from : (t id : List ℕ) (j k : ℕ) (es : List Entry) → isKnown (ordinalIn t id j es) ≡ isKnown (ordinalIn t id k es)
+known-from : (id : List ℕ) (j k : ℕ) (ids : List (List ℕ)) → isKnown (ordinalIn id j ids) ≡ isKnown (ordinalIn id k ids)
 unfolding ordinalIn isKnown
-known-from t id j k [] = refl
-known-from t id j k (End ∷ es) = known-from t id j k es
-known-from t id j k (Header v ∷ es) = known-from t id j k es
-known-from t id j k (ReferenceSequence p n ∷ es) = known-from t id j k es
-known-from t id j k (ReadGroup p ∷ es) = known-from t id j k es
-known-from t id j k (Program p ∷ es) = go (same id (bytesAt t p)) (known-from t id (j + 1) (k + 1) es)
+known-from id j k [] = refl
+known-from id j k (x ∷ ids) = go (same id x) (known-from id (j + 1) (k + 1) ids)
   where
-    go : (b : Bool) → isKnown (ordinalIn t id (j + 1) es) ≡ isKnown (ordinalIn t id (k + 1) es)
-        → isKnown (cond b (some j) (ordinalIn t id (j + 1) es)) ≡ isKnown (cond b (some k) (ordinalIn t id (k + 1) es))
+    go : (b : Bool) → isKnown (ordinalIn id (j + 1) ids) ≡ isKnown (ordinalIn id (k + 1) ids)
+        → isKnown (cond b (some j) (ordinalIn id (j + 1) ids)) ≡ isKnown (cond b (some k) (ordinalIn id (k + 1) ids))
     go true ih = refl
     go false ih = ih
-known-from t id j k (Comment p ∷ es) = known-from t id j k es
-known-from t id j k (Field a b p ∷ es) = known-from t id j k es
 
-known-more : (t id : List ℕ) (e : Entry) (es : List Entry) → known t id (e ∷ es) ≡ known t id (e ∷ []) || known t id es
+known-more : (id x : List ℕ) (ids : List (List ℕ)) → known id (x ∷ ids) ≡ same id x || known id ids
 unfolding known ordinalIn isKnown
-known-more t id End es = refl
-known-more t id (Header v) es = refl
-known-more t id (ReferenceSequence p n) es = refl
-known-more t id (ReadGroup p) es = refl
-known-more t id (Program p) es = go (same id (bytesAt t p))
+known-more id x ids = go (same id x)
   where
-    go : (b : Bool) → isKnown (cond b (some 0) (ordinalIn t id (0 + 1) es)) ≡ isKnown (cond b (some 0) none) || isKnown (ordinalIn t id 0 es)
+    go : (b : Bool) → isKnown (cond b (some 0) (ordinalIn id (0 + 1) ids)) ≡ b || isKnown (ordinalIn id 0 ids)
     go true = refl
-    go false = known-from t id (0 + 1) 0 es
-known-more t id (Comment p) es = refl
-known-more t id (Field a b p) es = refl
+    go false = known-from id (0 + 1) 0 ids
 
--- ---- a turn
-
--- the answer is what the entries from `at` on say
-abbrev pub Ahead : List ℕ → List ℕ → List ℕ → ℕ → Type 0
-Ahead t id c at = (known t id (entriesIn c) ≡ known t id (entriesIn (drop at c))) × Each (Within (length t)) (entriesIn (drop at c))
-
-module _ (t id c : List ℕ) (at len : ℕ) (e : Entry) (found : e ≡ entryOf (drop at c)) (long : len ≡ sizeOf e) (a : Ahead t id c at) where
-  pub ahead-none : len ≡ 0 → known t id (entriesIn c) ≡ false
+module _ (id : List ℕ) (ids : List (List ℕ)) (k : ℕ) where
+  pub known-end : length ids ≤ k → known id (drop k ids) ≡ false
   unfolding known ordinalIn isKnown
-  ahead-none z = a .0 ∙ ap (known t id) (turn-end c at len e found long z)
+  known-end h = ap (known id) (drop-of-length-le ids h)
 
-  module _ (n : len ≡ 0 → ⊥) where
-    opened : entriesIn (drop at c) ≡ e ∷ entriesIn (drop (at + len) c)
-    opened = turn-on c at len e found long n
+  pub known-step : k < length ids → known id (drop k ids) ≡ same id (idIn ids k) || known id (drop (k + 1) ids)
+  unfolding idIn
+  known-step h = ap (known id) (drop-cons ids k [] h) ∙ known-more id (getD ids k []) (drop (suc k) ids) ∙ ap (λ n. same id (getD ids k []) || known id (drop n ids)) (sym (add-one k))
 
-    pub ahead-within : Within (length t) e
-    unfolding Each
-    ahead-within = (rw opened at (a .1)) .0
+module _ (ids : List (List ℕ)) (prefix ks : List ℕ) (i : ℕ) where
+  pub taken-end : length ks ≤ i → taken ids prefix (drop i ks) ≡ false
+  unfolding taken
+  taken-end h = ap (taken ids prefix) (drop-of-length-le ks h)
 
-    turned : known t id (entriesIn c) ≡ known t id (e ∷ []) || known t id (entriesIn (drop (at + len) c))
-    turned = a .0 ∙ ap (known t id) opened ∙ known-more t id e (entriesIn (drop (at + len) c))
-
-    pub ahead-here : known t id (e ∷ []) ≡ true → known t id (entriesIn c) ≡ true
-    ahead-here q = turned ∙ rw q refl
-
-    pub ahead-on : known t id (e ∷ []) ≡ false → Ahead t id c (at + len)
-    unfolding Each
-    ahead-on q = (turned ∙ rw q refl, (rw opened at (a .1)) .1)
+  pub taken-step : i < length ks → taken ids prefix (drop i ks) ≡ known (joined prefix (idIn ids (getD ks i 0))) ids || taken ids prefix (drop (i + 1) ks)
+  unfolding taken
+  taken-step h = rw (drop-cons ks i 0 h, add-one i) refl

@@ -4,14 +4,13 @@ use mathlib.Core.Path.{_≡_, refl, sym, ap, ap₂, _∙_}
 use mathlib.Core.Bool.{Bool, true, false, not, _||_, cond}
 use mathlib.Core.List.{List, [], _∷_, _++_}
 use mathlib.Core.Option.{none, some}
-use lib.ListN.{length, drop, getD, length-map}
+use lib.ListN.{length, drop, getD, length-map, List·getD-map}
 use lib.Dec.{eqb, ltb}
 use borrow.Author.Tests.{ltb-true, eqb-false, eq-eqb, not-true}
 use Rattle.format.specs.Bytes.{same, any, none?}
 use Rattle.format.specs.Fields.{Field}
 use Rattle.format.specs.Records.{Record, program, code, key, others}
 use Rattle.format.specs.Reading.{readText, accept, ofKind}
-use Rattle.format.specs.Catalogue.{catalogue}
 use Rattle.format.specs.Programs.{Program, bytesOf, programOf, programs, ordinalFrom, link, links, leaves, leavesFrom, counting}
 use Rattle.format.specs.Adding.{nobody, unplaced, chained, isKnown, after, added, used}
 use Rattle.text.specs.Stands.{Each}
@@ -20,13 +19,11 @@ use Rattle.accepted.proofs.Bools.{or-left, or-right, or-false, or-true, and-lef
 use Rattle.accepted.proofs.Pairs.{each-all, each-both}
 use Rattle.chains.specs.Listed.{named, distinct}
 use Rattle.chains.proofs.Leaf.{leaves-exactly, leaves-distinct}
-use Rattle.entries.specs.declared.Entry.{Entry}
-use Rattle.entries.specs.Entries.{entriesIn}
-use Rattle.lookup.specs.Parents.{ordinalIn}
-use Rattle.lookup.proofs.Links.{text-ordinal}
+use Rattle.gathered.specs.Parents.{idsOf, ordinalIn}
+use Rattle.gathered.proofs.Says.{ordinal-ids}
 use Rattle.ids.specs.Taken.{joined, known, idIn, taken}
 use Rattle.ids.proofs.Joined.{joined-same, joined-prefix}
-use Rattle.ids.proofs.Apart.{text-id, ids-apart}
+use Rattle.ids.proofs.Apart.{ids-apart}
 
 -- ---- the programs that are there
 
@@ -63,19 +60,19 @@ module _ (t : List ℕ) (rs : List Record) (h : readText t ≡ accept rs) (prefi
   abbrev ps : List Program
   ps = programs rs
 
-  abbrev es : List Entry
-  es = entriesIn (catalogue rs)
+  abbrev ids : List (List ℕ)
+  ids = idsOf (programs rs)
 
   abbrev made : ℕ → List ℕ
   made k = joined prefix (getD (programs rs) k nobody .id)
 
   -- `old` says of the ID that is made with `k` what the text's programs say
   abbrev Says : List Program → ℕ → Type 0
-  Says old k = isKnown (ordinalFrom 0 (made k) old) ≡ known t (joined prefix (idIn t es k)) es
+  Says old k = isKnown (ordinalFrom 0 (made k) old) ≡ known (joined prefix (idIn ids k)) ids
 
   says : (k : ℕ) → Says ps k
-  unfolding known
-  says k = ap isKnown (sym (text-ordinal t rs h (made k))) ∙ ap (λ id. isKnown (ordinalIn t (joined prefix id) 0 es)) (sym (text-id t rs h k))
+  unfolding known idIn nobody
+  says k = ap isKnown (sym (ordinal-ids (made k) 0 ps)) ∙ ap (λ id. isKnown (ordinalIn (joined prefix id) 0 ids)) (sym (List·getD-map (λ p. p .id) ps k nobody))
 
   -- one more with another ID
   says-snoc : (old : List Program) (p : Program) (k : ℕ) → same (made k) (p .id) ≡ false → Says old k → Says (old ++ (p ∷ [])) k
@@ -88,7 +85,7 @@ module _ (t : List ℕ) (rs : List Record) (h : readText t ≡ accept rs) (prefi
   Below k = k < length (programs rs)
 
   used-joined : (old : List Program) (ks : List ℕ) → Each (Says old) ks → Each Below ks → distinct ks ≡ true
-      → used old (programs (after false prefix fs ps ks)) ≡ taken t es prefix ks
+      → used old (programs (after false prefix fs ps ks)) ≡ taken ids prefix ks
   unfolding used programs ofKind code programOf bytesOf key after unplaced taken joined Each distinct
   used-joined old [] s b d = refl
   used-joined old (k ∷ ks) s b d =
@@ -116,7 +113,7 @@ module _ (t : List ℕ) (rs : List Record) (h : readText t ≡ accept rs) (prefi
 
   -- with the prefix for the first
   used-first : (xs : List ℕ) → isKnown (ordinalFrom 0 prefix ps) ≡ false → Each Below xs → distinct xs ≡ true
-      → used ps (programs (after true prefix fs ps xs)) ≡ taken t es prefix (drop 1 xs)
+      → used ps (programs (after true prefix fs ps xs)) ≡ taken ids prefix (drop 1 xs)
   unfolding used programs ofKind code programOf bytesOf key after unplaced taken Each distinct
   used-first [] n b d = refl
   used-first (k ∷ xs) n b d =
@@ -124,14 +121,14 @@ module _ (t : List ℕ) (rs : List Record) (h : readText t ≡ accept rs) (prefi
       rw n (used-joined (ps ++ (p ∷ [])) xs (each-all (Says (ps ++ (p ∷ []))) (λ j. says-snoc ps p j (joined-prefix prefix (getD ps j nobody .id)) (says j)) xs) (b .1) (and-right (not (any (eqb k) xs)) (distinct xs) d))
 
   -- an ID of the new programs is used exactly if one that is made with a leaf is there
-  pub used-taken : used ps (programs (after free prefix fs ps ks)) ≡ taken t es prefix (cond free (drop 1 ks) ks)
+  pub used-taken : used ps (programs (after free prefix fs ps ks)) ≡ taken ids prefix (cond free (drop 1 ks) ks)
   used-taken = split (isKnown (ordinalFrom 0 prefix ps)) (λ e. rw e old) (λ e. rw e (used-first ks e below (leaves-distinct (links ps))))
     where
-      old : used ps (programs (after false prefix fs ps ks)) ≡ taken t es prefix ks
+      old : used ps (programs (after false prefix fs ps ks)) ≡ taken ids prefix ks
       old = used-joined ps ks (each-all (Says ps) says ks) below (leaves-distinct (links ps))
 
   -- the same of what is added, also where there are no programs
-  pub used-added : used ps (programs (added prefix fs ps)) ≡ taken t es prefix (cond free (drop 1 ks) ks)
+  pub used-added : used ps (programs (added prefix fs ps)) ≡ taken ids prefix (cond free (drop 1 ks) ks)
   used-added = go ps ∙ used-taken
     where
       go : (qs : List Program)

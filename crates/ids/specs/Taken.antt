@@ -1,36 +1,30 @@
 -- The IDs that adding makes of a prefix and the IDs that are there, and whether one of them is there already.
-use Prim.Native.Nat.{ℕ}
+use Prim.Native.Nat.{ℕ, _+_}
 use mathlib.Core.Bool.{Bool, false, _||_}
 use mathlib.Core.List.{List, [], _∷_, _++_}
+use lib.ListN.{getD}
 use Rattle.format.specs.Adding.{isKnown}
-use Rattle.entries.specs.declared.Entry.{Entry}
-use Rattle.lookup.specs.declared.Found.{Found}
-use Rattle.lookup.specs.declared.Found.the-variants.{Nothing, At}
-use Rattle.lookup.specs.Lookup.{keyIn}
-use Rattle.lookup.specs.Parents.{bytesAt, ordinalIn}
+use Rattle.gathered.specs.Parents.{ordinalIn}
 
 -- prefix, `-`, ID
 unfoldable pub joined : List ℕ → List ℕ → List ℕ
 joined prefix id = prefix ++ (45 ∷ id)
 
--- is there a program with an ID?
-unfoldable pub known : List ℕ → List ℕ → List Entry → Bool
+-- is it one of these IDs?
+unfoldable pub known : List ℕ → List (List ℕ) → Bool
 unfolding isKnown ordinalIn
-known t id es = isKnown (ordinalIn t id 0 es)
-
--- no place, no bytes
-unfoldable pub foundBytes : List ℕ → Found → List ℕ
-unfolding bytesAt
-foundBytes t Nothing = []
-foundBytes t (At p) = bytesAt t p
+known id ids = isKnown (ordinalIn id 0 ids)
 
 -- the ID of the program with an ordinal, no bytes where there is none
-unfoldable pub idIn : List ℕ → List Entry → ℕ → List ℕ
-unfolding foundBytes keyIn
-idIn t es k = foundBytes t (keyIn 4 k es)
+unfoldable pub idIn : List (List ℕ) → ℕ → List ℕ
+idIn ids k = getD ids k []
+
+-- where it stands in the text: no bytes stand at its front
+unfoldable pub standing : List ℕ → ℕ → ℕ × ℕ → ℕ × ℕ
+standing ats k text = (text .0, getD ats k 0 + text .1)
 
 -- is there a program whose ID is made of the prefix and the ID of one of these?
-unfoldable pub taken : List ℕ → List Entry → List ℕ → List ℕ → Bool
+unfoldable pub taken : List (List ℕ) → List ℕ → List ℕ → Bool
 unfolding joined known idIn
-taken t es prefix [] = false
-taken t es prefix (k ∷ ks) = known t (joined prefix (idIn t es k)) es || taken t es prefix ks
+taken ids prefix [] = false
+taken ids prefix (k ∷ ks) = known (joined prefix (idIn ids k)) ids || taken ids prefix ks

@@ -1,14 +1,9 @@
 // The IDs that adding makes: whether a program has one of them already. None is built: each is compared in its parts.
-use entries::Entry;
-use lookup::Found;
+use format::ProgramNo;
 ghost use mathlib.Core.Path.{_≡_};
-ghost use mathlib.Core.List.{_∷_, []};
-ghost use lib.ListN.{length};
 ghost use Rattle.format.specs.Bytes.{same};
-ghost use Rattle.text.specs.Stands.{Each};
-ghost use Rattle.entries.specs.Entries.{entriesIn};
-ghost use Rattle.lookup.specs.Parents.{Within};
-ghost use Rattle.ids.specs.Taken.{joined, known, idIn, taken};
+ghost use Rattle.gathered.specs.Gathered.{idsAt, Placed};
+ghost use Rattle.ids.specs.Taken.{joined, known, idIn, standing, taken};
 
 // Whether an ID is the prefix, `-` and another ID: the lengths first, then part by part.
 fn is_joined(id: &[u8], prefix: &[u8], other: &[u8]) -> bool
@@ -32,64 +27,46 @@ fn is_joined(id: &[u8], prefix: &[u8], other: &[u8]) -> bool
     text::same(other, rest)
 }
 
-// Whether an entry is that of a program whose ID is the prefix, `-` and another ID.
-fn is_entry_joined(text: &[u8], e: Entry, prefix: &[u8], other: &[u8]) -> bool
-    requires { ⌜ Within (length (now text)) e ⌝ }
-    ensures { λ r. ⌜ r ≡ known (now (text .entry)) (joined (now (prefix .entry)) (now (other .entry))) (e ∷ []) ⌝ }
+// The ID of the program with an ordinal, as a part of the text: no bytes where there is none.
+pub fn find_id<'a>(text: &'a [u8], ats: &[u32], lens: &[u32], program: ProgramNo) -> &'a [u8]
+    requires { ⌜ Placed (now text) (now ats) (now lens) ⌝ }
+    ensures value { λ r. ⌜ now r ≡ idIn (idsAt (now (text .entry)) (now (ats .entry)) (now (lens .entry))) (program .0) ⌝ }
+    ensures place { λ r. ⌜ r .ptr ≡ standing (now (ats .entry)) (program .0) (text .entry .ptr) ⌝ }
 {
-    match e {
-        Entry::Program(p) => {
-            let start = p.at as usize;
-            let end = start + p.len as usize;
-            is_joined(&text[start..end], prefix, other)
-        }
-        _ => false,
+    let k = program.0 as usize;
+    if ats.len() <= k {
+        return &text[..0];
     }
+    let start = ats[k] as usize;
+    let end = start + lens[k] as usize;
+    &text[start..end]
 }
 
 // Whether some program's ID is the prefix, `-` and another ID: the search stops at the first.
-fn is_known(text: &[u8], catalogue: &[u8], prefix: &[u8], other: &[u8]) -> bool
-    requires { ⌜ Each (Within (length (now text))) (entriesIn (now catalogue)) ⌝ }
-    ensures { λ r. ⌜ r ≡ known (now (text .entry)) (joined (now (prefix .entry)) (now (other .entry))) (entriesIn (now (catalogue .entry))) ⌝ }
+fn is_known(text: &[u8], ats: &[u32], lens: &[u32], prefix: &[u8], other: &[u8]) -> bool
+    requires { ⌜ Placed (now text) (now ats) (now lens) ⌝ }
+    ensures { λ r. ⌜ r ≡ known (joined (now (prefix .entry)) (now (other .entry))) (idsAt (now (text .entry)) (now (ats .entry)) (now (lens .entry))) ⌝ }
 {
-    let mut at: usize = 0;
-    loop {
-        let e = entries::entry_at(catalogue, at);
-        let len = entries::size(e);
-        if len == 0 {
-            return false;
-        }
-        if is_entry_joined(text, e, prefix, other) {
+    let mut k: usize = 0;
+    while k < ats.len() {
+        let id = find_id(text, ats, lens, ProgramNo(k as u32));
+        if is_joined(id, prefix, other) {
             return true;
         }
-        at += len;
+        k += 1;
     }
-}
-
-// The ID of the program with an ordinal, as a part of the text: no bytes where there is none.
-pub fn find_id<'a>(text: &'a [u8], catalogue: &[u8], ordinal: u32) -> &'a [u8]
-    requires { ⌜ Each (Within (length (now text))) (entriesIn (now catalogue)) ⌝ }
-    ensures { λ r. ⌜ now r ≡ idIn (now (text .entry)) (entriesIn (now (catalogue .entry))) ordinal ⌝ }
-{
-    match lookup::find_key(catalogue, 4, ordinal) {
-        Found::Nothing => &text[..0],
-        Found::At(p) => {
-            let start = p.at as usize;
-            let end = start + p.len as usize;
-            &text[start..end]
-        }
-    }
+    false
 }
 
 // Whether an ID that is made of the prefix and a leaf's ID is there already.
-pub fn is_taken(text: &[u8], catalogue: &[u8], prefix: &[u8], leaves: &[u32]) -> bool
-    requires { ⌜ Each (Within (length (now text))) (entriesIn (now catalogue)) ⌝ }
-    ensures { λ r. ⌜ r ≡ taken (now (text .entry)) (entriesIn (now (catalogue .entry))) (now (prefix .entry)) (now (leaves .entry)) ⌝ }
+pub fn is_taken(text: &[u8], ats: &[u32], lens: &[u32], prefix: &[u8], leaves: &[u32]) -> bool
+    requires { ⌜ Placed (now text) (now ats) (now lens) ⌝ }
+    ensures { λ r. ⌜ r ≡ taken (idsAt (now (text .entry)) (now (ats .entry)) (now (lens .entry))) (now (prefix .entry)) (now (leaves .entry)) ⌝ }
 {
     let mut i: usize = 0;
     while i < leaves.len() {
-        let id = find_id(text, catalogue, leaves[i]);
-        if is_known(text, catalogue, prefix, id) {
+        let id = find_id(text, ats, lens, ProgramNo(leaves[i]));
+        if is_known(text, ats, lens, prefix, id) {
             return true;
         }
         i += 1;

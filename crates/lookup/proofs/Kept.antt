@@ -1,10 +1,10 @@
--- What holds of the entries of an accepted text: their numbers fit, their places are within the text, and no more than 1,024 are programs.
-use Prim.Native.Nat.{ℕ, zero, suc, _+_, _-_, _≤_, _<_}
-use mathlib.Core.Path.{_≡_, refl, sym, ap, subst, _∙_}
+-- What holds of the entries of an accepted text: their numbers fit, and no more than 1,024 are programs. Keys and values stand in the text.
+use Prim.Native.Nat.{ℕ, zero, suc, _+_, _≤_, _<_}
+use mathlib.Core.Path.{_≡_, refl, subst}
 use mathlib.Core.List.{List, [], _∷_, _++_, map}
 use mathlib.Core.Option.{Option, none, some}
 use native.Mathlib.Omega.{arith}
-use lib.ListN.{length, take, drop, getElem?}
+use lib.ListN.{length, getElem?}
 use Rattle.format.specs.Lines.{Piece}
 use Rattle.format.specs.Fields.{Field, lastOf}
 use Rattle.format.specs.Records.{Record, header, reference, group, program, comment, key, others}
@@ -25,7 +25,6 @@ use Rattle.entries.specs.declared.Entry.{Entry}
 use Rattle.entries.specs.Entries.{pieceAt, headEntry, fieldEntry, entriesOf, entriesIn, counted, FitsPlace, Fits}
 use Rattle.entries.proofs.Records.{counted-records}
 use Rattle.entries.proofs.Found.{entries-catalogue}
-use Rattle.lookup.specs.Parents.{Inside, Within, bytesAt}
 
 -- ---- from records to entries
 
@@ -111,30 +110,6 @@ field-fits k f o s =
     let t = tag-bounds (f .tag₀) (f .tag₁) (o .tag) in
     (omega (arith, t .0 .1), omega (arith, t .1 .1), small-fits (f .value) s)
 
--- ---- places within the text
-
-module _ (t : List ℕ) where
-  pub stands-inside : (p : Piece) → Stands t 0 p → Inside (length t) (pieceAt p)
-  unfolding pieceAt
-  stands-inside p s = omega (arith, s .within)
-
-  -- and the bytes there are the piece's
-  pub stands-bytes : (p : Piece) → Stands t 0 p → bytesAt t (pieceAt p) ≡ p .bytes
-  unfolding bytesAt pieceAt
-  stands-bytes p s = let z : p .at - 0 ≡ p .at = omega arith in sym (s .bytes ∙ ap (λ n. take (length (p .bytes)) (drop n t)) z)
-
-  own-within : (r : Record) → sound.Fits r → Each (Stands t 0) (pieces r) → Within (length t) (headEntry r)
-  unfolding Each pieces Within headEntry
-  own-within (header v fs) h p = tt
-  own-within (reference q n fs) h p = stands-inside q (p .0)
-  own-within (group q fs) h p = stands-inside q (p .0)
-  own-within (program q fs) h p = stands-inside q (p .0)
-  own-within (comment q) h p = stands-inside q (p .0)
-
-  field-within : (k : Kind) (f : Field) → Other k f → Stands t 0 (f .value) → Within (length t) (fieldEntry f)
-  unfolding Within fieldEntry
-  field-within k f o s = stands-inside (f .value) s
-
 -- ---- an accepted text
 
 module _ (t : List ℕ) (rs : List Record) (h : readText t ≡ accept rs) where
@@ -144,10 +119,6 @@ module _ (t : List ℕ) (rs : List Record) (h : readText t ≡ accept rs) where
   -- its catalogue is read back
   pub text-entries : entriesIn (catalogue rs) ≡ entriesOf rs
   text-entries = entries-catalogue rs text-fit
-
-  -- what the search for parents asks of a text and its catalogue
-  pub text-inside : Each (Within (length t)) (entriesIn (catalogue rs))
-  text-inside = rw text-entries (each-entries (Stands t 0) (Within (length t)) (own-within t) (field-within t) rs (text-sound t rs h) (text-stand t rs h))
 
   pub text-counted : (k : ℕ) → k < 6 → counted k (entriesIn (catalogue rs)) ≡ length (ofKind k rs)
   text-counted k l = rw (text-entries, counted-records k l rs) refl

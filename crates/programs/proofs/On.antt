@@ -1,24 +1,22 @@
 -- Adding once the leaves are known: 18, 19, and then what is written.
 use Prim.Native.Nat.{ℕ, _+_, _≤_, _<_, min}
-use mathlib.Core.Path.{_≡_, refl, sym, ap, ap₂, _∙_}
+use mathlib.Core.Path.{_≡_, refl, sym, ap, _∙_}
 use mathlib.Core.Bool.{Bool, true, false, not, cond}
 use mathlib.Core.List.{List, [], _∷_, _++_}
 use native.Mathlib.Omega.{arith}
 use lib.ListN.{length, drop}
-use lib.Dec.{eqb, ltb}
+use lib.Dec.{eqb}
 use borrow.Author.Tests.{lt-ltb, le-ltb, ne-eqb}
 use Rattle.format.specs.Bytes.{none?}
 use Rattle.format.specs.Fields.{Field, lastOf}
 use Rattle.format.specs.Records.{Record}
 use Rattle.format.specs.Reading.{accept, readText}
-use Rattle.format.specs.Catalogue.{catalogue}
 use Rattle.format.specs.Programs.{Program, programs, links, leaves, ordinalFrom}
 use Rattle.format.specs.Tidy.{tidy, unwritable, fieldsText}
 use Rattle.format.specs.Adding.{isKnown, added, used}
 use Rattle.format.specs.Calls.{no, then, untangled, writing}
-use Rattle.entries.specs.Entries.{entriesIn}
-use Rattle.lookup.specs.Parents.{ordinalIn}
-use Rattle.lookup.proofs.Links.{text-ordinal}
+use Rattle.gathered.specs.Parents.{idsOf}
+use Rattle.gathered.proofs.Says.{ordinal-ids}
 use Rattle.ids.specs.Taken.{known, taken}
 use Rattle.ids.proofs.Used.{used-added, added-count}
 use Rattle.added.specs.Lines.{addedText}
@@ -46,14 +44,14 @@ module _ (t : List ℕ) (rs : List Record) (reads : readText t ≡ accept rs) (p
   ps = programs rs
 
   -- is the prefix free?
-  pub free-is : not (known t prefix (entriesIn (catalogue rs))) ≡ not (isKnown (ordinalFrom 0 prefix ps))
+  pub free-is : not (known prefix (idsOf ps)) ≡ not (isKnown (ordinalFrom 0 prefix ps))
   unfolding known
-  free-is = ap (λ o. not (isKnown o)) (text-ordinal t rs reads prefix)
+  free-is = ap (λ o. not (isKnown o)) (ordinal-ids prefix 0 ps)
 
   -- is an ID used already?
   pub taken-is : (alone : Bool) → alone ≡ not (isKnown (ordinalFrom 0 prefix ps))
-      → taken t (entriesIn (catalogue rs)) prefix (cond alone (drop 1 (leaves (links ps))) (leaves (links ps))) ≡ used ps (programs (added prefix fs ps))
-  taken-is alone e = ap (λ a. taken t (entriesIn (catalogue rs)) prefix (cond a (drop 1 (leaves (links ps))) (leaves (links ps)))) e ∙ sym (used-added t rs reads prefix fs)
+      → taken (idsOf ps) prefix (cond alone (drop 1 (leaves (links ps))) (leaves (links ps))) ≡ used ps (programs (added prefix fs ps))
+  taken-is alone e = ap (λ a. taken (idsOf ps) prefix (cond a (drop 1 (leaves (links ps))) (leaves (links ps)))) e ∙ sym (used-added t rs reads prefix fs)
 
   -- how many are added
   pub count-is : cond (eqb (length ps) 0) 1 (length (leaves (links ps))) ≡ length (added prefix fs ps)
@@ -75,8 +73,8 @@ module _ (rs : List Record) (prefix : List ℕ) (fs : List Field) (room : ℕ) w
     on-few h = rw (e, le-ltb 1024 (length (programs rs) + length (added prefix fs (programs rs))) h) refl
 
 -- what is written is the tidy text with the new programs
-module _ (t : List ℕ) (rs : List Record) (reads : readText t ≡ accept rs) (prefix fields : List ℕ) (fs : List Field) (e : fieldsText fs ≡ fields) where
+module _ (rs : List Record) (prefix fields : List ℕ) (fs : List Field) (e : fieldsText fs ≡ fields) where
   pub written-is : (empty alone linked : Bool) → empty ≡ eqb (length (programs rs)) 0 → alone ≡ not (isKnown (ordinalFrom 0 prefix (programs rs))) → linked ≡ isNone (lastOf 80 80 fs)
-      → withAdded rs (addedText t (entriesIn (catalogue rs)) empty alone linked prefix fields (leaves (links (programs rs)))) ≡ tidy (rs ++ added prefix fs (programs rs))
+      → withAdded rs (addedText (idsOf (programs rs)) empty alone linked prefix fields (leaves (links (programs rs)))) ≡ tidy (rs ++ added prefix fs (programs rs))
   written-is empty alone linked p q r =
-      ap (withAdded rs) (rw (p ∙ sym (none-count (programs rs)), q, r) (sym (added-text t rs reads prefix fields fs e))) ∙ sym (tidy-added rs prefix fs (programs rs))
+      ap (withAdded rs) (rw (p ∙ sym (none-count (programs rs)), q, r) (sym (added-text (programs rs) prefix fields fs e))) ∙ sym (tidy-added rs prefix fs (programs rs))

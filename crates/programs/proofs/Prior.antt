@@ -10,10 +10,9 @@ use Rattle.format.specs.Lines.{Piece}
 use Rattle.format.specs.Fields.{lastOf}
 use Rattle.format.specs.Adding.{given, isKnown}
 use Rattle.format.specs.declared.ProgramNo.{ProgramNo}
-use Rattle.entries.specs.declared.Entry.{Entry}
-use Rattle.lookup.specs.declared.Named.{Named}
-use Rattle.lookup.specs.declared.Named.the-variants.{Nobody, Is}
-use Rattle.lookup.specs.Parents.{ordinalIn, namedOf}
+use Rattle.gathered.specs.declared.Named.{Named}
+use Rattle.gathered.specs.declared.Named.the-variants.{Nobody, Is}
+use Rattle.gathered.specs.Parents.{ordinalIn, namedOf}
 use Rattle.ids.specs.Taken.{known}
 use Rattle.given.specs.declared.Given.{Given}
 use Rattle.given.specs.declared.Given.the-variants.{Nothing, At}
@@ -32,14 +31,14 @@ unfolding named-known namedOf isKnown
 known-named none = refl
 known-named (some k) = refl
 
-module _ (t id : List ℕ) (es : List Entry) where
-  pub free-nobody : namedOf (ordinalIn t id 0 es) ≡ Nobody → true ≡ not (known t id es)
+module _ (id : List ℕ) (ids : List (List ℕ)) where
+  pub free-nobody : namedOf (ordinalIn id 0 ids) ≡ Nobody → true ≡ not (known id ids)
   unfolding known named-known
-  free-nobody e = ap not (sym (ap named-known e) ∙ known-named (ordinalIn t id 0 es))
+  free-nobody e = ap not (sym (ap named-known e) ∙ known-named (ordinalIn id 0 ids))
 
-  pub free-somebody : (k : ProgramNo) → namedOf (ordinalIn t id 0 es) ≡ Is k → false ≡ not (known t id es)
+  pub free-somebody : (k : ProgramNo) → namedOf (ordinalIn id 0 ids) ≡ Is k → false ≡ not (known id ids)
   unfolding known named-known
-  free-somebody k e = ap not (sym (ap named-known e) ∙ known-named (ordinalIn t id 0 es))
+  free-somebody k e = ap not (sym (ap named-known e) ∙ known-named (ordinalIn id 0 ids))
 
 -- ---- the given PP
 
@@ -60,32 +59,32 @@ some-at : (p : Piece) (a n : ℕ) → givenOf (some p) ≡ At a n → (p .at ≡
 unfolding givenOf at len
 some-at p a n e = (ap at e, ap len e)
 
-some-stray : (t : List ℕ) (es : List Entry) (p : Piece) → not (known t (p .bytes) es) ≡ stray t es (some p)
+some-stray : (ids : List (List ℕ)) (p : Piece) → not (known (p .bytes) ids) ≡ stray ids (some p)
 unfolding stray
-some-stray t es p = refl
+some-stray ids p = refl
 
-module _ (t : List ℕ) (es : List Entry) (fields : List ℕ) where
+module _ (ids : List (List ℕ)) (fields : List ℕ) where
   abbrev prior : Option Piece
   prior = lastOf 80 80 (given fields .fields)
 
-  pub stray-nothing : givenOf prior ≡ Nothing → false ≡ stray t es prior
+  pub stray-nothing : givenOf prior ≡ Nothing → false ≡ stray ids prior
   stray-nothing e = go prior e
     where
-      go : (o : Option Piece) → givenOf o ≡ Nothing → false ≡ stray t es o
+      go : (o : Option Piece) → givenOf o ≡ Nothing → false ≡ stray ids o
       go none q = unfold stray in refl
       go (some p) q = absurd (false≢true (unfold givenOf isNothing in ap isNothing q))
 
   -- where it stands, its bytes are those of the fields
   pub stray-at : (a n : ℕ) → givenOf prior ≡ At a n
-      → (a + n ≤ length fields) × (not (known t (take (a + n - a) (drop a fields)) es) ≡ stray t es prior)
+      → (a + n ≤ length fields) × (not (known (take (a + n - a) (drop a fields)) ids) ≡ stray ids prior)
   stray-at a n e = go prior refl e
     where
-      go : (o : Option Piece) → prior ≡ o → givenOf o ≡ At a n → (a + n ≤ length fields) × (not (known t (take (a + n - a) (drop a fields)) es) ≡ stray t es o)
+      go : (o : Option Piece) → prior ≡ o → givenOf o ≡ At a n → (a + n ≤ length fields) × (not (known (take (a + n - a) (drop a fields)) ids) ≡ stray ids o)
       go none q f = absurd (false≢true (unfold givenOf isNothing in sym (ap isNothing f)))
       go (some p) q f =
           let h = previous-stands fields p q in
           let x = some-at p a n f in
           let z : a + n - a ≡ length (p .bytes) = omega (arith, x .1) in (
             omega (arith, h .0, x),
-            ap (λ b. not (known t b es)) (ap (λ m. take m (drop a fields)) z ∙ ap (λ m. take (length (p .bytes)) (drop m fields)) (sym (x .0)) ∙ sym (h .1)) ∙ some-stray t es p,
+            ap (λ b. not (known b ids)) (ap (λ m. take m (drop a fields)) z ∙ ap (λ m. take (length (p .bytes)) (drop m fields)) (sym (x .0)) ∙ sym (h .1)) ∙ some-stray ids p,
           )

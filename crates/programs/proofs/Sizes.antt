@@ -1,9 +1,8 @@
 -- How long the tidy text is with new programs.
 use Prim.Native.Nat.{ℕ, _+_, _≤_, _<_}
-use mathlib.Core.Path.{_≡_, refl, sym, ap, _∙_}
+use mathlib.Core.Path.{_≡_, refl, ap, _∙_}
 use mathlib.Core.Bool.{Bool, true, false, _||_}
 use mathlib.Core.List.{List, [], _∷_, _++_}
-use mathlib.Core.Logic.{_⊎_, inl, inr}
 use native.Mathlib.Omega.{arith}
 use lib.ListN.{length, length-append}
 use lib.Dec.{ltb}
@@ -11,7 +10,6 @@ use borrow.Author.Tests.{ltb-true, ltb-false}
 use Rattle.format.specs.Records.{Record}
 use Rattle.format.specs.Tidy.{tidy}
 use Rattle.format.specs.declared.Kind.the-variants.{Comment}
-use Rattle.entries.specs.declared.Entry.{Entry}
 use Rattle.tidy_text.specs.Kinds.{textOfKind, frontText}
 use Rattle.tidy_text.proofs.Total.{tidy-kinds}
 use Rattle.ids.specs.Taken.{idIn}
@@ -31,31 +29,31 @@ with-size rs new = omega (arith, with-parts rs new, ap length (tidy-kinds rs), l
 
 -- ---- what is given is written
 
-module _ (t : List ℕ) (es : List Entry) (linked : Bool) (prefix fields : List ℕ) where
+module _ (ids : List (List ℕ)) (linked : Bool) (prefix fields : List ℕ) where
   line-holds : (alone l : Bool) (id : List ℕ) → (length prefix ≤ length (newLine alone l prefix fields id)) × (length fields ≤ length (newLine alone l prefix fields id))
   line-holds alone l id = (omega (arith, line-size alone l prefix fields id), omega (arith, line-size alone l prefix fields id))
 
   lines-hold : (alone : Bool) (ks : List ℕ) → 0 < length ks
-      → (length prefix ≤ length (newLines t es alone linked prefix fields ks)) × (length fields ≤ length (newLines t es alone linked prefix fields ks))
+      → (length prefix ≤ length (newLines ids alone linked prefix fields ks)) × (length fields ≤ length (newLines ids alone linked prefix fields ks))
   unfolding newLines
   lines-hold alone [] h = absurd (omega arith)
   lines-hold alone (k ∷ ks) h =
-      let l = line-holds alone linked (idIn t es k) in
-      let a = length-append (newLine alone linked prefix fields (idIn t es k)) (newLines t es false linked prefix fields ks) in
+      let l = line-holds alone linked (idIn ids k) in
+      let a = length-append (newLine alone linked prefix fields (idIn ids k)) (newLines ids false linked prefix fields ks) in
       (omega (arith, l .0, a), omega (arith, l .1, a))
 
   added-holds : (empty alone : Bool) (ks : List ℕ) → (empty ≡ false → 0 < length ks)
-      → (length prefix ≤ length (addedText t es empty alone linked prefix fields ks)) × (length fields ≤ length (addedText t es empty alone linked prefix fields ks))
+      → (length prefix ≤ length (addedText ids empty alone linked prefix fields ks)) × (length fields ≤ length (addedText ids empty alone linked prefix fields ks))
   unfolding addedText
   added-holds true alone ks h = line-holds true false []
   added-holds false alone ks h = lines-hold alone ks (h refl)
 
   -- so what is too long by itself is too long with all the rest
   pub added-long : (empty alone : Bool) (ks : List ℕ) → (empty ≡ false → 0 < length ks)
-      → ltb 16777216 (length prefix) || ltb 16777216 (length fields) ≡ true → 16777216 < length (addedText t es empty alone linked prefix fields ks)
+      → ltb 16777216 (length prefix) || ltb 16777216 (length fields) ≡ true → 16777216 < length (addedText ids empty alone linked prefix fields ks)
   added-long empty alone ks h e = go (ltb 16777216 (length prefix)) refl e
     where
-      go : (b : Bool) → ltb 16777216 (length prefix) ≡ b → b || ltb 16777216 (length fields) ≡ true → 16777216 < length (addedText t es empty alone linked prefix fields ks)
+      go : (b : Bool) → ltb 16777216 (length prefix) ≡ b → b || ltb 16777216 (length fields) ≡ true → 16777216 < length (addedText ids empty alone linked prefix fields ks)
       go true q f = omega (arith, ltb-true 16777216 (length prefix) q, added-holds empty alone ks h .0)
       go false q f = omega (arith, ltb-true 16777216 (length fields) f, added-holds empty alone ks h .1)
 

@@ -4,27 +4,24 @@ use mathlib.Core.Path.{_≡_, refl, sym, ap, ap₂, _∙_}
 use mathlib.Core.Bool.{Bool, true, false, not, cond}
 use mathlib.Core.List.{List, [], _∷_, _++_, append-assoc, append-nil}
 use mathlib.Core.Option.{Option, none, some}
-use lib.ListN.{length, getD}
+use lib.ListN.{getD, List·getD-map}
 use lib.Dec.{eqb}
 use Rattle.format.specs.Bytes.{none?}
 use Rattle.format.specs.Lines.{Piece}
 use Rattle.format.specs.Fields.{Field, lastOf}
 use Rattle.format.specs.Records.{Record, program, code}
-use Rattle.format.specs.Reading.{readText, accept, ofKind}
-use Rattle.format.specs.Catalogue.{catalogue}
-use Rattle.format.specs.Programs.{Program, programs, links, leaves, ordinalFrom}
+use Rattle.format.specs.Reading.{ofKind}
+use Rattle.format.specs.Programs.{Program, links, leaves, ordinalFrom}
 use Rattle.format.specs.Tidy.{tidy, text, recordText, fieldText, fieldsText}
-use Rattle.format.specs.Adding.{given, nobody, unplaced, orElse, chained, isKnown, after, added}
+use Rattle.format.specs.Adding.{nobody, unplaced, orElse, chained, isKnown, after, added}
 use Rattle.format.specs.declared.Kind.{Kind}
 use Rattle.format.specs.declared.Kind.the-variants as kind
 use Rattle.text.specs.Stands.{Each}
-use Rattle.entries.specs.declared.Entry.{Entry}
-use Rattle.entries.specs.Entries.{entriesIn}
 use Rattle.writer.specs.Parts.{prefixText}
 use Rattle.tidy_text.specs.Kinds.{numberOf, textOfKind, frontText}
 use Rattle.tidy_text.proofs.Total.{tidy-kinds, text-append}
+use Rattle.gathered.specs.Parents.{idsOf}
 use Rattle.ids.specs.Taken.{idIn}
-use Rattle.ids.proofs.Apart.{text-id}
 use Rattle.added.specs.Line.{joining, linking, ending, newLine}
 use Rattle.added.specs.Lines.{newLines, addedText}
 use Rattle.programs.specs.Added.{withAdded, isNone}
@@ -64,23 +61,24 @@ line-text false prefix id fields fs linked e = ap named (tail (prefix ++ (45 ∷
 
 -- ---- one after each leaf
 
-module _ (t : List ℕ) (rs : List Record) (reads : readText t ≡ accept rs) (prefix fields : List ℕ) (fs : List Field) (e : fieldsText fs ≡ fields) where
-  abbrev ps : List Program
-  ps = programs rs
-
-  abbrev es : List Entry
-  es = entriesIn (catalogue rs)
+module _ (ps : List Program) (prefix fields : List ℕ) (fs : List Field) (e : fieldsText fs ≡ fields) where
+  abbrev ids : List (List ℕ)
+  ids = idsOf ps
 
   abbrev linked : Bool
   linked = isNone (lastOf 80 80 fs)
 
+  ids-named : (k : ℕ) → idIn ids k ≡ getD ps k nobody .id
+  unfolding idIn nobody
+  ids-named k = List·getD-map (λ p. p .id) ps k nobody
+
   leaf-line : (free : Bool) (k : ℕ)
-      → recordText (program (unplaced (cond free prefix (prefix ++ (45 ∷ getD ps k nobody .id)))) (chained (getD ps k nobody .id) fs)) ≡ newLine free linked prefix fields (idIn t es k)
+      → recordText (program (unplaced (cond free prefix (prefix ++ (45 ∷ getD ps k nobody .id)))) (chained (getD ps k nobody .id) fs)) ≡ newLine free linked prefix fields (idIn ids k)
   leaf-line free k =
       line-text free prefix (getD ps k nobody .id) fields (chained (getD ps k nobody .id) fs) linked (chained-text fs fields (getD ps k nobody .id) e)
-      ∙ ap (newLine free linked prefix fields) (sym (text-id t rs reads k))
+      ∙ ap (newLine free linked prefix fields) (sym (ids-named k))
 
-  after-text : (free : Bool) (ks : List ℕ) → text (after free prefix fs ps ks) ≡ newLines t es free linked prefix fields ks
+  after-text : (free : Bool) (ks : List ℕ) → text (after free prefix fs ps ks) ≡ newLines ids free linked prefix fields ks
   unfolding text after newLines
   after-text free [] = refl
   after-text free (k ∷ ks) = ap₂ (λ x y. x ++ y) (leaf-line free k) (after-text false ks)
@@ -90,13 +88,13 @@ module _ (t : List ℕ) (rs : List Record) (reads : readText t ≡ accept rs) (p
   unfolding text linking
   one-text = append-nil _ ∙ line-text true prefix [] fields fs false (e ∙ sym (append-nil fields))
 
-  pub added-text : text (added prefix fs ps) ≡ addedText t es (none? ps) (not (isKnown (ordinalFrom 0 prefix ps))) linked prefix fields (leaves (links ps))
+  pub added-text : text (added prefix fs ps) ≡ addedText ids (none? ps) (not (isKnown (ordinalFrom 0 prefix ps))) linked prefix fields (leaves (links ps))
   added-text = go ps refl
     where
       go : (qs : List Program) → ps ≡ qs
-          → text (added prefix fs qs) ≡ addedText t es (none? qs) (not (isKnown (ordinalFrom 0 prefix qs))) linked prefix fields (leaves (links qs))
+          → text (added prefix fs qs) ≡ addedText ids (none? qs) (not (isKnown (ordinalFrom 0 prefix qs))) linked prefix fields (leaves (links qs))
       go [] q = unfold added addedText none? in one-text
-      go (p ∷ qs) q = unfold added addedText none? in (ap (λ x. text (after (not (isKnown (ordinalFrom 0 prefix x))) prefix fs x (leaves (links x)))) (sym q) ∙ after-text (not (isKnown (ordinalFrom 0 prefix ps))) (leaves (links ps)) ∙ ap (λ x. newLines t es (not (isKnown (ordinalFrom 0 prefix x))) linked prefix fields (leaves (links x))) q)
+      go (p ∷ qs) q = unfold added addedText none? in (ap (λ x. text (after (not (isKnown (ordinalFrom 0 prefix x))) prefix fs x (leaves (links x)))) (sym q) ∙ after-text (not (isKnown (ordinalFrom 0 prefix ps))) (leaves (links ps)) ∙ ap (λ x. newLines ids (not (isKnown (ordinalFrom 0 prefix x))) linked prefix fields (leaves (links x))) q)
 
 -- ---- behind the old ones
 

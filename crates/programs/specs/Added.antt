@@ -1,7 +1,7 @@
 -- The tidy text with new programs, and why nothing is added once the leaves are known.
 use Prim.Native.Nat.{ℕ, _+_}
 use mathlib.Core.Bool.{Bool, true, false, not, cond}
-use mathlib.Core.List.{List, [], _∷_, _++_}
+use mathlib.Core.List.{List, _++_}
 use mathlib.Core.Option.{Option, none, some}
 use lib.ListN.{length}
 use lib.Dec.{ltb}
@@ -13,12 +13,10 @@ use Rattle.format.specs.Tidy.{tidy, unwritable}
 use Rattle.format.specs.Adding.{added, used}
 use Rattle.format.specs.Calls.{Answer, then, untangled, writing}
 use Rattle.format.specs.declared.Kind.the-variants.{Comment}
-use Rattle.entries.specs.declared.Entry.{Entry}
 use Rattle.tidy_text.specs.Kinds.{textOfKind, frontText}
 use Rattle.ids.specs.Taken.{known}
 use Rattle.given.specs.declared.Given.{Given}
 use Rattle.given.specs.declared.Given.the-variants as given
-use Rattle.added.specs.Lines.{addedText}
 
 -- the new programs stand behind the old ones, and the comments last
 unfoldable pub withAdded : List Record → List ℕ → List ℕ
@@ -36,10 +34,10 @@ isNothing given.Nothing = true
 isNothing (given.At at len) = false
 
 -- a given PP that equals no ID
-unfoldable pub stray : List ℕ → List Entry → Option Piece → Bool
+unfoldable pub stray : List (List ℕ) → Option Piece → Bool
 unfolding known
-stray t es none = false
-stray t es (some p) = not (known t (p .bytes) es)
+stray ids none = false
+stray ids (some p) = not (known (p .bytes) ids)
 
 -- the leaves of the programs that are there
 unfoldable pub leavesOf : List Record → List ℕ

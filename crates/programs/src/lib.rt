@@ -1,33 +1,29 @@
 // Adding programs: one after each leaf, and then the tidy text with the new programs behind the old ones.
 use added::Shape;
 use format::LineNo;
+use gathered::Named;
 use given::Given;
-use lookup::Named;
 use parser::Answer;
 use parser::Checked;
 use tidy_text::Measured;
 use tidy_text::PerKind;
 ghost use mathlib.Core.Path.{_≡_};
 ghost use mathlib.Core.Bool.{true, false, not, _||_, cond};
-ghost use mathlib.Core.List.{List, _++_};
 ghost use Prim.Native.Nat.{_≤_, _<_, _+_};
-ghost use lib.ListN.{length, drop};
+ghost use lib.ListN.{length};
 ghost use Prim.Native.Nat.{min};
 ghost use lib.Dec.{ltb};
-ghost use Rattle.format.specs.Bytes.{none?};
 ghost use Rattle.format.specs.Fields.{lastOf};
 ghost use Rattle.format.specs.Lines.{lines};
 ghost use Rattle.format.specs.Reading.{announced, isStrict, readText};
-ghost use Rattle.format.specs.Catalogue.{catalogue};
-ghost use Rattle.format.specs.Programs.{programs, links, leaves, link, isDangling, ordinalFrom};
+ghost use Rattle.format.specs.Programs.{programs, leaves};
 ghost use Rattle.format.specs.Tidy.{unwritable};
-ghost use Rattle.format.specs.Adding.{given, misformed, isKnown};
+ghost use Rattle.format.specs.Adding.{given};
 ghost use Rattle.format.specs.Calls.{writing, adding};
 ghost use Rattle.text.specs.Over.{over};
-ghost use Rattle.text.specs.Stands.{Each};
 ghost use Rattle.accepted.specs.Read.{isAccepted, recordsOf};
-ghost use Rattle.entries.specs.Entries.{entriesIn, counted};
-ghost use Rattle.lookup.specs.Parents.{Within};
+ghost use Rattle.gathered.specs.Gathered.{idsAt, Placed};
+ghost use Rattle.gathered.specs.Parents.{idsOf};
 ghost use Rattle.parser.specs.Answers.{answerOf, outputOf};
 ghost use Rattle.ids.specs.Taken.{known};
 ghost use Rattle.given.specs.Given.{givenOf};
@@ -39,7 +35,8 @@ ghost use Rattle.programs.specs.Added.{withAdded, isNone, isNothing, str
 // to the gap that is left before the comments.
 fn put_all(
     text: &[u8],
-    kept: &[u8],
+    ats: &[u32],
+    lens: &[u32],
     strict: bool,
     sizes: PerKind,
     more: usize,
@@ -52,18 +49,19 @@ fn put_all(
     requires { ⌜ isAccepted (readText (now text)) ≡ true ⌝ }
     requires { ⌜ strict ≡ isStrict (announced (lines (now text))) ⌝ }
     requires { ⌜ sizes ≡ sizesOf (recordsOf (now text)) ⌝ }
-    requires { ⌜ (more ≡ length (addedText (now text) (entriesIn (now kept)) (shape .empty) (shape .alone) (shape .linked) (now prefix) (now fields) (now leaves))) × (more ≤ 16777216) ⌝ }
-    requires { ⌜ Each (Within (length (now text))) (entriesIn (now kept)) ⌝ }
-    requires { ⌜ length (withAdded (recordsOf (now text)) (addedText (now text) (entriesIn (now kept)) (shape .empty) (shape .alone) (shape .linked) (now prefix) (now fields) (now leaves))) ≤ length (now out) ⌝ }
-    ensures next { λ r. ⌜ r ≡ length (withAdded (recordsOf (now (text .entry))) (addedText (now (text .entry)) (entriesIn (now (kept .entry))) (shape .empty) (shape .alone) (shape .linked) (now (prefix .entry)) (now (fields .entry)) (now (leaves .entry)))) ⌝ }
-    ensures wrote { λ _. ⌜ now (out .exit) ≡ over (now (out .entry)) 0 (withAdded (recordsOf (now (text .entry))) (addedText (now (text .entry)) (entriesIn (now (kept .entry))) (shape .empty) (shape .alone) (shape .linked) (now (prefix .entry)) (now (fields .entry)) (now (leaves .entry)))) ⌝ }
+    requires { ⌜ (more ≡ length (addedText (idsAt (now text) (now ats) (now lens)) (shape .empty) (shape .alone) (shape .linked) (now prefix) (now fields) (now leaves))) × (more ≤ 16777216) ⌝ }
+    requires { ⌜ Placed (now text) (now ats) (now lens) ⌝ }
+    requires { ⌜ length (withAdded (recordsOf (now text)) (addedText (idsAt (now text) (now ats) (now lens)) (shape .empty) (shape .alone) (shape .linked) (now prefix) (now fields) (now leaves))) ≤ length (now out) ⌝ }
+    ensures next { λ r. ⌜ r ≡ length (withAdded (recordsOf (now (text .entry))) (addedText (idsAt (now (text .entry)) (now (ats .entry)) (now (lens .entry))) (shape .empty) (shape .alone) (shape .linked) (now (prefix .entry)) (now (fields .entry)) (now (leaves .entry)))) ⌝ }
+    ensures wrote { λ _. ⌜ now (out .exit) ≡ over (now (out .entry)) 0 (withAdded (recordsOf (now (text .entry))) (addedText (idsAt (now (text .entry)) (now (ats .entry)) (now (lens .entry))) (shape .empty) (shape .alone) (shape .linked) (now (prefix .entry)) (now (fields .entry)) (now (leaves .entry)))) ⌝ }
 {
     tidy_text::put_around(text, strict, sizes, more, out);
     let n = added::put_added(
         out,
         sizes.front(),
         text,
-        kept,
+        ats,
+        lens,
         prefix,
         fields,
         leaves,
@@ -92,7 +90,8 @@ fn is_over(n: usize, more: usize) -> bool
 // Writes the tidy text with the new programs: 24, then 1, then 20.
 fn write_added(
     text: &[u8],
-    kept: &[u8],
+    ats: &[u32],
+    lens: &[u32],
     prefix: &[u8],
     fields: &[u8],
     leaves: &[u32],
@@ -100,10 +99,10 @@ fn write_added(
     out: &mut [u8],
 ) -> Answer
     requires { ⌜ isAccepted (readText (now text)) ≡ true ⌝ }
-    requires { ⌜ Each (Within (length (now text))) (entriesIn (now kept)) ⌝ }
+    requires { ⌜ Placed (now text) (now ats) (now lens) ⌝ }
     requires { ⌜ (length (now leaves) ≤ 1024) × (shape .empty ≡ false → 0 < length (now leaves)) ⌝ }
-    ensures answer { λ r. ⌜ r ≡ answerOf (writing (length (now (out .entry))) (unwritable 0 (recordsOf (now (text .entry)))) (withAdded (recordsOf (now (text .entry))) (addedText (now (text .entry)) (entriesIn (now (kept .entry))) (shape .empty) (shape .alone) (shape .linked) (now (prefix .entry)) (now (fields .entry)) (now (leaves .entry))))) ⌝ }
-    ensures wrote { λ _. ⌜ now (out .exit) ≡ outputOf (writing (length (now (out .entry))) (unwritable 0 (recordsOf (now (text .entry)))) (withAdded (recordsOf (now (text .entry))) (addedText (now (text .entry)) (entriesIn (now (kept .entry))) (shape .empty) (shape .alone) (shape .linked) (now (prefix .entry)) (now (fields .entry)) (now (leaves .entry))))) (now (out .entry)) ⌝ }
+    ensures answer { λ r. ⌜ r ≡ answerOf (writing (length (now (out .entry))) (unwritable 0 (recordsOf (now (text .entry)))) (withAdded (recordsOf (now (text .entry))) (addedText (idsAt (now (text .entry)) (now (ats .entry)) (now (lens .entry))) (shape .empty) (shape .alone) (shape .linked) (now (prefix .entry)) (now (fields .entry)) (now (leaves .entry))))) ⌝ }
+    ensures wrote { λ _. ⌜ now (out .exit) ≡ outputOf (writing (length (now (out .entry))) (unwritable 0 (recordsOf (now (text .entry)))) (withAdded (recordsOf (now (text .entry))) (addedText (idsAt (now (text .entry)) (now (ats .entry)) (now (lens .entry))) (shape .empty) (shape .alone) (shape .linked) (now (prefix .entry)) (now (fields .entry)) (now (leaves .entry))))) (now (out .entry)) ⌝ }
 {
     let strict = rules::is_strict(text);
     match tidy_text::measure(text, strict) {
@@ -113,7 +112,7 @@ fn write_added(
             if is_too_long(prefix, fields) {
                 return Answer::Refused(1, LineNo(0));
             }
-            let more = added::added_len(text, kept, prefix, fields, leaves, shape);
+            let more = added::added_len(text, ats, lens, prefix, fields, leaves, shape);
             if is_over(n, more) {
                 return Answer::Refused(1, LineNo(0));
             }
@@ -122,7 +121,8 @@ fn write_added(
             }
             let n = put_all(
                 text,
-                kept,
+                ats,
+                lens,
                 strict,
                 sizes,
                 more,
@@ -138,12 +138,11 @@ fn write_added(
 }
 
 // Whether an ID is no program's yet.
-fn is_free(text: &[u8], kept: &[u8], id: &[u8]) -> bool
-    requires { ⌜ Each (Within (length (now text))) (entriesIn (now kept)) ⌝ }
-    requires { ⌜ counted 4 (entriesIn (now kept)) ≤ 1024 ⌝ }
-    ensures { λ r. ⌜ r ≡ not (known (now (text .entry)) (now (id .entry)) (entriesIn (now (kept .entry)))) ⌝ }
+fn is_free(text: &[u8], ats: &[u32], lens: &[u32], id: &[u8]) -> bool
+    requires { ⌜ Placed (now text) (now ats) (now lens) ⌝ }
+    ensures { λ r. ⌜ r ≡ not (known (now (id .entry)) (idsAt (now (text .entry)) (now (ats .entry)) (now (lens .entry)))) ⌝ }
 {
-    match lookup::find_program(text, kept, id) {
+    match gathered::find_program(text, ats, lens, id) {
         Named::Nobody => true,
         Named::Is(_) => false,
     }
@@ -160,15 +159,14 @@ fn is_linked(previous: Given) -> bool
 }
 
 // Whether a PP is given that equals no ID.
-fn is_stray(text: &[u8], kept: &[u8], fields: &[u8], previous: Given) -> bool
-    requires { ⌜ Each (Within (length (now text))) (entriesIn (now kept)) ⌝ }
-    requires { ⌜ counted 4 (entriesIn (now kept)) ≤ 1024 ⌝ }
+fn is_stray(text: &[u8], ats: &[u32], lens: &[u32], fields: &[u8], previous: Given) -> bool
+    requires { ⌜ Placed (now text) (now ats) (now lens) ⌝ }
     requires { ⌜ previous ≡ givenOf (lastOf 80 80 (given (now fields) .fields)) ⌝ }
-    ensures { λ r. ⌜ r ≡ stray (now (text .entry)) (entriesIn (now (kept .entry))) (lastOf 80 80 (given (now (fields .entry)) .fields)) ⌝ }
+    ensures { λ r. ⌜ r ≡ stray (idsAt (now (text .entry)) (now (ats .entry)) (now (lens .entry))) (lastOf 80 80 (given (now (fields .entry)) .fields)) ⌝ }
 {
     match previous {
         Given::Nothing => false,
-        Given::At(at, len) => is_free(text, kept, &fields[at..at + len]),
+        Given::At(at, len) => is_free(text, ats, lens, &fields[at..at + len]),
     }
 }
 
@@ -198,29 +196,28 @@ fn new_count(leaves: usize, empty: bool) -> usize
 // What is left to do once the leaves are known: 18, 19, 24, 1, 20, and then the text.
 fn add_after(
     text: &[u8],
-    kept: &[u8],
+    ats: &[u32],
+    lens: &[u32],
     prefix: &[u8],
     fields: &[u8],
     leaves: &[u32],
-    count: usize,
     linked: bool,
     out: &mut [u8],
 ) -> Answer
     requires { ⌜ isAccepted (readText (now text)) ≡ true ⌝ }
-    requires { ⌜ now kept ≡ catalogue (recordsOf (now text)) ⌝ }
+    requires { ⌜ Placed (now text) (now ats) (now lens) × (idsAt (now text) (now ats) (now lens) ≡ idsOf (programs (recordsOf (now text)))) ⌝ }
     requires { ⌜ (given (now fields) .stop ≡ 0) × (linked ≡ isNone (lastOf 80 80 (given (now fields) .fields))) ⌝ }
-    requires { ⌜ (now leaves ≡ leavesOf (recordsOf (now text))) × (0 < count → 0 < length (now leaves)) ⌝ }
-    requires { ⌜ count ≡ length (programs (recordsOf (now text))) ⌝ }
+    requires { ⌜ (now leaves ≡ leavesOf (recordsOf (now text))) × (0 < length (now ats) → 0 < length (now leaves)) ⌝ }
     ensures answer { λ r. ⌜ r ≡ answerOf (addingOn (recordsOf (now (text .entry))) (now (prefix .entry)) (given (now (fields .entry)) .fields) (length (now (out .entry)))) ⌝ }
     ensures wrote { λ _. ⌜ now (out .exit) ≡ outputOf (addingOn (recordsOf (now (text .entry))) (now (prefix .entry)) (given (now (fields .entry)) .fields) (length (now (out .entry)))) (now (out .entry)) ⌝ }
 {
-    let alone = is_free(text, kept, prefix);
+    let alone = is_free(text, ats, lens, prefix);
     let first = first_joined(leaves.len(), alone);
-    if ids::is_taken(text, kept, prefix, &leaves[first..]) {
+    if ids::is_taken(text, ats, lens, prefix, &leaves[first..]) {
         return Answer::Refused(18, LineNo(0));
     }
-    let empty = count == 0;
-    if 1024 < count + new_count(leaves.len(), empty) {
+    let empty = ats.len() == 0;
+    if 1024 < ats.len() + new_count(leaves.len(), empty) {
         return Answer::Refused(19, LineNo(0));
     }
     let shape = Shape {
@@ -228,7 +225,7 @@ fn add_after(
         alone,
         linked,
     };
-    write_added(text, kept, prefix, fields, leaves, shape, out)
+    write_added(text, ats, lens, prefix, fields, leaves, shape, out)
 }
 
 // Adds a program after each leaf, and writes the tidy text to the front of `out`: reading's refusals, 21, 26, 22, 23, 18, 19, 24, 1, 20.
@@ -243,32 +240,24 @@ pub fn add(text: &[u8], kept: &[u8], prefix: &[u8], fields: &[u8], out: &mut [u8
                 return Answer::Refused(26, LineNo(0));
             }
             let previous = given::find_previous(fields);
-            if is_stray(text, kept, fields, previous) {
+            let programs = gathered::gather(kept);
+            let places = programs.id;
+            let at = places.at;
+            let len = places.len;
+            let ats = &at[..programs.count];
+            let lens = &len[..programs.count];
+            if is_stray(text, ats, lens, fields, previous) {
                 return Answer::Refused(22, LineNo(0)); // the given PP
             }
-            let parents = lookup::find_parents(text, kept);
-            if parents.dangling {
-                return Answer::Refused(22, LineNo(0));
+            let graph = gathered::find_leaves(text, programs);
+            if graph.refusal != 0 {
+                return Answer::Refused(graph.refusal, LineNo(0));
             }
-            let count = parents.count;
-            let list = parents.list;
-            let links = &list[..count];
-            if chains::has_cycle(links) {
-                return Answer::Refused(23, LineNo(0));
-            }
-            let found = chains::leaves(links);
-            let ordinals = found.list;
-            let leaves = &ordinals[..found.count];
-            add_after(
-                text,
-                kept,
-                prefix,
-                fields,
-                leaves,
-                count,
-                is_linked(previous),
-                out,
-            )
+            let found = graph.leaves;
+            let list = found.list;
+            let leaves = &list[..found.count];
+            let linked = is_linked(previous);
+            add_after(text, ats, lens, prefix, fields, leaves, linked, out)
         }
     }
 }

@@ -1,18 +1,8 @@
 -- `added::line_len` meets its contract.
-use Prim.Native.Nat.{ℕ, _+_, _≤_}
-use mathlib.Core.Path.{_≡_, refl, sym, ap, subst, _∙_}
-use mathlib.Core.List.{List, [], _∷_, _++_}
+use Prim.Native.Nat.{_≤_}
 use native.Mathlib.Omega.{arith}
 use borrow.Author.Needs.{needs}
-use lib.ListN.{length, take, drop, set, length-set, length-append}
-use Rattle.text.specs.Over.{over}
-use Rattle.writer.proofs.Wrote.{Wrote, wrote-then, wrote-one}
-use Rattle.writer.specs.Parts.{prefixText}
-use Rattle.format.specs.Tidy.{fieldText}
-use Rattle.format.specs.declared.Kind.the-variants.{Program}
-use Rattle.added.specs.Line.{joining, linking, ending, newLine}
-use Rattle.added.proofs.Lines.{joining-none, joining-some, linking-some, linking-none, wrote-none, joining-most, linking-most, line-size}
-use borrow.Author.Needs.{needs}
+use Rattle.added.proofs.Lines.{joining-most, linking-most, line-size}
 use Rattle.added.proofs.line_len.Statement.{statement}
 use Rattle.added.proofs.line_len.Tie as tie
 

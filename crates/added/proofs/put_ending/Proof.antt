@@ -1,17 +1,12 @@
 -- `added::put_ending` meets its contract: the fields, PP, an LF.
-use Prim.Native.Nat.{ℕ, _+_, _≤_}
-use mathlib.Core.Path.{_≡_, refl, sym, ap, subst, _∙_}
-use mathlib.Core.List.{List, [], _∷_, _++_}
+use Prim.Native.Nat.{_+_, _≤_}
+use mathlib.Core.Path.{_≡_, refl, _∙_}
+use mathlib.Core.List.{[], _∷_, _++_}
 use native.Mathlib.Omega.{arith}
-use borrow.Author.Needs.{needs}
-use lib.ListN.{length, take, drop, set, length-set, length-append}
-use Rattle.text.specs.Over.{over}
-use Rattle.writer.proofs.Wrote.{Wrote, wrote-then, wrote-one}
-use Rattle.writer.specs.Parts.{prefixText}
-use Rattle.format.specs.Tidy.{fieldText}
-use Rattle.format.specs.declared.Kind.the-variants.{Program}
-use Rattle.added.specs.Line.{joining, linking, ending, newLine}
-use Rattle.added.proofs.Lines.{joining-none, joining-some, linking-some, linking-none, wrote-none, ending-size, line-size}
+use lib.ListN.{length, set, length-set, length-append}
+use Rattle.writer.proofs.Wrote.{wrote-then, wrote-one}
+use Rattle.added.specs.Line.{linking, ending}
+use Rattle.added.proofs.Lines.{ending-size}
 use Rattle.added.proofs.put_ending.Statement.{statement}
 use Rattle.added.proofs.put_ending.Tie as tie
 

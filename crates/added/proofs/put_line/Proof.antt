@@ -1,18 +1,14 @@
 -- `added::put_line` meets its contract: the prefix of the line, ID, and what follows it.
 use Prim.Native.Nat.{ℕ, _+_, _≤_}
-use mathlib.Core.Path.{_≡_, refl, sym, ap, subst, _∙_}
 use mathlib.Core.List.{List, [], _∷_, _++_}
 use native.Mathlib.Omega.{arith}
 use borrow.Author.Needs.{needs}
-use lib.ListN.{length, take, drop, set, length-set, length-append}
-use Rattle.text.specs.Over.{over}
-use Rattle.writer.proofs.Wrote.{Wrote, wrote-then, wrote-one}
+use lib.ListN.{length, length-append}
+use Rattle.writer.proofs.Wrote.{wrote-then}
 use Rattle.writer.specs.Parts.{prefixText}
-use Rattle.format.specs.Tidy.{fieldText}
 use Rattle.format.specs.declared.Kind.the-variants.{Program}
 use Rattle.added.specs.Line.{joining, linking, ending, newLine}
-use Rattle.added.proofs.Lines.{joining-none, joining-some, linking-some, linking-none, wrote-none, ending-size, line-size}
-use borrow.Author.Needs.{needs}
+use Rattle.added.proofs.Lines.{ending-size, line-size}
 use Rattle.added.proofs.put_line.Statement.{statement}
 use Rattle.added.proofs.put_line.Tie as tie
 

@@ -1,19 +1,12 @@
 -- `added::put_linking` meets its contract: a field, or nothing.
-use Prim.Native.Nat.{ℕ, _+_}
-use mathlib.Core.Path.{_≡_, refl, sym, ap, subst, _∙_}
-use mathlib.Core.List.{List, [], _∷_, _++_}
+use mathlib.Core.Path.{sym, ap, subst}
 use native.Mathlib.Omega.{arith}
 use borrow.Author.Needs.{needs}
-use lib.ListN.{length, take, drop, set, length-set, length-append}
+use lib.ListN.{length}
 use lib.Seq.{take-length}
-use Rattle.text.specs.Over.{over}
-use Rattle.writer.proofs.Wrote.{Wrote, wrote-then, wrote-one}
-use Rattle.writer.specs.Parts.{prefixText}
+use Rattle.writer.proofs.Wrote.{Wrote}
 use Rattle.format.specs.Tidy.{fieldText}
-use Rattle.format.specs.declared.Kind.the-variants.{Program}
-use Rattle.added.specs.Line.{joining, linking, ending, newLine}
-use Rattle.added.proofs.Lines.{joining-none, joining-some, linking-some, linking-none, wrote-none, ending-size, line-size}
-use borrow.Author.Needs.{needs}
+use Rattle.added.proofs.Lines.{linking-some, linking-none, wrote-none}
 use Rattle.added.proofs.put_linking.Statement.{statement}
 use Rattle.added.proofs.put_linking.Tie as tie
 

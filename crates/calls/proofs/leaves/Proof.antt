@@ -1,18 +1,18 @@
 -- `calls::leaves` meets its contract: reading, 21, 22, 23, 20, then the leaves and the hops.
-use Prim.Native.Nat.{ℕ, _≤_}
-use mathlib.Core.Path.{_≡_, sym, ap, subst, _∙_}
-use mathlib.Core.Bool.{true, false}
+use Prim.Native.Nat.{ℕ}
+use mathlib.Core.Path.{_≡_, sym, ap, _∙_}
 use mathlib.Core.List.{List}
-use native.Mathlib.Omega.{arith}
-use lib.ListN.{length, take}
-use Rattle.format.specs.Programs.{leaves, hops, loopsFrom}
-use Rattle.format.specs.Calls.{leafing, yes}
-use Rattle.text.specs.Over.{over}
-use Rattle.chains.specs.Parents.{linksOf, within, inArray}
-use Rattle.entries.specs.Entries.{entriesIn}
-use Rattle.lookup.specs.Parents.{parentsIn, strays}
-use Rattle.calls.proofs.Fresh.{Current, check-refused, check-fresh}
-use Rattle.calls.proofs.Chained.{front, front-counted, front-within, inside, few, few-parents, all-within, leaves-refused, leaves-dangling, leaves-cycle, leaves-short, leaves-fit, refused-leaves, written-leaves}
+use lib.ListN.{length}
+use Rattle.format.specs.Programs.{Program, programs, links, leaves, hops}
+use Rattle.format.specs.Calls.{then, fitting, leafing, yes}
+use Rattle.accepted.specs.Read.{recordsOf}
+use Rattle.chains.specs.Parents.{inArray}
+use Rattle.chains.proofs.Arrays.{front, front-count, front-inside}
+use Rattle.gathered.proofs.Road.{lent-count, lent-inside, lent-few, lent-within, lent-links, graph-refusal, graph-parents, graph-undangled, graph-list, graph-count}
+use Rattle.parser.specs.Answers.{answerOf, outputOf}
+use Rattle.calls.specs.Answers.{withHops}
+use Rattle.calls.proofs.Fresh.{refused-by, fresh-by}
+use Rattle.calls.proofs.Chained.{leaves-refused, Opened, opened, leaves-tangled, leaves-own, refused-leaves, written-leaves}
 use borrow.Author.Needs.{needs}
 use Rattle.calls.proofs.leaves.Statement.{statement}
 use Rattle.calls.proofs.leaves.Tie as tie
@@ -27,138 +27,104 @@ enum-told : tie.Need-enum-told
 enum-told c = search needs
 
 -- the catalogue is the text's own
-own : (c : tie.After-enum-told) → let a = c .before .before .before .before .before .before .args in Current (a .text .now) (a .kept .now)
-own c =
-    let a = c .before .before .before .before .before .before .args in
-    check-fresh (a .text .now) (a .kept .now) (sym (c .before .before .check .ensures) ∙ c .enum-told .given .1)
+own : (c : tie.After-enum-told) → let a = c .before .before .before .before .before .before .args in Opened (a .text .now) (a .kept .now)
+own c = let a = c .before .before .before .before .before .before .args in opened (a .text .now) (a .kept .now) (fresh-by (a .text .now) (a .kept .now) (c .before .before .check .ensures) (c .enum-told .given .1))
 
--- the parents of the programs
-abbrev parents : tie.After-enum-told → List ℕ
-parents c = let a = c .before .before .before .before .before .before .args in parentsIn (a .text .now) (entriesIn (a .kept .now))
+gather-requires : tie.Need-gather-requires
+gather-requires c κs = own c .entries
 
--- the front of the array that is lent
-lent : (c : tie.After-find-parents) → take (c .find-parents .result .count) (c .find-parents .result .list) ≡ parents (c .before)
-lent c = front (parents (c .before)) (c .find-parents .result .list) (c .find-parents .result .count) (c .find-parents .ensures .0) (c .find-parents .ensures .1)
+find-leaves-requires : tie.Need-find-leaves-requires
+find-leaves-requires c κs = (own (c .before) .accepted, own (c .before) .gathers (c .gather .result) (c .gather .ensures))
 
--- nothing dangles
-joined : (c : tie.Else1) → strays (parents (c .before .before)) ≡ false
-joined c = sym (c .before .find-parents .ensures .2) ∙ c .if1 .left
-
--- each parent is one of the programs, or nobody
-linked : (c : tie.After-list2)
-    → let ps = take (c .before .before .before .find-parents .result .count) (c .before .before .before .find-parents .result .list) in
-    (within (length ps) ps ≡ true) × (length ps ≤ 1024)
-linked c =
-    let e = c .before .before .before .before in
-    let a = e .before .before .before .before .before .before .args in
-    let l = lent (c .before .before .before) in
-    (subst (λ ps. within (length ps) ps ≡ true) (sym l) (all-within (a .text .now) (a .kept .now) (own e) (joined (c .before .before))), omega (arith, ap length l, few-parents (a .text .now) (a .kept .now) (own e)))
-
-find-parents-requires : tie.Need-find-parents-requires
-find-parents-requires c κs =
-    let a = c .before .before .before .before .before .before .args in
-    (inside (a .text .now) (a .kept .now) (own c), few (a .text .now) (a .kept .now) (own c))
+-- the programs of the text
+abbrev ps : tie.After-find-leaves → List Program
+ps c = programs (recordsOf (c .before .before .before .before .before .before .before .before .args .text .now))
 
 returns : tie.Need-returns
 returns c =
-    let e = c .before .before in
+    let f = c .before .before in
+    let e = f .before .before in
     let a = e .before .before .before .before .before .before .args in
     let room = length (a .out .now) in
-    refused-leaves (leafing (a .text .now) (a .kept .now) room) (a .out .now) 22 (record { 0 = 0 })
-    (leaves-dangling (a .text .now) (a .kept .now) (own e) room (sym (c .before .find-parents .ensures .2) ∙ c .if1 .taken))
+    let g = f .find-leaves .result in
+    refused-leaves (leafing (a .text .now) (a .kept .now) room) (a .out .now) (g .refusal) (record { 0 = 0 })
+    (leaves-tangled (a .text .now) (a .kept .now) (own e .own) room (g .refusal) (graph-refusal (links (ps f)) g (f .find-leaves .ensures)) (c .if1 .taken))
 
 array-share-prefix-list : tie.Need-array-share-prefix-list
 array-share-prefix-list c =
-    let p = c .before .before in
-    let f = p .find-parents in
-    front-within (parents (p .before)) (f .result .list) (f .result .count) (f .ensures .0) (f .ensures .1)
+    let f = c .before .before .before .before in
+    let g = f .find-leaves .result in
+    lent-inside (ps f) (own (f .before .before) .few) (g .parents) (graph-parents (links (ps f)) g (f .find-leaves .ensures))
 
-slice-aggregate-links : tie.Need-slice-aggregate-links
-slice-aggregate-links c =
-    let p = c .before .before .before in
-    let f = p .find-parents in
-    front-counted (parents (p .before)) (f .result .list) (f .result .count) (f .ensures .0) (f .ensures .1)
+slice-aggregate-hops : tie.Need-slice-aggregate-hops
+slice-aggregate-hops c =
+    let f = c .before .before .before .before .before in
+    let g = f .find-leaves .result in
+    lent-count (ps f) (own (f .before .before) .few) (g .parents) (graph-parents (links (ps f)) g (f .find-leaves .ensures))
 
-has-cycle-requires : tie.Need-has-cycle-requires
-has-cycle-requires c κs = linked c .0
+hops-requires : tie.Need-hops-requires
+hops-requires c κs =
+    let f = c .before .before .before .before .before in
+    let g = f .find-leaves .result in
+    let q = graph-parents (links (ps f)) g (f .find-leaves .ensures) in
+    (lent-within (ps f) (own (f .before .before) .few) (g .parents) q (graph-undangled (links (ps f)) g (f .find-leaves .ensures) (c .before .before .before .if1 .left)), lent-few (ps f) (own (f .before .before) .few) (g .parents) q)
 
--- the cycle that is looked for
-looped : (c : tie.After-has-cycle) → let ls = linksOf (parents (c .before .before .before .before .before)) in loopsFrom ls 0 ls ≡ c .has-cycle .result
-looped c = sym (c .has-cycle .ensures ∙ ap (λ ps. loopsFrom (linksOf ps) 0 (linksOf ps)) (lent (c .before .before .before .before)))
+-- what is found: the leaves in an array, as they are lent
+module _ (e : tie.Else1) where
+  abbrev asked : tie.After-find-leaves
+  asked = e .before .before
+
+  abbrev xs : List ℕ
+  xs = leaves (links (ps asked))
+
+  listed : asked .find-leaves .result .leaves .list ≡ inArray xs
+  listed = graph-list (links (ps asked)) (asked .find-leaves .result) (asked .find-leaves .ensures) (e .if1 .left)
+
+  counted : asked .find-leaves .result .leaves .count ≡ length xs
+  counted = graph-count (links (ps asked)) (asked .find-leaves .result) (asked .find-leaves .ensures) (e .if1 .left)
+
+array-share-prefix-ordinals : tie.Need-array-share-prefix-ordinals
+array-share-prefix-ordinals c = let e = c .before .before .before .before .before .before .before in front-inside (xs e) (asked e .find-leaves .result .leaves .list) (asked e .find-leaves .result .leaves .count) (listed e) (counted e)
+
+slice-aggregate-put-ordinals : tie.Need-slice-aggregate-put-ordinals
+slice-aggregate-put-ordinals c = let e = c .before .before .before .before .before .before .before .before in front-count (xs e) (asked e .find-leaves .result .leaves .list) (asked e .find-leaves .result .leaves .count) (listed e) (counted e)
+
+put-ordinals-requires : tie.Need-put-ordinals-requires
+put-ordinals-requires c κs = search needs
+
+with-hops-requires : tie.Need-with-hops-requires
+with-hops-requires c κs = search needs
 
 returns-2 : tie.Need-returns-2
 returns-2 c =
-    let h = c .before in
-    let e = h .before .before .before .before .before in
-    let a = e .before .before .before .before .before .before .args in
-    let room = length (a .out .now) in
-    refused-leaves (leafing (a .text .now) (a .kept .now) room) (a .out .now) 23 (record { 0 = 0 })
-    (leaves-cycle (a .text .now) (a .kept .now) (own e) (joined (h .before .before .before)) room (looped h ∙ c .if2 .taken))
-
-leaves-requires : tie.Need-leaves-requires
-leaves-requires c κs = linked (c .before .before)
-
--- what is found: the leaves in an array
-found : (c : tie.After-leaves) → let xs = leaves (linksOf (parents (c .before .before .before .before .before .before .before))) in (c .leaves .result .list ≡ inArray xs) × (c .leaves .result .count ≡ length xs)
-found c =
-    let l = lent (c .before .before .before .before .before .before) in
-    (c .leaves .ensures .0 ∙ ap (λ ps. inArray (leaves (linksOf ps))) l, c .leaves .ensures .1 ∙ ap (λ ps. length (leaves (linksOf ps))) l)
-
-returns-3 : tie.Need-returns-3
-returns-3 c =
-    let r = c .before .before in
-    let h = r .before .before in
-    let e = h .before .before .before .before .before in
-    let a = e .before .before .before .before .before .before .args in
-    let room = length (a .out .now) in
-    refused-leaves (leafing (a .text .now) (a .kept .now) room) (a .out .now) 20 (record { 0 = 0 })
-    (leaves-short (a .text .now) (a .kept .now) (own e) (joined (h .before .before .before)) room (looped h ∙ r .before .if2 .left) (omega (arith, found r .1, c .if3 .taken)))
-
-hops-requires : tie.Need-hops-requires
-hops-requires c κs = linked (c .before .before .before .before .before)
-
-array-share-prefix-ordinals : tie.Need-array-share-prefix-ordinals
-array-share-prefix-ordinals c =
-    let r = c .before .before .before .before .before in
-    front-within (leaves (linksOf (parents (r .before .before .before .before .before .before .before)))) (r .leaves .result .list) (r .leaves .result .count) (found r .0) (found r .1)
-
-slice-aggregate-put-ordinals : tie.Need-slice-aggregate-put-ordinals
-slice-aggregate-put-ordinals c =
-    let r = c .before .before .before .before .before .before in
-    front-counted (leaves (linksOf (parents (r .before .before .before .before .before .before .before)))) (r .leaves .result .list) (r .leaves .result .count) (found r .0) (found r .1)
-
-put-ordinals-requires : tie.Need-put-ordinals-requires
-put-ordinals-requires c κs =
-    let r = c .before .before .before .before .before .before in
-    omega (arith, front-counted (leaves (linksOf (parents (r .before .before .before .before .before .before .before)))) (r .leaves .result .list) (r .leaves .result .count) (found r .0) (found r .1), c .before .before .before .before .if3 .left)
-
-returns-4 : tie.Need-returns-4
-returns-4 c =
     let k = c .before .before .before in
     let a = k .before .before .before .before .args in
     let g = c .before .n .given in
     let room = length (a .out .now) in
     refused-leaves (leafing (a .text .now) (a .kept .now) room) (a .out .now) (g .0 .0) (g .0 .1 .0)
-    (leaves-refused (a .text .now) (a .kept .now) (g .0 .0) (g .0 .1 .0 .0) (check-refused (a .text .now) (a .kept .now) (g .0 .0) (g .0 .1 .0) (sym (k .check .ensures) ∙ g .1)) room)
+    (leaves-refused (a .text .now) (a .kept .now) (g .0 .0) (g .0 .1 .0 .0) (refused-by (a .text .now) (a .kept .now) (k .check .ensures) (g .0 .0) (g .0 .1 .0) (g .1)) room)
 
 same-length : tie.Need-same-length
 same-length c = search needs
 
-returns-5 : tie.Need-returns-5
-returns-5 c =
-    let w = c .before .before in
-    let n = w .before .before .before .before in
-    let r = n .before .before .before in
-    let h = r .before .before in
-    let e = h .before .before .before .before .before in
+returns-3 : tie.Need-returns-3
+returns-3 c =
+    let w = c .before .before .before in
+    let h = w .before .before .before .before .before in
+    let l = h .before .before .before .before in
+    let f = l .before .before in
+    let e = f .before .before in
     let a = e .before .before .before .before .before .before .args in
     let room = length (a .out .now) in
-    let xs = leaves (linksOf (parents e)) in
-    let sum = n .hops .ensures ∙ ap (λ ps. hops (linksOf ps)) (lent (h .before .before .before .before)) in
-    written-leaves (leafing (a .text .now) (a .kept .now) room) (a .out .now) xs (w .put-ordinals .last .0) (r .leaves .result .count) (n .hops .result)
-    (leaves-fit (a .text .now) (a .kept .now) (own e) (joined (h .before .before .before)) room (looped h ∙ r .before .if2 .left) (omega (arith, found r .1, n .before .if3 .left)) ∙ ap (λ k. yes (xs, k)) (sym sum))
-    (found r .1)
-    (w .put-ordinals .ensures ∙ ap (over (a .out .now) 0) (front xs (r .leaves .result .list) (r .leaves .result .count) (found r .0) (found r .1)))
+    let g = f .find-leaves .result in
+    let is = f .find-leaves .ensures in
+    let sum = h .hops .ensures ∙ ap hops (lent-links (ps f) (own (f .before .before) .few) (g .parents) (graph-parents (links (ps f)) g is) (graph-undangled (links (ps f)) g is (l .if1 .left))) in
+    let found = front (xs l) (g .leaves .list) (g .leaves .count) (listed l) (counted l) in
+    let told = written-leaves (h .hops .result) (leafing (a .text .now) (a .kept .now) room) room (xs l) (a .out .now)
+    (leaves-own (a .text .now) (a .kept .now) (own e .own) room (sym (graph-refusal (links (ps f)) g is) ∙ l .if1 .left) ∙ ap (λ k. then (fitting room (xs l)) (λ ys. yes (ys, k))) (sym sum)) in (
+      c .with-hops .ensures ∙ ap (λ x. withHops x (h .hops .result)) (w .put-ordinals .ensures .0 ∙ ap (λ ys. answerOf (fitting room ys)) found) ∙ told .0,
+      w .put-ordinals .ensures .1 ∙ ap (λ ys. outputOf (fitting room ys) (a .out .now)) found ∙ told .1,
+    )
 
 pub leaves-spec : {M : Type 1} → statement M
 leaves-spec =
@@ -167,18 +133,16 @@ leaves-spec =
     check-requires
     enum-known-n
     enum-told
-    find-parents-requires
+    gather-requires
+    find-leaves-requires
     returns
     array-share-prefix-list
-    slice-aggregate-links
-    has-cycle-requires
-    returns-2
-    leaves-requires
-    returns-3
+    slice-aggregate-hops
     hops-requires
     array-share-prefix-ordinals
     slice-aggregate-put-ordinals
     put-ordinals-requires
-    returns-4
+    with-hops-requires
+    returns-2
     same-length
-    returns-5)
+    returns-3)

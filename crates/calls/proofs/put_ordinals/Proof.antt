@@ -1,4 +1,4 @@
--- `calls::put_ordinals` meets its contract: after i turns the first i ordinals are pasted. Assumes nothing.
+-- `calls::put_ordinals` meets its contract: 20, or after i turns the first i ordinals are pasted.
 use Prim.Native.Nat.{ℕ, _+_, _-_, _≤_}
 use mathlib.Core.Path.{_≡_, refl, sym, ap, _∙_}
 use mathlib.Core.List.{List}
@@ -6,7 +6,10 @@ use native.Mathlib.Omega.{arith}
 use native.Mathlib.Numerals.{add-one}
 use lib.ListN.{length, length-set, set, getD}
 use lib.Seq.{paste, paste-zero, paste-suc, take-length}
+use Rattle.format.specs.Calls.{fitting}
 use Rattle.text.specs.Over.{over}
+use Rattle.parser.proofs.Told.{refused-answer, written-answer}
+use Rattle.calls.proofs.Chained.{too-short, fits}
 use Rattle.calls.proofs.put_ordinals.Statement.{statement}
 use Rattle.calls.proofs.put_ordinals.Tie as tie
 
@@ -20,8 +23,14 @@ whole : (out₀ : List ℕ) (from : List ℕ) (i : ℕ) → i ≡ length from �
 unfolding over
 whole out₀ from i e = rw (e, take-length from) refl
 
+returns : tie.Need-returns Inv-loop μ-loop
+returns c =
+    let a = c .before .args in
+    let room = length (a .out .now) in
+    refused-answer (fitting room (a .from .now)) (a .out .now) 20 (record { 0 = 0 }) (too-short room (a .from .now) (c .if1 .taken))
+
 loop-holds : tie.Need-loop-holds Inv-loop μ-loop
-loop-holds c = (omega arith, paste-zero _ 0 (c .args .from .now), refl)
+loop-holds c = (omega arith, paste-zero _ 0 (c .before .args .from .now), refl)
 
 mul-out : tie.Need-mul-out Inv-loop μ-loop
 mul-out c = omega arith
@@ -33,7 +42,7 @@ mul-out-2 : tie.Need-mul-out-2 Inv-loop μ-loop
 mul-out-2 c = omega arith
 
 slice-write-out : tie.Need-slice-write-out Inv-loop μ-loop
-slice-write-out c = omega arith
+slice-write-out c = omega (arith, c .before .before .before .if1 .left)
 
 add-i : tie.Need-add-i Inv-loop μ-loop
 add-i c = omega arith
@@ -43,13 +52,14 @@ loop-less c = omega arith
 
 loop-again : tie.Need-loop-again Inv-loop μ-loop
 loop-again c =
-    let a = c .before .before .before .args in
+    let a = c .before .before .before .before .args in
     let l = c .before .before .loop in
+    let room = c .before .before .before .if1 .left in
     let z : l .i ≡ 0 + l .i = omega arith in (
       omega arith,
       ap (λ o. set o (l .i) (getD (a .from .now) (l .i) 0)) (l .inv .1)
           ∙ ap (λ k. set (paste (a .out .now) 0 (a .from .now) (l .i)) k (getD (a .from .now) (l .i) 0)) z
-          ∙ paste-suc (a .out .now) 0 (a .from .now) (l .i) 0 (omega arith) (omega arith)
+          ∙ paste-suc (a .out .now) 0 (a .from .now) (l .i) 0 (omega (arith, room)) (omega arith)
           ∙ ap (paste (a .out .now) 0 (a .from .now)) (sym (add-one (l .i))),
       simp length-set (omega arith),
     )
@@ -57,11 +67,14 @@ loop-again c =
 same-length : tie.Need-same-length Inv-loop μ-loop
 same-length c = c .before .loop .inv .2
 
-returns : tie.Need-returns Inv-loop μ-loop
-returns c =
-    let a = c .before .before .args in
+returns-2 : tie.Need-returns-2 Inv-loop μ-loop
+returns-2 c =
+    let e = c .before .before in
+    let a = e .before .args in
     let l = c .before .loop in
-    l .inv .1 ∙ whole (a .out .now) (a .from .now) (l .i) (omega arith)
+    let room = length (a .out .now) in
+    let all : l .i ≡ length (a .from .now) = omega arith in
+    written-answer (fitting room (a .from .now)) (a .out .now) (a .from .now) (l .out) (l .i) (fits room (a .from .now) (e .if1 .left)) all (l .inv .1 ∙ whole (a .out .now) (a .from .now) (l .i) all)
 
 pub put-ordinals-spec : {M : Type 1} → statement M
 put-ordinals-spec =
@@ -69,6 +82,7 @@ put-ordinals-spec =
     (tie.spec
     Inv-loop
     μ-loop
+    returns
     loop-holds
     mul-out
     shared-slice-read-out
@@ -78,4 +92,4 @@ put-ordinals-spec =
     loop-less
     loop-again
     same-length
-    returns)
+    returns-2)

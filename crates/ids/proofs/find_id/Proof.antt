@@ -1,34 +1,56 @@
--- `ids::find_id` meets its contract: the bytes at the key's place, or none.
-use mathlib.Core.Path.{_≡_, sym, _∙_}
+-- `ids::find_id` meets its contract: the bytes at the place that the numbers say, or none at the text's front.
+use Prim.Native.Nat.{_+_, _≤_}
+use mathlib.Core.Path.{refl, sym}
 use native.Mathlib.Omega.{arith}
-use Rattle.entries.specs.Entries.{entriesIn}
-use Rattle.lookup.specs.declared.Found.the-variants.{At}
-use Rattle.lookup.specs.Lookup.{keyIn}
-use Rattle.ids.proofs.Keys.{key-inside, id-none, id-some}
+use lib.ListN.{length, getD}
+use Rattle.gathered.proofs.Search.{placed-inside}
+use Rattle.ids.specs.Taken.{standing}
+use Rattle.ids.proofs.Search.{id-none, id-some, standing-none}
 use borrow.Author.Needs.{needs}
 use Rattle.ids.proofs.find_id.Statement.{statement}
 use Rattle.ids.proofs.find_id.Tie as tie
 
-find-key-requires : tie.Need-find-key-requires
-find-key-requires c κs = search needs
-
-enum-told : tie.Need-enum-told
-enum-told c = search needs
+cast-k : tie.Need-cast-k
+cast-k c = search needs
 
 slice-aggregate-result : tie.Need-slice-aggregate-result
 slice-aggregate-result c = search needs
 
-enum-known-p : tie.Need-enum-known-p
-enum-known-p c = search needs
+returns : tie.Need-returns
+returns c =
+    let s = c .before .before .before in
+    let a = s .args in
+    let h = c .before .if1 .taken in
+    (sym (id-none (a .text .now) (a .ats .now) (a .lens .now) (s .pre) (a .program .0) h), standing-none (a .text .now) (a .ats .now) (a .lens .now) (s .pre) (a .program .0) (a .text .ptr) h)
+
+mul-start : tie.Need-mul-start
+mul-start c = search needs
+
+shared-slice-read-start : tie.Need-shared-slice-read-start
+shared-slice-read-start c = search needs
+
+-- the place is within the text
+inside : (c : tie.Else1)
+    → let a = c .before .before .args in
+    getD (a .ats .now) (a .program .0) 0 + getD (a .lens .now) (a .program .0) 0 ≤ length (a .text .now)
+inside c =
+    let s = c .before .before in
+    placed-inside (s .args .text .now) (s .args .ats .now) (s .args .lens .now) (s .pre) (s .args .program .0) (c .if1 .left)
 
 cast-start : tie.Need-cast-start
-cast-start c = search needs
+cast-start c = omega (arith, inside (c .before))
+
+mul-end : tie.Need-mul-end
+mul-end c = search needs
+
+shared-slice-read-end : tie.Need-shared-slice-read-end
+shared-slice-read-end c = search needs
 
 cast-end : tie.Need-cast-end
-cast-end c = search needs
+cast-end c = omega (arith, inside (c .before .before))
 
 add-end : tie.Need-add-end
-add-end c = search needs
+add-end c = omega (arith, inside (c .before .before))
 
 sub-result : tie.Need-sub-result
 sub-result c = search needs
@@ -36,40 +58,31 @@ sub-result c = search needs
 part-result-start : tie.Need-part-result-start
 part-result-start c = search needs
 
-told : (c : tie.After-p) → let a = c .before .before .before .before .before .args in keyIn 4 (a .ordinal) (entriesIn (a .catalogue .now)) ≡ At (c .p .given .0 .0)
-told c = sym (c .before .before .find-key .ensures) ∙ c .p .given .1
-
 part-result-end : tie.Need-part-result-end
-part-result-end c =
-    let p = c .before .before .before in
-    let s = p .before .before .before .before .before in
-    omega (arith, key-inside _ 4 (s .args .ordinal) (entriesIn (s .args .catalogue .now)) (p .p .given .0 .0) (s .pre) (told p))
-
-returns : tie.Need-returns
-returns c =
-    let e = c .before in
-    let a = e .before .before .before .before .before .args in
-    sym (id-none (a .text .now) (entriesIn (a .catalogue .now)) (a .ordinal) (sym (e .before .before .find-key .ensures) ∙ e .enum-told .given .1))
+part-result-end c = omega (arith, inside (c .before .before))
 
 returns-2 : tie.Need-returns-2
+unfolding standing
 returns-2 c =
-    let p = c .before .before .before .before in
-    let a = p .before .before .before .before .before .args in
-    sym (id-some (a .text .now) (entriesIn (a .catalogue .now)) (a .ordinal) (p .p .given .0 .0) (told p))
+    let e = c .before .before .before in
+    let s = e .before .before in
+    (sym (id-some (s .args .text .now) (s .args .ats .now) (s .args .lens .now) (s .pre) (s .args .program .0) (e .if1 .left)), refl)
 
 pub find-id-spec : {M : Type 1} → statement M
 find-id-spec =
     tie.close
     (tie.spec
-    find-key-requires
-    enum-told
+    cast-k
     slice-aggregate-result
-    enum-known-p
+    returns
+    mul-start
+    shared-slice-read-start
     cast-start
+    mul-end
+    shared-slice-read-end
     cast-end
     add-end
     sub-result
     part-result-start
     part-result-end
-    returns
     returns-2)

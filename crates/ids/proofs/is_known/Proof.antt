@@ -1,69 +1,70 @@
--- `ids::is_known` meets its contract: what the entries ahead say is the answer.
-use Prim.Native.Nat.{_+_, _-_, _≤_}
-use mathlib.Core.Path.{refl, sym, _∙_}
+-- `ids::is_known` meets its contract: what the IDs from `k` on say is the answer.
+use Prim.Native.Nat.{_+_, _-_}
+use mathlib.Core.Path.{_≡_, refl, sym, ap, _∙_}
+use mathlib.Core.Bool.{Bool, true, false, _||_}
 use native.Mathlib.Omega.{arith}
-use lib.ListN.{length}
 use borrow.Author.Needs.{needs}
-use Rattle.entries.proofs.Walk.{turn-within}
-use Rattle.ids.specs.Taken.{joined}
-use Rattle.ids.proofs.Search.{Ahead, ahead-none, ahead-within, ahead-here, ahead-on}
+use lib.ListN.{length, drop}
+use Rattle.format.specs.Bytes.{same}
+use Rattle.gathered.specs.Gathered.{idsAt}
+use Rattle.gathered.proofs.Search.{ids-length}
+use Rattle.ids.specs.Taken.{joined, known}
+use Rattle.ids.proofs.Search.{known-end, known-step}
 use Rattle.ids.proofs.is_known.Statement.{statement}
 use Rattle.ids.proofs.is_known.Tie as tie
 
 abbrev Inv-loop : tie.InvT-loop
-Inv-loop text catalogue prefix other at₀ at = Ahead text (joined prefix other) catalogue at
+Inv-loop text ats lens prefix other k₀ k = known (joined prefix other) (idsAt text ats lens) ≡ known (joined prefix other) (drop k (idsAt text ats lens))
 
 abbrev μ-loop : tie.MeasureT-loop
-μ-loop text catalogue prefix other at₀ at = length catalogue - at
+μ-loop text ats lens prefix other k₀ k = length ats - k
 
 loop-holds : tie.Need-loop-holds Inv-loop μ-loop
-loop-holds c = (refl, c .before .before .before .before .pre)
+loop-holds c = refl
 
-entry-at-requires : tie.Need-entry-at-requires Inv-loop μ-loop
-entry-at-requires c κs = search needs
+cast-t10 : tie.Need-cast-t10 Inv-loop μ-loop
+cast-t10 c = omega (arith, c .before .before .before .before .before .before .before .pre .few)
 
-size-requires : tie.Need-size-requires Inv-loop μ-loop
-size-requires c κs = search needs
+find-id-requires : tie.Need-find-id-requires Inv-loop μ-loop
+find-id-requires c κs = search needs
 
--- the entry is within the catalogue
-within : (c : tie.Else1 Inv-loop μ-loop) → c .before .before .before .loop .at + c .before .size .result ≤ length (c .before .before .before .before .before .before .before .before .args .catalogue .now)
-within c = turn-within _ _ _ _ (c .before .before .entry-at .ensures) (c .before .size .ensures) (c .if1 .left)
+is-joined-requires : tie.Need-is-joined-requires Inv-loop μ-loop
+is-joined-requires c κs = search needs
+
+-- the answer, by the ID that was compared
+step : (c : tie.After-is-joined Inv-loop μ-loop) (b : Bool) → c .is-joined .result ≡ b
+    → let a = c .before .before .before .before .before .before .before .before .before .args in
+    let ids = idsAt (a .text .now) (a .ats .now) (a .lens .now) in
+    let made = joined (a .prefix .now) (a .other .now) in
+    known made ids ≡ b || known made (drop (c .before .before .before .loop .k + 1) ids)
+step c b e =
+    let s = c .before .before .before .before .before .before .before .before .before in
+    let a = s .args in
+    let l = c .before .before .before .loop in
+    let ids = idsAt (a .text .now) (a .ats .now) (a .lens .now) in
+    let made = joined (a .prefix .now) (a .other .now) in
+    l .inv ∙ known-step made ids (l .k) (omega (arith, ids-length (a .text .now) (a .ats .now) (a .lens .now) (s .pre)))
+    ∙ ap (λ b. b || known made (drop (l .k + 1) ids)) (sym (c .is-joined .ensures ∙ ap (same made) (c .before .find-id .ensures .0)) ∙ e)
 
 returns : tie.Need-returns Inv-loop μ-loop
-returns c =
-    let l = c .before .before .before .loop in
-    let a = c .before .before .before .before .before .before .before .before .args in
-    sym (ahead-none (a .text .now) (joined (a .prefix .now) (a .other .now)) (a .catalogue .now) (l .at) (c .before .size .result) (c .before .before .entry-at .result)
-    (c .before .before .entry-at .ensures) (c .before .size .ensures) (l .inv) (c .if1 .taken))
+returns c = sym (step (c .before) true (c .if1 .taken))
 
-is-entry-joined-requires : tie.Need-is-entry-joined-requires Inv-loop μ-loop
-is-entry-joined-requires c κs =
-    let l = c .before .before .before .loop in
-    let a = c .before .before .before .before .before .before .before .before .args in
-    ahead-within (a .text .now) (joined (a .prefix .now) (a .other .now)) (a .catalogue .now) (l .at) (c .before .size .result) (c .before .before .entry-at .result)
-    (c .before .before .entry-at .ensures) (c .before .size .ensures) (l .inv) (c .if1 .left)
+add-k : tie.Need-add-k Inv-loop μ-loop
+add-k c = omega arith
+
+loop-less : tie.Need-loop-less Inv-loop μ-loop
+loop-less c = omega arith
+
+loop-again : tie.Need-loop-again Inv-loop μ-loop
+loop-again c = step (c .before) false (c .if1 .left)
 
 returns-2 : tie.Need-returns-2 Inv-loop μ-loop
 returns-2 c =
-    let e = c .before .before in
-    let l = e .before .before .before .loop in
-    let a = e .before .before .before .before .before .before .before .before .args in
-    sym (ahead-here (a .text .now) (joined (a .prefix .now) (a .other .now)) (a .catalogue .now) (l .at) (e .before .size .result) (e .before .before .entry-at .result)
-    (e .before .before .entry-at .ensures) (e .before .size .ensures) (l .inv) (e .if1 .left) (sym (c .before .is-entry-joined .ensures) ∙ c .if2 .taken))
-
-add-at : tie.Need-add-at Inv-loop μ-loop
-add-at c = omega (arith, within (c .before .before))
-
-loop-less : tie.Need-loop-less Inv-loop μ-loop
-loop-less c = omega (arith, within (c .before .before), c .before .before .if1 .left)
-
-loop-again : tie.Need-loop-again Inv-loop μ-loop
-loop-again c =
-    let e = c .before .before in
-    let l = e .before .before .before .loop in
-    let a = e .before .before .before .before .before .before .before .before .args in
-    ahead-on (a .text .now) (joined (a .prefix .now) (a .other .now)) (a .catalogue .now) (l .at) (e .before .size .result) (e .before .before .entry-at .result)
-    (e .before .before .entry-at .ensures) (e .before .size .ensures) (l .inv) (e .if1 .left) (sym (c .before .is-entry-joined .ensures) ∙ c .if2 .left)
+    let s = c .before .before .before .before .before .before .before in
+    let a = s .args in
+    let l = c .before .loop in
+    let e = ids-length (a .text .now) (a .ats .now) (a .lens .now) (s .pre) in
+    sym (l .inv ∙ known-end (joined (a .prefix .now) (a .other .now)) (idsAt (a .text .now) (a .ats .now) (a .lens .now)) (l .k) (omega (arith, e)))
 
 pub is-known-spec : {M : Type 1} → statement M
 is-known-spec =
@@ -72,11 +73,11 @@ is-known-spec =
     Inv-loop
     μ-loop
     loop-holds
-    entry-at-requires
-    size-requires
+    cast-t10
+    find-id-requires
+    is-joined-requires
     returns
-    is-entry-joined-requires
-    returns-2
-    add-at
+    add-k
     loop-less
-    loop-again)
+    loop-again
+    returns-2)

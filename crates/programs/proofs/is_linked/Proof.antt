@@ -1,6 +1,5 @@
 -- `programs::is_linked` meets its contract.
-use mathlib.Core.Path.{_≡_, refl, sym, ap, _∙_}
-use mathlib.Core.Bool.{Bool, true, false}
+use mathlib.Core.Path.{sym, ap}
 use Rattle.programs.specs.Added.{isNothing}
 use borrow.Author.Needs.{needs}
 use Rattle.programs.proofs.is_linked.Statement.{statement}

@@ -2,13 +2,13 @@
 use lib.ListN.{length, take, drop}
 use Rattle.format.specs.Fields.{lastOf}
 use Rattle.format.specs.Adding.{given}
-use Rattle.entries.specs.Entries.{entriesIn}
+use Rattle.gathered.specs.Gathered.{idsAt}
 use Rattle.ids.specs.Taken.{known}
 use Rattle.programs.specs.Added.{stray}
 use Rattle.programs.proofs.Prior.{stray-nothing, stray-at}
-use Prim.Native.Nat.{ℕ, _+_, _-_, _≤_}
-use mathlib.Core.Path.{_≡_, refl, sym, ap, _∙_}
-use mathlib.Core.Bool.{Bool, true, false, not}
+use Prim.Native.Nat.{_+_, _-_, _≤_}
+use mathlib.Core.Path.{_≡_, sym, _∙_}
+use mathlib.Core.Bool.{not}
 use native.Mathlib.Omega.{arith}
 use borrow.Author.Needs.{needs}
 use Rattle.programs.proofs.is_stray.Statement.{statement}
@@ -16,14 +16,14 @@ use Rattle.programs.proofs.is_stray.Tie as tie
 
 -- where the PP stands
 stands : (c : tie.After-previous)
-    → let a = c .before .before .before .before .before .args in
+    → let a = c .before .before .before .before .before .before .args in
     let g = c .previous .given .0 in
     (g .0 + g .1 .0 ≤ length (a .fields .now))
-    × (not (known (a .text .now) (take (g .0 + g .1 .0 - g .0) (drop (g .0) (a .fields .now))) (entriesIn (a .kept .now))) ≡ stray (a .text .now) (entriesIn (a .kept .now)) (lastOf 80 80 (given (a .fields .now) .fields)))
+    × (not (known (take (g .0 + g .1 .0 - g .0) (drop (g .0) (a .fields .now))) (idsAt (a .text .now) (a .ats .now) (a .lens .now))) ≡ stray (idsAt (a .text .now) (a .ats .now) (a .lens .now)) (lastOf 80 80 (given (a .fields .now) .fields)))
 stands c =
-    let s = c .before .before .before .before .before in
+    let s = c .before .before .before .before .before .before in
     let g = c .previous .given in
-    stray-at (s .args .text .now) (entriesIn (s .args .kept .now)) (s .args .fields .now) (g .0 .0) (g .0 .1 .0) (sym (s .pre .1 .1) ∙ g .1)
+    stray-at (idsAt (s .args .text .now) (s .args .ats .now) (s .args .lens .now)) (s .args .fields .now) (g .0 .0) (g .0 .1 .0) (sym (s .pre .1) ∙ g .1)
 
 enum-told : tie.Need-enum-told
 enum-told c = search needs
@@ -47,7 +47,7 @@ is-free-requires : tie.Need-is-free-requires
 is-free-requires c κs = search needs
 
 returns : tie.Need-returns
-returns c = let s = c .before .before .before .before .before in stray-nothing (s .args .text .now) (entriesIn (s .args .kept .now)) (s .args .fields .now) (sym (s .pre .1 .1) ∙ c .enum-told .given .1)
+returns c = let s = c .before .before .before .before .before .before in stray-nothing (idsAt (s .args .text .now) (s .args .ats .now) (s .args .lens .now)) (s .args .fields .now) (sym (s .pre .1) ∙ c .enum-told .given .1)
 
 returns-2 : tie.Need-returns-2
 returns-2 c = c .is-free .ensures ∙ stands (c .before .before .before) .1

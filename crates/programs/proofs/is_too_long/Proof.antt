@@ -1,8 +1,6 @@
 -- `programs::is_too_long` meets its contract.
-use mathlib.Core.Path.{_≡_, refl, sym, ap, _∙_}
-use mathlib.Core.Bool.{Bool, true, false, _||_}
+use mathlib.Core.Path.{refl}
 use lib.ListN.{length}
-use lib.Dec.{ltb}
 use borrow.Author.Tests.{lt-ltb, le-ltb}
 use Rattle.programs.proofs.is_too_long.Statement.{statement}
 use Rattle.programs.proofs.is_too_long.Tie as tie

@@ -1,17 +1,16 @@
 -- `programs::put_all` meets its contract: the records, the new programs, the comments.
 use Prim.Native.Nat.{ℕ, _+_, _≤_}
 use mathlib.Core.Path.{_≡_, ap, ap₂, _∙_}
-use mathlib.Core.List.{List, _++_}
+use mathlib.Core.List.{List}
 use native.Mathlib.Omega.{arith}
-use lib.ListN.{length, length-append}
+use lib.ListN.{length}
 use Rattle.format.specs.Records.{Record}
-use Rattle.format.specs.Reading.{readText}
 use Rattle.format.specs.Tidy.{tidy}
 use Rattle.format.specs.declared.Kind.the-variants.{Comment}
 use Rattle.accepted.specs.Read.{recordsOf}
-use Rattle.entries.specs.Entries.{entriesIn}
+use Rattle.gathered.specs.Gathered.{idsAt}
 use Rattle.tidy_text.specs.Kinds.{textOfKind, frontText}
-use Rattle.tidy_text.specs.Sizes.{get, front, sizesOf}
+use Rattle.tidy_text.specs.Sizes.{get, front}
 use Rattle.text.specs.Over.{over}
 use Rattle.tidy_text.proofs.Lines.{opened}
 use Rattle.tidy_text.proofs.Total.{tidy-small}
@@ -29,7 +28,7 @@ abbrev records : tie.Start → List Record
 records s = recordsOf (s .args .text .now)
 
 abbrev new : tie.Start → List ℕ
-new s = let a = s .args in addedText (a .text .now) (entriesIn (a .kept .now)) (a .shape .empty) (a .shape .alone) (a .shape .linked) (a .prefix .now) (a .fields .now) (a .leaves .now)
+new s = let a = s .args in addedText (idsAt (a .text .now) (a .ats .now) (a .lens .now)) (a .shape .empty) (a .shape .alone) (a .shape .linked) (a .prefix .now) (a .fields .now) (a .leaves .now)
 
 -- how long the parts are
 module _ (s : tie.Start) where
@@ -56,25 +55,25 @@ module _ (s : tie.Start) where
 
 put-around-requires : tie.Need-put-around-requires
 put-around-requires c κs =
-    let s = c .before .before .before .before .before .before .before in
+    let s = c .before .before .before .before .before .before .before .before in
     (s .pre .0, (s .pre .1 .0, (s .pre .1 .1 .0, (s .pre .1 .1 .1 .0 .1, omega (arith, s .pre .1 .1 .1 .0 .0, whole-is s .0)))))
 
 front-requires : tie.Need-front-requires
 front-requires c κs =
-    let s = c .before .before .before .before .before .before .before .before .before .before .before in
+    let s = c .before .before .before .before .before .before .before .before .before .before .before .before in
     let room : front (s .args .sizes) ≤ 18446744073709551615 = omega (arith, front-is s, whole-is s .1, small s) in
     room
 
 put-added-requires : tie.Need-put-added-requires
 put-added-requires c κs =
     let w = c .before .before .before .before in
-    let s = w .before .before .before .before .before .before .before .before in
+    let s = w .before .before .before .before .before .before .before .before .before in
     (s .pre .1 .1 .1 .1 .0, omega (arith, c .front .ensures, front-is s, whole-is s, w .put-around .kept .1 .1 .1 .1 .0))
 
 add-result : tie.Need-add-result
 add-result c =
     let x = c .before .before .before in
-    let s = x .before .before .before .before .before .before .before .before .before .before .before .before .before in
+    let s = x .before .before .before .before .before .before .before .before .before .before .before .before .before .before in
     omega (arith, x .put-added .ensures .0, x .before .front .ensures, front-is s, comments-are s, whole-is s .1, small s)
 
 same-length : tie.Need-same-length
@@ -86,7 +85,7 @@ returns c =
     let x = c .before .before .before in
     let f = x .before in
     let w = f .before .before .before .before in
-    let s = w .before .before .before .before .before .before .before .before in
+    let s = w .before .before .before .before .before .before .before .before .before in
     let out = s .args .out .now in
     let rs = records s in
     let a = frontText rs in

@@ -1,19 +1,16 @@
 -- `programs::write_added` meets its contract: what the tidy text and the new programs have together is known before a byte is written.
-use Prim.Native.Nat.{ℕ, _+_, _≤_, _<_}
-use mathlib.Core.Path.{_≡_, refl, sym, ap, _∙_}
-use mathlib.Core.Bool.{false}
+use Prim.Native.Nat.{ℕ, _+_, _≤_}
+use mathlib.Core.Path.{_≡_, sym, ap, _∙_}
 use mathlib.Core.List.{List}
 use mathlib.Core.Option.{none}
 use native.Mathlib.Omega.{arith}
 use lib.ListN.{length}
-use lib.Dec.{ltb}
 use borrow.Author.Tests.{ltb-true, ltb-false}
 use Rattle.format.specs.Records.{Record}
-use Rattle.format.specs.Reading.{readText}
 use Rattle.format.specs.Tidy.{tidy, unwritable}
 use Rattle.format.specs.Calls.{writing}
 use Rattle.accepted.specs.Read.{recordsOf}
-use Rattle.entries.specs.Entries.{entriesIn}
+use Rattle.gathered.specs.Gathered.{idsAt}
 use Rattle.parser.proofs.Told.{refused-answer, written-answer}
 use Rattle.tidy_text.specs.Sizes.{total, sizesOf}
 use Rattle.tidy_text.proofs.Lines.{opened}
@@ -32,14 +29,14 @@ abbrev records : tie.Start → List Record
 records s = recordsOf (s .args .text .now)
 
 abbrev new : tie.Start → List ℕ
-new s = let a = s .args in addedText (a .text .now) (entriesIn (a .kept .now)) (a .shape .empty) (a .shape .alone) (a .shape .linked) (a .prefix .now) (a .fields .now) (a .leaves .now)
+new s = let a = s .args in addedText (idsAt (a .text .now) (a .ats .now) (a .lens .now)) (a .shape .empty) (a .shape .alone) (a .shape .linked) (a .prefix .now) (a .fields .now) (a .leaves .now)
 
 abbrev whole : tie.Start → List ℕ
 whole s = withAdded (records s) (new s)
 
 -- what was measured before the call
 abbrev start : tie.After-sizes → tie.Start
-start z = z .before .before .before .before .before .before .before .before .before .before
+start z = z .before .before .before .before .before .before .before .before .before .before .before
 
 -- every name can be written, and the sizes are those of the tidy text
 measured : (z : tie.After-sizes) → let rs = records (start z) in (unwritable 0 rs ≡ none) × (sizesOf rs ≡ z .sizes .given .0 .0)
@@ -93,7 +90,7 @@ returns c =
     let s = start z in
     let a = s .args in
     let room = length (a .out .now) in
-    let long = added-long (a .text .now) (entriesIn (a .kept .now)) (a .shape .linked) (a .prefix .now) (a .fields .now) (a .shape .empty) (a .shape .alone) (a .leaves .now) (s .pre .1 .1 .1) (sym (c .before .is-too-long .ensures) ∙ c .if1 .taken) in
+    let long = added-long (idsAt (a .text .now) (a .ats .now) (a .lens .now)) (a .shape .linked) (a .prefix .now) (a .fields .now) (a .shape .empty) (a .shape .alone) (a .leaves .now) (s .pre .1 .1 .1) (sym (c .before .is-too-long .ensures) ∙ c .if1 .taken) in
     refused-answer (writing room (unwritable 0 (records s)) (whole s)) (a .out .now) 1 (record { 0 = 0 })
     (write-long room (unwritable 0 (records s)) (whole s) (measured z .0) (omega (arith, with-size (records s) (new s), long)))
 
@@ -143,7 +140,7 @@ put-all-requires c κs =
 returns-4 : tie.Need-returns-4
 returns-4 c =
     let m = c .before .before .before in
-    let s = c .before .before .before .before .before .before .before .before .before .before .before in
+    let s = c .before .before .before .before .before .before .before .before .before .before .before .before in
     let room = length (s .args .out .now) in
     let l = c .before .line .given .0 .0 in
     refused-answer (writing room (unwritable 0 (records s)) (whole s)) (s .args .out .now) 24 l
@@ -160,7 +157,7 @@ returns-5 c =
     let z = l .before .before .before .before .before in
     let s = start z in
     let room = length (s .args .out .now) in
-    written-answer (writing room (unwritable 0 (records s)) (whole s)) (s .args .out .now) (whole s) (w .put-all .last .1 .1 .1 .1 .1 .1 .1 .1 .1 .0) (w .put-all .result)
+    written-answer (writing room (unwritable 0 (records s)) (whole s)) (s .args .out .now) (whole s) (w .put-all .last .1 .1 .1 .1 .1 .1 .1 .1 .1 .1 .0) (w .put-all .result)
     (write-fits room (unwritable 0 (records s)) (whole s) (measured z .0) (short (e .before)) (omega (arith, size l, e .if3 .left)))
     (w .put-all .ensures .0) (w .put-all .ensures .1)
 

@@ -1,0 +1,13 @@
+-- `gathered::refused` meets its contract: an array of zeros is that of no leaves.
+use mathlib.Core.Path.{refl}
+use Rattle.chains.specs.Parents.{inArray}
+use Rattle.gathered.specs.Parents.{ordinalsOf}
+use Rattle.gathered.proofs.refused.Statement.{statement}
+use Rattle.gathered.proofs.refused.Tie as tie
+
+returns : tie.Need-returns
+unfolding ordinalsOf inArray
+returns c = refl
+
+pub refused-spec : {M : Type 1} → statement M
+refused-spec = tie.close (tie.spec returns)
