@@ -4,3 +4,4 @@ pub mod Texts
 pub mod Sizes
 pub mod Heads
 pub mod Whole
+pub mod Once

@@ -1,5 +1,5 @@
 -- How long a record's text and its parts are.
-use Prim.Native.Nat.{ℕ, _+_, _-_}
+use Prim.Native.Nat.{ℕ, _+_, _-_, _≤_}
 use mathlib.Core.Path.{_≡_}
 use mathlib.Core.List.{List, [], _∷_, _++_}
 use native.Mathlib.Omega.{arith}
@@ -9,14 +9,28 @@ use Rattle.format.specs.Decimal.{written}
 use Rattle.format.specs.Tidy.{fieldText}
 use Rattle.format.specs.declared.Version.{Version}
 use Rattle.format.specs.declared.Kind.{Kind}
+use Rattle.format.specs.declared.Kind.the-variants as kind
 use Rattle.format.specs.declared.Kind.the-variants.{Header, ReferenceSequence}
 use Rattle.record.specs.declared.Place.{Place}
+use Rattle.record.specs.declared.Head.{Head}
+use Rattle.record.specs.declared.Head.the-variants as head
+use Rattle.record.specs.declared.Head.the-variants.{Refused, ReadGroup, Program, Comment}
+use Rattle.writer.specs.Heads.{headText, Holds, placeLength, headLength}
 use Rattle.writer.specs.Parts.{prefixText, versionText, othersText}
-use Rattle.writer.specs.Texts.{Inside, placeText, headerText, sequenceText, mapText, commentText}
+use Rattle.writer.specs.Texts.{Inside, placeText, headerText, sequenceText, mapText}
 
 pub version-size : (v : Version) → length (versionText v) ≡ length (written (v .major)) + 1 + length (written (v .minor))
 unfolding versionText
 version-size v = omega (arith, length-append (written (v .major)) (46 ∷ written (v .minor)))
+
+-- the kind of a head's fields
+unfoldable pub kindOfHead : Head → Kind
+kindOfHead (Refused n) = kind.Comment
+kindOfHead (head.Header v n) = Header
+kindOfHead (head.ReferenceSequence p l n) = ReferenceSequence
+kindOfHead (ReadGroup p n) = kind.ReadGroup
+kindOfHead (Program p n) = kind.Program
+kindOfHead (Comment p) = kind.Comment
 
 -- two runs behind a front, the last of them the end of a record
 ends : (xs ys zs : List ℕ) → length (xs ++ ys ++ (zs ++ (10 ∷ []))) ≡ length xs + length ys + length zs + 1
@@ -46,6 +60,22 @@ module _ (at : ℕ) (s : List ℕ) (p : Place) (i : Inside at s p) where
   unfolding mapText prefixText fieldText
   map-size k = omega (arith, place-size, ends (prefixText k) (fieldText 73 68 (placeText at s p)) (othersText k at s))
 
-  pub comment-size : length (commentText p at s) ≡ 5 + p .len
-  unfolding commentText prefixText
-  comment-size = omega (arith, place-size, length-append (placeText at s p) (10 ∷ []))
+-- by the head
+pub head-size : (at : ℕ) (s : List ℕ) (k : Kind) (d : Head) → Holds at s d → kindOfHead d ≡ k → length (headText at s d) ≡ headLength d (length (othersText k at s))
+unfolding Holds headText headLength kindOfHead
+head-size at s k (Refused n) h e = absurd h
+head-size at s k (head.Header v n) h e = rw (← e) (header-size v at s)
+head-size at s k (head.ReferenceSequence p l n) h e = rw (← e) (sequence-size at s p h l)
+head-size at s k (ReadGroup p n) h e = rw (← e) (map-size at s p h kind.ReadGroup)
+head-size at s k (Program p n) h e = rw (← e) (map-size at s p h kind.Program)
+head-size at s k (Comment p) h e = absurd h
+
+-- a key is no longer than its line
+pub place-short : (at : ℕ) (s : List ℕ) (d : Head) → Holds at s d → placeLength d ≤ length s
+unfolding Holds
+place-short at s (Refused n) h = absurd h
+place-short at s (head.Header v n) h = omega arith
+place-short at s (head.ReferenceSequence p l n) h = omega (arith, h .within)
+place-short at s (ReadGroup p n) h = omega (arith, h .within)
+place-short at s (Program p n) h = omega (arith, h .within)
+place-short at s (Comment p) h = absurd h

@@ -6,7 +6,7 @@ use Rattle.format.specs.Decimal.{written}
 use Rattle.format.specs.Tidy.{fieldText}
 use Rattle.format.specs.declared.Version.{Version}
 use Rattle.format.specs.declared.Kind.{Kind}
-use Rattle.format.specs.declared.Kind.the-variants.{Header, ReferenceSequence, Comment}
+use Rattle.format.specs.declared.Kind.the-variants.{Header, ReferenceSequence}
 use Rattle.record.specs.declared.Place.{Place}
 use Rattle.writer.specs.Parts.{prefixText, versionText, othersText}
 
@@ -31,7 +31,3 @@ sequenceText p n at s =
 unfoldable pub mapText : Kind → Place → ℕ → List ℕ → List ℕ
 unfolding prefixText fieldText placeText othersText
 mapText k p at s = prefixText k ++ fieldText 73 68 (placeText at s p) ++ (othersText k at s ++ (10 ∷ []))
-
-unfoldable pub commentText : Place → ℕ → List ℕ → List ℕ
-unfolding prefixText placeText
-commentText p at s = prefixText Comment ++ (9 ∷ []) ++ placeText at s p ++ (10 ∷ [])

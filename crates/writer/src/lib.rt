@@ -1,26 +1,29 @@
 // One record of the tidy text: written from its accepted line, or measured.
 use format::Kind;
 use format::Version;
+use heads::Keys;
 use record::Head;
 use record::Place;
-use walk::Next;
 ghost use mathlib.Core.Path.{_≡_};
-ghost use mathlib.Core.Bool.{true, _&&_};
+ghost use mathlib.Core.Bool.{true, false, not, _&&_};
 ghost use mathlib.Core.List.{[], _∷_, _++_};
-ghost use Prim.Native.Nat.{_≤_, _+_};
+ghost use Prim.Native.Nat.{_≤_, _<_, _+_};
 ghost use lib.ListN.{length, take, drop, getD};
 ghost use Rattle.format.specs.Records.{line};
 ghost use Rattle.format.specs.Tidy.{fieldText};
 ghost use Rattle.text.specs.Over.{over};
 ghost use Rattle.accepted.specs.Spelled.{kind₀, kind₁};
 ghost use Rattle.accepted.specs.Read.{isRead};
-ghost use Rattle.heads.specs.Found.{kindBy};
-ghost use Rattle.neat.specs.Neat.{neat};
-ghost use Rattle.walk.specs.Run.{AtField};
-ghost use Rattle.writer.specs.Line.{lineText, sizeOf};
+ghost use Rattle.accepted.specs.Sound.{isKey};
+ghost use Rattle.walk.specs.Run.{AtField, fieldsFrom};
+ghost use Rattle.walk.specs.Next.{isFirst};
+ghost use Rattle.walk.specs.Tables.{Walkable};
+ghost use Rattle.heads.specs.Found.{kindBy, isComment};
+ghost use Rattle.heads.specs.Keys.{keysIn};
+ghost use Rattle.writer.specs.Line.{lineText, lineWritable, sizeOf};
 ghost use Rattle.writer.specs.Parts.{prefixText, versionText, othersText};
-ghost use Rattle.writer.specs.Heads.{headText, headWritable, Holds};
-ghost use Rattle.writer.specs.Texts.{Inside, headerText, sequenceText, mapText, commentText};
+ghost use Rattle.writer.specs.Heads.{placeLength, headLength, keysLength};
+ghost use Rattle.writer.specs.Texts.{Inside, headerText, sequenceText, mapText};
 
 // How many bytes a record has, if it can be written.
 pub enum Size {
@@ -112,6 +115,20 @@ fn put_version(out: &mut [u8], o: usize, v: Version) -> usize
     decimal::write_u32(out, n + 1, minor)
 }
 
+// Whether the field at `i` is no key and stands at its tag's first place.
+fn is_other(kind: Kind, line: &[u8], at: usize, i: usize, once: bool, tables: &[u32]) -> bool
+    requires { ⌜ Walkable once at (now line) (now tables) ⌝ }
+    requires { ⌜ AtField once at (now line) i ⌝ }
+    requires { ⌜ i < length (now line) ⌝ }
+    requires { ⌜ at + length (now line) ≤ 16777216 ⌝ }
+    ensures { λ r. ⌜ r ≡ not (isKey kind (getD (now (line .entry)) (i + 1) 0) (getD (now (line .entry)) (i + 2) 0)) && isFirst at (now (line .entry)) i ⌝ }
+{
+    if tags::is_key(kind, line[i + 1], line[i + 2]) {
+        return false;
+    }
+    walk::is_first(line, at, i, once, tables)
+}
+
 // Writes the fields of an accepted line that are no keys, each tag at its first place with its last value.
 fn put_other_fields(
     out: &mut [u8],
@@ -119,46 +136,62 @@ fn put_other_fields(
     kind: Kind,
     line: &[u8],
     at: usize,
-    strict: bool,
+    once: bool,
+    tables: &[u32],
 ) -> usize
-    requires { ⌜ AtField strict at (now line) 3 ⌝ }
+    requires { ⌜ Walkable once at (now line) (now tables) ⌝ }
     requires { ⌜ at + length (now line) ≤ 16777216 ⌝ }
     requires { ⌜ o + length (othersText kind at (now line)) ≤ length (now out) ⌝ }
     ensures next { λ r. ⌜ r ≡ o + length (othersText kind at (now (line .entry))) ⌝ }
     ensures wrote { λ _. ⌜ now (out .exit) ≡ over (now (out .entry)) o (othersText kind at (now (line .entry))) ⌝ }
 {
     let mut n = o;
-    let mut pos: usize = 3;
-    loop {
-        let next = walk::next_other(kind, line, at, pos, strict);
-        match next {
-            Next::End => {
-                return n;
-            }
-            Next::Field(f) => {
-                n = put_field(out, n, f.tag_0, f.tag_1, line, f.at - at, f.len);
-                pos = f.next;
-            }
+    let mut i: usize = 3;
+    while i < line.len() {
+        let end = walk::field_end(line, i);
+        let a = line[i + 1];
+        let b = line[i + 2];
+        if is_other(kind, line, at, i, once, tables) {
+            let v = walk::kept_value(line, at, i, end, once, tables);
+            n = put_field(out, n, a, b, line, v.at - at, v.len);
         }
+        i = end;
     }
+    n
 }
 
 // Writes the other fields of an accepted line, and the LF that ends its record.
-fn put_rest(out: &mut [u8], o: usize, kind: Kind, line: &[u8], at: usize, strict: bool) -> usize
-    requires { ⌜ AtField strict at (now line) 3 ⌝ }
+fn put_rest(
+    out: &mut [u8],
+    o: usize,
+    kind: Kind,
+    line: &[u8],
+    at: usize,
+    once: bool,
+    tables: &[u32],
+) -> usize
+    requires { ⌜ Walkable once at (now line) (now tables) ⌝ }
     requires { ⌜ at + length (now line) ≤ 16777216 ⌝ }
     requires { ⌜ o + length (othersText kind at (now line)) + 1 ≤ length (now out) ⌝ }
     ensures next { λ r. ⌜ r ≡ o + length (othersText kind at (now (line .entry)) ++ (10 ∷ [])) ⌝ }
     ensures wrote { λ _. ⌜ now (out .exit) ≡ over (now (out .entry)) o (othersText kind at (now (line .entry)) ++ (10 ∷ [])) ⌝ }
 {
-    let n = put_other_fields(out, o, kind, line, at, strict);
+    let n = put_other_fields(out, o, kind, line, at, once, tables);
     out[n] = b'\n';
     n + 1
 }
 
 // Writes an HD: its version, then the other fields of its line.
-fn put_header(out: &mut [u8], o: usize, v: Version, line: &[u8], at: usize, strict: bool) -> usize
-    requires { ⌜ AtField strict at (now line) 3 ⌝ }
+fn put_header(
+    out: &mut [u8],
+    o: usize,
+    v: Version,
+    line: &[u8],
+    at: usize,
+    once: bool,
+    tables: &[u32],
+) -> usize
+    requires { ⌜ Walkable once at (now line) (now tables) ⌝ }
     requires { ⌜ at + length (now line) ≤ 16777216 ⌝ }
     requires { ⌜ o + length (headerText v at (now line)) ≤ length (now out) ⌝ }
     ensures next { λ r. ⌜ r ≡ o + length (headerText v at (now (line .entry))) ⌝ }
@@ -167,7 +200,7 @@ fn put_header(out: &mut [u8], o: usize, v: Version, line: &[u8], at: usize, stri
     let n = put_prefix(out, o, Kind::Header);
     let n = put_tag(out, n, b'V', b'N');
     let n = put_version(out, n, v);
-    put_rest(out, n, Kind::Header, line, at, strict)
+    put_rest(out, n, Kind::Header, line, at, once, tables)
 }
 
 // Writes an SQ: the name that stands in its line, its length, then the other fields.
@@ -178,9 +211,10 @@ fn put_reference_sequence(
     ln: u64,
     line: &[u8],
     at: usize,
-    strict: bool,
+    once: bool,
+    tables: &[u32],
 ) -> usize
-    requires { ⌜ AtField strict at (now line) 3 ⌝ }
+    requires { ⌜ Walkable once at (now line) (now tables) ⌝ }
     requires { ⌜ at + length (now line) ≤ 16777216 ⌝ }
     requires { ⌜ Inside at (now line) name ⌝ }
     requires { ⌜ o + length (sequenceText name ln at (now line)) ≤ length (now out) ⌝ }
@@ -193,7 +227,7 @@ fn put_reference_sequence(
     let n = put_field(out, n, b'S', b'N', line, from, len);
     let n = put_tag(out, n, b'L', b'N');
     let n = decimal::write_u64(out, n, ln);
-    put_rest(out, n, Kind::ReferenceSequence, line, at, strict)
+    put_rest(out, n, Kind::ReferenceSequence, line, at, once, tables)
 }
 
 // Writes an RG or a PG: the ID that stands in its line, then the other fields.
@@ -204,9 +238,10 @@ fn put_map(
     id: Place,
     line: &[u8],
     at: usize,
-    strict: bool,
+    once: bool,
+    tables: &[u32],
 ) -> usize
-    requires { ⌜ AtField strict at (now line) 3 ⌝ }
+    requires { ⌜ Walkable once at (now line) (now tables) ⌝ }
     requires { ⌜ at + length (now line) ≤ 16777216 ⌝ }
     requires { ⌜ Inside at (now line) id ⌝ }
     requires { ⌜ o + length (mapText kind id at (now line)) ≤ length (now out) ⌝ }
@@ -217,53 +252,39 @@ fn put_map(
     let len = id.len;
     let n = put_prefix(out, o, kind);
     let n = put_field(out, n, b'I', b'D', line, from, len);
-    put_rest(out, n, kind, line, at, strict)
+    put_rest(out, n, kind, line, at, once, tables)
 }
 
-// Writes a CO: a tab, then the bytes that stand in its line.
-fn put_comment(out: &mut [u8], o: usize, comment: Place, line: &[u8], at: usize) -> usize
-    requires { ⌜ Inside at (now line) comment ⌝ }
-    requires { ⌜ o + length (commentText comment at (now line)) ≤ length (now out) ⌝ }
-    ensures next { λ r. ⌜ r ≡ o + length (commentText comment at (now (line .entry))) ⌝ }
-    ensures wrote { λ _. ⌜ now (out .exit) ≡ over (now (out .entry)) o (commentText comment at (now (line .entry))) ⌝ }
-{
-    let from = comment.at - at;
-    let len = comment.len;
-    let n = put_prefix(out, o, Kind::Comment);
-    out[n] = b'\t';
-    text::put_bytes(out, n + 1, &line[from..from + len]);
-    out[n + 1 + len] = b'\n';
-    n + 2 + len
-}
-
-// Writes the record of an accepted line part by part.
-fn put_parts(out: &mut [u8], o: usize, src: &[u8], at: usize, strict: bool) -> usize
-    requires { ⌜ isRead (line strict (record { at = at; bytes = now src })) ≡ true ⌝ }
+// Writes the record of an accepted line of fields part by part.
+fn put_parts(
+    out: &mut [u8],
+    o: usize,
+    kind: Kind,
+    src: &[u8],
+    at: usize,
+    once: bool,
+    tables: &[u32],
+) -> usize
+    requires { ⌜ isRead (line false (record { at = at; bytes = now src })) ≡ true ⌝ }
+    requires { ⌜ (kindBy (getD (now src) 1 0) ≡ kind) × (isComment kind ≡ false) ⌝ }
+    requires { ⌜ Walkable once at (now src) (now tables) ⌝ }
     requires { ⌜ at + length (now src) ≤ 16777216 ⌝ }
-    requires { ⌜ o + length (lineText (line strict (record { at = at; bytes = now src }))) ≤ length (now out) ⌝ }
-    ensures next { λ r. ⌜ r ≡ o + length (lineText (line strict (record { at = at; bytes = now (src .entry) }))) ⌝ }
-    ensures wrote { λ _. ⌜ now (out .exit) ≡ over (now (out .entry)) o (lineText (line strict (record { at = at; bytes = now (src .entry) }))) ⌝ }
+    requires { ⌜ o + length (lineText (line false (record { at = at; bytes = now src }))) ≤ length (now out) ⌝ }
+    ensures next { λ r. ⌜ r ≡ o + length (lineText (line false (record { at = at; bytes = now (src .entry) }))) ⌝ }
+    ensures wrote { λ _. ⌜ now (out .exit) ≡ over (now (out .entry)) o (lineText (line false (record { at = at; bytes = now (src .entry) }))) ⌝ }
 {
-    let head = heads::find_head(src, at, strict);
+    let keys = heads::find_keys(kind, src, at, once, tables);
+    let head = heads::head_of(kind, src, at, keys);
     match head {
         Head::Refused(_) => o,
-        Head::Header(v, _) => put_header(out, o, v, src, at, strict),
-        Head::ReferenceSequence(p, n, _) => put_reference_sequence(out, o, p, n, src, at, strict),
-        Head::ReadGroup(p, _) => put_map(out, o, Kind::ReadGroup, p, src, at, strict),
-        Head::Program(p, _) => put_map(out, o, Kind::Program, p, src, at, strict),
-        Head::Comment(p) => put_comment(out, o, p, src, at),
+        Head::Header(v, _) => put_header(out, o, v, src, at, once, tables),
+        Head::ReferenceSequence(p, n, _) => {
+            put_reference_sequence(out, o, p, n, src, at, once, tables)
+        }
+        Head::ReadGroup(p, _) => put_map(out, o, Kind::ReadGroup, p, src, at, once, tables),
+        Head::Program(p, _) => put_map(out, o, Kind::Program, p, src, at, once, tables),
+        Head::Comment(_) => o,
     }
-}
-
-// Whether the record of an accepted line is the line itself, so that it need not be taken apart.
-fn is_whole(src: &[u8], strict: bool) -> bool
-    requires { ⌜ 3 ≤ length (now src) ⌝ }
-    ensures { λ r. ⌜ r ≡ (strict && neat (kindBy (getD (now (src .entry)) 1 0)) (now (src .entry))) ⌝ }
-{
-    if strict {
-        return neat::is_neat(heads::kind_of(src), src);
-    }
-    false
 }
 
 // Writes a line as it is, and the LF.
@@ -278,6 +299,36 @@ fn put_whole(out: &mut [u8], o: usize, line: &[u8]) -> usize
     n + 1
 }
 
+// Writes the record of a line in which no tag stands twice: the line itself, where that is tidy.
+fn put_once(out: &mut [u8], o: usize, kind: Kind, src: &[u8], at: usize) -> usize
+    requires { ⌜ isRead (line false (record { at = at; bytes = now src })) ≡ true ⌝ }
+    requires { ⌜ (kindBy (getD (now src) 1 0) ≡ kind) × (isComment kind ≡ false) ⌝ }
+    requires { ⌜ AtField true at (now src) 3 ⌝ }
+    requires { ⌜ at + length (now src) ≤ 16777216 ⌝ }
+    requires { ⌜ o + length (lineText (line false (record { at = at; bytes = now src }))) ≤ length (now out) ⌝ }
+    ensures next { λ r. ⌜ r ≡ o + length (lineText (line false (record { at = at; bytes = now (src .entry) }))) ⌝ }
+    ensures wrote { λ _. ⌜ now (out .exit) ≡ over (now (out .entry)) o (lineText (line false (record { at = at; bytes = now (src .entry) }))) ⌝ }
+{
+    if neat::is_neat(kind, src) {
+        return put_whole(out, o, src);
+    }
+    put_parts(out, o, kind, src, at, true, &[])
+}
+
+// Writes the record of a line in which a tag may stand twice: its tables are made first.
+fn put_noted(out: &mut [u8], o: usize, kind: Kind, src: &[u8], at: usize) -> usize
+    requires { ⌜ isRead (line false (record { at = at; bytes = now src })) ≡ true ⌝ }
+    requires { ⌜ (kindBy (getD (now src) 1 0) ≡ kind) × (isComment kind ≡ false) ⌝ }
+    requires { ⌜ at + length (now src) ≤ 16777216 ⌝ }
+    requires { ⌜ o + length (lineText (line false (record { at = at; bytes = now src }))) ≤ length (now out) ⌝ }
+    ensures next { λ r. ⌜ r ≡ o + length (lineText (line false (record { at = at; bytes = now (src .entry) }))) ⌝ }
+    ensures wrote { λ _. ⌜ now (out .exit) ≡ over (now (out .entry)) o (lineText (line false (record { at = at; bytes = now (src .entry) }))) ⌝ }
+{
+    let mut tables = [0u32; 6448];
+    walk::note_tags(src, at, &mut tables);
+    put_parts(out, o, kind, src, at, false, &tables)
+}
+
 // Writes the record of an accepted line, which stands at the offset `at` without its ending, and answers the place after it.
 pub fn put_record(out: &mut [u8], o: usize, src: &[u8], at: usize, strict: bool) -> usize
     requires { ⌜ isRead (line strict (record { at = at; bytes = now src })) ≡ true ⌝ }
@@ -286,32 +337,33 @@ pub fn put_record(out: &mut [u8], o: usize, src: &[u8], at: usize, strict: bool)
     ensures next { λ r. ⌜ r ≡ o + length (lineText (line strict (record { at = at; bytes = now (src .entry) }))) ⌝ }
     ensures wrote { λ _. ⌜ now (out .exit) ≡ over (now (out .entry)) o (lineText (line strict (record { at = at; bytes = now (src .entry) }))) ⌝ }
 {
-    if is_whole(src, strict) {
+    let kind = heads::kind_of(src);
+    if heads::is_comment(kind) {
         return put_whole(out, o, src);
     }
-    put_parts(out, o, src, at, strict)
+    if walk::is_once(src, at, strict) {
+        return put_once(out, o, kind, src, at);
+    }
+    put_noted(out, o, kind, src, at)
 }
 
-// How many bytes the other fields of an accepted line have.
-fn other_fields_len(kind: Kind, line: &[u8], at: usize, strict: bool) -> usize
-    requires { ⌜ AtField strict at (now line) 3 ⌝ }
+// How many bytes the other fields of an accepted line have, by its tables.
+fn other_fields_len(kind: Kind, line: &[u8], at: usize, tables: &[u32]) -> usize
+    requires { ⌜ Walkable false at (now line) (now tables) ⌝ }
     requires { ⌜ at + length (now line) ≤ 16777216 ⌝ }
     ensures { λ r. ⌜ r ≡ length (othersText kind at (now (line .entry))) ⌝ }
 {
     let mut n: usize = 0;
-    let mut pos: usize = 3;
-    loop {
-        let next = walk::next_other(kind, line, at, pos, strict);
-        match next {
-            Next::End => {
-                return n;
-            }
-            Next::Field(f) => {
-                n = n + 4 + f.len;
-                pos = f.next;
-            }
+    let mut i: usize = 3;
+    while i < line.len() {
+        let end = walk::field_end(line, i);
+        if is_other(kind, line, at, i, false, tables) {
+            let v = walk::kept_value(line, at, i, end, false, tables);
+            n = n + 4 + v.len;
         }
+        i = end;
     }
+    n
 }
 
 // How many bytes the two numbers of a version have, with the dot between.
@@ -323,50 +375,111 @@ fn version_len(v: Version) -> usize
     decimal::len_u64(major as u64) + 1 + decimal::len_u64(minor as u64)
 }
 
-// How many bytes the record with this head has: a prefix of three, four before each value, and the LF.
-fn head_len(head: Head, line: &[u8], at: usize, strict: bool) -> usize
-    requires { ⌜ Holds strict at (now line) head ⌝ }
-    requires { ⌜ at + length (now line) ≤ 16777216 ⌝ }
-    ensures { λ r. ⌜ r ≡ length (headText at (now (line .entry)) head) ⌝ }
+// How many bytes the fields of a kind's keys have in their line: four before each value.
+fn keys_len(kind: Kind, keys: Keys) -> usize
+    requires { ⌜ keysLength kind keys ≤ 16777216 ⌝ }
+    ensures { λ r. ⌜ r ≡ keysLength kind keys ⌝ }
 {
-    match head {
-        Head::Refused(_) => 0,
-        Head::Header(v, _) => 8 + version_len(v) + other_fields_len(Kind::Header, line, at, strict),
-        Head::ReferenceSequence(p, n, _) => {
-            let name = p.len;
-            12
-                + name
-                + decimal::len_u64(n)
-                + other_fields_len(Kind::ReferenceSequence, line, at, strict)
-        }
-        Head::ReadGroup(p, _) => {
-            let id = p.len;
-            8 + id + other_fields_len(Kind::ReadGroup, line, at, strict)
-        }
-        Head::Program(p, _) => {
-            let id = p.len;
-            8 + id + other_fields_len(Kind::Program, line, at, strict)
-        }
-        Head::Comment(p) => {
-            let len = p.len;
-            5 + len
-        }
+    let key = keys.key.len;
+    let number = keys.number.len;
+    match kind {
+        Kind::Header => 4 + key,
+        Kind::ReferenceSequence => 8 + key + number,
+        Kind::ReadGroup => 4 + key,
+        Kind::Program => 4 + key,
+        Kind::Comment => 0,
     }
 }
 
-// Whether the record with this head can be written: an SQ only if its name follows the specification's rule.
-fn is_head_writable(head: Head, line: &[u8], at: usize, strict: bool) -> bool
-    requires { ⌜ Holds strict at (now line) head ⌝ }
-    ensures { λ r. ⌜ r ≡ headWritable at (now (line .entry)) head ⌝ }
+// How many bytes the record with this head has, whose other fields have `others`: a prefix of three, four before each value, and the LF.
+fn head_len(head: Head, others: usize) -> usize
+    requires { ⌜ (others ≤ 16777216) × (placeLength head ≤ 16777216) ⌝ }
+    ensures { λ r. ⌜ r ≡ headLength head others ⌝ }
 {
     match head {
-        Head::ReferenceSequence(p, _, _) => {
-            let from = p.at - at;
-            let len = p.len;
-            name::is_name(&line[from..from + len])
+        Head::Refused(_) => 0,
+        Head::Header(v, _) => 8 + version_len(v) + others,
+        Head::ReferenceSequence(p, n, _) => {
+            let name = p.len;
+            12 + name + decimal::len_u64(n) + others
+        }
+        Head::ReadGroup(p, _) => {
+            let id = p.len;
+            8 + id + others
+        }
+        Head::Program(p, _) => {
+            let id = p.len;
+            8 + id + others
+        }
+        Head::Comment(_) => 0,
+    }
+}
+
+// Whether the record of an accepted line of fields can be written: an SQ only if its name follows the specification's rule.
+fn is_writable(kind: Kind, src: &[u8], at: usize, once: bool, tables: &[u32]) -> bool
+    requires { ⌜ isRead (line false (record { at = at; bytes = now src })) ≡ true ⌝ }
+    requires { ⌜ (kindBy (getD (now src) 1 0) ≡ kind) × (isComment kind ≡ false) ⌝ }
+    requires { ⌜ Walkable once at (now src) (now tables) ⌝ }
+    requires { ⌜ at + length (now src) ≤ 16777216 ⌝ }
+    ensures { λ r. ⌜ r ≡ lineWritable (line false (record { at = at; bytes = now (src .entry) })) ⌝ }
+{
+    match kind {
+        Kind::ReferenceSequence => {
+            let name = walk::find_value(src, at, b'S', b'N', once, tables);
+            let from = name.at - at;
+            let len = name.len;
+            name::is_name(&src[from..from + len])
         }
         _ => true,
     }
+}
+
+// How many bytes the record of an accepted line of fields has, whose other fields have `others`.
+fn parts_len(kind: Kind, src: &[u8], at: usize, keys: Keys, others: usize) -> usize
+    requires { ⌜ isRead (line false (record { at = at; bytes = now src })) ≡ true ⌝ }
+    requires { ⌜ (kindBy (getD (now src) 1 0) ≡ kind) × (isComment kind ≡ false) ⌝ }
+    requires { ⌜ keys ≡ keysIn kind (fieldsFrom at (now src) 3) ⌝ }
+    requires { ⌜ others ≡ length (othersText kind at (now src)) ⌝ }
+    requires { ⌜ at + length (now src) ≤ 16777216 ⌝ }
+    ensures { λ r. ⌜ r ≡ length (lineText (line false (record { at = at; bytes = now (src .entry) }))) ⌝ }
+{
+    head_len(heads::head_of(kind, src, at, keys), others)
+}
+
+// How many bytes the record of a line in which no tag stands twice has: none of its fields but the keys is looked at.
+fn once_size(kind: Kind, src: &[u8], at: usize) -> Size
+    requires { ⌜ isRead (line false (record { at = at; bytes = now src })) ≡ true ⌝ }
+    requires { ⌜ (kindBy (getD (now src) 1 0) ≡ kind) × (isComment kind ≡ false) ⌝ }
+    requires { ⌜ AtField true at (now src) 3 ⌝ }
+    requires { ⌜ at + length (now src) ≤ 16777216 ⌝ }
+    ensures { λ r. ⌜ r ≡ sizeOf (line false (record { at = at; bytes = now (src .entry) })) ⌝ }
+{
+    if !is_writable(kind, src, at, true, &[]) {
+        return Size::Unwritable;
+    }
+    if neat::is_neat(kind, src) {
+        return Size::Is(src.len() + 1);
+    }
+    let keys = heads::find_keys(kind, src, at, true, &[]);
+    let others = src.len() - 3 - keys_len(kind, keys);
+    Size::Is(parts_len(kind, src, at, keys, others))
+}
+
+// How many bytes the record of a line in which a tag may stand twice has: its tables are made first.
+fn noted_size(kind: Kind, src: &[u8], at: usize) -> Size
+    requires { ⌜ isRead (line false (record { at = at; bytes = now src })) ≡ true ⌝ }
+    requires { ⌜ (kindBy (getD (now src) 1 0) ≡ kind) × (isComment kind ≡ false) ⌝ }
+    requires { ⌜ at + length (now src) ≤ 16777216 ⌝ }
+    ensures { λ r. ⌜ r ≡ sizeOf (line false (record { at = at; bytes = now (src .entry) })) ⌝ }
+{
+    let mut tables = [0u32; 6448];
+    walk::note_tags(src, at, &mut tables);
+    if !is_writable(kind, src, at, false, &tables) {
+        return Size::Unwritable;
+    }
+    let keys = heads::find_keys(kind, src, at, false, &tables);
+    let others = other_fields_len(kind, src, at, &tables);
+    Size::Is(parts_len(kind, src, at, keys, others))
 }
 
 // How many bytes the record of an accepted line has, or that it can't be written, in one look.
@@ -375,12 +488,12 @@ pub fn record_size(src: &[u8], at: usize, strict: bool) -> Size
     requires { ⌜ at + length (now src) ≤ 16777216 ⌝ }
     ensures { λ r. ⌜ r ≡ sizeOf (line strict (record { at = at; bytes = now (src .entry) })) ⌝ }
 {
-    let head = heads::find_head(src, at, strict);
-    if is_head_writable(head, src, at, strict) {
-        if is_whole(src, strict) {
-            return Size::Is(src.len() + 1);
-        }
-        return Size::Is(head_len(head, src, at, strict));
+    let kind = heads::kind_of(src);
+    if heads::is_comment(kind) {
+        return Size::Is(src.len() + 1);
     }
-    Size::Unwritable
+    if walk::is_once(src, at, strict) {
+        return once_size(kind, src, at);
+    }
+    noted_size(kind, src, at)
 }

@@ -12,17 +12,17 @@ use Rattle.writer.proofs.put_header.Statement.{statement}
 use Rattle.writer.proofs.put_header.Tie as tie
 
 put-prefix-requires : tie.Need-put-prefix-requires
-put-prefix-requires c κs = let s = c .before .before .before in omega (arith, s .pre, header-size (s .args .v) (s .args .at) (s .args .line .now))
+put-prefix-requires c κs = let s = c .before .before .before .before in omega (arith, s .pre, header-size (s .args .v) (s .args .at) (s .args .line .now))
 
 put-tag-requires : tie.Need-put-tag-requires
-put-tag-requires c κs = let s = c .before .before .before .before .before .before .before in omega (arith, s .pre, header-size (s .args .v) (s .args .at) (s .args .line .now))
+put-tag-requires c κs = let s = c .before .before .before .before .before .before .before .before in omega (arith, s .pre, header-size (s .args .v) (s .args .at) (s .args .line .now))
 
 put-version-requires : tie.Need-put-version-requires
-put-version-requires c κs = let s = c .before .before .before .before .before .before .before .before .before .before .before in omega (arith, s .pre, header-size (s .args .v) (s .args .at) (s .args .line .now))
+put-version-requires c κs = let s = c .before .before .before .before .before .before .before .before .before .before .before .before in omega (arith, s .pre, header-size (s .args .v) (s .args .at) (s .args .line .now))
 
 put-rest-requires : tie.Need-put-rest-requires
 put-rest-requires c κs =
-    let s = c .before .before .before .before .before .before .before .before .before .before .before .before .before .before .before in
+    let s = c .before .before .before .before .before .before .before .before .before .before .before .before .before .before .before .before in
     (s .pre .0, (s .pre .1 .0, omega (arith, s .pre, header-size (s .args .v) (s .args .at) (s .args .line .now))))
 
 same-length : tie.Need-same-length
@@ -35,7 +35,7 @@ returns c =
     let version = rest .before .before .before .before in
     let tag = version .before .before .before .before in
     let prefix = tag .before .before .before .before in
-    let s = prefix .before .before .before .before in
+    let s = prefix .before .before .before .before .before in
     let a = s .args in
     let size = header-size (a .v) (a .at) (a .line .now) in
     let field = wrote-then (prefix .put-prefix .last .0) (prefix .put-prefix .result) _ _ _ _ (9 ∷ 86 ∷ 78 ∷ 58 ∷ []) (versionText (a .v)) (tag .put-tag .ensures) (version .put-version .ensures) (omega (arith, size, s .pre)) in

@@ -14,17 +14,17 @@ sub-from : tie.Need-sub-from
 sub-from c = search needs
 
 put-prefix-requires : tie.Need-put-prefix-requires
-put-prefix-requires c κs = let s = c .before .before .before .before in omega (arith, s .pre, map-size (s .args .at) (s .args .line .now) (s .args .id) (s .pre .1 .1 .0) (s .args .kind))
+put-prefix-requires c κs = let s = c .before .before .before .before .before in omega (arith, s .pre, map-size (s .args .at) (s .args .line .now) (s .args .id) (s .pre .1 .1 .0) (s .args .kind))
 
 put-field-requires : tie.Need-put-field-requires
 put-field-requires c κs =
-    let s = c .before .before .before .before .before .before .before .before in
+    let s = c .before .before .before .before .before .before .before .before .before in
     (s .pre .1 .1 .0 .within, omega (arith, s .pre, map-size (s .args .at) (s .args .line .now) (s .args .id) (s .pre .1 .1 .0) (s .args .kind)))
 
 put-rest-requires : tie.Need-put-rest-requires
 unfolding fieldText placeText
 put-rest-requires c κs =
-    let s = c .before .before .before .before .before .before .before .before .before .before .before .before in
+    let s = c .before .before .before .before .before .before .before .before .before .before .before .before .before in
     let i = s .pre .1 .1 .0 in
     (s .pre .0, (s .pre .1 .0, omega (arith, s .pre, place-size (s .args .at) (s .args .line .now) (s .args .id) i, map-size (s .args .at) (s .args .line .now) (s .args .id) i (s .args .kind))))
 
@@ -37,7 +37,7 @@ returns c =
     let rest = c .before .before in
     let field = rest .before .before .before .before in
     let prefix = field .before .before .before .before in
-    let s = prefix .before .before .before .before .before in
+    let s = prefix .before .before .before .before .before .before in
     let a = s .args in
     let i = s .pre .1 .1 .0 in
     let id = placeText (a .at) (a .line .now) (a .id) in

@@ -1,103 +1,148 @@
--- `writer::put_other_fields` meets its contract: what is written, and what the fields still to come will write, is all.
-use Prim.Native.Nat.{_+_, _-_}
+-- `writer::put_other_fields` meets its contract: what is written, and what the fields still to come have, is all.
+use Prim.Native.Nat.{_+_, _-_, _≤_}
 use mathlib.Core.Path.{_≡_, refl, sym, ap, _∙_}
 use native.Mathlib.Omega.{arith}
-use lib.ListN.{length, take, drop, length-append}
+use lib.ListN.{length, take, drop, getD, length-append}
 use Rattle.format.specs.Tidy.{fieldText}
 use Rattle.text.specs.Over.{over}
 use Rattle.text.proofs.Over.{over-none}
 use Rattle.walk.specs.Run.{AtField}
-use Rattle.walk.proofs.Walked.{Gone, next-field}
+use Rattle.walk.proofs.Place.{next-at, bounds}
 use Rattle.writer.specs.Parts.{othersText}
 use Rattle.writer.proofs.Wrote.{wrote-onward}
-use Rattle.writer.proofs.Others.{restText, rest-all, rest-none, rest-more, rest-size, value-inside}
-use borrow.Author.Needs.{needs}
+use Rattle.writer.proofs.Others.{restText, rest-all, rest-none, rest-past, rest-more, rest-size, value-inside}
 use Rattle.writer.proofs.put_other_fields.Statement.{statement}
 use Rattle.writer.proofs.put_other_fields.Tie as tie
 
 abbrev Inv-loop : tie.InvT-loop
-Inv-loop out₀ o kind line at strict n₀ pos₀ out n pos =
-    AtField strict at line pos
-    × (n + length (restText kind at line pos) ≡ o + length (othersText kind at line))
-    × (over out n (restText kind at line pos) ≡ over out₀ o (othersText kind at line))
+Inv-loop out₀ o kind line at once tables n₀ i₀ out n i =
+    AtField once at line i
+    × (n + length (restText kind at line i) ≡ o + length (othersText kind at line))
+    × (over out n (restText kind at line i) ≡ over out₀ o (othersText kind at line))
     × (length out ≡ length out₀)
 
 abbrev μ-loop : tie.MeasureT-loop
-μ-loop out₀ o kind line at strict n₀ pos₀ out n pos = length line - pos
+μ-loop out₀ o kind line at once tables n₀ i₀ out n i = length line - i
 
--- the field of a turn
-gone : (c : tie.After-next Inv-loop μ-loop)
-    → (let l = c .before .before .before in let a = l .before .before .before .args in Gone (a .strict) (a .at) (a .line .now) (a .kind) (l .loop .pos) (c .next .given .0 .0))
-gone c =
-    let l = c .before .before .before in
-    let a = l .before .before .before .args in
-    next-field (a .strict) (a .at) (a .line .now) (a .kind) (l .loop .pos) (c .next .given .0 .0) (l .loop .inv .0) (sym (c .before .before .next-other .ensures) ∙ c .next .given .1)
+-- the field of a turn ends in the line
+reach : (f : tie.After-field-end Inv-loop μ-loop)
+    → (let l = f .before .before in (l .loop .i + 4 ≤ f .field-end .result) × (f .field-end .result ≤ length (l .before .before .before .before .args .line .now)))
+reach f =
+    let l = f .before .before in
+    let a = l .before .before .before .before .args in
+    bounds (a .once) (a .at) (a .line .now) (l .loop .i) (l .loop .inv .0) (omega arith) (f .field-end .result) (f .field-end .ensures)
+
+-- and the walk goes on from there
+onward : (f : tie.After-field-end Inv-loop μ-loop) → (let l = f .before .before in let a = l .before .before .before .before .args in AtField (a .once) (a .at) (a .line .now) (f .field-end .result))
+onward f =
+    let l = f .before .before in
+    let a = l .before .before .before .before .args in
+    next-at (a .once) (a .at) (a .line .now) (l .loop .i) (l .loop .inv .0) (omega arith) (f .field-end .result) (f .field-end .ensures)
 
 loop-holds : tie.Need-loop-holds Inv-loop μ-loop
 loop-holds c =
-    let a = c .before .before .args in
+    let s = c .before .before .before in
+    let a = s .args in
     let e = rest-all (a .kind) (a .at) (a .line .now) in
-    (c .before .before .pre .0, ap (λ l. a .o + length l) e, ap (over (a .out .now) (a .o)) e, refl)
+    (s .pre .0 .start, ap (λ l. a .o + length l) e, ap (over (a .out .now) (a .o)) e, refl)
 
-next-other-requires : tie.Need-next-other-requires Inv-loop μ-loop
-next-other-requires c κs = (c .loop .inv .0, omega arith)
+field-end-requires : tie.Need-field-end-requires Inv-loop μ-loop
+field-end-requires c κs = omega arith
 
-enum-told : tie.Need-enum-told Inv-loop μ-loop
-enum-told c = search needs
+add-a : tie.Need-add-a Inv-loop μ-loop
+add-a c = omega (arith, reach c)
 
-same-length : tie.Need-same-length Inv-loop μ-loop
-same-length c = c .before .before .before .loop .inv .3
+shared-slice-read-a : tie.Need-shared-slice-read-a Inv-loop μ-loop
+shared-slice-read-a c = omega (arith, reach (c .before))
 
-returns : tie.Need-returns Inv-loop μ-loop
-returns c =
-    let l = c .before .before .before in
-    let a = l .before .before .before .args in
-    let e = rest-none (a .kind) (a .at) (a .line .now) (l .loop .pos) (sym (c .before .before .next-other .ensures) ∙ c .enum-told .given .1) in
-    (omega (arith, l .loop .inv .1, ap length e), sym (over-none (l .loop .out) (l .loop .n)) ∙ ap (over (l .loop .out) (l .loop .n)) (sym e) ∙ l .loop .inv .2)
+add-b : tie.Need-add-b Inv-loop μ-loop
+add-b c = omega (arith, reach (c .before))
 
-enum-known-next : tie.Need-enum-known-next Inv-loop μ-loop
-enum-known-next c = search needs
+shared-slice-read-b : tie.Need-shared-slice-read-b Inv-loop μ-loop
+shared-slice-read-b c = omega (arith, reach (c .before .before))
+
+is-other-requires : tie.Need-is-other-requires Inv-loop μ-loop
+is-other-requires c κs =
+    let l = c .before .before .before .before in
+    let s = l .before .before .before .before in
+    (s .pre .0, (l .loop .inv .0, (omega arith, s .pre .1 .0)))
+
+kept-value-requires : tie.Need-kept-value-requires Inv-loop μ-loop
+kept-value-requires c κs =
+    let f = c .before .before .before .before in
+    let l = f .before .before in
+    let s = l .before .before .before .before in
+    (s .pre .0, (l .loop .inv .0, ((omega arith, f .field-end .ensures), omega (arith, s .pre .1 .0))))
+
+-- the value of the field stands in the line
+value : (c : tie.After-kept-value Inv-loop μ-loop)
+    → (let f = c .before .before .before .before .before in let a = f .before .before .before .before .before .before .args in let v = c .kept-value .result in
+    (a .at ≤ v .at) × (v .at - a .at + v .len ≤ length (a .line .now)))
+value c =
+    let t = c .before in
+    let f = t .before .before .before .before in
+    let l = f .before .before in
+    let a = l .before .before .before .before .args in
+    value-inside (a .once) (a .at) (a .line .now) (a .kind) (l .loop .i) (l .loop .inv .0) (omega arith) (f .field-end .result) (f .field-end .ensures) (sym (t .before .is-other .ensures) ∙ t .if1 .taken) (c .kept-value .result) (c .kept-value .ensures)
 
 sub-put-field : tie.Need-sub-put-field Inv-loop μ-loop
-sub-put-field c =
-    let k = c .before .before .before in
-    let l = k .before .before .before in
-    let a = l .before .before .before .args in
-    value-inside (a .strict) (a .at) (a .line .now) (a .kind) (l .loop .pos) (k .next .given .0 .0) (gone k) .0
+sub-put-field c = value (c .before .before) .0
 
 put-field-requires : tie.Need-put-field-requires Inv-loop μ-loop
 put-field-requires c κs =
-    let k = c .before .before .before in
-    let l = k .before .before .before in
-    let a = l .before .before .before .args in (
-      value-inside (a .strict) (a .at) (a .line .now) (a .kind) (l .loop .pos) (k .next .given .0 .0) (gone k) .1,
-      omega (arith, l .before .before .before .pre, l .loop .inv, rest-size (a .strict) (a .at) (a .line .now) (a .kind) (l .loop .pos) (k .next .given .0 .0) (gone k)),
-    )
+    let k = c .before .before in
+    let t = k .before in
+    let f = t .before .before .before .before in
+    let l = f .before .before in
+    let s = l .before .before .before .before in
+    let a = s .args in
+    let size = rest-size (a .once) (a .at) (a .line .now) (a .kind) (l .loop .i) (l .loop .inv .0) (omega arith) (f .field-end .result) (f .field-end .ensures) (sym (t .before .is-other .ensures) ∙ t .if1 .taken) (k .kept-value .result) (k .kept-value .ensures) in
+    (value k .1, omega (arith, s .pre .1 .1, l .loop .inv .1, l .loop .inv .3, size))
 
 loop-less : tie.Need-loop-less Inv-loop μ-loop
-loop-less c =
-    let k = c .before .before .before .before .before .before in
-    let g = gone k in
-    omega (arith, g .after, g .within)
+loop-less c = omega (arith, reach (c .before .before .before .before .before .before .before .before .before .before))
 
 loop-again : tie.Need-loop-again Inv-loop μ-loop
 loop-again c =
     let p = c .before .before in
-    let k = p .before .before .before .before in
-    let l = k .before .before .before in
-    let a = l .before .before .before .args in
-    let f = k .next .given .0 .0 in
-    let g = gone k in
-    let xs = fieldText (f .tag_0) (f .tag_1) (take (f .len) (drop (f .at - a .at) (a .line .now))) in
-    let ys = restText (a .kind) (a .at) (a .line .now) (f .next) in
-    let r = rest-more (a .strict) (a .at) (a .line .now) (a .kind) (l .loop .pos) f g in
-    let s = ap length r ∙ length-append xs ys in (
-      g .next,
-      omega (arith, s, p .put-field .ensures .0, l .loop .inv .1),
-      wrote-onward (l .loop .out) (p .put-field .last .0) (l .loop .n) (p .put-field .result) (restText (a .kind) (a .at) (a .line .now) (l .loop .pos)) xs ys r (p .put-field .ensures) (omega (arith, s, l .loop .inv, l .before .before .before .pre))
+    let k = p .before .before .before in
+    let t = k .before in
+    let f = t .before .before .before .before in
+    let l = f .before .before in
+    let s = l .before .before .before .before in
+    let a = s .args in
+    let v = k .kept-value .result in
+    let xs = fieldText (getD (a .line .now) (l .loop .i + 1) 0) (getD (a .line .now) (l .loop .i + 2) 0) (take (v .len) (drop (v .at - a .at) (a .line .now))) in
+    let ys = restText (a .kind) (a .at) (a .line .now) (f .field-end .result) in
+    let r = rest-more (a .once) (a .at) (a .line .now) (a .kind) (l .loop .i) (l .loop .inv .0) (omega arith) (f .field-end .result) (f .field-end .ensures) (sym (t .before .is-other .ensures) ∙ t .if1 .taken) v (k .kept-value .ensures) in
+    let z = ap length r ∙ length-append xs ys in (
+      onward f,
+      omega (arith, z, p .put-field .ensures .0, l .loop .inv .1),
+      wrote-onward (l .loop .out) (p .put-field .last .0) (l .loop .n) (p .put-field .result) (restText (a .kind) (a .at) (a .line .now) (l .loop .i)) xs ys r (p .put-field .ensures) (omega (arith, z, l .loop .inv .1, l .loop .inv .3, s .pre .1 .1))
           ∙ l .loop .inv .2,
       p .put-field .kept .0 ∙ l .loop .inv .3,
     )
+
+loop-less-2 : tie.Need-loop-less-2 Inv-loop μ-loop
+loop-less-2 c = omega (arith, reach (c .before .before .before .before))
+
+loop-again-2 : tie.Need-loop-again-2 Inv-loop μ-loop
+loop-again-2 c =
+    let f = c .before .before .before .before in
+    let l = f .before .before in
+    let a = l .before .before .before .before .args in
+    let e = rest-past (a .once) (a .at) (a .line .now) (a .kind) (l .loop .i) (l .loop .inv .0) (omega arith) (f .field-end .result) (f .field-end .ensures) (sym (c .before .is-other .ensures) ∙ c .if1 .left) in
+    (onward f, ap (λ x. l .loop .n + length x) (sym e) ∙ l .loop .inv .1, ap (over (l .loop .out) (l .loop .n)) (sym e) ∙ l .loop .inv .2, l .loop .inv .3)
+
+same-length : tie.Need-same-length Inv-loop μ-loop
+same-length c = c .before .loop .inv .3
+
+returns : tie.Need-returns Inv-loop μ-loop
+returns c =
+    let l = c .before in
+    let a = l .before .before .before .before .args in
+    let e = rest-none (a .once) (a .at) (a .line .now) (a .kind) (l .loop .i) (l .loop .inv .0) (c .loop-test .left) in
+    (omega (arith, l .loop .inv .1, ap length e), sym (over-none (l .loop .out) (l .loop .n)) ∙ ap (over (l .loop .out) (l .loop .n)) (sym e) ∙ l .loop .inv .2)
 
 pub put-other-fields-spec : {M : Type 1} → statement M
 put-other-fields-spec =
@@ -106,12 +151,18 @@ put-other-fields-spec =
     Inv-loop
     μ-loop
     loop-holds
-    next-other-requires
-    enum-told
-    same-length
-    returns
-    enum-known-next
+    field-end-requires
+    add-a
+    shared-slice-read-a
+    add-b
+    shared-slice-read-b
+    is-other-requires
+    kept-value-requires
     sub-put-field
     put-field-requires
     loop-less
-    loop-again)
+    loop-again
+    loop-less-2
+    loop-again-2
+    same-length
+    returns)

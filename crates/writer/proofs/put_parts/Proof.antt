@@ -1,29 +1,35 @@
 -- `writer::put_parts` meets its contract: the head of an accepted line says which record is to be written, and its text.
 use Prim.Native.Nat.{_+_, _≤_}
 use mathlib.Core.Path.{_≡_, sym, subst}
+use native.Mathlib.Omega.{arith}
 use lib.ListN.{length}
+use borrow.Author.Needs.{needs}
 use Rattle.record.specs.declared.Head.{Head}
 use Rattle.writer.specs.Heads.{headText, Holds}
 use Rattle.writer.proofs.Wrote.{Wrote}
 use Rattle.writer.proofs.Heads.{Told, told}
-use borrow.Author.Needs.{needs}
 use Rattle.writer.proofs.put_parts.Statement.{statement}
 use Rattle.writer.proofs.put_parts.Tie as tie
 
 -- the head is `d`
-shown : (c : tie.After-find-head) (d : Head) → c .find-head .result ≡ d → (let a = c .before .before .before .args in Told (a .strict) (a .at) (a .src .now) d)
+shown : (c : tie.After-head-of) (d : Head) → c .head-of .result ≡ d → (let a = c .before .before .before .before .before .args in Told (a .at) (a .src .now) (a .kind) d)
 shown c d e =
-    let s = c .before .before .before in
+    let s = c .before .before .before .before .before in
     let a = s .args in
-    told (a .strict) (a .at) (a .src .now) (s .pre .0) (c .find-head .result) d (c .find-head .ensures) e
+    told (a .at) (a .src .now) (s .pre .0) (a .kind) (s .pre .1 .0 .0) (s .pre .1 .0 .1) (c .head-of .result) d (c .head-of .ensures) e
 
 -- it has room
-room : (c : tie.After-find-head) (d : Head) → c .find-head .result ≡ d
-    → (let a = c .before .before .before .args in a .o + length (headText (a .at) (a .src .now) d) ≤ length (a .out .now))
-room c d e = let s = c .before .before .before in subst (λ l. s .args .o + length l ≤ length (s .args .out .now)) (shown c d e .text) (s .pre .1 .1)
+room : (c : tie.After-head-of) (d : Head) → c .head-of .result ≡ d
+    → (let a = c .before .before .before .before .before .args in a .o + length (headText (a .at) (a .src .now) d) ≤ length (a .out .now))
+room c d e = let s = c .before .before .before .before .before in subst (λ l. s .args .o + length l ≤ length (s .args .out .now)) (shown c d e .text) (s .pre .1 .1 .1 .1)
 
-find-head-requires : tie.Need-find-head-requires
-find-head-requires c κs = search needs
+find-keys-requires : tie.Need-find-keys-requires
+find-keys-requires c κs = let s = c .before .before .before in (s .pre .1 .1 .0, omega (arith, s .pre .1 .1 .1 .0))
+
+head-of-requires : tie.Need-head-of-requires
+head-of-requires c κs =
+    let s = c .before .before .before .before in
+    (s .pre .0, (s .pre .1 .0 .0, (c .find-keys .ensures, omega (arith, s .pre .1 .1 .1 .0))))
 
 enum-told : tie.Need-enum-told
 enum-told c = search needs
@@ -36,9 +42,8 @@ unfolding Holds headText
 put-header-requires c κs =
     let k = c .before .before in
     let p = k .before .before in
-    let s = p .before .before .before in
-    let holds = shown p _ (k .head .given .1) .holds in
-    (holds, (s .pre .1 .0, room p _ (k .head .given .1)))
+    let s = p .before .before .before .before .before in
+    (s .pre .1 .1 .0, (s .pre .1 .1 .1 .0, room p _ (k .head .given .1)))
 
 enum-known-head-2 : tie.Need-enum-known-head-2
 enum-known-head-2 c = search needs
@@ -48,9 +53,8 @@ unfolding Holds headText
 put-reference-sequence-requires c κs =
     let k = c .before .before in
     let p = k .before .before in
-    let s = p .before .before .before in
-    let holds = shown p _ (k .head2 .given .1) .holds in
-    (holds .0, (s .pre .1 .0, (holds .1, room p _ (k .head2 .given .1))))
+    let s = p .before .before .before .before .before in
+    (s .pre .1 .1 .0, (s .pre .1 .1 .1 .0, (shown p _ (k .head2 .given .1) .holds, room p _ (k .head2 .given .1))))
 
 enum-known-head-3 : tie.Need-enum-known-head-3
 enum-known-head-3 c = search needs
@@ -60,9 +64,8 @@ unfolding Holds headText
 put-map-requires c κs =
     let k = c .before .before in
     let p = k .before .before in
-    let s = p .before .before .before in
-    let holds = shown p _ (k .head3 .given .1) .holds in
-    (holds .0, (s .pre .1 .0, (holds .1, room p _ (k .head3 .given .1))))
+    let s = p .before .before .before .before .before in
+    (s .pre .1 .1 .0, (s .pre .1 .1 .1 .0, (shown p _ (k .head3 .given .1) .holds, room p _ (k .head3 .given .1))))
 
 enum-known-head-4 : tie.Need-enum-known-head-4
 enum-known-head-4 c = search needs
@@ -72,21 +75,11 @@ unfolding Holds headText
 put-map-requires-2 c κs =
     let k = c .before .before in
     let p = k .before .before in
-    let s = p .before .before .before in
-    let holds = shown p _ (k .head4 .given .1) .holds in
-    (holds .0, (s .pre .1 .0, (holds .1, room p _ (k .head4 .given .1))))
+    let s = p .before .before .before .before .before in
+    (s .pre .1 .1 .0, (s .pre .1 .1 .1 .0, (shown p _ (k .head4 .given .1) .holds, room p _ (k .head4 .given .1))))
 
-enum-known-head-5 : tie.Need-enum-known-head-5
-enum-known-head-5 c = search needs
-
-put-comment-requires : tie.Need-put-comment-requires
-unfolding Holds headText
-put-comment-requires c κs =
-    let k = c .before .before in
-    let p = k .before .before in
-    let s = p .before .before .before in
-    let holds = shown p _ (k .head5 .given .1) .holds in
-    (holds, room p _ (k .head5 .given .1))
+enum-told-2 : tie.Need-enum-told-2
+enum-told-2 c = search needs
 
 returns : tie.Need-returns
 unfolding Holds
@@ -101,7 +94,7 @@ returns-2 c =
     let w = c .before .before in
     let k = w .before .before .before in
     let p = k .before .before in
-    let a = p .before .before .before .args in
+    let a = p .before .before .before .before .before .args in
     subst (Wrote (a .out .now) (a .o) (w .put-header .last .0) (w .put-header .result)) (sym (shown p _ (k .head .given .1) .text)) (w .put-header .ensures)
 
 same-length-2 : tie.Need-same-length-2
@@ -113,7 +106,7 @@ returns-3 c =
     let w = c .before .before in
     let k = w .before .before .before in
     let p = k .before .before in
-    let a = p .before .before .before .args in
+    let a = p .before .before .before .before .before .args in
     subst (Wrote (a .out .now) (a .o) (w .put-reference-sequence .last .0) (w .put-reference-sequence .result)) (sym (shown p _ (k .head2 .given .1) .text)) (w .put-reference-sequence .ensures)
 
 same-length-3 : tie.Need-same-length-3
@@ -125,7 +118,7 @@ returns-4 c =
     let w = c .before .before in
     let k = w .before .before .before in
     let p = k .before .before in
-    let a = p .before .before .before .args in
+    let a = p .before .before .before .before .before .args in
     subst (Wrote (a .out .now) (a .o) (w .put-map .last .0) (w .put-map .result)) (sym (shown p _ (k .head3 .given .1) .text)) (w .put-map .ensures)
 
 same-length-4 : tie.Need-same-length-4
@@ -137,26 +130,19 @@ returns-5 c =
     let w = c .before .before in
     let k = w .before .before .before in
     let p = k .before .before in
-    let a = p .before .before .before .args in
+    let a = p .before .before .before .before .before .args in
     subst (Wrote (a .out .now) (a .o) (w .put-map2 .last .0) (w .put-map2 .result)) (sym (shown p _ (k .head4 .given .1) .text)) (w .put-map2 .ensures)
 
-same-length-5 : tie.Need-same-length-5
-same-length-5 c = search needs
-
 returns-6 : tie.Need-returns-6
-unfolding headText
-returns-6 c =
-    let w = c .before .before in
-    let k = w .before .before .before in
-    let p = k .before .before in
-    let a = p .before .before .before .args in
-    subst (Wrote (a .out .now) (a .o) (w .put-comment .last .0) (w .put-comment .result)) (sym (shown p _ (k .head5 .given .1) .text)) (w .put-comment .ensures)
+unfolding Holds
+returns-6 c = absurd (shown (c .before .before) _ (c .enum-told2 .given .1) .holds)
 
 pub put-parts-spec : {M : Type 1} → statement M
 put-parts-spec =
     tie.close
     (tie.spec
-    find-head-requires
+    find-keys-requires
+    head-of-requires
     enum-told
     enum-known-head
     put-header-requires
@@ -166,8 +152,7 @@ put-parts-spec =
     put-map-requires
     enum-known-head-4
     put-map-requires-2
-    enum-known-head-5
-    put-comment-requires
+    enum-told-2
     returns
     same-length
     returns-2
@@ -177,5 +162,4 @@ put-parts-spec =
     returns-4
     same-length-4
     returns-5
-    same-length-5
     returns-6)

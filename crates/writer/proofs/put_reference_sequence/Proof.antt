@@ -27,27 +27,27 @@ sub-from : tie.Need-sub-from
 sub-from c = search needs
 
 put-prefix-requires : tie.Need-put-prefix-requires
-put-prefix-requires c κs = let s = c .before .before .before .before in omega (arith, s .pre, sizes s)
+put-prefix-requires c κs = let s = c .before .before .before .before .before in omega (arith, s .pre, sizes s)
 
 put-field-requires : tie.Need-put-field-requires
-put-field-requires c κs = let s = c .before .before .before .before .before .before .before .before in (s .pre .1 .1 .0 .within, omega (arith, s .pre, sizes s))
+put-field-requires c κs = let s = c .before .before .before .before .before .before .before .before .before in (s .pre .1 .1 .0 .within, omega (arith, s .pre, sizes s))
 
 put-tag-requires : tie.Need-put-tag-requires
 unfolding fieldText placeText
 put-tag-requires c κs =
-    let s = c .before .before .before .before .before .before .before .before .before .before .before .before in
+    let s = c .before .before .before .before .before .before .before .before .before .before .before .before .before in
     omega (arith, s .pre, sizes s)
 
 write-u64-requires : tie.Need-write-u64-requires
 unfolding fieldText placeText
 write-u64-requires c κs =
-    let s = c .before .before .before .before .before .before .before .before .before .before .before .before .before .before .before .before in
+    let s = c .before .before .before .before .before .before .before .before .before .before .before .before .before .before .before .before .before in
     omega (arith, s .pre, sizes s)
 
 put-rest-requires : tie.Need-put-rest-requires
 unfolding fieldText placeText
 put-rest-requires c κs =
-    let s = c .before .before .before .before .before .before .before .before .before .before .before .before .before .before .before .before .before .before .before .before in
+    let s = c .before .before .before .before .before .before .before .before .before .before .before .before .before .before .before .before .before .before .before .before .before in
     (s .pre .0, (s .pre .1 .0, omega (arith, s .pre, sizes s)))
 
 same-length : tie.Need-same-length
@@ -61,7 +61,7 @@ returns c =
     let tag = number .before .before .before .before in
     let field = tag .before .before .before .before in
     let prefix = field .before .before .before .before in
-    let s = prefix .before .before .before .before .before in
+    let s = prefix .before .before .before .before .before .before in
     let a = s .args in
     let name = fieldText 83 78 (placeText (a .at) (a .line .now) (a .name)) in
     let ln = fieldText 76 78 (written (a .ln)) in

@@ -24,7 +24,7 @@ same-length c = search needs
 returns : tie.Need-returns
 returns c =
     let first = c .before .before in
-    let a = first .before .before .before .before .args in
+    let a = first .before .before .before .before .before .args in
     wrote-then (a .out .now) (a .o) _ _ _ _ (othersText (a .kind) (a .at) (a .line .now)) (10 ∷ []) (first .put-other-fields .ensures)
     (refl, wrote-one (first .put-other-fields .last .0) (first .put-other-fields .result) 10 (omega arith))
     (omega (arith, length-append (othersText (a .kind) (a .at) (a .line .now)) (10 ∷ [])))

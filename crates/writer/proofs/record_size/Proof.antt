@@ -1,72 +1,89 @@
--- `writer::record_size` meets its contract: what the head tells is what the line's record has, and a line that is its record has one byte more.
+-- `writer::record_size` meets its contract: a line that is accepted is accepted where repeated tags are allowed too, as the same record.
 use Prim.Native.Nat.{_+_}
 use mathlib.Core.Path.{_≡_, refl, sym, ap, _∙_}
-use mathlib.Core.List.{[], _∷_, _++_}
+use mathlib.Core.Bool.{true, false}
+use mathlib.Core.List.{[], _∷_}
 use native.Mathlib.Omega.{arith}
-use lib.ListN.{length, length-append}
-use Rattle.format.specs.Records.{line}
-use Rattle.heads.proofs.Finds.{three}
+use lib.ListN.{length, getD, length-append}
+use borrow.Author.Needs.{needs}
+use Rattle.format.specs.Records.{Line, line}
+use Rattle.accepted.specs.Read.{isRead}
+use Rattle.walk.proofs.Start.{once-start}
+use Rattle.heads.specs.Found.{kindBy, isComment}
+use Rattle.heads.proofs.Lax.{line-lax, read-lax}
+use Rattle.heads.proofs.Finds.{comment-is, three, fielded}
 use Rattle.writer.specs.Line.{lineText, lineWritable, sizeOf}
 use Rattle.writer.specs.declared.Size.the-variants.{Is}
-use Rattle.writer.proofs.Heads.{Told, told}
-use Rattle.writer.proofs.Whole.{whole-text}
-use borrow.Author.Needs.{needs}
+use Rattle.writer.proofs.Whole.{comment-text}
 use Rattle.writer.proofs.record_size.Statement.{statement}
 use Rattle.writer.proofs.record_size.Tie as tie
 
-shown : (c : tie.After-find-head) → (let a = c .before .before .args in Told (a .strict) (a .at) (a .src .now) (c .find-head .result))
-shown c = let s = c .before .before in told (s .args .strict) (s .args .at) (s .args .src .now) (s .pre .0) (c .find-head .result) (c .find-head .result) (c .find-head .ensures) refl
+-- where repeated tags are allowed
+read : (s : tie.Start) → (let a = s .args in isRead (line false (record { at = a .at; bytes = a .src .now })) ≡ true)
+read s = read-lax (s .args .strict) (record { at = s .args .at; bytes = s .args .src .now }) (s .pre .0)
 
--- the flag is the line's
-flag : (c : tie.After-is-head-writable) → (let a = c .before .before .before .args in c .is-head-writable .result ≡ lineWritable (line (a .strict) (record { at = a .at; bytes = a .src .now })))
-flag c = c .is-head-writable .ensures ∙ sym (shown (c .before) .writable)
+same : (s : tie.Start) → (let a = s .args in line (a .strict) (record { at = a .at; bytes = a .src .now }) ≡ line false (record { at = a .at; bytes = a .src .now }))
+same s = line-lax (s .args .strict) (record { at = s .args .at; bytes = s .args .src .now }) (s .pre .0)
 
-find-head-requires : tie.Need-find-head-requires
-find-head-requires c κs = search needs
+-- the kind is the line's
+fieldless : (c : tie.Else1) → (let a = c .before .before .before .before .args in isComment (kindBy (getD (a .src .now) 1 0)) ≡ false)
+fieldless c = let k = c .before in ap isComment (sym (k .before .kind-of .ensures)) ∙ sym (k .is-comment .ensures) ∙ c .if1 .left
 
-is-head-writable-requires : tie.Need-is-head-writable-requires
-is-head-writable-requires c κs = shown c .holds
+kind-of-requires : tie.Need-kind-of-requires
+kind-of-requires c κs = let s = c .before in three (s .args .strict) (s .args .at) (s .args .src .now) (s .pre .0)
 
-is-whole-requires : tie.Need-is-whole-requires
-is-whole-requires c κs = let s = c .before .before .before .before in three (s .args .strict) (s .args .at) (s .args .src .now) (s .pre .0)
+is-comment-requires : tie.Need-is-comment-requires
+is-comment-requires c κs = search needs
 
-add-t8 : tie.Need-add-t8
-add-t8 c = search needs
+add-t7 : tie.Need-add-t7
+add-t7 c = search needs
 
 returns : tie.Need-returns
 unfolding sizeOf
 returns c =
-    let w = c .before in
-    let t = w .before in
-    let f = t .before in
-    let s = f .before .before .before in
+    let k = c .before in
+    let s = k .before .before .before in
     let a = s .args in
-    let e = whole-text (a .strict) (a .at) (a .src .now) (s .pre .0) (sym (w .is-whole .ensures) ∙ c .if2 .taken) in
-    rw (sym (flag f) ∙ t .if1 .taken) (ap Is (omega (arith, ap length e, length-append (a .src .now) (10 ∷ []))))
+    let w = comment-text (a .at) (a .src .now) (read s) (sym (k .before .kind-of .ensures) ∙ comment-is (k .before .kind-of .result) (sym (k .is-comment .ensures) ∙ c .if1 .taken)) in
+    rw (same s, w .1) (ap Is (omega (arith, ap length (w .0), length-append (a .src .now) (10 ∷ []))))
 
-head-len-requires : tie.Need-head-len-requires
-head-len-requires c κs = let p = c .before .before .before .before in (shown p .holds, p .before .before .pre .1)
+is-once-requires : tie.Need-is-once-requires
+is-once-requires c κs =
+    let s = c .before .before .before .before in
+    (fielded (s .args .strict) (s .args .at) (s .args .src .now) (s .pre .0) (fieldless c) .0, omega (arith, s .pre .1))
+
+once-size-requires : tie.Need-once-size-requires
+once-size-requires c κs =
+    let e = c .before .before in
+    let k = e .before in
+    let s = k .before .before .before in
+    let a = s .args in
+    let h = fielded (a .strict) (a .at) (a .src .now) (s .pre .0) (fieldless e) .0 in
+    (read s, ((sym (k .before .kind-of .ensures), sym (k .is-comment .ensures) ∙ e .if1 .left), (once-start (a .strict) (a .at) (a .src .now) h (sym (c .before .is-once .ensures) ∙ c .if2 .taken), s .pre .1)))
 
 returns-2 : tie.Need-returns-2
-unfolding sizeOf
-returns-2 c =
-    let t = c .before .before .before in
-    let w = t .before in
-    rw (sym (flag w) ∙ t .if1 .taken) (ap Is (c .head-len .ensures ∙ ap length (sym (shown (w .before) .text))))
+returns-2 c = c .once-size .ensures ∙ ap sizeOf (sym (same (c .before .before .before .before .before .before .before)))
+
+noted-size-requires : tie.Need-noted-size-requires
+noted-size-requires c κs =
+    let e = c .before .before in
+    let k = e .before in
+    let s = k .before .before .before in
+    (read s, ((sym (k .before .kind-of .ensures), sym (k .is-comment .ensures) ∙ e .if1 .left), s .pre .1))
 
 returns-3 : tie.Need-returns-3
-unfolding sizeOf
-returns-3 c = let w = c .before in rw (sym (flag w) ∙ c .if1 .left) refl
+returns-3 c = c .noted-size .ensures ∙ ap sizeOf (sym (same (c .before .before .before .before .before .before .before)))
 
 pub record-size-spec : {M : Type 1} → statement M
 record-size-spec =
     tie.close
     (tie.spec
-    find-head-requires
-    is-head-writable-requires
-    is-whole-requires
-    add-t8
+    kind-of-requires
+    is-comment-requires
+    add-t7
     returns
-    head-len-requires
+    is-once-requires
+    once-size-requires
     returns-2
+    noted-size-requires
     returns-3)
