@@ -12,7 +12,7 @@ use Rattle.text.specs.Stands.{Each}
 use Rattle.text.specs.Little.{ofLittle}
 use Rattle.entries.specs.declared.Entry.{Entry}
 use Rattle.entries.specs.declared.Entry.the-variants.{End, Header, ReferenceSequence, ReadGroup, Program, Comment, Field}
-use Rattle.entries.specs.Entries.{kindOf, kindSize, sizeOf, versionOf, placeOf, bodied, entryOf, bytesOf, Fits, entriesWithin, entriesIn}
+use Rattle.entries.specs.Entries.{kindOf, kindSize, sizeOf, versionOf, placeOf, bodied, entryOf, bytesOf, Fits, entriesWithin, entriesIn, counted, entriesBefore}
 use Rattle.entries.proofs.Written.{fit-size, end-size, first-entry, other-entries, no-entry}
 
 -- ---- an entry is within its bytes
@@ -35,6 +35,25 @@ body-size k s = go (eqb k 1) (eqb k 2) (eqb k 3) (eqb k 4) (eqb k 5) (eqb k 6)
     go false false false false true y = refl
     go false false false false false true = refl
     go false false false false false false = refl
+
+-- what has no size is no entry
+pub size-end : (e : Entry) → sizeOf e ≡ 0 → e ≡ End
+unfolding sizeOf kindOf kindSize
+size-end End h = refl
+size-end (Header v) h = absurd (omega arith)
+size-end (ReferenceSequence p n) h = absurd (omega arith)
+size-end (ReadGroup p) h = absurd (omega arith)
+size-end (Program p) h = absurd (omega arith)
+size-end (Comment p) h = absurd (omega arith)
+size-end (Field a b p) h = absurd (omega arith)
+
+-- the six kinds that there are
+pub no-kind : (k : ℕ) → (k ≡ 1 → ⊥) → (k ≡ 2 → ⊥) → (k ≡ 3 → ⊥) → (k ≡ 4 → ⊥) → (k ≡ 5 → ⊥) → (k ≡ 6 → ⊥) → kindSize k ≡ 0
+unfolding kindSize
+no-kind k a b c d e f = simp (ne-eqb k 1 a, ne-eqb k 2 b, ne-eqb k 3 c, ne-eqb k 4 d, ne-eqb k 5 e, ne-eqb k 6 f)
+
+pub no-body : (k : ℕ) (s : List ℕ) → kindSize k ≡ 0 → bodied k s ≡ End
+no-body k s h = size-end (bodied k s) (body-size k s ∙ h)
 
 pub size-within : (s : List ℕ) → sizeOf (entryOf s) ≤ length s
 unfolding entryOf sizeOf kindOf kindSize
@@ -124,3 +143,44 @@ entries-back (e ∷ es) h =
     let r : entryOf s ≡ e = first-entry e es (h .0) in
     let z : sizeOf (entryOf s) ≡ 0 → ⊥ = λ q. omega (arith, fit-size e (h .0), ap sizeOf r) in
     entries-more s z ∙ rw (r, other-entries e es, entries-back es (h .1)) refl
+
+-- ---- some before one of a kind
+
+-- where there are not so many of a kind, all are before
+pub before-all : (k i : ℕ) (es : List Entry) → counted k es ≤ i → entriesBefore k i es ≡ es
+unfolding counted entriesBefore
+before-all k i [] h = refl
+before-all k zero (e ∷ es) h = go (eqb (kindOf e) k) h (before-all k zero es)
+  where
+    go : (b : Bool) → cond b (suc (counted k es)) (counted k es) ≤ 0 → (counted k es ≤ 0 → entriesBefore k 0 es ≡ es) → cond b [] (e ∷ entriesBefore k 0 es) ≡ e ∷ es
+    go true h ih = absurd (omega arith)
+    go false h ih = ap (λ es. e ∷ es) (ih h)
+before-all k (suc i) (e ∷ es) h = ap (λ es. e ∷ es) (go (eqb (kindOf e) k) h (before-all k i es) (before-all k (suc i) es))
+  where
+    go : (b : Bool) → cond b (suc (counted k es)) (counted k es) ≤ suc i → (counted k es ≤ i → entriesBefore k i es ≡ es) → (counted k es ≤ suc i → entriesBefore k (suc i) es ≡ es)
+        → cond b (entriesBefore k i es) (entriesBefore k (suc i) es) ≡ es
+    go true h ih jh = ih (omega arith)
+    go false h ih jh = jh h
+
+counted-length : (k : ℕ) (es : List Entry) → counted k es ≤ length es
+unfolding counted
+counted-length k [] = omega arith
+counted-length k (e ∷ es) = go (eqb (kindOf e) k) (counted-length k es)
+  where
+    go : (b : Bool) → counted k es ≤ length es → cond b (suc (counted k es)) (counted k es) ≤ length (e ∷ es)
+    go true ih = omega arith
+    go false ih = omega arith
+
+within-length : (f : ℕ) (s : List ℕ) → length (entriesWithin f s) ≤ f
+unfolding entriesWithin
+within-length zero s = omega arith
+within-length (suc f) s = go (eqb (sizeOf (entryOf s)) 0) (within-length f (behind s))
+  where
+    go : (b : Bool) → length (entriesWithin f (behind s)) ≤ f → length (cond b [] (entryOf s ∷ entriesWithin f (behind s))) ≤ suc f
+    go true ih = omega arith
+    go false ih = omega arith
+
+-- no more than the catalogue has bytes
+pub counted-within : (k : ℕ) (s : List ℕ) → counted k (entriesIn s) ≤ length s
+unfolding entriesIn
+counted-within k s = omega (arith, counted-length k (entriesWithin (length s) s), within-length (length s) s)

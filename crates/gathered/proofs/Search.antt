@@ -1,23 +1,21 @@
 -- The laws of the search for a program: the IDs stand one after another, and what is still ahead decides.
 use Prim.Native.Nat.{ℕ, zero, suc, _+_, _-_, _≤_, _<_}
 use mathlib.Core.Path.{_≡_, refl, sym, ap, ap₂, _∙_}
-use mathlib.Core.Bool.{Bool, true, false, cond}
-use mathlib.Core.List.{List, [], _∷_}
+use mathlib.Core.Bool.{Bool, true, false, _&&_, cond, and-true, and-false}
+use mathlib.Core.List.{List, [], _∷_, _++_}
 use mathlib.Core.Option.{none, some}
 use native.Mathlib.Omega.{arith}
 use native.Mathlib.Numerals.{add-one}
 use lib.ListN.{length, take, drop, getD, length-drop, length-map, drop-of-length-le}
-use lib.Seq.{length-take-le, getD-take, getD-drop, drop-cons}
+use lib.Seq.{length-take-le, take-length, take-take, take-suc, getD-take, getD-drop, drop-cons}
 use lib.Dec.{eqb}
-use borrow.Author.Tests.{eqb-true, eq-eqb, ne-eqb}
+use borrow.Author.Tests.{eq-eqb, ne-eqb}
 use Rattle.format.specs.Bytes.{same}
 use Rattle.text.proofs.Equal.{same-other}
-use Rattle.text.proofs.Compared.{part}
-use Rattle.accepted.proofs.Bools.{never, and-left}
 use Rattle.accepted.proofs.Pairs.{each-at}
 use Rattle.chains.proofs.Walks.{map-at}
 use Rattle.entries.specs.declared.Place.{Place}
-use Rattle.gathered.specs.Gathered.{Inside, bytesAt, nowhere, placesOf, idsAt, Placed, endsAlike}
+use Rattle.gathered.specs.Gathered.{Inside, bytesAt, nowhere, placesOf, idsAt, Placed}
 use Rattle.gathered.specs.Parents.{ordinalIn}
 
 -- ---- places by numbers
@@ -53,44 +51,55 @@ module _ (t ats lens : List ℕ) (p : Placed t ats lens) where
         let l : k < length (placesOf ats lens) = omega (arith, places-length ats lens (p .even)) in
         map-at (bytesAt t) (placesOf ats lens) k nowhere [] l ∙ ap (bytesAt t) (places-at ats lens k nowhere (p .even) h)
 
--- ---- the last byte before the others
+-- ---- two keys, from the last byte on
 
-alike-self : (s : List ℕ) → endsAlike s s ≡ true
-unfolding endsAlike
-alike-self s = rw (eq-eqb (length s) (length s) refl) (eq-eqb (getD s (length s - 1) 0) (getD s (length s - 1) 0) refl)
+same-snoc : (s u : List ℕ) (a b : ℕ) → length s ≡ length u → same (s ++ (a ∷ [])) (u ++ (b ∷ [])) ≡ (same s u && eqb a b)
+unfolding same
+same-snoc [] [] a b h = and-true (eqb a b)
+same-snoc [] (y ∷ u) a b h = absurd (omega arith)
+same-snoc (x ∷ s) [] a b h = absurd (omega arith)
+same-snoc (x ∷ s) (y ∷ u) a b h = go (eqb x y) (same-snoc s u a b (omega arith))
+  where
+    go : (t : Bool) → same (s ++ (a ∷ [])) (u ++ (b ∷ [])) ≡ (same s u && eqb a b) → (t && same (s ++ (a ∷ [])) (u ++ (b ∷ []))) ≡ ((t && same s u) && eqb a b)
+    go true ih = ih
+    go false ih = refl
 
-pub alike-other : (id s : List ℕ) → endsAlike id s ≡ false → same id s ≡ false
-alike-other id s e = same-other id s (λ q. never (let z : endsAlike s s ≡ false = ap (λ x. endsAlike x s) (sym q) ∙ e in cc (alike-self s)))
+-- as many bytes of `t` from `start` on as `id` has
+abbrev part : List ℕ → List ℕ → ℕ → List ℕ
+part t id start = take (length id) (drop start t)
 
-pub alike-length : (id s : List ℕ) → endsAlike id s ≡ true → length s ≡ length id
-unfolding endsAlike
-alike-length id s e = eqb-true (length s) (length id) (and-left (eqb (length s) (length id)) (eqb (getD s (length s - 1) 0) (getD id (length id - 1) 0)) e)
+-- the first `i` of them decide whether they are `id`
+abbrev pub Front : List ℕ → List ℕ → ℕ → ℕ → Type 0
+Front t id start i = (i ≤ length id) × (same id (part t id start) ≡ same (take i id) (take i (part t id start)))
 
-empty : (s : List ℕ) → length s ≡ 0 → s ≡ []
-empty [] h = refl
-empty (b ∷ s) h = absurd (omega arith)
+pub front-all : (t id : List ℕ) (start : ℕ) → Front t id start (length id)
+front-all t id start = (omega arith, ap₂ same (sym (take-length id)) (sym (take-take (length id) (length id) (drop start t) (omega arith))))
 
--- the bytes at a place of the text: the last one stands before the place's end
-abbrev there : List ℕ → ℕ → ℕ → List ℕ
-there t start len = take len (drop start t)
+module _ (t id : List ℕ) (start : ℕ) (h : start + length id ≤ length t) (i : ℕ) (f : Front t id start i) where
+  pub front-none : i ≡ 0 → same id (part t id start) ≡ true
+  unfolding same
+  front-none z = f .1 ∙ ap (λ n. same (take n id) (take n (part t id start))) z
 
-module _ (t id : List ℕ) (start len : ℕ) (h : start + len ≤ length t) where
-  there-length : length (there t start len) ≡ len
-  there-length = length-take-le len (drop start t) (omega (arith, length-drop start t))
+  -- the byte before the `i`th
+  module _ (z : i ≡ 0 → ⊥) where
+    step : same id (part t id start) ≡ (same (take (i - 1) id) (take (i - 1) (part t id start)) && eqb (getD id (i - 1) 0) (getD t (start + (i - 1)) 0))
+    step =
+        let l : length (part t id start) ≡ length id = length-take-le (length id) (drop start t) (omega (arith, length-drop start t)) in
+        let n : i ≡ suc (i - 1) = omega (arith, z) in
+        let p : i - 1 < length id = omega (arith, z) in
+        let q : i - 1 < length (part t id start) = omega arith in
+        let a : length (take (i - 1) id) ≡ length (take (i - 1) (part t id start)) = length-take-le (i - 1) id (omega arith) ∙ sym (length-take-le (i - 1) (part t id start) (omega arith)) in
+        f .1
+        ∙ ap (λ n. same (take n id) (take n (part t id start))) n
+        ∙ ap₂ same (take-suc id (i - 1) 0 p) (take-suc (part t id start) (i - 1) 0 q)
+        ∙ same-snoc (take (i - 1) id) (take (i - 1) (part t id start)) (getD id (i - 1) 0) (getD (part t id start) (i - 1) 0) a
+        ∙ ap (λ b. same (take (i - 1) id) (take (i - 1) (part t id start)) && eqb (getD id (i - 1) 0) b) (getD-take (length id) (drop start t) (i - 1) 0 p ∙ getD-drop start t (i - 1) 0)
 
-  pub alike-lengths : (len ≡ length id → ⊥) → endsAlike id (there t start len) ≡ false
-  unfolding endsAlike
-  alike-lengths n = rw (there-length, ne-eqb len (length id) n) refl
+    pub front-other : (getD t (start + (i - 1)) 0 ≡ getD id (i - 1) 0 → ⊥) → same id (part t id start) ≡ false
+    front-other n = step ∙ rw (ne-eqb (getD id (i - 1) 0) (getD t (start + (i - 1)) 0) (λ e. n (sym e))) (and-false (same (take (i - 1) id) (take (i - 1) (part t id start))))
 
-  pub alike-none : len ≡ length id → len ≡ 0 → endsAlike id (there t start len) ≡ true
-  alike-none e z = ap₂ endsAlike (empty id (sym e ∙ z)) (empty (there t start len) (there-length ∙ z)) ∙ alike-self []
-
-  pub alike-last : len ≡ length id → 0 < len → endsAlike id (there t start len) ≡ eqb (getD t (start + len - 1) 0) (getD id (len - 1) 0)
-  unfolding endsAlike
-  alike-last e z =
-      let l : len - 1 < len = omega arith in
-      let n : start + (len - 1) ≡ start + len - 1 = omega arith in
-      rw (there-length, ← e, eq-eqb len len refl, getD-take len (drop start t) (len - 1) 0 l, getD-drop start t (len - 1) 0, n) refl
+    pub front-on : getD t (start + (i - 1)) 0 ≡ getD id (i - 1) 0 → Front t id start (i - 1)
+    front-on e = (omega arith, step ∙ rw (eq-eqb (getD id (i - 1) 0) (getD t (start + (i - 1)) 0) (sym e)) (and-true (same (take (i - 1) id) (take (i - 1) (part t id start)))))
 
 -- ---- one after another
 
@@ -126,19 +135,22 @@ module _ (t ats lens id : List ℕ) (p : Placed t ats lens) (k : ℕ) (h : k < l
   within : k < length (idsAt t ats lens)
   within = omega (arith, ids-length t ats lens p)
 
-  pub turn-other : endsAlike id (there t start len) ≡ false → Ahead id (idsAt t ats lens) (k + 1)
-  turn-other e = ahead-on id (idsAt t ats lens) k a within (ap (same id) (ids-at t ats lens p k h) ∙ alike-other id (there t start len) e)
+  there-length : length (take len (drop start t)) ≡ len
+  there-length = length-take-le len (drop start t) (omega (arith, length-drop start t, placed-inside t ats lens p k h))
 
-  -- they end alike
-  module _ (e : endsAlike id (there t start len) ≡ true) where
-    lengths : len ≡ length id
-    lengths = sym (there-length t id start len (placed-inside t ats lens p k h)) ∙ alike-length id (there t start len) e
+  -- the ID there has another length
+  pub turn-other : (len ≡ length id → ⊥) → Ahead id (idsAt t ats lens) (k + 1)
+  turn-other n =
+      ahead-on id (idsAt t ats lens) k a within
+      (ap (same id) (ids-at t ats lens p k h) ∙ same-other id (take len (drop start t)) (λ e. n (sym (ap length e ∙ there-length))))
 
+  -- it is as long
+  module _ (e : len ≡ length id) where
     pub turn-fits : start + length id ≤ length t
-    turn-fits = omega (arith, lengths, placed-inside t ats lens p k h)
+    turn-fits = omega (arith, e, placed-inside t ats lens p k h)
 
     bytes : (b : Bool) → same id (part t id start) ≡ b → same id (getD (idsAt t ats lens) k []) ≡ b
-    bytes b q = ap (same id) (ids-at t ats lens p k h) ∙ ap (λ n. same id (take n (drop start t))) lengths ∙ q
+    bytes b q = ap (same id) (ids-at t ats lens p k h) ∙ ap (λ n. same id (take n (drop start t))) e ∙ q
 
     pub turn-here : same id (part t id start) ≡ true → ordinalIn id 0 (idsAt t ats lens) ≡ some k
     turn-here q = ahead-here id (idsAt t ats lens) k a within (bytes true q)

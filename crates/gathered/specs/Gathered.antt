@@ -85,7 +85,3 @@ pub record Placed (t ats lens : List ℕ) : Type 0 where
 -- a PP that is there is within `n` bytes
 abbrev pub Somewhere : ℕ → Place → Type 0
 Somewhere n p = (p .at ≡ 4294967295 → ⊥) → Inside n p
-
--- as long, and with the same last byte
-unfoldable pub endsAlike : List ℕ → List ℕ → Bool
-endsAlike id s = eqb (length s) (length id) && eqb (getD s (length s - 1) 0) (getD id (length id - 1) 0)

@@ -7,7 +7,7 @@ use lookup::Found;
 ghost use mathlib.Core.Path.{_≡_};
 ghost use mathlib.Core.Bool.{true};
 ghost use mathlib.Core.List.{[]};
-ghost use Prim.Native.Nat.{_≤_, _+_};
+ghost use Prim.Native.Nat.{_≤_};
 ghost use lib.ListN.{length, take, drop};
 ghost use Rattle.format.specs.Reading.{readText};
 ghost use Rattle.format.specs.Catalogue.{catalogue};
@@ -15,7 +15,7 @@ ghost use Rattle.format.specs.Programs.{programs, links};
 ghost use Rattle.accepted.specs.Read.{isAccepted, recordsOf};
 ghost use Rattle.entries.specs.Entries.{entriesIn, counted};
 ghost use Rattle.lookup.specs.Lookup.{valueIn};
-ghost use Rattle.gathered.specs.Gathered.{orNowhere, notedIn, gatheredOf, idsAt, Placed, Somewhere, endsAlike};
+ghost use Rattle.gathered.specs.Gathered.{orNowhere, notedIn, gatheredOf, idsAt, Placed, Somewhere};
 ghost use Rattle.gathered.specs.Parents.{ordinalIn, namedOf, parentOf, parentsOf, ordinalsOf, graphOf};
 
 // The offset of a PP that is not there: no place of a text is so far.
@@ -91,21 +91,7 @@ pub enum Named {
     Is(ProgramNo),
 }
 
-// Whether the bytes at a place are as many as an ID has, and the last ones are equal: long IDs often begin alike.
-fn ends_alike(text: &[u8], start: usize, len: usize, id: &[u8]) -> bool
-    requires { ⌜ start + len ≤ length (now text) ⌝ }
-    ensures { λ r. ⌜ r ≡ endsAlike (now (id .entry)) (take len (drop start (now (text .entry)))) ⌝ }
-{
-    if len != id.len() {
-        return false;
-    }
-    if len == 0 {
-        return true;
-    }
-    text[start + len - 1] == id[len - 1]
-}
-
-// The program whose ID is `id`: the search stops at the first.
+// The program whose ID is `id`: the search stops at the first. Bytes are compared from the last one on: long IDs often begin alike.
 pub fn find_program(text: &[u8], ats: &[u32], lens: &[u32], id: &[u8]) -> Named
     requires { ⌜ Placed (now text) (now ats) (now lens) ⌝ }
     ensures { λ r. ⌜ r ≡ namedOf (ordinalIn (now (id .entry)) 0 (idsAt (now (text .entry)) (now (ats .entry)) (now (lens .entry)))) ⌝ }
@@ -115,17 +101,17 @@ pub fn find_program(text: &[u8], ats: &[u32], lens: &[u32], id: &[u8]) -> Named
         if k == ats.len() {
             break 'search Named::Nobody;
         }
-        let start = ats[k] as usize;
-        if ends_alike(text, start, lens[k] as usize, id) {
-            let mut i: usize = 0;
+        if lens[k] as usize == id.len() {
+            let start = ats[k] as usize;
+            let mut i: usize = id.len();
             loop {
-                if i == id.len() {
+                if i == 0 {
                     break 'search Named::Is(ProgramNo(k as u32));
                 }
+                i -= 1;
                 if text[start + i] != id[i] {
                     break;
                 }
-                i += 1;
             }
         }
         k += 1;

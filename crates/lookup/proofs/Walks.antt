@@ -10,22 +10,11 @@ use lib.Seq.{drop-drop}
 use lib.Dec.{eqb}
 use borrow.Author.Tests.{eqb-true, eqb-false}
 use Rattle.entries.specs.declared.Entry.{Entry}
-use Rattle.entries.specs.declared.Entry.the-variants.{End, Header, ReferenceSequence, ReadGroup, Program, Comment, Field}
+use Rattle.entries.specs.declared.Entry.the-variants.{End}
 use Rattle.entries.specs.Entries.{kindOf, kindSize, sizeOf, entryOf, entriesIn, entriesBefore, sizes}
-use Rattle.entries.proofs.Walk.{size-within, entries-none, entries-more}
+use Rattle.entries.proofs.Walk.{size-end, size-within, entries-none, entries-more}
 use Rattle.entries.proofs.Written.{end-size}
 use Rattle.lookup.specs.Lookup.{entriesFrom, front}
-
--- what has no size is no entry
-size-end : (e : Entry) → sizeOf e ≡ 0 → e ≡ End
-unfolding sizeOf kindOf kindSize
-size-end End h = refl
-size-end (Header v) h = absurd (omega arith)
-size-end (ReferenceSequence p n) h = absurd (omega arith)
-size-end (ReadGroup p) h = absurd (omega arith)
-size-end (Program p) h = absurd (omega arith)
-size-end (Comment p) h = absurd (omega arith)
-size-end (Field a b p) h = absurd (omega arith)
 
 -- the bytes end there, or an entry stands there
 pub walk-cases : {C : Type 0} (s : List ℕ) → (entryOf s ≡ End → entriesIn s ≡ [] → C) → ((sizeOf (entryOf s) ≡ 0 → ⊥) → entriesIn s ≡ entryOf s ∷ entriesIn (drop (sizeOf (entryOf s)) s) → C) → C

@@ -3,13 +3,13 @@ use Prim.Native.Nat.{ℕ, _+_}
 use mathlib.Core.Path.{_≡_, refl, sym, ap, _∙_}
 use native.Mathlib.Omega.{arith}
 use borrow.Author.Needs.{needs}
-use borrow.Author.Tests.{ne-eqb}
 use mathlib.Core.List.{List}
 use lib.ListN.{take, drop, getD}
 use lib.Seq.{drop-drop, getD-drop}
 use Rattle.entries.specs.declared.Entry.the-variants.{Header, ReferenceSequence, ReadGroup, Program, Comment, Field}
 use Rattle.entries.specs.Entries.{kindSize, placeOf, bodied}
 use Rattle.text.specs.Little.{ofLittle}
+use Rattle.entries.proofs.Walk.{no-kind, no-body}
 use Rattle.entries.proofs.body_at.Statement.{statement}
 use Rattle.entries.proofs.body_at.Tie as tie
 
@@ -126,17 +126,7 @@ returns-6 c =
     cc (field (a .at) (a .s .now), c .place-at5 .ensures, c .before .before .before .match .keys6)
 
 returns-7 : tie.Need-returns-7
-unfolding bodied
-returns-7 c =
-    let r = c .match .rest in
-    simp (
-      ne-eqb _ _ (r .0 .0 .0 .0 .0 .1),
-      ne-eqb _ _ (r .0 .0 .0 .0 .1),
-      ne-eqb _ _ (r .0 .0 .0 .1),
-      ne-eqb _ _ (r .0 .0 .1),
-      ne-eqb _ _ (r .0 .1),
-      ne-eqb _ _ (r .1),
-    )
+returns-7 c = let r = c .match .rest in sym (no-body _ _ (no-kind _ (r .0 .0 .0 .0 .0 .1) (r .0 .0 .0 .0 .1) (r .0 .0 .0 .1) (r .0 .0 .1) (r .0 .1) (r .1)))
 
 pub body-at-spec : {M : Type 1} → statement M
 body-at-spec =

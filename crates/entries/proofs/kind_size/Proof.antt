@@ -1,7 +1,7 @@
 -- `entries::kind_size` meets its contract: one arm for each kind.
 use mathlib.Core.Path.{sym, ap}
-use borrow.Author.Tests.{ne-eqb}
 use Rattle.entries.specs.Entries.{kindSize}
+use Rattle.entries.proofs.Walk.{no-kind}
 use Rattle.entries.proofs.kind_size.Statement.{statement}
 use Rattle.entries.proofs.kind_size.Tie as tie
 
@@ -30,17 +30,7 @@ unfolding kindSize
 returns-6 c = sym (ap kindSize (c .match .keys6))
 
 returns-7 : tie.Need-returns-7
-unfolding kindSize
-returns-7 c =
-    let r = c .match .rest in
-    simp (
-      ne-eqb _ _ (r .0 .0 .0 .0 .0 .1),
-      ne-eqb _ _ (r .0 .0 .0 .0 .1),
-      ne-eqb _ _ (r .0 .0 .0 .1),
-      ne-eqb _ _ (r .0 .0 .1),
-      ne-eqb _ _ (r .0 .1),
-      ne-eqb _ _ (r .1),
-    )
+returns-7 c = let r = c .match .rest in sym (no-kind _ (r .0 .0 .0 .0 .0 .1) (r .0 .0 .0 .0 .1) (r .0 .0 .0 .1) (r .0 .0 .1) (r .0 .1) (r .1))
 
 pub kind-size-spec : {M : Type 1} → statement M
 kind-size-spec = tie.close (tie.spec returns returns-2 returns-3 returns-4 returns-5 returns-6 returns-7)
