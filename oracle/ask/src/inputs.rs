@@ -1,6 +1,6 @@
 //! Texts to ask about. Everything follows from a seed.
 
-use std::fmt::Write;
+use std::{collections::HashSet, fmt::Write};
 
 use crate::{LONGEST, PROGRAMS, spans};
 
@@ -56,7 +56,7 @@ impl Rng {
         &items[self.below(items.len())]
     }
 
-    fn shuffle<T>(&mut self, items: &mut [T]) {
+    pub fn shuffle<T>(&mut self, items: &mut [T]) {
         for i in (1..items.len()).rev() {
             items.swap(i, self.below(i + 1));
         }
@@ -871,4 +871,91 @@ pub fn ended_otherwise(text: &[u8]) -> Option<(Vec<u8>, bool)> {
         None => [line, b"\r", rest].concat(),
     };
     (other.len() <= LONGEST).then_some((other, rest.len() > 1))
+}
+
+/// Names that all have one number in the index of SQ names: at each place one of two pairs of bytes that give the same sum.
+pub fn one_number(places: u32) -> impl Iterator<Item = String> {
+    (0..1 << places).map(move |i: u32| (0..places).map(|p| if i >> p & 1 == 0 { "Ab" } else { "BA" }).collect())
+}
+
+/// A header of SQ lines with different names, among them some with one number, and now and then another line; with hundreds of them
+/// where there shall be many.
+pub fn references(rng: &mut Rng, many: bool) -> Vec<u8> {
+    let n = if many { 100 + rng.below(900) } else { rng.below(20) };
+    let alike: Vec<String> = one_number(1 + rng.below(7) as u32).collect();
+    let (mut seen, mut lines, mut ids) = (HashSet::new(), Vec::new(), Vec::new());
+    let style = rng.below(4);
+    for i in 0..n {
+        if rng.one_in(12) {
+            let kind = 2 + rng.below(3);
+            lines.push(line(rng, kind, false, &mut ids));
+        }
+        let name = match style {
+            0 => format!("chr{i}").into_bytes(),
+            1 => rng.of(&alike).as_bytes().to_vec(),
+            _ => name(rng),
+        };
+        if seen.insert(name.clone()) {
+            lines.push([b"@SQ\tSN:", &name[..], b"\tLN:", &length(rng)].concat());
+        }
+    }
+    ended(rng, &lines)
+}
+
+/// A name that is nearly this one, or this one.
+fn near(rng: &mut Rng, name: &[u8]) -> Vec<u8> {
+    let mut o = name.to_vec();
+    let at = rng.below(o.len().max(1));
+    match rng.below(14) {
+        0 => o.truncate(at),
+        1 => o.push(rng.next() as u8),
+        2 => o = o.iter().map(|b| b ^ if b.is_ascii_alphabetic() { 32 } else { 0 }).collect(),
+        3 => o.push(b'\r'),
+        4 => o.insert(at, *rng.of(b"\r\t \x00")),
+        // Zero bytes in front leave the number as it is, and so does one more at a place and 33 less behind it.
+        5 => o.insert(0, 0),
+        6 if o.len() > at + 1 => (o[at], o[at + 1]) = (o[at].wrapping_add(1), o[at + 1].wrapping_sub(33)),
+        7 if !o.is_empty() => o[at] = rng.next() as u8,
+        8 => o.clear(),
+        _ => {}
+    }
+    o
+}
+
+/// A list of names to ask of a text: most are its keys or nearly so. It may be empty, and may lack the last LF.
+pub fn list(rng: &mut Rng, text: &[u8]) -> Vec<u8> {
+    let pieces = text.split(|b| matches!(b, b'\t' | b'\n' | b'\r'));
+    let keys: Vec<&[u8]> = pieces.filter_map(|p| p.strip_prefix(b"SN:").or(p.strip_prefix(b"ID:"))).collect();
+    let n = match rng.below(20) {
+        0 => 0,
+        1 => 50 + rng.below(200),
+        _ => 1 + rng.below(8),
+    };
+    let mut o = Vec::new();
+    for _ in 0..n {
+        let key = if keys.is_empty() || rng.one_in(8) { name(rng) } else { rng.of(&keys).to_vec() };
+        o.extend_from_slice(&near(rng, &key));
+        o.push(b'\n');
+    }
+    if rng.one_in(3) {
+        o.pop();
+    }
+    o
+}
+
+/// Texts with lists as long as may be and longer, and with SQ names that all have one number, asked for forwards, backwards and by names
+/// that are not there.
+pub fn long_lists(f: &mut dyn FnMut(&[u8], &[u8])) {
+    let text = b"@SQ\tSN:a\tLN:1\n@SQ\tSN:aa\tLN:1\n";
+    for n in [LONGEST, LONGEST + 1] {
+        f(text, &vec![b'a'; n]);
+    }
+    f(text, &vec![b'\n'; LONGEST + 1]);
+    f(text, &b"a\naa\nb\n\n".repeat(100_000));
+    let names: Vec<String> = one_number(9).collect();
+    let text: String = names.iter().map(|name| format!("@SQ\tSN:{name}\tLN:1\n")).collect();
+    let absent: Vec<String> = names.iter().map(|name| format!("\0{name}")).collect();
+    f(text.as_bytes(), names.join("\n").as_bytes());
+    f(text.as_bytes(), names.iter().rev().flat_map(|name| [name, "\n"]).collect::<String>().as_bytes());
+    f(text.as_bytes(), absent.join("\n").as_bytes());
 }

@@ -3,6 +3,7 @@
 //! Nothing here decides what a header means: every answer is the crate's. Where the crate would never end, a guard says so
 //! beforehand, from the crate's own tables.
 
+pub mod index;
 pub mod inputs;
 
 use std::{cell::Cell, collections::HashMap, io, panic};

@@ -1,7 +1,10 @@
 //! bench: the library's calls timed: beside the crate on headers as tools write them, and alone on texts made to be slow.
 //!
-//! bench [--rounds N] [FOLDER]    the first table; FOLDER has real headers, `*.sam` (default ../shared/headers beside the repository)
-//! bench worst [WORD]             the second table (`worst.rs`), or its rows that have this word in their names
+//! bench [--rounds N] [FOLDER]          the first table
+//! bench worst [WORD]                   the second table (`worst.rs`), or its rows that have this word in their names
+//! bench names [--rounds N] [FOLDER]    the third table (`names.rs`), where the archive has the call
+//!
+//! FOLDER has real headers, `*.sam` (default ../shared/headers beside the repository).
 //!
 //! A row of the first table is a text: its name and bytes, then library/crate for each call, the library's time for a line of
 //! reading in ns, and how often all ran. Both sides take the same bytes in the same process, one after the other, and the best
@@ -23,6 +26,8 @@
 //!   1024 chained PG       after 20,000 SQ of five fields; one more may not be added (19)
 
 mod calls;
+#[cfg(feature = "names")]
+mod names;
 mod texts;
 mod worst;
 
@@ -138,8 +143,16 @@ fn processor() -> String {
 fn main() -> ExitCode {
     let args: Vec<String> = std::env::args().skip(1).collect();
     let args: Vec<&str> = args.iter().map(String::as_str).collect();
-    let (rounds, folder) = match args[..] {
-        ["worst"] | ["worst", _] => (0, None),
+    let (many, args) = match args[..] {
+        ["names", ref rest @ ..] => (true, rest),
+        _ => (false, &args[..]),
+    };
+    let (rounds, folder) = match *args {
+        _ if many && !cfg!(feature = "names") => {
+            eprintln!("the archive has no sam_header_names");
+            return ExitCode::from(2);
+        }
+        ["worst"] | ["worst", _] if !many => (0, None),
         [] => (100, Some(HEADERS)),
         [folder] if !folder.starts_with('-') => (100, Some(folder)),
         ["--rounds", n] if n.parse::<usize>().is_ok() => (n.parse().unwrap(), Some(HEADERS)),
@@ -154,6 +167,11 @@ fn main() -> ExitCode {
         worst::table(args.get(1).copied().unwrap_or(""));
         return ExitCode::SUCCESS;
     };
+    #[cfg(feature = "names")]
+    if many {
+        names::table(rounds, Path::new(folder));
+        return ExitCode::SUCCESS;
+    }
     print!("{:<27}{:>10}", "library/crate", "bytes");
     for (call, _) in CALLS {
         print!("{call:>9}");

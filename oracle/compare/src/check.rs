@@ -1,6 +1,8 @@
 //! One case: both sides are asked, and everything that they answer is compared.
 
 use library::{Answer, Element, Lent, Refusal};
+#[cfg(feature = "names")]
+use oracle::index::{self, Index};
 use oracle::{
     Header,
     inputs::{self, Rng},
@@ -11,16 +13,18 @@ use crate::{
     tally::{Call, Tally},
 };
 
-/// A text, and what is given to add after it.
+/// A text, and what is given to add after it. With a list only its names are asked for.
 #[derive(Clone, Debug, Default, Eq, PartialEq)]
 pub struct Case {
     pub text: Vec<u8>,
     pub add: Option<(Vec<u8>, Vec<u8>)>,
+    pub list: Option<Vec<u8>>,
 }
 
 impl Case {
     pub fn len(&self) -> usize {
-        self.text.len() + self.add.as_ref().map_or(0, |(p, f)| p.len() + f.len())
+        let added = self.add.as_ref().map_or(0, |(p, f)| p.len() + f.len());
+        self.text.len() + added + self.list.as_ref().map_or(0, Vec::len)
     }
 }
 
@@ -278,8 +282,10 @@ fn some(n: usize, rng: &mut Rng) -> Vec<usize> {
 #[derive(Default)]
 pub struct Checker {
     bytes: Lent<u8>,
-    #[cfg(feature = "graph")]
+    #[cfg(any(feature = "graph", feature = "names"))]
     words: Lent<u32>,
+    #[cfg(feature = "names")]
+    work: Lent<u32>,
     found: Vec<Difference>,
     pub tally: Tally,
 }
@@ -295,7 +301,7 @@ impl Checker {
             None => {}
         }
         if *case != before {
-            self.differ(Call::Read, None, "a text, a prefix or fields were changed".into());
+            self.differ(Call::Read, None, "a text, a prefix, fields or a list were changed".into());
         }
         std::mem::take(&mut self.found)
     }
@@ -391,6 +397,11 @@ impl Checker {
     // A refused text gives reading's refusal in every call, whatever the catalogue holds, and no byte is written.
     fn refused(&mut self, case: &Case, r: Refusal) {
         let text = &case.text[..];
+        #[cfg(feature = "names")]
+        if let Some(list) = &case.list {
+            let said = self.names_at_lengths(text, b"", list, &Err(r));
+            return self.held(Call::Names, said);
+        }
         let said = outputs(&mut self.bytes, Err(r), |o| library::read(text, o));
         self.held(Call::Read, said);
         let said = outputs(&mut self.bytes, Err(r), |o| library::tidy(text, o));
@@ -431,13 +442,16 @@ impl Checker {
     fn accepted(&mut self, case: &Case, catalogue: &[u8], header: &Header) {
         let text = &case.text[..];
         let need = catalogue.len();
+        #[cfg(feature = "names")]
+        if let Some(list) = &case.list {
+            return self.names(text, catalogue, header, list);
+        }
         let said = outputs(&mut self.bytes, Ok((catalogue, need as u64)), |o| library::read(text, o));
         self.said(Call::Read, 0, said);
 
         // The catalogue is this text's; a damaged one is not.
         self.same(Call::Check, library::check(text, catalogue), Ok(0), "its own catalogue");
-        let hash = text.iter().fold(0xcbf2_9ce4_8422_2325u64, |h, &b| (h ^ u64::from(b)).wrapping_mul(0x100_0000_01b3));
-        let mut rng = Rng::new(hash);
+        let mut rng = seeded(text);
         let mut damaged = Vec::new();
         for _ in 0..if need == 0 { 0 } else { 3 } {
             let mut c = catalogue.to_vec();
@@ -715,6 +729,102 @@ impl Checker {
         let said = outputs(&mut self.bytes, Err(STALE), |o| library::add(text, c, prefix, fields, o));
         self.said(Call::Add, 21, said);
     }
+}
+
+#[cfg(feature = "names")]
+impl Checker {
+    // The names of a list: the answers are the crate's, and the index and what is looked at are the rule's.
+    fn names(&mut self, text: &[u8], catalogue: &[u8], header: &Header, list: &[u8]) {
+        let table = header.reference_sequences();
+        let index = Index::new(table.keys().map(|name| &name[..]).collect());
+        let mut want = Named { slots: &index.slots, ordinals: Vec::new(), inspected: 0 };
+        for name in index::listed(list) {
+            let (ordinal, looked) = index.look(name);
+            let theirs = table.get_index_of(name).map_or(index::NONE, |i| i as u32);
+            assert!(
+                ordinal == theirs && looked <= table.len() as u64 + 1,
+                "the rule answers as the crate, and within its limit"
+            );
+            want.ordinals.push(theirs);
+            want.inspected += looked;
+        }
+        let want = if list.len() > oracle::LONGEST { Err(refusal(1)) } else { Ok(want) };
+        let said = self.names_at_lengths(text, catalogue, list, &want);
+        self.said(Call::Names, want.err().map_or(0, |r| r.number), said);
+        // Another catalogue is refused before anything else.
+        let mut rng = seeded(text);
+        let mut other = catalogue.to_vec();
+        match rng.below(catalogue.len() + 2).checked_sub(2) {
+            Some(i) => other[i] ^= 1 + rng.below(255) as u8,
+            None => other.push(*rng.of(b"\x00\x02\x06")),
+        }
+        let said = self.names_at_lengths(text, &other, list, &Err(STALE));
+        self.said(Call::Names, 21, said);
+    }
+
+    // Asks with every length of the work area together with every length of the output: longer than the answer, exactly as long, one
+    // short, and empty. Says what is wrong, if anything.
+    fn names_at_lengths(
+        &mut self,
+        text: &[u8],
+        catalogue: &[u8],
+        list: &[u8],
+        want: &Result<Named, Refusal>,
+    ) -> Option<String> {
+        const BEFORE: u64 = 0x5a5a_5a5a_5a5a;
+        let lengths = |n: usize| if n == 0 { vec![9, 0] } else { vec![n + 9, n, n - 1, 0] };
+        let (slots, names) = want.as_ref().map_or((0, 0), |w| (w.slots.len(), w.ordinals.len()));
+        for work in lengths(slots) {
+            for out in lengths(names) {
+                let due = match want {
+                    Ok(w) if work >= slots && out >= names => Ok(w),
+                    Ok(_) => Err(SHORT),
+                    Err(r) => Err(*r),
+                };
+                let mut inspected = BEFORE;
+                let got = library::names(text, catalogue, list, self.work.lend(work), self.words.lend(out), &mut inspected);
+                let said = self.named(got, inspected, due, BEFORE);
+                if let Some(what) = said {
+                    return Some(format!("a work area of {work} and an output of {out}: {what}"));
+                }
+            }
+        }
+        None
+    }
+
+    // Holds one answer, and both buffers after it, to what is due.
+    fn named(&self, got: Answer, inspected: u64, due: Result<&Named, Refusal>, before: u64) -> Option<String> {
+        let (slots, ordinals, looked): (&[u32], &[u32], u64) =
+            due.as_ref().map_or((&[], &[], before), |w| (w.slots, &w.ordinals, w.inspected));
+        let due = due.map(|w| w.ordinals.len() as u64);
+        let (index, answers) = (self.work.front(slots.len()), self.words.front(ordinals.len()));
+        if got != due {
+            Some(format!("{got:?}, wanted {due:?}"))
+        } else if answers != ordinals {
+            Some(format!("{answers:?}, wanted {ordinals:?}"))
+        } else if index != slots {
+            Some(format!("the index {index:?}, wanted {slots:?}"))
+        } else if inspected != looked {
+            Some(format!("{inspected} slots looked at, wanted {looked}"))
+        } else if !self.work.kept_from(slots.len()) || !self.words.kept_from(ordinals.len()) {
+            Some("something past the index or the answers was changed".into())
+        } else {
+            None
+        }
+    }
+}
+
+/// What asking for names leaves: the index, each name's ordinal, and how many slots were looked at.
+#[cfg(feature = "names")]
+struct Named<'a> {
+    slots: &'a [u32],
+    ordinals: Vec<u32>,
+    inspected: u64,
+}
+
+/// Numbers that follow from the text.
+fn seeded(text: &[u8]) -> Rng {
+    Rng::new(text.iter().fold(0xcbf2_9ce4_8422_2325u64, |h, &b| (h ^ u64::from(b)).wrapping_mul(0x100_0000_01b3)))
 }
 
 /// The refusal that is due where leaves are looked for, 0 for none, and the kind of difference if the crate has no such answer.

@@ -1,7 +1,7 @@
 //! compare: asks this library and the crate about the same texts and compares every answer.
 //!
 //! compare [--seed N] [--scale N] [--only PHASE] [--trace]    everything; --scale: N times as many random texts
-//! compare case TEXT [PREFIX FIELDS]                          one case, in hex, `-` for no bytes
+//! compare case TEXT [LIST | PREFIX FIELDS]                   one case, in hex, `-` for no bytes; LIST: its names alone
 //!
 //! Prints the seed, the counts, each known kind of difference with the smallest input found, and each unlisted difference,
 //! reduced. Exit status 1 if there is an unlisted one. With --trace each case is written to standard error before it is asked,
@@ -18,8 +18,8 @@ use check::{Case, Checker, Difference};
 use known::Kind;
 use oracle::inputs::{self, Rng, in_domain};
 
-const PHASES: [&str; 10] =
-    ["corners", "tokens", "fields", "bytes", "graphs", "random", "damaged", "programs", "boundaries", "keys"];
+const PHASES: [&str; 11] =
+    ["corners", "tokens", "fields", "bytes", "graphs", "random", "damaged", "programs", "boundaries", "keys", "names"];
 
 /// Unlisted differences that are printed; the run ends at the last of them.
 const MOST: usize = 8;
@@ -42,6 +42,9 @@ fn show(case: &Case) -> String {
     if let Some((p, f)) = &case.add {
         o += &format!(" prefix \"{}\" fields \"{}\"", plain(p), plain(f));
     }
+    if let Some(list) = &case.list {
+        o += &format!(" list \"{}\"", plain(list));
+    }
     o
 }
 
@@ -49,6 +52,9 @@ fn replay(case: &Case) -> String {
     let mut o = format!("case {}", inputs::hex(&case.text));
     if let Some((p, f)) = &case.add {
         o += &format!(" {} {}", inputs::hex(p), inputs::hex(f));
+    }
+    if let Some(list) = &case.list {
+        o += &format!(" {}", inputs::hex(list));
     }
     if o.len() > 2_000 { "(too long to print)".into() } else { o }
 }
@@ -72,7 +78,7 @@ impl Run {
 
     // A text that takes long is read once and asked nothing else.
     fn once(&mut self, text: &[u8]) {
-        self.compare(&Case { text: text.to_vec(), add: None }, Checker::once);
+        self.compare(&Case { text: text.to_vec(), ..Case::default() }, Checker::once);
     }
 
     fn compare(&mut self, case: &Case, compared: fn(&mut Checker, &Case) -> Vec<Difference>) {
@@ -103,7 +109,7 @@ impl Run {
     }
 
     fn text(&mut self, text: &[u8]) {
-        self.ask(&Case { text: text.to_vec(), add: None });
+        self.ask(&Case { text: text.to_vec(), ..Case::default() });
     }
 
     fn reduced(&mut self, case: &Case, d: &Difference) -> Case {
@@ -147,7 +153,7 @@ impl Run {
                         ("", ""),
                         ("x", "\tID:b"),
                     ] {
-                        self.ask(&Case { text: text.clone(), add: Some((p.into(), f.into())) });
+                        self.ask(&Case { text: text.clone(), add: Some((p.into(), f.into())), list: None });
                     }
                     // Each with an LF and a line after it, and after a line.
                     self.text(&[&text[..], b"\n@CO\tend"].concat());
@@ -177,7 +183,7 @@ impl Run {
                 for n in 0..=5 {
                     inputs::graphs(n, &mut |t| {
                         let (p, f) = inputs::addition(rng, t);
-                        self.ask(&Case { text: t.to_vec(), add: Some((p, f)) });
+                        self.ask(&Case { text: t.to_vec(), add: Some((p, f)), list: None });
                     });
                 }
             }
@@ -185,7 +191,7 @@ impl Run {
                 for _ in 0..150_000 * scale {
                     let text = inputs::header(rng);
                     let add = Some(inputs::addition(rng, &text));
-                    self.ask(&Case { text, add });
+                    self.ask(&Case { text, add, list: None });
                 }
             }
             "damaged" => {
@@ -193,7 +199,7 @@ impl Run {
                     let text = if rng.one_in(4) { inputs::soup(rng) } else { inputs::header(rng) };
                     let text = if rng.one_in(8) { text } else { inputs::damaged(rng, &text) };
                     let add = rng.one_in(4).then(|| inputs::addition(rng, &text));
-                    self.ask(&Case { text, add });
+                    self.ask(&Case { text, add, list: None });
                 }
             }
             "programs" => {
@@ -203,16 +209,16 @@ impl Run {
                     let text = if rng.one_in(3) { inputs::with_groups(rng, &text) } else { text };
                     let text = if rng.one_in(20) { inputs::damaged(rng, &text) } else { text };
                     let add = Some(inputs::addition(rng, &text));
-                    self.ask(&Case { text, add });
+                    self.ask(&Case { text, add, list: None });
                 }
             }
             "boundaries" => {
                 inputs::boundaries(&mut |t| {
                     let add = Some((b"x".to_vec(), b"\tPN:v".to_vec()));
-                    self.ask(&Case { text: t.to_vec(), add });
+                    self.ask(&Case { text: t.to_vec(), add, list: None });
                 });
                 inputs::full_of_programs(&mut |t, p, f| {
-                    self.ask(&Case { text: t.to_vec(), add: Some((p.into(), f.into())) });
+                    self.ask(&Case { text: t.to_vec(), add: Some((p.into(), f.into())), list: None });
                 });
             }
             "keys" => {
@@ -227,6 +233,16 @@ impl Run {
                 }
                 inputs::many_keys(300_000, 131_072, &mut |t| self.once(t));
             }
+            "names" if cfg!(feature = "names") => {
+                for i in 0..20_000 * scale {
+                    let text = if rng.one_in(3) { inputs::header(rng) } else { inputs::references(rng, i % 100 == 0) };
+                    let text = if rng.one_in(12) { inputs::damaged(rng, &text) } else { text };
+                    let list = Some(inputs::list(rng, &text));
+                    self.ask(&Case { text, add: None, list });
+                }
+                inputs::long_lists(&mut |t, l| self.ask(&Case { text: t.to_vec(), add: None, list: Some(l.to_vec()) }));
+            }
+            "names" => {}
             _ => unreachable!(),
         }
     }
@@ -236,9 +252,9 @@ fn clipped(s: &str) -> String {
     if s.len() > 900 { format!("{}..", s.chars().take(900).collect::<String>()) } else { s.into() }
 }
 
-fn one(text: &str, add: Option<(&str, &str)>) -> ExitCode {
+fn one(text: &str, add: Option<(&str, &str)>, list: Option<&str>) -> ExitCode {
     let bytes = |s: &str| inputs::unhex(s).expect("hex");
-    let case = Case { text: bytes(text), add: add.map(|(p, f)| (bytes(p), bytes(f))) };
+    let case = Case { text: bytes(text), add: add.map(|(p, f)| (bytes(p), bytes(f))), list: list.map(bytes) };
     let mut checker = Checker::default();
     let found = checker.case(&case);
     println!("{}\nin the domain: {}\n{}", show(&case), in_domain(&case.text), checker.tally);
@@ -260,8 +276,9 @@ fn main() -> ExitCode {
     loop {
         match *args {
             [] => break,
-            ["case", t] => return one(t, None),
-            ["case", t, p, f] => return one(t, Some((p, f))),
+            ["case", t] => return one(t, None, None),
+            ["case", t, l] => return one(t, None, Some(l)),
+            ["case", t, p, f] => return one(t, Some((p, f)), None),
             ["--seed", n, ref rest @ ..] if n.parse::<u64>().is_ok() => (seed, args) = (n.parse().unwrap(), rest),
             ["--scale", n, ref rest @ ..] if n.parse::<usize>().is_ok() => (scale, args) = (n.parse().unwrap(), rest),
             ["--trace", ref rest @ ..] => (trace, args) = (true, rest),
@@ -272,11 +289,15 @@ fn main() -> ExitCode {
             }
         }
     }
-    let calls: Vec<&str> =
-        [("lookup", cfg!(feature = "lookup")), ("graph", cfg!(feature = "graph")), ("add", cfg!(feature = "add"))]
-            .iter()
-            .filter_map(|&(name, there)| there.then_some(name))
-            .collect();
+    let calls: Vec<&str> = [
+        ("lookup", cfg!(feature = "lookup")),
+        ("graph", cfg!(feature = "graph")),
+        ("add", cfg!(feature = "add")),
+        ("names", cfg!(feature = "names")),
+    ]
+    .iter()
+    .filter_map(|&(name, there)| there.then_some(name))
+    .collect();
     println!(
         "seed {seed}, scale {scale}; calls: read check tidy {}{}",
         calls.join(" "),

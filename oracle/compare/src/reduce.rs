@@ -83,7 +83,7 @@ pub fn reduce(case: &Case, holds: &mut dyn FnMut(&Case) -> bool) -> Case {
     let mut case = case.clone();
     let until = Instant::now() + PATIENCE;
     if case.add.is_some() {
-        let bare = Case { text: case.text.clone(), add: None };
+        let bare = Case { add: None, ..case.clone() };
         if holds(&bare) {
             case = bare;
         }
@@ -91,12 +91,16 @@ pub fn reduce(case: &Case, holds: &mut dyn FnMut(&Case) -> bool) -> Case {
     loop {
         let before = case.len();
         let mut text = case.text.clone();
-        shrink(&mut text, until, &mut |t| holds(&Case { text: t.to_vec(), add: case.add.clone() }));
+        shrink(&mut text, until, &mut |t| holds(&Case { text: t.to_vec(), ..case.clone() }));
         case.text = text;
         if let Some((mut p, mut f)) = case.add.clone() {
-            shrink(&mut p, until, &mut |p| holds(&Case { text: case.text.clone(), add: Some((p.to_vec(), f.clone())) }));
-            shrink(&mut f, until, &mut |f| holds(&Case { text: case.text.clone(), add: Some((p.clone(), f.to_vec())) }));
+            shrink(&mut p, until, &mut |p| holds(&Case { add: Some((p.to_vec(), f.clone())), ..case.clone() }));
+            shrink(&mut f, until, &mut |f| holds(&Case { add: Some((p.clone(), f.to_vec())), ..case.clone() }));
             case.add = Some((p, f));
+        }
+        if let Some(mut list) = case.list.clone() {
+            shrink(&mut list, until, &mut |l| holds(&Case { list: Some(l.to_vec()), ..case.clone() }));
+            case.list = Some(list);
         }
         if case.len() == before || Instant::now() >= until {
             return case;

@@ -15,9 +15,10 @@ pub enum Call {
     Roots,
     Leaves,
     Add,
+    Names,
 }
 
-const CALLS: [Call; 10] = [
+const CALLS: [Call; 11] = [
     Call::Read,
     Call::Check,
     Call::Tidy,
@@ -28,6 +29,7 @@ const CALLS: [Call; 10] = [
     Call::Roots,
     Call::Leaves,
     Call::Add,
+    Call::Names,
 ];
 
 /// How often both sides agreed. A number is a refusal's, 0 an acceptance. Field lookup gives no number: where the stand-in takes

@@ -76,6 +76,23 @@ unsafe extern "C" {
     ) -> u64;
 }
 
+#[cfg(feature = "names")]
+unsafe extern "C" {
+    fn sam_header_names(
+        text: *const u8,
+        text_len: usize,
+        catalogue: *const u8,
+        catalogue_len: usize,
+        list: *const u8,
+        list_len: usize,
+        work: *mut u32,
+        work_len: usize,
+        out: *mut u32,
+        out_len: usize,
+        inspected: *mut u64,
+    ) -> u64;
+}
+
 /// A refusal: its number and its line.
 #[derive(Clone, Copy, Debug, Eq, PartialEq)]
 pub struct Refusal {
@@ -153,6 +170,26 @@ pub fn add(text: &[u8], catalogue: &[u8], prefix: &[u8], fields: &[u8], out: &mu
             fields.len(),
             out.as_mut_ptr(),
             out.len(),
+        )
+    })
+}
+
+/// The index of the SQ names is left in `work`, and the slots that were looked at in `inspected`.
+#[cfg(feature = "names")]
+pub fn names(text: &[u8], catalogue: &[u8], list: &[u8], work: &mut [u32], out: &mut [u32], inspected: &mut u64) -> Answer {
+    answer(unsafe {
+        sam_header_names(
+            text.as_ptr(),
+            text.len(),
+            catalogue.as_ptr(),
+            catalogue.len(),
+            list.as_ptr(),
+            list.len(),
+            work.as_mut_ptr(),
+            work.len(),
+            out.as_mut_ptr(),
+            out.len(),
+            inspected,
         )
     })
 }
