@@ -177,7 +177,7 @@ fn put_rest(
     ensures wrote { λ _. ⌜ now (out .exit) ≡ over (now (out .entry)) o (othersText kind at (now (line .entry)) ++ (10 ∷ [])) ⌝ }
 {
     let n = put_other_fields(out, o, kind, line, at, once, tables);
-    out[n] = b'\n';
+    out[n] = b'\n'; // after the last field
     n + 1
 }
 
