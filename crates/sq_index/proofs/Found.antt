@@ -7,7 +7,7 @@ use native.Mathlib.Omega.{arith}
 use lib.ListN.{length, replicate, length-map}
 use Rattle.entries.specs.Entries.{entriesIn}
 use Rattle.name_index.specs.Index.{absent, ordinalIn, slotCount, index, tells}
-use Rattle.sq_index.specs.Filled.{namesIn, says, entering, landed, ordinalAt}
+use Rattle.sq_index.specs.Filled.{namesIn, says, entering, landed, slotOf, ordinalAt}
 use Rattle.name_index.proofs.SlotCount.{slots-some, slots-few}
 use Rattle.name_index.proofs.Indexed.{indexed, index-length}
 use Rattle.sq_index.proofs.Recoded.{recode, none-recode, landed-recode, landed-holds}
@@ -42,7 +42,8 @@ module _ (t c : List ℕ) where
   places-length = ap length same-places ∙ length-map (index names) (recode (offset c)) ∙ index-length names
 
   -- the slot in which a name's offset is found holds the name's ordinal
-  pub found-ordinal : length names ≤ 16777216 → (x : List ℕ) → ordinalAt (index names) (landed (says t c x) places x) ≡ ordinalIn names x
+  pub found-ordinal : length names ≤ 16777216 → (x : List ℕ) → ordinalAt (index names) (slotOf t c places x) ≡ ordinalIn names x
+  unfolding slotOf
   found-ordinal few x =
       let n : ℕ = length names in
       ap (λ s. ordinalAt (index names) (landed (says t c x) s x)) same-places

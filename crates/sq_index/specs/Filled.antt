@@ -65,6 +65,11 @@ unfoldable pub landed : (ℕ → Bool) → List ℕ → List ℕ → ℕ
 unfolding landing first path
 landed hit slots x = landing hit (length slots) (first (length slots) x) (path x slots)
 
+-- the slot with a name, by the offsets that the slots hold
+unfoldable pub slotOf : List ℕ → List ℕ → List ℕ → List ℕ → ℕ
+unfolding landed says
+slotOf t c slots x = landed (says t c x) slots x
+
 -- ---- reading
 
 -- the ordinal in a slot: none where there is no such slot

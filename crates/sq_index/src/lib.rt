@@ -7,7 +7,7 @@ ghost use Prim.Native.Nat.{_≤_, _<_};
 ghost use lib.ListN.{length, replicate};
 ghost use Rattle.entries.specs.Entries.{entriesIn};
 ghost use Rattle.lookup.specs.Parents.{bytesAt};
-ghost use Rattle.sq_index.specs.Filled.{nameIn, says, valueOf, entering, landed, ordinalAt};
+ghost use Rattle.sq_index.specs.Filled.{nameIn, says, valueOf, entering, slotOf, ordinalAt};
 
 // What is answered for a name that no SQ has.
 pub const ABSENT: u32 = 4294967295;
@@ -100,7 +100,7 @@ fn is_said(text: &[u8], catalogue: &[u8], v: u32, name: &[u8]) -> bool
 pub fn find_slot(text: &[u8], catalogue: &[u8], slots: &[u32], name: &[u8]) -> u32
     requires { ⌜ 0 < length (now slots) ⌝ }
     requires { ⌜ length (now slots) ≤ 33554432 ⌝ }
-    ensures { λ r. ⌜ r ≡ landed (says (now (text .entry)) (now (catalogue .entry)) (now (name .entry))) (now (slots .entry)) (now (name .entry)) ⌝ }
+    ensures { λ r. ⌜ r ≡ slotOf (now (text .entry)) (now (catalogue .entry)) (now (slots .entry)) (now (name .entry)) ⌝ }
 {
     let n = slots.len();
     let first = name_index::first_slot(name, n);

@@ -1,13 +1,12 @@
 -- `sq_index::find_slot` meets its contract: where looking along the slots that are left lands is where looking along all lands.
 use Prim.Native.Nat.{ℕ, _+_, _-_, _≤_, _<_}
 use mathlib.Core.Path.{_≡_, refl, sym, ap, _∙_}
-use mathlib.Core.Bool.{Bool}
 use mathlib.Core.List.{List}
 use native.Mathlib.Omega.{arith}
 use borrow.Author.Needs.{needs}
 use lib.ListN.{length, getD, drop}
 use Rattle.name_index.specs.Index.{absent, first, path}
-use Rattle.sq_index.specs.Filled.{says, landing, landed}
+use Rattle.sq_index.specs.Filled.{says, landing, landed, slotOf}
 use Rattle.name_index.proofs.Path.{first-lt, path-length, within, looked}
 use Rattle.sq_index.proofs.Looking.{ended, missed, found, passed}
 use Rattle.sq_index.proofs.find_slot.Statement.{statement}
@@ -15,7 +14,7 @@ use Rattle.sq_index.proofs.find_slot.Tie as tie
 
 abbrev Inv-loop : tie.InvT-loop
 Inv-loop text catalogue slots name n first i₀ i =
-    (i ≤ n) × (landed (says text catalogue name) slots name ≡ landing (says text catalogue name) n (first + i) (drop i (path name slots)))
+    (i ≤ n) × (slotOf text catalogue slots name ≡ landing (says text catalogue name) n (first + i) (drop i (path name slots)))
 
 abbrev μ-loop : tie.MeasureT-loop
 μ-loop text catalogue slots name n first i₀ i = n - i
@@ -23,14 +22,14 @@ abbrev μ-loop : tie.MeasureT-loop
 first-slot-requires : tie.Need-first-slot-requires Inv-loop μ-loop
 first-slot-requires c κs = search needs
 
-begun : (hit : ℕ → Bool) (slots x : List ℕ) (f : ℕ) → f ≡ first (length slots) x → landed hit slots x ≡ landing hit (length slots) (f + 0) (path x slots)
-unfolding landed
-begun hit slots x f e = let z : first (length slots) x ≡ f + 0 = omega (arith, e) in ap (λ i. landing hit (length slots) i (path x slots)) z
+begun : (t c slots x : List ℕ) (f : ℕ) → f ≡ first (length slots) x → slotOf t c slots x ≡ landing (says t c x) (length slots) (f + 0) (path x slots)
+unfolding slotOf landed
+begun t c slots x f e = let z : first (length slots) x ≡ f + 0 = omega (arith, e) in ap (λ i. landing (says t c x) (length slots) i (path x slots)) z
 
 loop-holds : tie.Need-loop-holds Inv-loop μ-loop
 loop-holds c =
     let a = c .before .before .before .before .before .args in
-    (omega arith, begun (says (a .text .now) (a .catalogue .now) (a .name .now)) (a .slots .now) (a .name .now) (c .first-slot .result) (c .first-slot .ensures))
+    (omega arith, begun (a .text .now) (a .catalogue .now) (a .slots .now) (a .name .now) (c .first-slot .result) (c .first-slot .ensures))
 
 begins : (c : tie.After-first-slot Inv-loop μ-loop) → c .first-slot .result < length (c .before .before .before .before .before .args .slots .now)
 begins c = let a = c .before .before .before .before .before in omega (arith, c .first-slot .ensures, first-lt (a .args .slots .now) (a .args .name .now) (a .pre .0))
