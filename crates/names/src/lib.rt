@@ -27,7 +27,7 @@ fn count_names(list: &[u8]) -> usize
             return n + 1; // no LF is left
         }
         n += 1;
-        at = end + 1;
+        at = end + 1; // an empty name may follow
     }
     n
 }
