@@ -1,14 +1,12 @@
 -- What a batch answers over a catalogue that is the text's own, and what an answer says and leaves.
 use Prim.Native.Nat.{ℕ, _≤_, _<_}
 use mathlib.Core.Path.{_≡_, refl, sym, ap, _∙_}
-use mathlib.Core.Bool.{cond}
 use mathlib.Core.List.{List, _++_, map}
 use native.Mathlib.Omega.{arith}
 use lib.ListN.{length, drop, length-map}
-use lib.Dec.{ltb}
 use borrow.Author.Tests.{lt-ltb, le-ltb}
 use Rattle.format.specs.Reading.{longest}
-use Rattle.format.specs.Calls.{Answer, no, yes, then, fitting, fresh}
+use Rattle.format.specs.Calls.{Answer, no, yes, then, fresh}
 use Rattle.format.specs.declared.LineNo.{LineNo}
 use Rattle.accepted.specs.Read.{recordsOf}
 use Rattle.entries.specs.Entries.{entriesIn, counted}
@@ -20,23 +18,15 @@ use Rattle.name_index.specs.Index.{ordinalIn, slotCount, index}
 use Rattle.name_index.proofs.Indexed.{index-length}
 use Rattle.sq_index.specs.Filled.{namesIn}
 use Rattle.sq_index.proofs.Named.{names-counted}
-use Rattle.names.specs.Batch.{references, asked, batching}
+use Rattle.names.specs.Batch.{references, asked, batched, batching}
 use Rattle.names.specs.Answers.{resultsOf, slotsOf}
 use Rattle.names.proofs.References.{text-names, few-names}
 use Rattle.names.proofs.Short.{text-short}
 
--- once the work area is long enough
-abbrev finished : List (List ℕ) → List ℕ → ℕ → List ℕ → Answer (List ℕ × List ℕ)
-finished xs list room slots = then (fitting room (map (ordinalIn xs) (asked list))) (λ found. yes (found, slots))
-
--- what is answered over the names `xs`
-abbrev batched : List ℕ → ℕ → ℕ → List (List ℕ) → Answer (List ℕ × List ℕ)
-batched list work room xs = cond (ltb longest (length list)) (no 1 0) (then (fitting work (index xs)) (finished xs list room))
-
 -- a refusal of the check
 pub batch-refused : (t c list : List ℕ) (work room n l : ℕ) → fresh t c ≡ no n l → batching t c list work room ≡ no n l
 unfolding batching
-batch-refused t c list work room n l e = stops t c (λ rs. batched list work room (references rs)) n l e
+batch-refused t c list work room n l e = stops t c (λ rs. batched (references rs) list work room) n l e
 
 -- ---- over the text's own catalogue
 
@@ -57,37 +47,39 @@ module _ (t c : List ℕ) (own : Current t c) where
   many = sym (names-counted t (entriesIn c))
 
   module _ (list : List ℕ) (work room : ℕ) where
-    told : batching t c list work room ≡ batched list work room names
+    told : batching t c list work room ≡ batched names list work room
     unfolding batching
-    told = goes-on t c (λ rs. batched list work room (references rs)) own ∙ ap (batched list work room) (sym are)
+    told = goes-on t c (λ rs. batched (references rs) list work room) own ∙ ap (λ xs. batched xs list work room) (sym are)
 
     pub batch-long : 16777216 < length list → batching t c list work room ≡ no 1 0
-    unfolding longest
+    unfolding batched longest
     batch-long h = told ∙ rw (lt-ltb 16777216 (length list) h) refl
 
     module _ (h : length list ≤ 16777216) where
-      told-on : batching t c list work room ≡ then (fitting work (index names)) (finished names list room)
-      unfolding longest
-      told-on = told ∙ rw (le-ltb 16777216 (length list) h) refl
-
       pub batch-work : work < slotCount (length names) → batching t c list work room ≡ no 20 0
-      unfolding then
-      batch-work l = told-on ∙ ap (λ a. then a (finished names list room)) (too-short work (index names) (omega (arith, l, index-length names)))
+      unfolding batched longest then
+      batch-work l = told ∙ rw (le-ltb 16777216 (length list) h, too-short work (index names) (omega (arith, l, index-length names))) refl
 
       module _ (w : slotCount (length names) ≤ work) where
-        told-slots : batching t c list work room ≡ finished names list room (index names)
-        unfolding then
-        told-slots = told-on ∙ ap (λ a. then a (finished names list room)) (fits work (index names) (omega (arith, w, index-length names)))
-
         pub batch-room : room < length (asked list) → batching t c list work room ≡ no 20 0
-        unfolding then
+        unfolding batched longest then
         batch-room l =
-            told-slots ∙ ap (λ a. then a (λ found. yes (found, index names))) (too-short room (map (ordinalIn names) (asked list)) (omega (arith, l, length-map (asked list) (ordinalIn names))))
+            told
+            ∙ rw (
+              le-ltb 16777216 (length list) h,
+              fits work (index names) (omega (arith, w, index-length names)),
+              too-short room (map (ordinalIn names) (asked list)) (omega (arith, l, length-map (asked list) (ordinalIn names))),
+            ) refl
 
         pub batch-all : length (asked list) ≤ room → batching t c list work room ≡ yes (map (ordinalIn names) (asked list), index names)
-        unfolding then
+        unfolding batched longest then
         batch-all l =
-            told-slots ∙ ap (λ a. then a (λ found. yes (found, index names))) (fits room (map (ordinalIn names) (asked list)) (omega (arith, l, length-map (asked list) (ordinalIn names))))
+            told
+            ∙ rw (
+              le-ltb 16777216 (length list) h,
+              fits work (index names) (omega (arith, w, index-length names)),
+              fits room (map (ordinalIn names) (asked list)) (omega (arith, l, length-map (asked list) (ordinalIn names))),
+            ) refl
 
 -- ---- what an answer says, and leaves in the work area and in the result list
 

@@ -23,12 +23,16 @@ unfolding onto
 asked [] = []
 asked (b ∷ s) = cond (eqb b 10) ([] ∷ asked s) (onto b (asked s))
 
--- a batch: the ordinal of each asked name, and the index. After reading and 21, 1 for a list that is too long, then 20 where the work area
--- takes fewer slots than the index has or the result list fewer ordinals than there are names; `work` and `room` are how many they take
-unfoldable pub batching : List ℕ → List ℕ → List ℕ → ℕ → ℕ → Answer (List ℕ × List ℕ)
-unfolding then fresh fitting longest references asked ordinalIn index
-batching text c list work room =
-    then (fresh text c) (λ rs.
+-- over the names `xs` of the SQ: the ordinal of each asked name, and the index. 1 for a list that is too long, then 20 where the work area takes
+-- fewer slots than the index has or the result list fewer ordinals than there are names; `work` and `room` are how many they take
+unfoldable pub batched : List (List ℕ) → List ℕ → ℕ → ℕ → Answer (List ℕ × List ℕ)
+unfolding then fitting longest asked ordinalIn index
+batched xs list work room =
     cond (ltb longest (length list)) (no 1 0)
-    (then (fitting work (index (references rs))) (λ slots.
-    then (fitting room (map (ordinalIn (references rs)) (asked list))) (λ found. yes (found, slots)))))
+    (then (fitting work (index xs)) (λ slots.
+    then (fitting room (map (ordinalIn xs) (asked list))) (λ found. yes (found, slots))))
+
+-- a batch: after reading and 21
+unfoldable pub batching : List ℕ → List ℕ → List ℕ → ℕ → ℕ → Answer (List ℕ × List ℕ)
+unfolding then fresh references batched
+batching text c list work room = then (fresh text c) (λ rs. batched (references rs) list work room)

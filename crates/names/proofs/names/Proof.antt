@@ -97,7 +97,7 @@ slice-relend-prefix-answer c = search needs
 slice-aggregate-answer : tie.Need-slice-aggregate-answer
 slice-aggregate-answer c =
     let k = c .before .before in
-    sym (length-take-le (k .before .before .slot-count .result) (k .before .before .before .before .before .before .before .before .before .before .before .before .before .args .work .now) (k .before .if2 .left))
+    sym (length-take-le _ (k .before .before .before .before .before .before .before .before .before .before .before .before .before .args .work .now) (omega (arith, k .before .if2 .left)))
 
 slice-relend-prefix-answer-2 : tie.Need-slice-relend-prefix-answer-2
 slice-relend-prefix-answer-2 c = search needs
@@ -105,7 +105,7 @@ slice-relend-prefix-answer-2 c = search needs
 slice-aggregate-answer-2 : tie.Need-slice-aggregate-answer-2
 slice-aggregate-answer-2 c =
     let k = c .before .before .before in
-    sym (length-take-le (k .count-names .result) (k .before .before .before .before .before .before .before .before .before .before .before .before .before .args .out .now) (c .before .before .if3 .left))
+    sym (length-take-le _ (k .before .before .before .before .before .before .before .before .before .before .before .before .before .args .out .now) (c .before .before .if3 .left))
 
 answer-requires : tie.Need-answer-requires
 answer-requires c κs =
