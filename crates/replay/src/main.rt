@@ -297,7 +297,12 @@ fn is_names(line: &[u8], text: &[u8], kept: &[u8], work: &mut [u32], out: &mut [
         Answer::Count(n) => {
             is_ok(line, 6, 2)
                 && is_list(cases::word(line, 7), out, n, 8)
-                && is_list(cases::word(line, 8), work, cases::word(line, 8).len() / 8, 8)
+                && is_list(
+                    cases::word(line, 8),
+                    work,
+                    cases::word(line, 8).len() / 8,
+                    8,
+                )
         }
     }
 }
