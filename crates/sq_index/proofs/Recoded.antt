@@ -2,7 +2,7 @@
 use Prim.Native.Nat.{ℕ, zero, suc, _+_, _%_, _≤_, _<_}
 use mathlib.Core.Path.{_≡_, refl, sym, ap, ap₂, _∙_}
 use mathlib.Core.Bool.{Bool, true, false, cond}
-use mathlib.Core.List.{List, [], _∷_, _++_, map}
+use mathlib.Core.List.{List, [], _∷_, _++_, map, map-append}
 use native.Mathlib.Omega.{arith}
 use lib.ListN.{length, getD, take, drop, set, replicate, length-map, List·getD-eq-default}
 use Rattle.format.specs.Slots.{around, full, seat, seek}
@@ -16,10 +16,6 @@ recode f zero = zero
 recode f (suc k) = suc (f k)
 
 -- ---- lists
-
-map-append : (g : ℕ → ℕ) (s t : List ℕ) → map g (s ++ t) ≡ map g s ++ map g t
-map-append g [] t = refl
-map-append g (a ∷ s) t = ap (λ l. g a ∷ l) (map-append g s t)
 
 map-take : (g : ℕ → ℕ) (n : ℕ) (s : List ℕ) → take n (map g s) ≡ map g (take n s)
 map-take g zero s = refl
