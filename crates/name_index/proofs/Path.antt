@@ -31,8 +31,8 @@ module _ (slots x : List ℕ) (some : 0 < length slots) where
     pub within : at < length slots
     within = rw on (mod-lt _ some)
 
-    pub looked : i < length slots → getD (path x slots) i 0 ≡ getD slots at 0
-    looked l = path-at i l ∙ ap (λ k. getD slots ((k + i) % length slots) 0) (sym is) ∙ ap (λ k. getD slots k 0) (sym on)
+    pub path-slot : i < length slots → getD (path x slots) i 0 ≡ getD slots at 0
+    path-slot l = path-at i l ∙ ap (λ k. getD slots ((k + i) % length slots) 0) (sym is) ∙ ap (λ k. getD slots k 0) (sym on)
 
     -- it is the one that the name enters if those before it are full
     pub seated : full (path x slots) ≡ i → at ≡ seat (first (length slots) x) slots

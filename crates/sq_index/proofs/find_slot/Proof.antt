@@ -7,7 +7,7 @@ use borrow.Author.Needs.{needs}
 use lib.ListN.{length, getD, drop}
 use Rattle.name_index.specs.Index.{absent, first, path}
 use Rattle.sq_index.specs.Filled.{says, landing, landed, slotOf}
-use Rattle.name_index.proofs.Path.{first-lt, path-length, within, looked}
+use Rattle.name_index.proofs.Path.{first-lt, path-length, within, path-slot}
 use Rattle.sq_index.proofs.Looking.{ended, missed, found, passed}
 use Rattle.sq_index.proofs.find_slot.Statement.{statement}
 use Rattle.sq_index.proofs.find_slot.Tie as tie
@@ -54,7 +54,7 @@ seen : (c : tie.After-turned Inv-loop μ-loop) →
 seen c =
     let s = c .before .before .before in
     let a = s .before .before .before .before .before in
-    looked (a .args .slots .now) (a .args .name .now) (a .pre .0) (s .first-slot .result) (s .first-slot .ensures) (c .before .before .loop .i) (c .turned .result) (c .turned .ensures) (c .before .loop-test .taken)
+    path-slot (a .args .slots .now) (a .args .name .now) (a .pre .0) (s .first-slot .result) (s .first-slot .ensures) (c .before .before .loop .i) (c .turned .result) (c .turned .ensures) (c .before .loop-test .taken)
 
 left : (c : tie.After-turned Inv-loop μ-loop) → let a = c .before .before .before .before .before .before .before .before .args in c .before .before .loop .i < length (path (a .name .now) (a .slots .now))
 left c = omega (arith, long (c .before .before .before), c .before .loop-test .taken)
