@@ -3,23 +3,21 @@
 use Prim.Native.Nat.{ℕ, zero, suc, _+_, _-_, _%_}
 use mathlib.Core.Bool.{Bool, cond}
 use mathlib.Core.List.{List, [], _∷_}
-use lib.ListN.{length, getD, drop}
+use lib.ListN.{length, getD, take, drop}
 use lib.Dec.{eqb}
 use Rattle.format.specs.Bytes.{same}
 use Rattle.entries.specs.declared.Entry.{Entry}
 use Rattle.entries.specs.declared.Entry.the-variants.{End, Header, ReferenceSequence, ReadGroup, Program, Comment, Field}
 use Rattle.entries.specs.Entries.{kindOf, sizeOf, entryOf}
-use Rattle.lookup.specs.Parents.{bytesAt}
 use Rattle.name_index.specs.Index.{absent, first, path, enter, ordinalOf}
 
 -- ---- names by entries
 
 -- the name that an entry says: that of SQ
 unfoldable pub nameIn : List ℕ → Entry → List ℕ
-unfolding bytesAt
 nameIn t End = []
 nameIn t (Header v) = []
-nameIn t (ReferenceSequence p n) = bytesAt t p
+nameIn t (ReferenceSequence p n) = take (p .len) (drop (p .at) t)
 nameIn t (ReadGroup p) = []
 nameIn t (Program p) = []
 nameIn t (Comment p) = []

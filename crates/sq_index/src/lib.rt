@@ -4,9 +4,8 @@ use entries::Place;
 ghost use mathlib.Core.Path.{_≡_};
 ghost use mathlib.Core.List.{map};
 ghost use Prim.Native.Nat.{_≤_, _<_};
-ghost use lib.ListN.{length, replicate};
+ghost use lib.ListN.{length, take, drop, replicate};
 ghost use Rattle.entries.specs.Entries.{entriesIn};
-ghost use Rattle.lookup.specs.Parents.{bytesAt};
 ghost use Rattle.sq_index.specs.Filled.{nameIn, says, valueOf, entering, slotOf, ordinalAt};
 
 // What is answered for a name that no SQ has.
@@ -14,7 +13,7 @@ pub const ABSENT: u32 = 4294967295;
 
 // The bytes of a text at a place: as many of them as the text has.
 fn bytes_at<'a>(text: &'a [u8], p: Place) -> &'a [u8]
-    ensures { λ r. ⌜ now r ≡ bytesAt (now (text .entry)) p ⌝ }
+    ensures { λ r. ⌜ now r ≡ take (p .len) (drop (p .at) (now (text .entry))) ⌝ }
 {
     let n = text.len();
     let start = p.at as usize;

@@ -5,7 +5,6 @@ use mathlib.Core.List.{List}
 use native.Mathlib.Omega.{arith}
 use borrow.Author.Needs.{needs}
 use lib.ListN.{length, take, drop, length-drop, drop-of-length-le}
-use Rattle.lookup.specs.Parents.{bytesAt}
 use lib.Seq.{take-all, take-nil, drop-length}
 use Rattle.sq_index.proofs.bytes_at.Statement.{statement}
 use Rattle.sq_index.proofs.bytes_at.Tie as tie
@@ -34,7 +33,6 @@ module _ (t : List ℕ) where
   short n at len h l = take-all n (drop at t) (omega (arith, h, length-drop at t)) ∙ sym (take-all len (drop at t) (omega (arith, l, length-drop at t)))
 
 returns : tie.Need-returns
-unfolding bytesAt
 returns c = let a = c .before .before .before .args in behind (a .text .now) (length (a .text .now) - length (a .text .now)) (a .p .at) (a .p .len) (c .before .if1 .taken)
 
 cast-len : tie.Need-cast-len
@@ -50,7 +48,6 @@ part-result-end-2 : tie.Need-part-result-end-2
 part-result-end-2 c = search needs
 
 returns-2 : tie.Need-returns-2
-unfolding bytesAt
 returns-2 c = let a = c .before .before .before .before .before .args in short (a .text .now) (length (a .text .now) - a .p .at) (a .p .at) (a .p .len) (omega arith) (omega arith)
 
 add-end : tie.Need-add-end
@@ -66,7 +63,6 @@ part-result-end-3 : tie.Need-part-result-end-3
 part-result-end-3 c = search needs
 
 returns-3 : tie.Need-returns-3
-unfolding bytesAt
 returns-3 c =
     let a = c .before .before .before .before .before .args in
     let e : a .p .at + a .p .len - a .p .at ≡ a .p .len = omega arith in
