@@ -9,6 +9,8 @@ use parser::Checked;
 ghost use mathlib.Core.Path.{_≡_};
 ghost use lib.ListN.{length};
 ghost use Rattle.format.specs.Calls.{reading, fresh, tidying, counting, keying, sizing, valuing, rooting, leafing, adding};
+ghost use Rattle.names.specs.Batch.{batching};
+ghost use Rattle.names.specs.Answers.{resultsOf, slotsOf};
 ghost use Rattle.parser.specs.Answers.{answerOf, outputOf, checkedOf};
 ghost use Rattle.calls.specs.Answers.{countOf, keyOf, lengthOf, leavesOf, listOf, placeOf};
 ghost use Rattle.exports.specs.Words.{refusalWord, answerWord, checkedWord, leavesWord, placeWord, keyWord, fieldWord, lengthWord, lengthLeft};
@@ -162,4 +164,19 @@ pub extern "C" fn sam_header_add(
     ensures wrote { λ _. ⌜ now (out .exit) ≡ outputOf (adding (now (text .entry)) (now (catalogue .entry)) (now (prefix .entry)) (now (fields .entry)) (length (now (out .entry)))) (now (out .entry)) ⌝ }
 {
     answer_word(programs::add(text, catalogue, prefix, fields, out))
+}
+
+#[no_mangle]
+pub extern "C" fn sam_header_names(
+    text: &[u8],
+    catalogue: &[u8],
+    list: &[u8],
+    work: &mut [u32],
+    out: &mut [u32],
+) -> u64
+    ensures answer { λ r. ⌜ r ≡ answerWord (answerOf (resultsOf (batching (now (text .entry)) (now (catalogue .entry)) (now (list .entry)) (length (now (work .entry))) (length (now (out .entry)))))) ⌝ }
+    ensures slots { λ _. ⌜ now (work .exit) ≡ outputOf (slotsOf (batching (now (text .entry)) (now (catalogue .entry)) (now (list .entry)) (length (now (work .entry))) (length (now (out .entry))))) (now (work .entry)) ⌝ }
+    ensures found { λ _. ⌜ now (out .exit) ≡ outputOf (resultsOf (batching (now (text .entry)) (now (catalogue .entry)) (now (list .entry)) (length (now (work .entry))) (length (now (out .entry))))) (now (out .entry)) ⌝ }
+{
+    answer_word(names::names(text, catalogue, list, work, out))
 }

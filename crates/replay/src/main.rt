@@ -6,6 +6,7 @@
 // `chains.txt`: chains, forests, dangling and looping headers, stale catalogues, the corners of each call and of adding, written by
 // `oracle/chains` from document 01's rules; no answer in it comes from this library or from the crate.
 // `oracle.txt`: 546 texts, answered by noodles-sam 0.93.0 (`oracle/README.md`, "The fixed sample").
+// `names.txt`: questions to `names`, answered by a model written from document 02 alone.
 //
 // Words are parted by one space; byte strings are in hex, `-` for none. A line is a call, its text, its catalogue (`=` for the one that
 // `parser::read` gives), its other arguments, and the answer:
@@ -16,8 +17,9 @@
 //     roots TEXT KEPT ROOM ok ORDINALS
 //     leaves TEXT KEPT ROOM ok ORDINALS HOPS
 //     add TEXT KEPT ROOM PREFIX FIELDS ok BYTES
-// or `refused NUMBER LINE` in place of `ok ..`. ORDINALS have four hex digits each. `program TEXT BYTES` has what the program on standard
-// input writes. A line of the oracle has its text first; each such text is
+//     names TEXT KEPT LIST WORK ROOM ok ORDINALS INDEX
+// or `refused NUMBER LINE` in place of `ok ..`. ORDINALS have four hex digits each; those of names have eight, and so have the slots of
+// INDEX. `program TEXT BYTES` has what the program on standard input writes. A line of the oracle has its text first; each such text is
 // read, tidied, and asked for its roots and leaves. Of an output that is lent every element is looked at: what is not the answer must be as
 // it was. Where the field call's answer stands no program can see: its contract says it.
 //
@@ -48,21 +50,23 @@ const LEAVES: usize = 5;
 
 const ADDED: usize = 6;
 
-const PROGRAM: usize = 7;
+const NAMES: usize = 7;
 
-const REFUSED: usize = 8;
+const PROGRAM: usize = 8;
 
-const ACCEPTED: usize = 9;
+const REFUSED: usize = 9;
 
-const UNWRITABLE: usize = 10;
+const ACCEPTED: usize = 10;
 
-const UNKNOWN: usize = 11;
+const UNWRITABLE: usize = 11;
 
-const WRONG: usize = 12;
+const UNKNOWN: usize = 12;
 
-const MARKED: usize = 13;
+const WRONG: usize = 13;
 
-const FOUND: usize = 14;
+const MARKED: usize = 14;
+
+const FOUND: usize = 15;
 
 // Whether `s` is `n` in decimal, without leading zeros.
 fn is_number(s: &[u8], n: u64) -> bool {
@@ -119,38 +123,40 @@ fn is_hex(s: &[u8], bytes: &[u8]) -> bool {
     true
 }
 
-// Whether the four digits at `at` are an ordinal's.
-fn is_four(s: &[u8], at: usize, n: u32) -> bool
-    requires { ⌜ at + 4 ≤ length (now s) ⌝ }
+// Whether the `width` digits at `at` are a number's, the highest first.
+fn is_wide(s: &[u8], at: usize, width: usize, n: u32) -> bool
+    requires { ⌜ at + width ≤ length (now s) ⌝ }
 {
-    if 65535 < n {
-        return false;
+    let mut rest = n;
+    let mut i = width;
+    while 0 < i {
+        i -= 1;
+        if s[at + i] != letter((rest % 16) as u8) {
+            return false;
+        }
+        rest /= 16;
     }
-    if !is_pair(s, at, (n / 256) as u8) {
-        return false;
-    }
-    is_pair(s, at + 2, (n % 256) as u8)
+    rest == 0
 }
 
-// Whether `s` is these ordinals in hex, four digits each, `-` for none.
-fn is_ordinals(s: &[u8], list: &[u32]) -> bool {
+// Whether `s` is these ordinals in hex, `width` digits each, `-` for none.
+fn is_ordinals(s: &[u8], list: &[u32], width: usize) -> bool {
     if list.len() == 0 {
         return text::same(s, b"-");
     }
-    if s.len() % 4 != 0 {
-        return false;
-    }
-    if s.len() / 4 != list.len() {
-        return false;
-    }
+    let mut at: usize = 0;
     let mut i: usize = 0;
     while i < list.len() {
-        if !is_four(s, 4 * i, list[i]) {
+        if s.len() - at < width {
             return false;
         }
+        if !is_wide(s, at, width, list[i]) {
+            return false;
+        }
+        at += width;
         i += 1;
     }
-    true
+    at == s.len()
 }
 
 // An output of bytes, as it is before a call.
@@ -194,12 +200,12 @@ fn is_ok(line: &[u8], at: usize, n: usize) -> bool
     text::same(cases::word(line, at), b"ok") && cases::word(line, at + n + 1).len() == 0
 }
 
-// Whether the first `n` ordinals of an output are these and the others as they were.
-fn is_list(word: &[u8], out: &[u32], n: usize) -> bool {
+// Whether the first `n` ordinals of an output are these, `width` digits each, and the others as they were.
+fn is_list(word: &[u8], out: &[u32], n: usize, width: usize) -> bool {
     if out.len() < n {
         return false;
     }
-    is_ordinals(word, &out[..n]) && cases::is_unlisted(&out[n..])
+    is_ordinals(word, &out[..n], width) && cases::is_unlisted(&out[n..])
 }
 
 // Whether the count is the line's.
@@ -248,7 +254,7 @@ fn is_roots(line: &[u8], text: &[u8], kept: &[u8], out: &mut [u32]) -> bool {
     let room = cases::least(cases::number(cases::word(line, 3)), out.len());
     match calls::roots(text, kept, &mut out[..room]) {
         Answer::Refused(n, no) => is_refusal(line, 4, n, no) && cases::is_unlisted(out),
-        Answer::Count(n) => is_ok(line, 4, 1) && is_list(cases::word(line, 5), out, n),
+        Answer::Count(n) => is_ok(line, 4, 1) && is_list(cases::word(line, 5), out, n, 4),
     }
 }
 
@@ -259,7 +265,7 @@ fn is_leaves(line: &[u8], text: &[u8], kept: &[u8], out: &mut [u32]) -> bool {
         LeavesAnswer::Refused(n, no) => is_refusal(line, 4, n, no) && cases::is_unlisted(out),
         LeavesAnswer::Counted(n, hops) => {
             is_ok(line, 4, 2)
-                && is_list(cases::word(line, 5), out, n)
+                && is_list(cases::word(line, 5), out, n, 4)
                 && is_number(cases::word(line, 6), hops as u64)
         }
     }
@@ -275,6 +281,29 @@ fn is_added(line: &[u8], text: &[u8], kept: &[u8], out: &mut [u8]) -> bool {
     match programs::add(text, kept, &prefix[..p], &fields[..f], &mut out[..room]) {
         Answer::Refused(n, no) => is_refusal(line, 6, n, no) && cases::is_untouched(out),
         Answer::Count(n) => is_ok(line, 6, 1) && is_text(cases::word(line, 7), out, n),
+    }
+}
+
+// Whether the ordinals of the names and the index are the line's, in a work area and an output of as many elements as it says.
+fn is_names(line: &[u8], text: &[u8], kept: &[u8], work: &mut [u32], out: &mut [u32]) -> bool {
+    let mut list = io::buffer();
+    let n = cases::decode(cases::word(line, 3), &mut list);
+    let slots = cases::least(cases::number(cases::word(line, 4)), work.len());
+    let room = cases::least(cases::number(cases::word(line, 5)), out.len());
+    match names::names(text, kept, &list[..n], &mut work[..slots], &mut out[..room]) {
+        Answer::Refused(n, no) => {
+            is_refusal(line, 6, n, no) && cases::is_unlisted(work) && cases::is_unlisted(out)
+        }
+        Answer::Count(n) => {
+            is_ok(line, 6, 2)
+                && is_list(cases::word(line, 7), out, n, 8)
+                && is_list(
+                    cases::word(line, 8),
+                    work,
+                    cases::word(line, 8).len() / 8,
+                    8,
+                )
+        }
     }
 }
 
@@ -320,6 +349,10 @@ fn is_answer(line: &[u8], asked: usize, text: &[u8]) -> bool {
         return is_added(line, text, &kept[..n], &mut out);
     }
     let mut out = ordinals();
+    if asked == NAMES {
+        let mut work = ordinals();
+        return is_names(line, text, &kept[..n], &mut work, &mut out);
+    }
     is_call(line, asked, text, &kept[..n], &mut out)
 }
 
@@ -376,7 +409,7 @@ fn is_unwritable(word: &[u8], text: &[u8], out: &mut [u8]) -> bool {
 fn are_roots(word: &[u8], text: &[u8], kept: &[u8], out: &mut [u32]) -> bool {
     match calls::roots(text, kept, out) {
         Answer::Refused(_, _) => false,
-        Answer::Count(n) => is_list(word, out, n),
+        Answer::Count(n) => is_list(word, out, n, 4),
     }
 }
 
@@ -386,7 +419,7 @@ fn are_leaves(word: &[u8], text: &[u8], kept: &[u8], out: &mut [u32]) -> bool {
         LeavesAnswer::Refused(n, no) => {
             text::same(word, b"cycle") && n == 23 && no.0 == 0 && cases::is_unlisted(out)
         }
-        LeavesAnswer::Counted(n, _) => is_list(word, out, n),
+        LeavesAnswer::Counted(n, _) => is_list(word, out, n, 4),
     }
 }
 
@@ -450,6 +483,9 @@ fn asked_by(line: &[u8]) -> usize {
     }
     if text::same(call, b"add") {
         return ADDED;
+    }
+    if text::same(call, b"names") {
+        return NAMES;
     }
     if text::same(call, b"program") {
         return PROGRAM;
@@ -604,7 +640,7 @@ fn print_count(name: &[u8], n: u32) {
 
 // Writes how many lines ask each call.
 fn print_asked(tally: &[u32])
-    requires { ⌜ length (now tally) ≡ 15 ⌝ }
+    requires { ⌜ length (now tally) ≡ 16 ⌝ }
 {
     print_count(b" count ", tally[COUNT]);
     print_count(b" key ", tally[KEY]);
@@ -613,12 +649,13 @@ fn print_asked(tally: &[u32])
     print_count(b" roots ", tally[ROOTS]);
     print_count(b" leaves ", tally[LEAVES]);
     print_count(b" add ", tally[ADDED]);
+    print_count(b" names ", tally[NAMES]);
     print_count(b" program ", tally[PROGRAM]);
 }
 
 // Writes how many texts the crate judged in each way, and how many lines ask nothing.
 fn print_judged(tally: &[u32])
-    requires { ⌜ length (now tally) ≡ 15 ⌝ }
+    requires { ⌜ length (now tally) ≡ 16 ⌝ }
 {
     print_count(b" refused ", tally[REFUSED]);
     print_count(b" accepted ", tally[ACCEPTED]);
@@ -628,7 +665,7 @@ fn print_judged(tally: &[u32])
 
 // Writes how many answers were wrong, and how many of the marked lines were found.
 fn print_found(tally: &[u32])
-    requires { ⌜ length (now tally) ≡ 15 ⌝ }
+    requires { ⌜ length (now tally) ≡ 16 ⌝ }
 {
     print_number(b" wrong ", tally[WRONG]);
     print_number(b", known wrong found ", tally[FOUND]);
@@ -645,7 +682,7 @@ fn replay(place: usize) {
         os::fail(&name[..n]);
         return;
     }
-    let mut tally: [u32; 15] = [0; 15];
+    let mut tally: [u32; 16] = [0; 16];
     all_blocks(fd, &mut tally);
     libc::close(fd);
     io::write_all(STDOUT_FILENO, &name[..n]);

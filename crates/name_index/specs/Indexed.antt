@@ -1,0 +1,16 @@
+-- What is promised of an index (Req 06): how many slots it has, and that looking along a name's path finds what the plain search finds.
+use Prim.Native.Nat.{ℕ, suc, _*_, _^_, _≤_}
+use mathlib.Core.Path.{_≡_}
+use mathlib.Core.List.{List}
+use lib.ListN.{length}
+use Rattle.format.specs.Slots.{seek}
+use Rattle.name_index.specs.Index.{ordinalIn, path, index, ordinalOf, tells}
+
+-- for every list of names
+pub record Indexed (xs : List (List ℕ)) : Type 0 where
+  -- a power of two, at least 2; not below twice the names; and the smallest such
+  pub power : (e : ℕ) × (length (index xs) ≡ 2 ^ suc e)
+  pub enough : 2 * length xs ≤ length (index xs)
+  pub smallest : (e : ℕ) → 2 * length xs ≤ 2 ^ suc e → length (index xs) ≤ 2 ^ suc e
+  -- the first slot of the path that tells the name, if none before it is empty, has the ordinal that the plain search finds
+  pub finds : (x : List ℕ) → ordinalOf (seek (tells xs x) (path x (index xs))) ≡ ordinalIn xs x

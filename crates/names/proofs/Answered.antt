@@ -1,0 +1,46 @@
+-- Slots filled with offsets and looked in, then filled with ordinals and read: what the result list holds step by step.
+use Prim.Native.Nat.{ℕ, _+_, _≤_}
+use mathlib.Core.Path.{_≡_, refl, sym, ap, ap₂, _∙_}
+use mathlib.Core.Bool.{true, false}
+use mathlib.Core.List.{List, [], _∷_, _++_, map, append-nil}
+use native.Mathlib.Omega.{arith}
+use lib.ListN.{length, replicate, length-map, drop-of-length-le}
+use Rattle.text.specs.Over.{over}
+use Rattle.entries.specs.Entries.{entriesIn}
+use Rattle.name_index.specs.Index.{ordinalIn, slotCount, index}
+use Rattle.sq_index.specs.Filled.{namesIn, entering, slotOf, ordinalAt}
+use Rattle.sq_index.proofs.Found.{filled-index, places-length, found-ordinal}
+use Rattle.names.specs.Batch.{asked}
+
+-- written over a list of the same length
+over-whole : (out xs : List ℕ) → length out ≡ length xs → over out 0 xs ≡ xs
+unfolding over
+over-whole out xs e = let h : length out ≤ 0 + length xs = omega (arith, e) in ap (λ l. xs ++ l) (drop-of-length-le out h) ∙ append-nil xs
+
+all-found : (f g : List ℕ → ℕ) (o : ℕ → ℕ) → ((x : List ℕ) → o (f x) ≡ g x) → (ys : List (List ℕ)) → map o (map f ys) ≡ map g ys
+all-found f g o e [] = refl
+all-found f g o e (y ∷ ys) = ap₂ (λ a b. a ∷ b) (e y) (all-found f g o e ys)
+
+module _ (t c slots₀ slots₁ : List ℕ) (size : length slots₀ ≡ slotCount (length (namesIn t (entriesIn c))))
+    (first-fill : slots₁ ≡ entering false t 0 0 (entriesIn c) (replicate (length slots₀) 0)) where
+  abbrev names : List (List ℕ)
+  names = namesIn t (entriesIn c)
+
+  by-offsets : slots₁ ≡ entering false t 0 0 (entriesIn c) (replicate (slotCount (length names)) 0)
+  by-offsets = first-fill ∙ ap (λ n. entering false t 0 0 (entriesIn c) (replicate n 0)) size
+
+  pub long₁ : length slots₁ ≡ slotCount (length names)
+  long₁ = ap length by-offsets ∙ places-length t c
+
+  module _ (slots₂ : List ℕ) (second-fill : slots₂ ≡ entering true t 0 0 (entriesIn c) (replicate (length slots₁) 0)) where
+    pub index-told : slots₂ ≡ index names
+    index-told = second-fill ∙ ap (λ n. entering true t 0 0 (entriesIn c) (replicate n 0)) long₁ ∙ filled-index t c
+
+    pub found-told : length names ≤ 16777216 → (list out₀ out₁ out₂ : List ℕ) → length out₀ ≡ length (asked list)
+        → out₁ ≡ over out₀ 0 (map (slotOf t c slots₁) (asked list)) → out₂ ≡ map (ordinalAt slots₂) out₁ → out₂ ≡ map (ordinalIn names) (asked list)
+    found-told few list out₀ out₁ out₂ room wrote read =
+        let ys : List (List ℕ) = asked list in
+        read
+        ∙ ap₂ (λ s o. map (ordinalAt s) o) index-told (wrote ∙ over-whole out₀ (map (slotOf t c slots₁) ys) (room ∙ sym (length-map ys (slotOf t c slots₁))))
+        ∙ ap (λ s. map (ordinalAt (index names)) (map (slotOf t c s) ys)) by-offsets
+        ∙ all-found (slotOf t c (entering false t 0 0 (entriesIn c) (replicate (slotCount (length names)) 0))) (ordinalIn names) (ordinalAt (index names)) (found-ordinal t c few) ys

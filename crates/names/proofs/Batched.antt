@@ -1,0 +1,96 @@
+-- What a batch answers over a catalogue that is the text's own, and what an answer says and leaves.
+use Prim.Native.Nat.{ℕ, _≤_, _<_}
+use mathlib.Core.Path.{_≡_, refl, sym, ap, _∙_}
+use mathlib.Core.List.{List, _++_, map}
+use native.Mathlib.Omega.{arith}
+use lib.ListN.{length, drop, length-map}
+use borrow.Author.Tests.{lt-ltb, le-ltb}
+use Rattle.format.specs.Reading.{longest}
+use Rattle.format.specs.Calls.{Answer, no, yes, then, fresh}
+use Rattle.format.specs.declared.LineNo.{LineNo}
+use Rattle.accepted.specs.Read.{recordsOf}
+use Rattle.entries.specs.Entries.{entriesIn, counted}
+use Rattle.parser.specs.declared.Answer.the-variants.{Refused, Count}
+use Rattle.parser.specs.Answers.{answerOf, outputOf}
+use Rattle.calls.proofs.Fresh.{Current, goes-on, stops}
+use Rattle.calls.proofs.Chained.{too-short, fits}
+use Rattle.name_index.specs.Index.{ordinalIn, slotCount, index}
+use Rattle.name_index.proofs.Indexed.{index-length}
+use Rattle.sq_index.specs.Filled.{namesIn}
+use Rattle.sq_index.proofs.Named.{names-counted}
+use Rattle.names.specs.Batch.{references, asked, batched, batching}
+use Rattle.names.specs.Answers.{resultsOf, slotsOf}
+use Rattle.names.proofs.References.{text-names, few-names}
+use Rattle.names.proofs.Short.{text-short}
+
+-- a refusal of the check
+pub batch-refused : (t c list : List ℕ) (work room n l : ℕ) → fresh t c ≡ no n l → batching t c list work room ≡ no n l
+unfolding batching
+batch-refused t c list work room n l e = stops t c (λ rs. batched (references rs) list work room) n l e
+
+-- ---- over the text's own catalogue
+
+module _ (t c : List ℕ) (own : Current t c) where
+  abbrev names : List (List ℕ)
+  names = namesIn t (entriesIn c)
+
+  are : names ≡ references (recordsOf t)
+  are = ap (λ s. namesIn t (entriesIn s)) (own .own) ∙ text-names t (recordsOf t) (own .reads)
+
+  pub few : length names ≤ 16777216
+  few = omega (arith, ap length are, few-names t (recordsOf t) (own .reads))
+
+  pub short : length c ≤ 4294967294
+  short = omega (arith, ap length (own .own), text-short t (recordsOf t) (own .reads))
+
+  pub many : counted 2 (entriesIn c) ≡ length names
+  many = sym (names-counted t (entriesIn c))
+
+  module _ (list : List ℕ) (work room : ℕ) where
+    told : batching t c list work room ≡ batched names list work room
+    unfolding batching
+    told = goes-on t c (λ rs. batched (references rs) list work room) own ∙ ap (λ xs. batched xs list work room) (sym are)
+
+    pub batch-long : 16777216 < length list → batching t c list work room ≡ no 1 0
+    unfolding batched longest
+    batch-long h = told ∙ rw (lt-ltb 16777216 (length list) h) refl
+
+    module _ (h : length list ≤ 16777216) where
+      pub batch-work : work < slotCount (length names) → batching t c list work room ≡ no 20 0
+      unfolding batched longest then
+      batch-work l = told ∙ rw (le-ltb 16777216 (length list) h, too-short work (index names) (omega (arith, l, index-length names))) refl
+
+      module _ (w : slotCount (length names) ≤ work) where
+        pub batch-room : room < length (asked list) → batching t c list work room ≡ no 20 0
+        unfolding batched longest then
+        batch-room l =
+            told
+            ∙ rw (
+              le-ltb 16777216 (length list) h,
+              fits work (index names) (omega (arith, w, index-length names)),
+              too-short room (map (ordinalIn names) (asked list)) (omega (arith, l, length-map (asked list) (ordinalIn names))),
+            ) refl
+
+        pub batch-all : length (asked list) ≤ room → batching t c list work room ≡ yes (map (ordinalIn names) (asked list), index names)
+        unfolding batched longest then
+        batch-all l =
+            told
+            ∙ rw (
+              le-ltb 16777216 (length list) h,
+              fits work (index names) (omega (arith, w, index-length names)),
+              fits room (map (ordinalIn names) (asked list)) (omega (arith, l, length-map (asked list) (ordinalIn names))),
+            ) refl
+
+-- ---- what an answer says, and leaves in the work area and in the result list
+
+module _ (b : Answer (List ℕ × List ℕ)) (work out : List ℕ) where
+  pub told-refusal : (n : ℕ) (l : LineNo) → b ≡ no n (l .0) → (Refused n l ≡ answerOf (resultsOf b)) × ((work ≡ outputOf (slotsOf b) work) × (out ≡ outputOf (resultsOf b) out))
+  unfolding answerOf slotsOf resultsOf outputOf
+  told-refusal n l e = (sym (ap (λ a. answerOf (resultsOf a)) e), (sym (ap (λ a. outputOf (slotsOf a) work) e), sym (ap (λ a. outputOf (resultsOf a) out) e)))
+
+  pub told-answer : (found slots : List ℕ) → b ≡ yes (found, slots) → (count : ℕ) → count ≡ length found
+      → (work₁ out₁ : List ℕ) → work₁ ≡ slots ++ drop (length slots) work → out₁ ≡ found ++ drop (length found) out
+      → (Count count ≡ answerOf (resultsOf b)) × ((work₁ ≡ outputOf (slotsOf b) work) × (out₁ ≡ outputOf (resultsOf b) out))
+  unfolding answerOf slotsOf resultsOf outputOf
+  told-answer found slots e count n work₁ out₁ w o =
+      (rw n (sym (ap (λ a. answerOf (resultsOf a)) e)), (w ∙ sym (ap (λ a. outputOf (slotsOf a) work) e), o ∙ sym (ap (λ a. outputOf (resultsOf a) out) e)))

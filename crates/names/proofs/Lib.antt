@@ -1,0 +1,6 @@
+pub mod Asked
+pub mod Asking
+pub mod Answered
+pub mod Short
+pub mod References
+pub mod Batched

@@ -1,0 +1,75 @@
+-- `names::answer` meets its contract: the slots are filled with offsets, looked in, filled with ordinals and read.
+use Prim.Native.Nat.{ℕ, _≤_, _<_}
+use mathlib.Core.Path.{_≡_}
+use native.Mathlib.Omega.{arith}
+use lib.ListN.{length}
+use Rattle.name_index.specs.Index.{slotCount}
+use Rattle.entries.specs.Entries.{entriesIn}
+use Rattle.sq_index.specs.Filled.{namesIn}
+use Rattle.name_index.proofs.SlotCount.{slots-some, slots-few}
+use Rattle.names.proofs.Answered.{long₁, index-told, found-told}
+use borrow.Author.Needs.{needs}
+use Rattle.names.proofs.answer.Statement.{statement}
+use Rattle.names.proofs.answer.Tie as tie
+
+-- so many slots
+enough : (n m : ℕ) → n ≡ m → 0 < m → m ≤ 33554432 → (0 < n) × (n ≤ 33554432)
+enough n m e a b = (omega (arith, e, a), omega (arith, e, b))
+
+sized : (s : tie.Start) (n : ℕ) → n ≡ slotCount (length (namesIn (s .args .text .now) (entriesIn (s .args .kept .now)))) → (0 < n) × (n ≤ 33554432)
+sized s n e =
+    let xs = namesIn (s .args .text .now) (entriesIn (s .args .kept .now)) in
+    enough n (slotCount (length xs)) e (slots-some (length xs)) (slots-few (length xs) (s .pre .1 .1 .0))
+
+-- after the first filling
+refilled : (c : tie.After-fill) → let s = c .before .before .before .before .before .before .before in length (c .fill .last .1 .1 .0) ≡ slotCount (length (namesIn (s .args .text .now) (entriesIn (s .args .kept .now))))
+refilled c =
+    let s = c .before .before .before .before .before .before .before in
+    long₁ (s .args .text .now) (s .args .kept .now) (s .args .slots .now) (c .fill .last .1 .1 .0) (s .pre .1 .1 .1 .0) (c .fill .ensures)
+
+fill-requires : tie.Need-fill-requires
+fill-requires c κs = let s = c .before .before .before .before .before .before in let z = sized s (length (s .args .slots .now)) (s .pre .1 .1 .1 .0) in (z .0, (z .1, s .pre .0))
+
+find-slots-requires : tie.Need-find-slots-requires
+find-slots-requires c κs = let f = c .before .before .before .before in let s = f .before .before .before .before .before .before .before in let z = sized s (length (f .fill .last .1 .1 .0)) (refilled f) in (z .0, (z .1, (s .pre .1 .0, omega (arith, s .pre .1 .1 .1 .1))))
+
+fill-requires-2 : tie.Need-fill-requires-2
+fill-requires-2 c κs = let f = c .before .before .before .before .before .before .before .before in let s = f .before .before .before .before .before .before .before in let z = sized s (length (f .fill .last .1 .1 .0)) (refilled f) in (z .0, (z .1, s .pre .0))
+
+to-ordinals-requires : tie.Need-to-ordinals-requires
+to-ordinals-requires c κs = search needs
+
+same-length : tie.Need-same-length
+same-length c = search needs
+
+same-length-2 : tie.Need-same-length-2
+same-length-2 c = search needs
+
+returns : tie.Need-returns
+returns c =
+    let o = c .before .before in
+    let g = c .before .before .before .before .before .before .before in
+    let l = c .before .before .before .before .before .before .before .before .before .before .before in
+    let f = c .before .before .before .before .before .before .before .before .before .before .before .before .before .before .before .before in
+    let s = f .before .before .before .before .before .before .before in
+    let a = s .args in
+    let t = a .text .now in
+    let k = a .kept .now in
+    let slots₁ = f .fill .last .1 .1 .0 in
+    let slots₂ = g .fill2 .last .1 .1 .0 in (
+      index-told t k (a .slots .now) slots₁ (s .pre .1 .1 .1 .0) (f .fill .ensures) slots₂ (g .fill2 .ensures),
+      found-told t k (a .slots .now) slots₁ (s .pre .1 .1 .1 .0) (f .fill .ensures) slots₂ (g .fill2 .ensures) (s .pre .1 .1 .0) (a .list .now) (a .out .now)
+          (l .find-slots .last .1 .1 .1 .1 .0) (o .to-ordinals .last .1 .0) (s .pre .1 .1 .1 .1) (l .find-slots .ensures) (o .to-ordinals .ensures),
+    )
+
+pub answer-spec : {M : Type 1} → statement M
+answer-spec =
+    tie.close
+    (tie.spec
+    fill-requires
+    find-slots-requires
+    fill-requires-2
+    to-ordinals-requires
+    same-length
+    same-length-2
+    returns)

@@ -1,0 +1,52 @@
+-- Slots of a catalogue: filled with offsets and looked in, then filled with ordinals and read, they answer as the plain search does.
+use Prim.Native.Nat.{ℕ, _≤_, _<_}
+use mathlib.Core.Path.{_≡_, sym, ap, _∙_}
+use mathlib.Core.Bool.{true, false}
+use mathlib.Core.List.{List, map}
+use native.Mathlib.Omega.{arith}
+use lib.ListN.{length, replicate, length-map}
+use Rattle.entries.specs.Entries.{entriesIn}
+use Rattle.name_index.specs.Index.{absent, ordinalIn, slotCount, index, tells}
+use Rattle.sq_index.specs.Filled.{namesIn, says, entering, landed, slotOf, ordinalAt}
+use Rattle.name_index.proofs.SlotCount.{slots-some, slots-few}
+use Rattle.name_index.proofs.Indexed.{indexed, index-length}
+use Rattle.sq_index.proofs.Recoded.{recode, none-recode, landed-recode, landed-holds}
+use Rattle.sq_index.proofs.Named.{with-ordinals, offset, offset-tells, filled-offsets}
+
+-- no slot is the one that says that there is none
+below-absent : (n : ℕ) → n ≤ 33554432 → n ≤ absent
+unfolding absent
+below-absent n h = omega (arith, h)
+
+module _ (t c : List ℕ) where
+  abbrev names : List (List ℕ)
+  names = namesIn t (entriesIn c)
+
+  abbrev empty : List ℕ
+  empty = replicate (slotCount (length names)) 0
+
+  -- filled with ordinals
+  pub filled-index : entering true t 0 0 (entriesIn c) empty ≡ index names
+  unfolding index
+  filled-index = with-ordinals t 0 0 (entriesIn c) empty
+
+  -- filled with offsets: the same places
+  abbrev places : List ℕ
+  places = entering false t 0 0 (entriesIn c) empty
+
+  same-places : places ≡ map (recode (offset c)) (index names)
+  unfolding index
+  same-places = ap (entering false t 0 0 (entriesIn c)) (sym (none-recode (offset c) (slotCount (length names)))) ∙ filled-offsets t c empty
+
+  pub places-length : length places ≡ slotCount (length names)
+  places-length = ap length same-places ∙ length-map (index names) (recode (offset c)) ∙ index-length names
+
+  -- the slot in which a name's offset is found holds the name's ordinal
+  pub found-ordinal : length names ≤ 16777216 → (x : List ℕ) → ordinalAt (index names) (slotOf t c places x) ≡ ordinalIn names x
+  unfolding slotOf
+  found-ordinal few x =
+      let n : ℕ = length names in
+      ap (λ s. ordinalAt (index names) (landed (says t c x) s x)) same-places
+      ∙ ap (ordinalAt (index names)) (landed-recode (offset c) (says t c x) (tells names x) (offset-tells t c x) (index names) x)
+      ∙ landed-holds (tells names x) x (index names) (omega (arith, index-length names, slots-some n)) (below-absent (length (index names)) (omega (arith, index-length names, slots-few n few)))
+      ∙ indexed names .finds x

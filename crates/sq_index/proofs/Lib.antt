@@ -1,0 +1,6 @@
+pub mod Turns
+pub mod Mapped
+pub mod Looking
+pub mod Recoded
+pub mod Named
+pub mod Found
