@@ -38,13 +38,7 @@ fn count_names(list: &[u8]) -> usize
 }
 
 // Looks for each name of a list: the slot with it goes into `out`, and the slots that were looked at are summed.
-fn find_slots(
-    text: &[u8],
-    catalogue: &[u8],
-    slots: &[u32],
-    list: &[u8],
-    out: &mut [u32],
-) -> u64
+fn find_slots(text: &[u8], catalogue: &[u8], slots: &[u32], list: &[u8], out: &mut [u32]) -> u64
     requires { ⌜ 0 < length (now slots) ⌝ }
     requires { ⌜ length (now slots) ≤ 33554432 ⌝ }
     requires { ⌜ length (now list) ≤ 16777216 ⌝ }
