@@ -46,9 +46,10 @@ uint64_t sam_header_field(const uint8_t *text, size_t text_len, const uint8_t *c
 
 /* The ordinal among the SQ of each name of `list` in `out`, or 4,294,967,295 for a name that no SQ has: each LF ends a name, which may be empty, and
  * bytes after the last LF are one name more. The index of the SQ names in `work`, at its front: slots, as many as the smallest power of two that is not
- * below twice the number of SQ, and at least 2. 1 for a list of more than 16,777,216 bytes, then 20 for a short work area or a short `out`. */
+ * below twice the number of SQ, and at least 2. The slots that were looked at for the names, building not counted, in `*inspected`: with m SQ at most
+ * m + 1 for each name; a refusal leaves it. 1 for a list of more than 16,777,216 bytes, then 20 for a short work area or a short `out`. */
 uint64_t sam_header_names(const uint8_t *text, size_t text_len, const uint8_t *catalogue, size_t catalogue_len, const uint8_t *list,
-                          size_t list_len, uint32_t *work, size_t work_len, uint32_t *out, size_t out_len);
+                          size_t list_len, uint32_t *work, size_t work_len, uint32_t *out, size_t out_len, uint64_t *inspected);
 
 /* The ordinals of the programs without PP in `out`. */
 uint64_t sam_header_roots(const uint8_t *text, size_t text_len, const uint8_t *catalogue, size_t catalogue_len, uint32_t *out,

@@ -12,6 +12,8 @@ use Rattle.calls.specs.declared.LengthAnswer.{LengthAnswer}
 use Rattle.calls.specs.declared.LengthAnswer.the-variants as ln
 use Rattle.calls.specs.declared.LeavesAnswer.{LeavesAnswer}
 use Rattle.calls.specs.declared.LeavesAnswer.the-variants as leaves
+use Rattle.names.specs.declared.NamesAnswer.{NamesAnswer}
+use Rattle.names.specs.declared.NamesAnswer.the-variants as names
 
 unfoldable pub refusalWord : ℕ → ℕ → ℕ
 refusalWord n l = 2 ^ 63 + n * 2 ^ 32 + l
@@ -59,3 +61,14 @@ lengthWord (ln.Is n) = 0
 unfoldable pub lengthLeft : LengthAnswer → ℕ → ℕ
 lengthLeft (ln.Refused n l) old = old
 lengthLeft (ln.Is n) old = n
+
+-- how many names are answered
+unfoldable pub namesWord : NamesAnswer → ℕ
+unfolding refusalWord
+namesWord (names.Refused n l) = refusalWord n (l .0)
+namesWord (names.Counted n looks) = n
+
+-- the slots that were looked at take the place of the caller's number; a refusal leaves it
+unfoldable pub namesLeft : NamesAnswer → ℕ → ℕ
+namesLeft (names.Refused n l) old = old
+namesLeft (names.Counted n looks) old = looks

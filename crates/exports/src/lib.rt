@@ -4,16 +4,17 @@ use calls::LeavesAnswer;
 use calls::LengthAnswer;
 use calls::ValuePlace;
 use format::LineNo;
+use names::NamesAnswer;
 use parser::Answer;
 use parser::Checked;
 ghost use mathlib.Core.Path.{_≡_};
 ghost use lib.ListN.{length};
 ghost use Rattle.format.specs.Calls.{reading, fresh, tidying, counting, keying, sizing, valuing, rooting, leafing, adding};
 ghost use Rattle.names.specs.Batch.{batching};
-ghost use Rattle.names.specs.Answers.{resultsOf, slotsOf};
+ghost use Rattle.names.specs.Answers.{namesOf, resultsOf, slotsOf};
 ghost use Rattle.parser.specs.Answers.{answerOf, outputOf, checkedOf};
 ghost use Rattle.calls.specs.Answers.{countOf, keyOf, lengthOf, leavesOf, listOf, placeOf};
-ghost use Rattle.exports.specs.Words.{refusalWord, answerWord, checkedWord, leavesWord, placeWord, keyWord, fieldWord, lengthWord, lengthLeft};
+ghost use Rattle.exports.specs.Words.{refusalWord, answerWord, checkedWord, leavesWord, placeWord, keyWord, fieldWord, lengthWord, lengthLeft, namesWord, namesLeft};
 
 fn refusal_word(n: u8, line: LineNo) -> u64
     ensures { λ r. ⌜ r ≡ refusalWord n (line .0) ⌝ }
@@ -173,10 +174,18 @@ pub extern "C" fn sam_header_names(
     list: &[u8],
     work: &mut [u32],
     out: &mut [u32],
+    inspected: &mut u64,
 ) -> u64
-    ensures answer { λ r. ⌜ r ≡ answerWord (answerOf (resultsOf (batching (now (text .entry)) (now (catalogue .entry)) (now (list .entry)) (length (now (work .entry))) (length (now (out .entry)))))) ⌝ }
+    ensures answer { λ r. ⌜ r ≡ namesWord (namesOf (batching (now (text .entry)) (now (catalogue .entry)) (now (list .entry)) (length (now (work .entry))) (length (now (out .entry))))) ⌝ }
     ensures slots { λ _. ⌜ now (work .exit) ≡ outputOf (slotsOf (batching (now (text .entry)) (now (catalogue .entry)) (now (list .entry)) (length (now (work .entry))) (length (now (out .entry))))) (now (work .entry)) ⌝ }
     ensures found { λ _. ⌜ now (out .exit) ≡ outputOf (resultsOf (batching (now (text .entry)) (now (catalogue .entry)) (now (list .entry)) (length (now (work .entry))) (length (now (out .entry))))) (now (out .entry)) ⌝ }
+    ensures looks { λ _. ⌜ now (inspected .exit) ≡ namesLeft (namesOf (batching (now (text .entry)) (now (catalogue .entry)) (now (list .entry)) (length (now (work .entry))) (length (now (out .entry))))) (now (inspected .entry)) ⌝ }
 {
-    answer_word(names::names(text, catalogue, list, work, out))
+    match names::names(text, catalogue, list, work, out) {
+        NamesAnswer::Refused(n, line) => refusal_word(n, line),
+        NamesAnswer::Counted(n, looks) => {
+            *inspected = looks;
+            n as u64
+        }
+    }
 }

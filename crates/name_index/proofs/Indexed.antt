@@ -1,4 +1,4 @@
--- Looking in the index finds what the plain search finds, by the law of slots. Assumes nothing.
+-- Looking in the index finds what the plain search finds, and soon, by the law of slots. Assumes nothing.
 use Prim.Native.Nat.{ℕ, zero, suc, _+_, _*_, _≤_, _<_}
 use mathlib.Core.Path.{_≡_, refl, sym, ap, ap₂, subst, _∙_}
 use mathlib.Core.Bool.{Bool, true, false, cond}
@@ -7,10 +7,10 @@ use native.Mathlib.Omega.{arith}
 use native.Mathlib.Nat.{mod-lt}
 use lib.ListN.{length, getD, set, replicate, length-append, length-set, length-replicate}
 use Rattle.format.specs.Bytes.{same}
-use Rattle.format.specs.Slots.{seat, pick, Held}
-use Rattle.format.proofs.Slots.{held-none, held-enter}
+use Rattle.format.specs.Slots.{seat, filled, pick, Held}
+use Rattle.format.proofs.Slots.{filled-around, held-none, held-enter}
 use Rattle.text.proofs.Equal.{same-equal}
-use Rattle.name_index.specs.Index.{ordinalFrom, ordinalIn, slotCount, hashFrom, first, path, enter, enterFrom, index, ordinalOf, nameOf, tells}
+use Rattle.name_index.specs.Index.{ordinalFrom, ordinalIn, slotCount, hashFrom, first, path, enter, enterFrom, index, ordinalOf, nameOf, tells, looked, looks}
 use Rattle.name_index.specs.Indexed.{Indexed}
 use Rattle.name_index.proofs.SlotCount.{slots-power, slots-enough, slots-smallest, slots-some}
 
@@ -89,6 +89,29 @@ pick-ordinal xs x k (y ∷ ys) a = rw (from-first xs k y ys a) (go (same x (getD
     go true ih = refl
     go false ih = ih
 
+-- ---- how much is looked at
+
+looked-filled : (hit : ℕ → Bool) (ss : List ℕ) → looked hit ss ≤ suc (filled ss)
+unfolding looked filled
+looked-filled hit [] = omega arith
+looked-filled hit (zero ∷ ss) = omega arith
+looked-filled hit (suc k ∷ ss) = go (hit (suc k)) (looked-filled hit ss)
+  where
+    go : (t : Bool) → looked hit ss ≤ suc (filled ss) → cond t 1 (suc (looked hit ss)) ≤ suc (suc (filled ss))
+    go true ih = omega arith
+    go false ih = omega (arith, ih)
+
+values-length : (k : ℕ) (xs : List (List ℕ)) → length (values k xs) ≡ length xs
+unfolding values
+values-length k [] = refl
+values-length k (x ∷ xs) = ap suc (values-length (k + 1) xs)
+
+pub looks-few : (xs : List (List ℕ)) (x : List ℕ) → looks xs x ≤ length xs + 1
+unfolding looks path
+looks-few xs x =
+    let slots : List ℕ = index xs in
+    omega (arith, looked-filled (tells xs x) (path x slots), filled-around (first (length slots) x) slots, index-held xs .few, values-length 0 xs)
+
 pub indexed : (xs : List (List ℕ)) → Indexed xs
 unfolding ordinalIn path first tells begins
 indexed xs =
@@ -98,6 +121,7 @@ indexed xs =
       enough = omega (arith, slots-enough m, index-length xs);
       smallest = λ e h. omega (arith, index-length xs, slots-smallest m e h);
       finds = λ x. ap ordinalOf (index-held xs .finds (tells xs x) (first (length (index xs)) x) (below x) (starts x)) ∙ pick-ordinal xs x 0 xs (from-start xs);
+      soon = looks-few xs;
     }
   where
     below : (x : List ℕ) → first (length (index xs)) x < length (index xs)

@@ -1,4 +1,4 @@
--- Names and their ordinals (Req 06): the plain search in a list of names, and the index of such a list. An index is slots, each 0 or the
+-- Names and their ordinals (Req 06 and 07): the plain search in a list of names, and the index of such a list. An index is slots, each 0 or the
 -- ordinal of a name plus one.
 use Prim.Native.Nat.{ℕ, zero, suc, _+_, _*_, _%_, _^_}
 use mathlib.Core.Bool.{Bool, cond}
@@ -86,3 +86,16 @@ nameOf xs (suc k) = getD xs k []
 unfoldable pub tells : List (List ℕ) → List ℕ → ℕ → Bool
 unfolding same nameOf
 tells xs x v = same x (nameOf xs v)
+
+-- ---- how much is looked at
+
+-- the slots up to and including the first with a value that is accepted, or the first empty one
+unfoldable pub looked : (ℕ → Bool) → List ℕ → ℕ
+looked hit [] = 0
+looked hit (zero ∷ ss) = 1
+looked hit (suc k ∷ ss) = cond (hit (suc k)) 1 (suc (looked hit ss))
+
+-- the slots that are looked at for a name: from its first slot up to and including the one with the name, or the first empty one
+unfoldable pub looks : List (List ℕ) → List ℕ → ℕ
+unfolding looked tells path index
+looks xs x = looked (tells xs x) (path x (index xs))

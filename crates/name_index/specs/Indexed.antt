@@ -1,10 +1,10 @@
--- What is promised of an index (Req 06): how many slots it has, and that looking along a name's path finds what the plain search finds.
-use Prim.Native.Nat.{ℕ, suc, _*_, _^_, _≤_}
+-- What is promised of an index (Req 06 and 07): how many slots it has, and that looking along a name's path finds what the plain search finds, soon.
+use Prim.Native.Nat.{ℕ, suc, _+_, _*_, _^_, _≤_}
 use mathlib.Core.Path.{_≡_}
 use mathlib.Core.List.{List}
 use lib.ListN.{length}
 use Rattle.format.specs.Slots.{seek}
-use Rattle.name_index.specs.Index.{ordinalIn, path, index, ordinalOf, tells}
+use Rattle.name_index.specs.Index.{ordinalIn, path, index, ordinalOf, tells, looks}
 
 -- for every list of names
 pub record Indexed (xs : List (List ℕ)) : Type 0 where
@@ -14,3 +14,5 @@ pub record Indexed (xs : List (List ℕ)) : Type 0 where
   pub smallest : (e : ℕ) → 2 * length xs ≤ 2 ^ suc e → length (index xs) ≤ 2 ^ suc e
   -- the first slot of the path that tells the name, if none before it is empty, has the ordinal that the plain search finds
   pub finds : (x : List ℕ) → ordinalOf (seek (tells xs x) (path x (index xs))) ≡ ordinalIn xs x
+  -- at most one slot more is looked at than there are names
+  pub soon : (x : List ℕ) → looks xs x ≤ length xs + 1

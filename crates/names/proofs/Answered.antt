@@ -1,4 +1,4 @@
--- Slots filled with offsets and looked in, then filled with ordinals and read: what the result list holds step by step.
+-- Slots filled with offsets and looked in, then filled with ordinals and read: what the result list holds and how much is looked at, step by step.
 use Prim.Native.Nat.{ℕ, _+_, _≤_}
 use mathlib.Core.Path.{_≡_, refl, sym, ap, ap₂, _∙_}
 use mathlib.Core.Bool.{true, false}
@@ -7,10 +7,10 @@ use native.Mathlib.Omega.{arith}
 use lib.ListN.{length, replicate, length-map, drop-of-length-le}
 use Rattle.text.specs.Over.{over}
 use Rattle.entries.specs.Entries.{entriesIn}
-use Rattle.name_index.specs.Index.{ordinalIn, slotCount, index}
-use Rattle.sq_index.specs.Filled.{namesIn, entering, slotOf, ordinalAt}
-use Rattle.sq_index.proofs.Found.{filled-index, places-length, found-ordinal}
-use Rattle.names.specs.Batch.{asked}
+use Rattle.name_index.specs.Index.{ordinalIn, slotCount, index, looks}
+use Rattle.sq_index.specs.Filled.{namesIn, entering, slotOf, looksOf, ordinalAt}
+use Rattle.sq_index.proofs.Found.{filled-index, places-length, found-ordinal, found-looks}
+use Rattle.names.specs.Batch.{asked, summed}
 
 -- written over a list of the same length
 over-whole : (out xs : List ℕ) → length out ≡ length xs → over out 0 xs ≡ xs
@@ -20,6 +20,11 @@ over-whole out xs e = let h : length out ≤ 0 + length xs = omega (arith, e) in
 all-found : (f g : List ℕ → ℕ) (o : ℕ → ℕ) → ((x : List ℕ) → o (f x) ≡ g x) → (ys : List (List ℕ)) → map o (map f ys) ≡ map g ys
 all-found f g o e [] = refl
 all-found f g o e (y ∷ ys) = ap₂ (λ a b. a ∷ b) (e y) (all-found f g o e ys)
+
+all-summed : (f g : List ℕ → ℕ) → ((x : List ℕ) → f x ≡ g x) → (ys : List (List ℕ)) → summed f ys ≡ summed g ys
+unfolding summed
+all-summed f g e [] = refl
+all-summed f g e (y ∷ ys) = ap₂ (λ a b. a + b) (e y) (all-summed f g e ys)
 
 module _ (t c slots₀ slots₁ : List ℕ) (size : length slots₀ ≡ slotCount (length (namesIn t (entriesIn c))))
     (first-fill : slots₁ ≡ entering false t 0 0 (entriesIn c) (replicate (length slots₀) 0)) where
@@ -31,6 +36,11 @@ module _ (t c slots₀ slots₁ : List ℕ) (size : length slots₀ ≡ slotCoun
 
   pub long₁ : length slots₁ ≡ slotCount (length names)
   long₁ = ap length by-offsets ∙ places-length t c
+
+  pub looks-told : (ys : List (List ℕ)) → summed (looksOf t c slots₁) ys ≡ summed (looks names) ys
+  looks-told ys =
+      ap (λ s. summed (looksOf t c s) ys) by-offsets
+      ∙ all-summed (looksOf t c (entering false t 0 0 (entriesIn c) (replicate (slotCount (length names)) 0))) (looks names) (found-looks t c) ys
 
   module _ (slots₂ : List ℕ) (second-fill : slots₂ ≡ entering true t 0 0 (entriesIn c) (replicate (length slots₁) 0)) where
     pub index-told : slots₂ ≡ index names

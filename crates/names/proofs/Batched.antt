@@ -10,16 +10,16 @@ use Rattle.format.specs.Calls.{Answer, no, yes, then, fresh}
 use Rattle.format.specs.declared.LineNo.{LineNo}
 use Rattle.accepted.specs.Read.{recordsOf}
 use Rattle.entries.specs.Entries.{entriesIn, counted}
-use Rattle.parser.specs.declared.Answer.the-variants.{Refused, Count}
-use Rattle.parser.specs.Answers.{answerOf, outputOf}
+use Rattle.parser.specs.Answers.{outputOf}
 use Rattle.calls.proofs.Fresh.{Current, goes-on, stops}
 use Rattle.calls.proofs.Chained.{too-short, fits}
-use Rattle.name_index.specs.Index.{ordinalIn, slotCount, index}
+use Rattle.name_index.specs.Index.{ordinalIn, slotCount, index, looks}
 use Rattle.name_index.proofs.Indexed.{index-length}
 use Rattle.sq_index.specs.Filled.{namesIn}
 use Rattle.sq_index.proofs.Named.{names-counted}
-use Rattle.names.specs.Batch.{references, asked, batched, batching}
-use Rattle.names.specs.Answers.{resultsOf, slotsOf}
+use Rattle.names.specs.Batch.{references, asked, summed, batched, batching}
+use Rattle.names.specs.declared.NamesAnswer.the-variants.{Refused, Counted}
+use Rattle.names.specs.Answers.{namesOf, resultsOf, slotsOf}
 use Rattle.names.proofs.References.{text-names, few-names}
 use Rattle.names.proofs.Short.{text-short}
 
@@ -71,7 +71,7 @@ module _ (t c : List ℕ) (own : Current t c) where
               too-short room (map (ordinalIn names) (asked list)) (omega (arith, l, length-map (asked list) (ordinalIn names))),
             ) refl
 
-        pub batch-all : length (asked list) ≤ room → batching t c list work room ≡ yes (map (ordinalIn names) (asked list), index names)
+        pub batch-all : length (asked list) ≤ room → batching t c list work room ≡ yes (map (ordinalIn names) (asked list), index names, summed (looks names) (asked list))
         unfolding batched longest then
         batch-all l =
             told
@@ -83,14 +83,14 @@ module _ (t c : List ℕ) (own : Current t c) where
 
 -- ---- what an answer says, and leaves in the work area and in the result list
 
-module _ (b : Answer (List ℕ × List ℕ)) (work out : List ℕ) where
-  pub told-refusal : (n : ℕ) (l : LineNo) → b ≡ no n (l .0) → (Refused n l ≡ answerOf (resultsOf b)) × ((work ≡ outputOf (slotsOf b) work) × (out ≡ outputOf (resultsOf b) out))
-  unfolding answerOf slotsOf resultsOf outputOf
-  told-refusal n l e = (sym (ap (λ a. answerOf (resultsOf a)) e), (sym (ap (λ a. outputOf (slotsOf a) work) e), sym (ap (λ a. outputOf (resultsOf a) out) e)))
+module _ (b : Answer (List ℕ × List ℕ × ℕ)) (work out : List ℕ) where
+  pub told-refusal : (n : ℕ) (l : LineNo) → b ≡ no n (l .0) → (Refused n l ≡ namesOf b) × ((work ≡ outputOf (slotsOf b) work) × (out ≡ outputOf (resultsOf b) out))
+  unfolding namesOf slotsOf resultsOf outputOf
+  told-refusal n l e = (sym (ap namesOf e), (sym (ap (λ a. outputOf (slotsOf a) work) e), sym (ap (λ a. outputOf (resultsOf a) out) e)))
 
-  pub told-answer : (found slots : List ℕ) → b ≡ yes (found, slots) → (count : ℕ) → count ≡ length found
+  pub told-answer : (found slots : List ℕ) (looks : ℕ) → b ≡ yes (found, slots, looks) → (count : ℕ) → count ≡ length found → (sum : ℕ) → sum ≡ looks
       → (work₁ out₁ : List ℕ) → work₁ ≡ slots ++ drop (length slots) work → out₁ ≡ found ++ drop (length found) out
-      → (Count count ≡ answerOf (resultsOf b)) × ((work₁ ≡ outputOf (slotsOf b) work) × (out₁ ≡ outputOf (resultsOf b) out))
-  unfolding answerOf slotsOf resultsOf outputOf
-  told-answer found slots e count n work₁ out₁ w o =
-      (rw n (sym (ap (λ a. answerOf (resultsOf a)) e)), (w ∙ sym (ap (λ a. outputOf (slotsOf a) work) e), o ∙ sym (ap (λ a. outputOf (resultsOf a) out) e)))
+      → (Counted count sum ≡ namesOf b) × ((work₁ ≡ outputOf (slotsOf b) work) × (out₁ ≡ outputOf (resultsOf b) out))
+  unfolding namesOf slotsOf resultsOf outputOf
+  told-answer found slots looks e count n sum m work₁ out₁ w o =
+      (rw (n, m) (sym (ap namesOf e)), (w ∙ sym (ap (λ a. outputOf (slotsOf a) work) e), o ∙ sym (ap (λ a. outputOf (resultsOf a) out) e)))

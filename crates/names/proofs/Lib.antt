@@ -4,3 +4,4 @@ pub mod Answered
 pub mod Short
 pub mod References
 pub mod Batched
+pub mod Bound

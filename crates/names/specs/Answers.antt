@@ -1,14 +1,22 @@
--- What a batch leaves in the result list and in the work area.
+-- The answer of a batch in the code's numbers, and what it leaves in the result list and in the work area.
 use Prim.Native.Nat.{ℕ}
 use mathlib.Core.List.{List}
+use lib.ListN.{length}
 use Rattle.format.specs.Calls.{Answer, no, yes}
+use Rattle.names.specs.declared.NamesAnswer.{NamesAnswer}
+use Rattle.names.specs.declared.NamesAnswer.the-variants.{Refused, Counted}
+
+-- a refusal and its line, or how many names are answered, and the slots that were looked at
+unfoldable pub namesOf : Answer (List ℕ × List ℕ × ℕ) → NamesAnswer
+namesOf (no n l) = Refused n (record { 0 = l })
+namesOf (yes a) = Counted (length (a .0)) (a .2)
 
 -- the ordinals that are answered
-unfoldable pub resultsOf : Answer (List ℕ × List ℕ) → Answer (List ℕ)
+unfoldable pub resultsOf : Answer (List ℕ × List ℕ × ℕ) → Answer (List ℕ)
 resultsOf (no n l) = no n l
 resultsOf (yes a) = yes (a .0)
 
 -- the index
-unfoldable pub slotsOf : Answer (List ℕ × List ℕ) → Answer (List ℕ)
+unfoldable pub slotsOf : Answer (List ℕ × List ℕ × ℕ) → Answer (List ℕ)
 slotsOf (no n l) = no n l
 slotsOf (yes a) = yes (a .1)

@@ -1,5 +1,6 @@
--- Many names at once (Req 06): what is answered for every text, catalogue, list of names, work area and result list. Each name's ordinal is
--- that of a plain search in the SQ list; the work area's front becomes the index of the SQ names.
+-- Many names at once (Req 06 and 07): what is answered for every text, catalogue, list of names, work area and result list. Each name's ordinal is
+-- that of a plain search in the SQ list; the work area's front becomes the index of the SQ names; what looking for the
+-- names takes is counted.
 use Prim.Native.Nat.{ℕ, _+_}
 use mathlib.Core.Bool.{cond}
 use mathlib.Core.List.{List, [], _∷_, map}
@@ -10,7 +11,7 @@ use Rattle.format.specs.Records.{Record, key}
 use Rattle.format.specs.Reading.{ofKind, longest}
 use Rattle.format.specs.Programs.{bytesOf}
 use Rattle.format.specs.Calls.{Answer, no, yes, then, fresh, fitting}
-use Rattle.name_index.specs.Index.{ordinalIn, index}
+use Rattle.name_index.specs.Index.{ordinalIn, index, looks}
 
 -- the names of the SQ records, in order: a name's place here is its ordinal
 unfoldable pub references : List Record → List (List ℕ)
@@ -23,16 +24,22 @@ unfolding onto
 asked [] = []
 asked (b ∷ s) = cond (eqb b 10) ([] ∷ asked s) (onto b (asked s))
 
--- over the names `xs` of the SQ: the ordinal of each asked name, and the index. 1 for a list that is too long, then 20 where the work area takes
--- fewer slots than the index has or the result list fewer ordinals than there are names; `work` and `room` are how many they take
-unfoldable pub batched : List (List ℕ) → List ℕ → ℕ → ℕ → Answer (List ℕ × List ℕ)
-unfolding then fitting longest asked ordinalIn index
+-- a number for each name, summed
+unfoldable pub summed : (List ℕ → ℕ) → List (List ℕ) → ℕ
+summed f [] = 0
+summed f (x ∷ xs) = f x + summed f xs
+
+-- over the names `xs` of the SQ: the ordinal of each asked name, the index, and the slots that are looked at in answering, building not
+-- counted. 1 for a list that is too long, then 20 where the work area takes fewer slots than the index has or the result list fewer ordinals
+-- than there are names; `work` and `room` are how many they take
+unfoldable pub batched : List (List ℕ) → List ℕ → ℕ → ℕ → Answer (List ℕ × List ℕ × ℕ)
+unfolding then fitting longest asked ordinalIn index summed looks
 batched xs list work room =
     cond (ltb longest (length list)) (no 1 0)
     (then (fitting work (index xs)) (λ slots.
-    then (fitting room (map (ordinalIn xs) (asked list))) (λ found. yes (found, slots))))
+    then (fitting room (map (ordinalIn xs) (asked list))) (λ found. yes (found, slots, summed (looks xs) (asked list)))))
 
 -- a batch: after reading and 21
-unfoldable pub batching : List ℕ → List ℕ → List ℕ → ℕ → ℕ → Answer (List ℕ × List ℕ)
+unfoldable pub batching : List ℕ → List ℕ → List ℕ → ℕ → ℕ → Answer (List ℕ × List ℕ × ℕ)
 unfolding then fresh references batched
 batching text c list work room = then (fresh text c) (λ rs. batched (references rs) list work room)

@@ -1,6 +1,5 @@
-// Many names at once: an index of the SQ names in a lent work area, and by it the ordinal of each name of a list.
+// Many names at once: an index of the SQ names in a lent work area, by it the ordinal of each name of a list, and how much was looked at.
 use format::LineNo;
-use parser::Answer;
 use parser::Checked;
 ghost use mathlib.Core.Path.{_≡_};
 ghost use mathlib.Core.List.{map};
@@ -8,11 +7,17 @@ ghost use Prim.Native.Nat.{_≤_, _<_};
 ghost use lib.ListN.{length};
 ghost use Rattle.text.specs.Over.{over};
 ghost use Rattle.entries.specs.Entries.{entriesIn};
-ghost use Rattle.parser.specs.Answers.{answerOf, outputOf};
-ghost use Rattle.name_index.specs.Index.{ordinalIn, slotCount, index};
-ghost use Rattle.sq_index.specs.Filled.{namesIn, slotOf};
-ghost use Rattle.names.specs.Batch.{asked, batching};
-ghost use Rattle.names.specs.Answers.{resultsOf, slotsOf};
+ghost use Rattle.parser.specs.Answers.{outputOf};
+ghost use Rattle.name_index.specs.Index.{ordinalIn, slotCount, index, looks};
+ghost use Rattle.sq_index.specs.Filled.{namesIn, slotOf, looksOf};
+ghost use Rattle.names.specs.Batch.{asked, summed, batching};
+ghost use Rattle.names.specs.Answers.{namesOf, resultsOf, slotsOf};
+
+// A refusal and its line, or how many names are answered, and the slots that were looked at.
+pub enum NamesAnswer {
+    Refused(u8, LineNo),
+    Counted(usize, u64),
+}
 
 // How many names a list has: each LF ends one, and bytes after the last LF are one name more.
 fn count_names(list: &[u8]) -> usize
@@ -32,27 +37,32 @@ fn count_names(list: &[u8]) -> usize
     n
 }
 
-// Looks for each name of a list: the slot with it goes into `out`.
-fn find_slots(text: &[u8], catalogue: &[u8], slots: &[u32], list: &[u8], out: &mut [u32])
+// Looks for each name of a list: the slot with it goes into `out`, and the slots that were looked at are summed.
+fn find_slots(text: &[u8], catalogue: &[u8], slots: &[u32], list: &[u8], out: &mut [u32]) -> u64
     requires { ⌜ 0 < length (now slots) ⌝ }
     requires { ⌜ length (now slots) ≤ 33554432 ⌝ }
     requires { ⌜ length (now list) ≤ 16777216 ⌝ }
     requires { ⌜ length (asked (now list)) ≤ length (now out) ⌝ }
-    ensures { λ _. ⌜ now (out .exit) ≡ over (now (out .entry)) 0 (map (slotOf (now (text .entry)) (now (catalogue .entry)) (now (slots .entry))) (asked (now (list .entry)))) ⌝ }
+    ensures wrote { λ _. ⌜ now (out .exit) ≡ over (now (out .entry)) 0 (map (slotOf (now (text .entry)) (now (catalogue .entry)) (now (slots .entry))) (asked (now (list .entry)))) ⌝ }
+    ensures looks { λ r. ⌜ r ≡ summed (looksOf (now (text .entry)) (now (catalogue .entry)) (now (slots .entry))) (asked (now (list .entry))) ⌝ }
 {
     let mut at: usize = 0;
     let mut j: usize = 0;
+    let mut looks: u64 = 0;
     while at < list.len() {
         let end = at + text::upto(&list[at..], b'\n');
-        out[j] = sq_index::find_slot(text, catalogue, slots, &list[at..end]);
+        let found = sq_index::find_slot(text, catalogue, slots, &list[at..end]);
+        out[j] = found.slot;
+        looks += found.looks as u64;
         j += 1;
         at = end + 1;
     }
+    looks
 }
 
-// Once nothing refuses: each name's ordinal in `out`, and the index in `slots`. The slots hold offsets while names are looked for, so that
-// a slot's name is found at once, and the ordinals afterwards: each name enters the same slot.
-fn answer(text: &[u8], kept: &[u8], list: &[u8], slots: &mut [u32], out: &mut [u32])
+// Once nothing refuses: each name's ordinal in `out`, the index in `slots`, and the slots that were looked at. The slots hold offsets while
+// names are looked for, so that a slot's name is found at once, and the ordinals afterwards: each name enters the same slot.
+fn answer(text: &[u8], kept: &[u8], list: &[u8], slots: &mut [u32], out: &mut [u32]) -> u64
     requires { ⌜ length (now kept) ≤ 4294967294 ⌝ }
     requires { ⌜ length (now list) ≤ 16777216 ⌝ }
     requires { ⌜ length (namesIn (now text) (entriesIn (now kept))) ≤ 16777216 ⌝ }
@@ -60,37 +70,46 @@ fn answer(text: &[u8], kept: &[u8], list: &[u8], slots: &mut [u32], out: &mut [u
     requires { ⌜ length (now out) ≡ length (asked (now list)) ⌝ }
     ensures slots { λ _. ⌜ now (slots .exit) ≡ index (namesIn (now (text .entry)) (entriesIn (now (kept .entry)))) ⌝ }
     ensures found { λ _. ⌜ now (out .exit) ≡ map (ordinalIn (namesIn (now (text .entry)) (entriesIn (now (kept .entry))))) (asked (now (list .entry))) ⌝ }
+    ensures looks { λ r. ⌜ r ≡ summed (looks (namesIn (now (text .entry)) (entriesIn (now (kept .entry))))) (asked (now (list .entry))) ⌝ }
 {
     sq_index::fill(text, kept, slots, false);
-    find_slots(text, kept, slots, list, out);
+    let looks = find_slots(text, kept, slots, list, out);
     sq_index::fill(text, kept, slots, true);
     sq_index::to_ordinals(slots, out);
+    looks
 }
 
 // For each name of a list its ordinal among the SQ at the front of `out`, or 4294967295, and the index of the SQ names at the front of
-// `work`. Reading's refusals, 21, then 1 for a list that is too long, then 20 for a short work area or result list.
-pub fn names(text: &[u8], kept: &[u8], list: &[u8], work: &mut [u32], out: &mut [u32]) -> Answer
-    ensures answer { λ r. ⌜ r ≡ answerOf (resultsOf (batching (now (text .entry)) (now (kept .entry)) (now (list .entry)) (length (now (work .entry))) (length (now (out .entry))))) ⌝ }
+// `work`; the slots that looking for the names took are counted. Reading's refusals, 21, then 1 for a list that is too long, then 20 for a
+// short work area or result list.
+pub fn names(
+    text: &[u8],
+    kept: &[u8],
+    list: &[u8],
+    work: &mut [u32],
+    out: &mut [u32],
+) -> NamesAnswer
+    ensures answer { λ r. ⌜ r ≡ namesOf (batching (now (text .entry)) (now (kept .entry)) (now (list .entry)) (length (now (work .entry))) (length (now (out .entry)))) ⌝ }
     ensures slots { λ _. ⌜ now (work .exit) ≡ outputOf (slotsOf (batching (now (text .entry)) (now (kept .entry)) (now (list .entry)) (length (now (work .entry))) (length (now (out .entry))))) (now (work .entry)) ⌝ }
     ensures found { λ _. ⌜ now (out .exit) ≡ outputOf (resultsOf (batching (now (text .entry)) (now (kept .entry)) (now (list .entry)) (length (now (work .entry))) (length (now (out .entry))))) (now (out .entry)) ⌝ }
 {
     match parser::check(text, kept) {
-        Checked::Refused(n, line) => Answer::Refused(n, line),
+        Checked::Refused(n, line) => NamesAnswer::Refused(n, line),
         Checked::Fresh => {
             if 16777216 < list.len() {
-                return Answer::Refused(1, LineNo(0));
+                return NamesAnswer::Refused(1, LineNo(0));
             }
             let room = work.len();
             let n = name_index::slot_count(entries::count_kind(kept, 2) as u32) as usize;
             if room < n {
-                return Answer::Refused(20, LineNo(0));
+                return NamesAnswer::Refused(20, LineNo(0));
             }
             let count = count_names(list);
             if out.len() < count {
-                return Answer::Refused(20, LineNo(0));
+                return NamesAnswer::Refused(20, LineNo(0));
             }
-            answer(text, kept, list, &mut work[..n], &mut out[..count]);
-            Answer::Count(count)
+            let looks = answer(text, kept, list, &mut work[..n], &mut out[..count]);
+            NamesAnswer::Counted(count, looks)
         }
     }
 }

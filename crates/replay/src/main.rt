@@ -17,11 +17,11 @@
 //     roots TEXT KEPT ROOM ok ORDINALS
 //     leaves TEXT KEPT ROOM ok ORDINALS HOPS
 //     add TEXT KEPT ROOM PREFIX FIELDS ok BYTES
-//     names TEXT KEPT LIST WORK ROOM ok ORDINALS INDEX
+//     names TEXT KEPT LIST WORK ROOM ok ORDINALS INDEX LOOKS
 // or `refused NUMBER LINE` in place of `ok ..`. ORDINALS have four hex digits each; those of names have eight, and so have the slots of
-// INDEX. `program TEXT BYTES` has what the program on standard input writes. A line of the oracle has its text first; each such text is
-// read, tidied, and asked for its roots and leaves. Of an output that is lent every element is looked at: what is not the answer must be as
-// it was. Where the field call's answer stands no program can see: its contract says it.
+// INDEX; LOOKS is `-` where it is not stored. `program TEXT BYTES` has what the program on standard input writes. A line of the oracle has
+// its text first; each such text is read, tidied, and asked for its roots and leaves. Of an output that is lent every element is looked at:
+// what is not the answer must be as it was. Where the field call's answer stands no program can see: its contract says it.
 //
 // A line that starts with `!` holds a wrong answer, and the program must find it wrong: so it is seen that each comparison can fail. One that
 // starts with `#` is a note.
@@ -30,6 +30,7 @@ use calls::LeavesAnswer;
 use calls::LengthAnswer;
 use format::LineNo;
 use libc::STDOUT_FILENO;
+use names::NamesAnswer;
 use parser::Answer;
 ghost use mathlib.Core.Path.{_≡_};
 ghost use Prim.Native.Nat.{_<_, _≤_, _+_};
@@ -195,7 +196,7 @@ fn is_refusal(line: &[u8], at: usize, n: u8, no: LineNo) -> bool
 
 // Whether the answer at word `at` is `ok` and `n` words more.
 fn is_ok(line: &[u8], at: usize, n: usize) -> bool
-    requires { ⌜ (at < 8) × (n < 3) ⌝ }
+    requires { ⌜ (at < 8) × (n < 4) ⌝ }
 {
     text::same(cases::word(line, at), b"ok") && cases::word(line, at + n + 1).len() == 0
 }
@@ -284,18 +285,24 @@ fn is_added(line: &[u8], text: &[u8], kept: &[u8], out: &mut [u8]) -> bool {
     }
 }
 
-// Whether the ordinals of the names and the index are the line's, in a work area and an output of as many elements as it says.
+// Whether the slots that were looked at are as many as a word says, where it says a number.
+fn is_looks(word: &[u8], looks: u64) -> bool {
+    text::same(word, b"-") || is_number(word, looks)
+}
+
+// Whether the ordinals of the names, the index and the slots looked at are the line's, in a work area and an output of as many elements as it says.
 fn is_names(line: &[u8], text: &[u8], kept: &[u8], work: &mut [u32], out: &mut [u32]) -> bool {
     let mut list = io::buffer();
     let n = cases::decode(cases::word(line, 3), &mut list);
     let slots = cases::least(cases::number(cases::word(line, 4)), work.len());
     let room = cases::least(cases::number(cases::word(line, 5)), out.len());
     match names::names(text, kept, &list[..n], &mut work[..slots], &mut out[..room]) {
-        Answer::Refused(n, no) => {
+        NamesAnswer::Refused(n, no) => {
             is_refusal(line, 6, n, no) && cases::is_unlisted(work) && cases::is_unlisted(out)
         }
-        Answer::Count(n) => {
-            is_ok(line, 6, 2)
+        NamesAnswer::Counted(n, looks) => {
+            is_ok(line, 6, 3)
+                && is_looks(cases::word(line, 9), looks)
                 && is_list(cases::word(line, 7), out, n, 8)
                 && is_list(
                     cases::word(line, 8),

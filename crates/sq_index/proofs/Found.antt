@@ -1,4 +1,5 @@
--- Slots of a catalogue: filled with offsets and looked in, then filled with ordinals and read, they answer as the plain search does.
+-- Slots of a catalogue: filled with offsets and looked in, then filled with ordinals and read, they answer as the plain search does, and as much is
+-- looked at as the rule says.
 use Prim.Native.Nat.{ℕ, _≤_, _<_}
 use mathlib.Core.Path.{_≡_, sym, ap, _∙_}
 use mathlib.Core.Bool.{true, false}
@@ -6,11 +7,11 @@ use mathlib.Core.List.{List, map}
 use native.Mathlib.Omega.{arith}
 use lib.ListN.{length, replicate, length-map}
 use Rattle.entries.specs.Entries.{entriesIn}
-use Rattle.name_index.specs.Index.{absent, ordinalIn, slotCount, index, tells}
-use Rattle.sq_index.specs.Filled.{namesIn, says, entering, landed, slotOf, ordinalAt}
+use Rattle.name_index.specs.Index.{absent, ordinalIn, slotCount, path, index, tells, looked, looks}
+use Rattle.sq_index.specs.Filled.{namesIn, says, entering, landed, slotOf, looksOf, ordinalAt}
 use Rattle.name_index.proofs.SlotCount.{slots-some, slots-few}
 use Rattle.name_index.proofs.Indexed.{indexed, index-length}
-use Rattle.sq_index.proofs.Recoded.{recode, none-recode, landed-recode, landed-holds}
+use Rattle.sq_index.proofs.Recoded.{recode, none-recode, landed-recode, looks-recode, landed-holds}
 use Rattle.sq_index.proofs.Named.{with-ordinals, offset, offset-tells, filled-offsets}
 
 -- no slot is the one that says that there is none
@@ -50,3 +51,9 @@ module _ (t c : List ℕ) where
       ∙ ap (ordinalAt (index names)) (landed-recode (offset c) (says t c x) (tells names x) (offset-tells t c x) (index names) x)
       ∙ landed-holds (tells names x) x (index names) (omega (arith, index-length names, slots-some n)) (below-absent (length (index names)) (omega (arith, index-length names, slots-few n few)))
       ∙ indexed names .finds x
+
+  -- as many slots are looked at as in the index
+  pub found-looks : (x : List ℕ) → looksOf t c places x ≡ looks names x
+  unfolding looksOf looks
+  found-looks x =
+      ap (λ s. looked (says t c x) (path x s)) same-places ∙ looks-recode (offset c) (says t c x) (tells names x) (offset-tells t c x) (index names) x

@@ -6,7 +6,7 @@ use mathlib.Core.List.{List, [], _∷_, _++_, map, map-append}
 use native.Mathlib.Omega.{arith}
 use lib.ListN.{length, getD, take, drop, set, replicate, length-map, List·getD-eq-default}
 use Rattle.format.specs.Slots.{around, full, seat, seek}
-use Rattle.name_index.specs.Index.{absent, first, path, enter, ordinalOf}
+use Rattle.name_index.specs.Index.{absent, first, path, enter, ordinalOf, looked}
 use Rattle.sq_index.specs.Filled.{landing, landed, ordinalAt}
 use Rattle.name_index.proofs.Path.{path-length, path-at}
 
@@ -75,6 +75,15 @@ module _ (f : ℕ → ℕ) where
     landing-recode n i [] = refl
     landing-recode n i (zero ∷ ss) = refl
     landing-recode n i (suc k ∷ ss) = ap₂ (λ b r. cond b (i % n) r) (alike k) (landing-recode n (i + 1) ss)
+
+    looked-recode : (ss : List ℕ) → looked hit (map (recode f) ss) ≡ looked own ss
+    unfolding looked recode
+    looked-recode [] = refl
+    looked-recode (zero ∷ ss) = refl
+    looked-recode (suc k ∷ ss) = ap₂ (λ b r. cond b 1 (suc r)) (alike k) (looked-recode ss)
+
+    pub looks-recode : (slots x : List ℕ) → looked hit (path x (map (recode f) slots)) ≡ looked own (path x slots)
+    looks-recode slots x = ap (looked hit) (path-recode x slots) ∙ looked-recode (path x slots)
 
     pub landed-recode : (slots x : List ℕ) → landed hit (map (recode f) slots) x ≡ landed own slots x
     unfolding landed

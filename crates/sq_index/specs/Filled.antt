@@ -9,7 +9,7 @@ use Rattle.format.specs.Bytes.{same}
 use Rattle.entries.specs.declared.Entry.{Entry}
 use Rattle.entries.specs.declared.Entry.the-variants.{End, Header, ReferenceSequence, ReadGroup, Program, Comment, Field}
 use Rattle.entries.specs.Entries.{kindOf, sizeOf, entryOf}
-use Rattle.name_index.specs.Index.{absent, first, path, enter, ordinalOf}
+use Rattle.name_index.specs.Index.{absent, first, path, enter, ordinalOf, looked}
 
 -- ---- names by entries
 
@@ -67,6 +67,11 @@ landed hit slots x = landing hit (length slots) (first (length slots) x) (path x
 unfoldable pub slotOf : List ℕ → List ℕ → List ℕ → List ℕ → ℕ
 unfolding landed says
 slotOf t c slots x = landed (says t c x) slots x
+
+-- how many slots are looked at for it
+unfoldable pub looksOf : List ℕ → List ℕ → List ℕ → List ℕ → ℕ
+unfolding looked says path
+looksOf t c slots x = looked (says t c x) (path x slots)
 
 -- ---- reading
 

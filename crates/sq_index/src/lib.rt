@@ -6,7 +6,7 @@ ghost use mathlib.Core.List.{map};
 ghost use Prim.Native.Nat.{_≤_, _<_};
 ghost use lib.ListN.{length, take, drop, replicate};
 ghost use Rattle.entries.specs.Entries.{entriesIn};
-ghost use Rattle.sq_index.specs.Filled.{nameIn, says, valueOf, entering, slotOf, ordinalAt};
+ghost use Rattle.sq_index.specs.Filled.{nameIn, says, valueOf, entering, slotOf, looksOf, ordinalAt};
 
 // What is answered for a name that no SQ has.
 pub const ABSENT: u32 = 4294967295;
@@ -94,12 +94,17 @@ fn is_said(text: &[u8], catalogue: &[u8], v: u32, name: &[u8]) -> bool
     text::same(name, name_of(text, e))
 }
 
-// Looks for a name in slots that hold offsets: from its first slot on, up to the one with the name or the first empty one. The slot with
-// the name, or ABSENT.
-pub fn find_slot(text: &[u8], catalogue: &[u8], slots: &[u32], name: &[u8]) -> u32
+// The slot with a name, or ABSENT, and how many slots were looked at.
+pub struct Looked {
+    pub slot: u32,
+    pub looks: u32,
+}
+
+// Looks for a name in slots that hold offsets: from its first slot on, up to the one with the name or the first empty one.
+pub fn find_slot(text: &[u8], catalogue: &[u8], slots: &[u32], name: &[u8]) -> Looked
     requires { ⌜ 0 < length (now slots) ⌝ }
     requires { ⌜ length (now slots) ≤ 33554432 ⌝ }
-    ensures { λ r. ⌜ r ≡ slotOf (now (text .entry)) (now (catalogue .entry)) (now (slots .entry)) (now (name .entry)) ⌝ }
+    ensures { λ r. ⌜ (r .slot ≡ slotOf (now (text .entry)) (now (catalogue .entry)) (now (slots .entry)) (now (name .entry))) × (r .looks ≡ looksOf (now (text .entry)) (now (catalogue .entry)) (now (slots .entry)) (now (name .entry))) ⌝ }
 {
     let n = slots.len();
     let first = name_index::first_slot(name, n);
@@ -108,14 +113,23 @@ pub fn find_slot(text: &[u8], catalogue: &[u8], slots: &[u32], name: &[u8]) -> u
         let at = name_index::turned(first, i, n);
         let v = slots[at];
         if v == 0 {
-            return ABSENT;
+            return Looked {
+                slot: ABSENT,
+                looks: (i + 1) as u32, // the empty slot too
+            };
         }
         if is_said(text, catalogue, v, name) {
-            return at as u32;
+            return Looked {
+                slot: at as u32,
+                looks: (i + 1) as u32, // and no slot behind it
+            };
         }
         i += 1;
     }
-    ABSENT
+    Looked {
+        slot: ABSENT,
+        looks: n as u32,
+    }
 }
 
 // The ordinal in a slot that holds it plus one: none where the slot is empty, or where there is no such slot.

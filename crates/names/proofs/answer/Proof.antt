@@ -1,13 +1,14 @@
 -- `names::answer` meets its contract: the slots are filled with offsets, looked in, filled with ordinals and read.
 use Prim.Native.Nat.{ℕ, _≤_, _<_}
-use mathlib.Core.Path.{_≡_}
+use mathlib.Core.Path.{_≡_, _∙_}
 use native.Mathlib.Omega.{arith}
 use lib.ListN.{length}
 use Rattle.name_index.specs.Index.{slotCount}
 use Rattle.entries.specs.Entries.{entriesIn}
 use Rattle.sq_index.specs.Filled.{namesIn}
 use Rattle.name_index.proofs.SlotCount.{slots-some, slots-few}
-use Rattle.names.proofs.Answered.{long₁, index-told, found-told}
+use Rattle.names.specs.Batch.{asked}
+use Rattle.names.proofs.Answered.{long₁, looks-told, index-told, found-told}
 use borrow.Author.Needs.{needs}
 use Rattle.names.proofs.answer.Statement.{statement}
 use Rattle.names.proofs.answer.Tie as tie
@@ -58,8 +59,11 @@ returns c =
     let slots₁ = f .fill .last .1 .1 .0 in
     let slots₂ = g .fill2 .last .1 .1 .0 in (
       index-told t k (a .slots .now) slots₁ (s .pre .1 .1 .1 .0) (f .fill .ensures) slots₂ (g .fill2 .ensures),
-      found-told t k (a .slots .now) slots₁ (s .pre .1 .1 .1 .0) (f .fill .ensures) slots₂ (g .fill2 .ensures) (s .pre .1 .1 .0) (a .list .now) (a .out .now)
-          (l .find-slots .last .1 .1 .1 .1 .0) (o .to-ordinals .last .1 .0) (s .pre .1 .1 .1 .1) (l .find-slots .ensures) (o .to-ordinals .ensures),
+      (
+        found-told t k (a .slots .now) slots₁ (s .pre .1 .1 .1 .0) (f .fill .ensures) slots₂ (g .fill2 .ensures) (s .pre .1 .1 .0) (a .list .now) (a .out .now)
+            (l .find-slots .last .1 .1 .1 .1 .0) (o .to-ordinals .last .1 .0) (s .pre .1 .1 .1 .1) (l .find-slots .ensures .0) (o .to-ordinals .ensures),
+        l .find-slots .ensures .1 ∙ looks-told t k (a .slots .now) slots₁ (s .pre .1 .1 .1 .0) (f .fill .ensures) (asked (a .list .now)),
+      ),
     )
 
 pub answer-spec : {M : Type 1} → statement M

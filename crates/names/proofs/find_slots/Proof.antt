@@ -1,23 +1,25 @@
--- `names::find_slots` meets its contract: what is still to be written is that of the names that are left.
+-- `names::find_slots` meets its contract: what is still to be written and summed is that of the names that are left.
 use Prim.Native.Nat.{_+_, _-_, _≤_, _<_}
 use mathlib.Core.Path.{_≡_, ap}
 use native.Mathlib.Omega.{arith}
 use borrow.Author.Needs.{needs}
 use lib.ListN.{length, take, drop}
-use Rattle.sq_index.specs.Filled.{slotOf}
+use Rattle.sq_index.specs.Filled.{slotOf, looksOf}
+use Rattle.sq_index.proofs.Looking.{looks-most}
 use Rattle.names.proofs.Asked.{name-within}
 use Rattle.names.proofs.Asking.{Asking, asking-start, asking-end, asking-room, asking-on}
 use Rattle.names.proofs.find_slots.Statement.{statement}
 use Rattle.names.proofs.find_slots.Tie as tie
 
 abbrev Inv-loop : tie.InvT-loop
-Inv-loop text catalogue slots list out₀ at₀ j₀ out at j = (at ≤ length list + 1) × Asking (slotOf text catalogue slots) list out₀ out at j
+Inv-loop text catalogue slots list out₀ at₀ j₀ looks₀ out at j looks =
+    (at ≤ length list + 1) × Asking (slotOf text catalogue slots) (looksOf text catalogue slots) list out₀ out at j looks
 
 abbrev μ-loop : tie.MeasureT-loop
-μ-loop text catalogue slots list out₀ at₀ j₀ out at j = length list + 1 - at
+μ-loop text catalogue slots list out₀ at₀ j₀ looks₀ out at j looks = length list + 1 - at
 
 loop-holds : tie.Need-loop-holds Inv-loop μ-loop
-loop-holds c = let a = c .before .before .before .before .before in (omega arith, asking-start _ (a .args .list .now) (a .args .out .now) (a .pre .1 .1 .1))
+loop-holds c = let a = c .before .before .before .before .before in (omega arith, asking-start _ _ (a .args .list .now) (a .args .out .now) (a .pre .1 .1 .1))
 
 sub-upto : tie.Need-sub-upto Inv-loop μ-loop
 sub-upto c = omega arith
@@ -50,7 +52,14 @@ room : (c : tie.After-upto Inv-loop μ-loop) → c .before .before .before .loop
 room c =
     let l = c .before .before .before in
     let a = l .before .before .before .before .before .before .args in
-    asking-room (slotOf (a .text .now) (a .catalogue .now) (a .slots .now)) (a .list .now) (a .out .now) (l .loop .out) (l .loop .at) (l .loop .j) (l .loop .inv .1) (c .upto .result) (c .upto .ensures) (c .before .before .loop-test .taken)
+    asking-room (slotOf (a .text .now) (a .catalogue .now) (a .slots .now)) (looksOf (a .text .now) (a .catalogue .now) (a .slots .now)) (a .list .now) (a .out .now) (l .loop .out) (l .loop .at) (l .loop .j) (l .loop .looks) (l .loop .inv .1) (c .upto .result) (c .upto .ensures) (c .before .before .loop-test .taken)
+
+most : (c : tie.After-find-slot Inv-loop μ-loop) → c .find-slot .result .looks ≤ 33554432
+most c =
+    let a = c .before .before .before .before .before .before .before .before .before .before .before in
+    let l = c .before .before .before .before .before in
+    let x = take (l .loop .at + c .before .before .upto .result - l .loop .at) (drop (l .loop .at) (a .args .list .now)) in
+    omega (arith, c .find-slot .ensures .1, looks-most (a .args .text .now) (a .args .catalogue .now) (a .args .slots .now) x (a .pre .0), a .pre .1 .0)
 
 add-end : tie.Need-add-end Inv-loop μ-loop
 add-end c = omega (arith, within c)
@@ -73,24 +82,30 @@ mul-out c = omega (arith, room (c .before .before))
 slice-write-out : tie.Need-slice-write-out Inv-loop μ-loop
 slice-write-out c = room (c .before .before)
 
+cast-looks : tie.Need-cast-looks Inv-loop μ-loop
+cast-looks c = omega (arith, most (c .before))
+
+add-looks : tie.Need-add-looks Inv-loop μ-loop
+add-looks c = let l = c .before .before .before .before .before .before in omega (arith, most (c .before), l .loop .inv .1 .small, l .loop .inv .0, l .before .before .before .before .before .before .pre .1 .1 .0)
+
 add-j : tie.Need-add-j Inv-loop μ-loop
-add-j c = let l = c .before .before .before .before .before in omega (arith, l .loop .inv .1 .slow, l .loop .inv .0, l .before .before .before .before .before .before .pre .1 .1 .0)
+add-j c = let l = c .before .before .before .before .before .before in omega (arith, l .loop .inv .1 .slow, l .loop .inv .0, l .before .before .before .before .before .before .pre .1 .1 .0)
 
 add-at : tie.Need-add-at Inv-loop μ-loop
-add-at c = let l = c .before .before .before .before .before in omega (arith, within (c .before .before), l .before .before .before .before .before .before .pre .1 .1 .0)
+add-at c = let l = c .before .before .before .before .before .before in omega (arith, within (c .before .before .before), l .before .before .before .before .before .before .pre .1 .1 .0)
 
 loop-less : tie.Need-loop-less Inv-loop μ-loop
-loop-less c = omega (arith, c .before .before .before .before .loop-test .taken)
+loop-less c = omega (arith, c .before .before .before .before .before .loop-test .taken)
 
 loop-again : tie.Need-loop-again Inv-loop μ-loop
 loop-again c =
-    let u = c .before .before in
+    let u = c .before .before .before in
     let l = u .before .before .before in
     let a = l .before .before .before .before .before .before .args in
-    let p = c .find-slot in (
+    let p = c .before .find-slot in (
       omega (arith, within u),
-      asking-on (slotOf (a .text .now) (a .catalogue .now) (a .slots .now)) (a .list .now) (a .out .now) (l .loop .out) (l .loop .at) (l .loop .j) (l .loop .inv .1)
-          (u .upto .result) (u .upto .ensures) (u .before .before .loop-test .taken) (p .result) (take (l .loop .at + u .upto .result - l .loop .at) (drop (l .loop .at) (a .list .now))) (this u) (p .ensures),
+      asking-on (slotOf (a .text .now) (a .catalogue .now) (a .slots .now)) (looksOf (a .text .now) (a .catalogue .now) (a .slots .now)) (a .list .now) (a .out .now) (l .loop .out) (l .loop .at) (l .loop .j) (l .loop .looks) (l .loop .inv .1)
+          (u .upto .result) (u .upto .ensures) (u .before .before .loop-test .taken) (p .result .slot) (p .result .looks) (take (l .loop .at + u .upto .result - l .loop .at) (drop (l .loop .at) (a .list .now))) (this u) (p .ensures .0) (p .ensures .1) (most (c .before)),
     )
 
 same-length : tie.Need-same-length Inv-loop μ-loop
@@ -100,7 +115,7 @@ returns : tie.Need-returns Inv-loop μ-loop
 returns c =
     let l = c .before in
     let a = l .before .before .before .before .before .before .args in
-    asking-end (slotOf (a .text .now) (a .catalogue .now) (a .slots .now)) (a .list .now) (a .out .now) (l .loop .out) (l .loop .at) (l .loop .j) (l .loop .inv .1) (c .loop-test .left)
+    asking-end (slotOf (a .text .now) (a .catalogue .now) (a .slots .now)) (looksOf (a .text .now) (a .catalogue .now) (a .slots .now)) (a .list .now) (a .out .now) (l .loop .out) (l .loop .at) (l .loop .j) (l .loop .looks) (l .loop .inv .1) (c .loop-test .left)
 
 pub find-slots-spec : {M : Type 1} → statement M
 find-slots-spec =
@@ -120,6 +135,8 @@ find-slots-spec =
     find-slot-requires
     mul-out
     slice-write-out
+    cast-looks
+    add-looks
     add-j
     add-at
     loop-less

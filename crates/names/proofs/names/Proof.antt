@@ -1,4 +1,4 @@
--- `names::names` meets its contract: reading, 21, 1, 20, then the index and the ordinals.
+-- `names::names` meets its contract: reading, 21, 1, 20, then the index, the ordinals and the looks.
 use Prim.Native.Nat.{ℕ, _≤_}
 use mathlib.Core.Path.{_≡_, sym, ap, ap₂, _∙_}
 use mathlib.Core.List.{List, _++_, map}
@@ -8,10 +8,10 @@ use lib.Seq.{length-take-le}
 use Rattle.entries.specs.Entries.{entriesIn}
 use Rattle.format.specs.Calls.{Answer}
 use Rattle.calls.proofs.Fresh.{Current, refused-by, check-fresh}
-use Rattle.name_index.specs.Index.{ordinalIn, slotCount, index}
+use Rattle.name_index.specs.Index.{ordinalIn, slotCount, index, looks}
 use Rattle.name_index.proofs.Indexed.{index-length}
 use Rattle.sq_index.specs.Filled.{namesIn}
-use Rattle.names.specs.Batch.{asked, batching}
+use Rattle.names.specs.Batch.{asked, summed, batching}
 use Rattle.names.proofs.Batched.{batch-refused, batch-long, batch-work, batch-room, batch-all, few, short, many, told-refusal, told-answer}
 use borrow.Author.Needs.{needs}
 use Rattle.names.proofs.names.Statement.{statement}
@@ -36,7 +36,7 @@ own c = let a = c .before .before .before .before .before .before .before .befor
 abbrev names : tie.After-enum-told → List (List ℕ)
 names c = let a = c .before .before .before .before .before .before .before .before .args in namesIn (a .text .now) (entriesIn (a .kept .now))
 
-abbrev batch : tie.Start → Answer (List ℕ × List ℕ)
+abbrev batch : tie.Start → Answer (List ℕ × List ℕ × ℕ)
 batch s = batching (s .args .text .now) (s .args .kept .now) (s .args .list .now) (length (s .args .work .now)) (length (s .args .out .now))
 
 -- how many there are
@@ -154,11 +154,11 @@ returns-5 c =
     let found = map (ordinalIn xs) (asked (a .list .now)) in
     let count : k .count-names .result ≡ length found = k .count-names .ensures ∙ sym (length-map (asked (a .list .now)) (ordinalIn xs)) in
     let many : n .slot-count .result ≡ length (index xs) = slots n ∙ sym (index-length xs) in
-    told-answer (batch s) (a .work .now) (a .out .now) found (index xs)
+    told-answer (batch s) (a .work .now) (a .out .now) found (index xs) (summed (looks xs) (asked (a .list .now)))
     (batch-all (a .text .now) (a .kept .now) (own e) (a .list .now) (length (a .work .now)) (length (a .out .now)) (o .if1 .left) (omega (arith, slots n, k .before .if2 .left)) (omega (arith, k .count-names .ensures, c .before .before .before .before .before .before .before .if3 .left)))
-    (k .count-names .result) count
+    (k .count-names .result) count (w .answer .result) (w .answer .ensures .1 .1)
     (w .answer .last .1 .1 .1 .0 ++ drop (n .slot-count .result) (a .work .now)) (w .answer .last .1 .1 .1 .1 .0 ++ drop (k .count-names .result) (a .out .now))
-    (ap₂ (λ l m. l ++ drop m (a .work .now)) (w .answer .ensures .0) many) (ap₂ (λ l m. l ++ drop m (a .out .now)) (w .answer .ensures .1) count)
+    (ap₂ (λ l m. l ++ drop m (a .work .now)) (w .answer .ensures .0) many) (ap₂ (λ l m. l ++ drop m (a .out .now)) (w .answer .ensures .1 .0) count)
 
 pub names-spec : {M : Type 1} → statement M
 names-spec =

@@ -78,14 +78,20 @@ is-ok-requires c κs = search needs
 word-requires-4 : tie.Need-word-requires-4
 word-requires-4 c κs = search needs
 
-is-list-requires : tie.Need-is-list-requires
-is-list-requires c κs = search needs
+is-looks-requires : tie.Need-is-looks-requires
+is-looks-requires c κs = search needs
 
 word-requires-5 : tie.Need-word-requires-5
 word-requires-5 c κs = search needs
 
+is-list-requires : tie.Need-is-list-requires
+is-list-requires c κs = search needs
+
 word-requires-6 : tie.Need-word-requires-6
 word-requires-6 c κs = search needs
+
+word-requires-7 : tie.Need-word-requires-7
+word-requires-7 c κs = search needs
 
 is-list-requires-2 : tie.Need-is-list-requires-2
 is-list-requires-2 c κs = search needs
@@ -154,9 +160,11 @@ is-names-spec =
     enum-known-n-2
     is-ok-requires
     word-requires-4
-    is-list-requires
+    is-looks-requires
     word-requires-5
+    is-list-requires
     word-requires-6
+    word-requires-7
     is-list-requires-2
     same-length
     same-length-2
