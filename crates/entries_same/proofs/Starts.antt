@@ -39,8 +39,8 @@ lowest : (b q v : ℕ) → b < 256 → eqb (v % 256) b && eqb q (v / 256) ≡ eq
 lowest b q v l =
     split (eqb (v % 256) b)
     (λ t. split (eqb q (v / 256))
-        (λ u. rw (t, u) (sym (eq-eqb (b + 256 * q) v (omega (arith, eqb-true (v % 256) b t, eqb-true q (v / 256) u)))))
-        (λ u. rw (t, u) (sym (ne-eqb (b + 256 * q) v (λ e. eqb-false q (v / 256) u (omega arith))))))
+    (λ u. rw (t, u) (sym (eq-eqb (b + 256 * q) v (omega (arith, eqb-true (v % 256) b t, eqb-true q (v / 256) u)))))
+    (λ u. rw (t, u) (sym (ne-eqb (b + 256 * q) v (λ e. eqb-false q (v / 256) u (omega arith))))))
     (λ t. rw t (sym (ne-eqb (b + 256 * q) v (λ e. eqb-false (v % 256) b t (omega arith)))))
 
 starts-little : (n v : ℕ) (s : List ℕ) → v < 256 ^ n → n ≤ length s → ((i : ℕ) → getD s i 0 < 256) → starts (little n v) s ≡ eqb (ofLittle (take n s)) v

@@ -90,7 +90,11 @@ pub fn note_tags(line: &[u8], at: usize, tables: &mut [u32])
     let mut i: usize = 3;
     while i < line.len() {
         let end = field_end(line, i);
-        mark(tables, tag_number::tag_number(line[i + 1], line[i + 2]), (at + i) as u32);
+        mark(
+            tables,
+            tag_number::tag_number(line[i + 1], line[i + 2]),
+            (at + i) as u32,
+        );
         i = end;
     }
 }
@@ -126,14 +130,7 @@ pub fn is_first(line: &[u8], at: usize, i: usize, once: bool, tables: &[u32]) ->
 }
 
 // The last value of the tag of the field from `i` up to `end`: its own, where no tag stands twice.
-pub fn kept_value(
-    line: &[u8],
-    at: usize,
-    i: usize,
-    end: usize,
-    once: bool,
-    tables: &[u32],
-) -> Value
+pub fn kept_value(line: &[u8], at: usize, i: usize, end: usize, once: bool, tables: &[u32]) -> Value
     requires { ⌜ Walkable once at (now line) (now tables) ⌝ }
     requires { ⌜ AtField once at (now line) i ⌝ }
     requires { ⌜ (i < length (now line)) × (end ≡ i + 1 + upto 9 (drop (i + 1) (now line))) ⌝ }
