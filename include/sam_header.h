@@ -1,17 +1,60 @@
-/* The header library for C: link libexports.a (`rt staticlib exports`).
+/* The header library for C and C++: link libexports.a (README says how it is made).
  *
- * Any bytes may be lent. No two slices that a call is lent may overlap where one of them is written. An empty slice needs a pointer that is not NULL.
+ * Any bytes may be lent. Of the pointers is asked what C asks of a slice: not NULL, also where the length is 0; aligned to their type; lengths below
+ * PTRDIFF_MAX; and no slice that a call writes overlaps another slice of that call. Calls keep no state and lend nothing on: they may run side by side.
+ * A call takes less than 1 MiB of stack.
+ *
  * An answer of 2^63 or more is a refusal, which changes no byte. Any other counts what was written at the front of the output, where a call says
- * nothing else. */
+ * nothing else. docs/REFUSALS.md says of each number what it means, which calls give it and what its line is. */
 #ifndef SAM_HEADER_H
 #define SAM_HEADER_H
 
 #include <stddef.h>
 #include <stdint.h>
 
-#define SAM_HEADER_IS_REFUSAL(answer) ((answer) >> 63)
-#define SAM_HEADER_NUMBER(answer) ((uint32_t)((answer) >> 32) & 255)
-#define SAM_HEADER_LINE(answer) ((uint32_t)(answer))
+#ifdef __cplusplus
+extern "C" {
+#endif
+
+#define SAM_HEADER_IS_REFUSAL(answer) ((int)((uint64_t)(answer) >> 63))
+#define SAM_HEADER_NUMBER(answer) ((unsigned)((uint64_t)(answer) >> 32 & 255))
+#define SAM_HEADER_LINE(answer) ((uint32_t)((uint64_t)(answer) & UINT32_MAX))
+
+/* The parts of an answer that is no refusal: of key and field, and of leaves. */
+#define SAM_HEADER_OFFSET(answer) ((uint32_t)((uint64_t)(answer) >> 32))
+#define SAM_HEADER_LENGTH(answer) ((uint32_t)((uint64_t)(answer) & UINT32_MAX))
+#define SAM_HEADER_HOPS(answer) ((uint32_t)((uint64_t)(answer) >> 32))
+#define SAM_HEADER_COUNT(answer) ((uint32_t)((uint64_t)(answer) & UINT32_MAX))
+
+/* Refusal numbers. */
+enum {
+    SAM_HEADER_TOO_LONG = 1,       /* the text, or the text to be written */
+    SAM_HEADER_BREAK = 2,          /* LF or CR inside a line */
+    SAM_HEADER_NO_AT = 3,          /* the line does not start with @ */
+    SAM_HEADER_NO_KIND = 4,        /* nothing after the @ */
+    SAM_HEADER_UNKNOWN_KIND = 5,   /* not HD, SQ, RG, PG or CO */
+    SAM_HEADER_NO_TAB = 6,         /* another byte where a tab is due */
+    SAM_HEADER_NO_COMMENT = 7,     /* @CO ends there */
+    SAM_HEADER_BAD_TAG = 8,
+    SAM_HEADER_NO_COLON = 9,
+    SAM_HEADER_BAD_VALUE = 10,
+    SAM_HEADER_BAD_VERSION = 11,   /* VN of HD */
+    SAM_HEADER_BAD_LENGTH = 12,    /* LN of SQ: no digit, or too large */
+    SAM_HEADER_ZERO_LENGTH = 13,   /* LN of SQ is 0 */
+    SAM_HEADER_REPEATED_TAG = 14,
+    SAM_HEADER_NO_KEY = 15,        /* VN, SN or ID missing */
+    SAM_HEADER_NO_LENGTH = 16,     /* LN of SQ missing */
+    SAM_HEADER_LATE_HD = 17,       /* HD after another line */
+    SAM_HEADER_USED_KEY = 18,      /* also by add */
+    SAM_HEADER_PROGRAMS = 19,      /* a 1,025th program */
+    SAM_HEADER_SHORT_OUTPUT = 20,
+    SAM_HEADER_STALE = 21,         /* the catalogue is not this text's */
+    SAM_HEADER_DANGLING = 22,      /* a PP names no program */
+    SAM_HEADER_CYCLE = 23,
+    SAM_HEADER_UNWRITABLE = 24,    /* SN can't be written */
+    SAM_HEADER_NO_RECORD = 25,     /* kind not served, or no record at that ordinal */
+    SAM_HEADER_BAD_GIVEN = 26      /* add: prefix or fields */
+};
 
 /* Field's answer where the caller's stand-in takes the value's place: all ones. It has no number and no line. */
 #define SAM_HEADER_STAND_IN UINT64_MAX
@@ -19,7 +62,8 @@
 /* Reads a header: its catalogue in `catalogue`. */
 uint64_t sam_header_read(const uint8_t *text, size_t text_len, uint8_t *catalogue, size_t catalogue_len);
 
-/* 0 if the catalogue is the one that reading this text gives; 21 if not. */
+/* 0 if the catalogue is the one that reading this text gives, and 21 if not: every offset, length, VN and LN in it is then this text's. It holds no bytes of
+ * names, so that two texts which differ in names of equal length alone have one catalogue. A text that reading refuses gets reading's refusal. */
 uint64_t sam_header_check(const uint8_t *text, size_t text_len, const uint8_t *catalogue, size_t catalogue_len);
 
 /* Writes the tidy text of a header. */
@@ -64,5 +108,9 @@ uint64_t sam_header_leaves(const uint8_t *text, size_t text_len, const uint8_t *
  * too, 23 for a cycle, 18 for an ID that is used already, 19 for more than 1,024 programs; then as tidy. */
 uint64_t sam_header_add(const uint8_t *text, size_t text_len, const uint8_t *catalogue, size_t catalogue_len, const uint8_t *prefix,
                         size_t prefix_len, const uint8_t *fields, size_t fields_len, uint8_t *out, size_t out_len);
+
+#ifdef __cplusplus
+}
+#endif
 
 #endif
