@@ -2,3 +2,4 @@ pub mod Fresh
 pub mod Told
 pub mod Chained
 pub mod Bound
+pub mod Determined

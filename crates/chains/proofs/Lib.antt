@@ -2,6 +2,7 @@ pub mod Arrays
 pub mod Bools
 pub mod Bound
 pub mod Leaf
+pub mod Leafed
 pub mod Pairs
 pub mod Paths
 pub mod Some

@@ -1,2 +1,3 @@
+pub mod Leafed
 pub mod Listed
 pub mod Parents

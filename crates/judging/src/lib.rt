@@ -160,12 +160,12 @@ fn judge_middle(text: &[u8], strict: bool) -> Judged
     judge_indexed(text, strict, &mut area)
 }
 
-// Any text, in blocks of 98,304 lines.
+// Any text, in blocks of 147,456 lines.
 fn judge_long(text: &[u8], strict: bool) -> Judged
     requires { ⌜ length (now text) ≤ 16777216 ⌝ }
     ensures { λ r. ⌜ r ≡ judgedOf (readFrom strict 0 [] (lines (now (text .entry)))) ⌝ }
 {
-    let mut area = [0u32; 131072];
+    let mut area = [0u32; 196608];
     judge_indexed(text, strict, &mut area)
 }
 

@@ -11,9 +11,15 @@ unfoldable pub known : Option Kind → ParsedKind
 known none = Invalid
 known (some k) = Is k
 
--- after the `@`: no byte is refusal 4 (`Empty`), one byte or an unknown kind 5 (`Invalid`)
+-- after the `@`: no byte, one byte or an unknown kind, or a kind
 unfoldable pub kindAt : List ℕ → ParsedKind
 unfolding known kindOf
 kindAt [] = Empty
 kindAt (a ∷ []) = Invalid
 kindAt (a ∷ b ∷ s) = known (kindOf a b)
+
+-- the refusal that each is, and 0 for a kind
+unfoldable pub refusalOf : ParsedKind → ℕ
+refusalOf Empty = 4
+refusalOf Invalid = 5
+refusalOf (Is k) = 0

@@ -12,6 +12,7 @@ pub mod Back
 pub mod Accepted
 pub mod Length
 pub mod Total
+pub mod Room
 pub mod Tidy
 pub mod Faithful
 pub mod Example

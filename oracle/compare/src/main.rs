@@ -222,16 +222,16 @@ impl Run {
                 });
             }
             "keys" => {
-                // Lines, and the lines of a block: the key index has areas of twice as many slots.
-                for (n, block) in [(300, 256), (700, 256), (2_500, 1_024)] {
+                // Lines, and the lines of a block: an area of the key index has four slots for three of them.
+                for (n, block) in [(450, 384), (500, 384), (2_500, 384)] {
                     inputs::many_keys(n, block, &mut |t| self.text(t));
                     inputs::beside_used(n, block, &mut |t| self.text(t));
                 }
-                for (n, block) in [(5_000, 4_096), (13_000, 4_096), (140_000, 131_072)] {
+                for (n, block) in [(7_000, 6_144), (13_000, 6_144), (160_000, 147_456)] {
                     inputs::many_keys(n, block, &mut |t| self.once(t));
                     inputs::beside_used(n, block, &mut |t| self.once(t));
                 }
-                inputs::many_keys(300_000, 131_072, &mut |t| self.once(t));
+                inputs::many_keys(300_000, 147_456, &mut |t| self.once(t));
             }
             "names" if cfg!(feature = "names") => {
                 for i in 0..20_000 * scale {

@@ -1,0 +1,88 @@
+-- How much room outputs need: the catalogue of an accepted text is at most three times as long as the text.
+use Prim.Native.Nat.{ℕ, suc, _+_, _*_, _≤_}
+use mathlib.Core.Path.{_≡_, refl}
+use mathlib.Core.Bool.{true, not, _&&_, false≢true}
+use mathlib.Core.List.{List, [], _∷_, _++_}
+use native.Mathlib.Omega.{arith}
+use lib.ListN.{length, length-append}
+use Rattle.format.specs.Fields.{Field, isValue}
+use Rattle.format.specs.Records.{Record, header, reference, group, program, comment, others}
+use Rattle.format.specs.Reading.{accept, readText}
+use Rattle.format.specs.Decimal.{written}
+use Rattle.format.specs.Catalogue.{little, place, head, tails, catalogue}
+use Rattle.format.specs.Tidy.{fieldsText, recordText, text, tidy}
+use Rattle.format.specs.declared.Kind.{Kind}
+use Rattle.format.specs.declared.Kind.the-variants.{Header, ReferenceSequence, ReadGroup, Program}
+use Rattle.text.specs.Stands.{Each}
+use Rattle.accepted.specs.Sound.{kind, Other, Sound}
+use Rattle.accepted.proofs.Text.{text-sound}
+use Rattle.roundtrip.specs.Line.{own, keys, lineText}
+use Rattle.roundtrip.proofs.Length.{one-more}
+use Rattle.roundtrip.proofs.Total.{record-length, order-length, tidy-length}
+
+-- a value has a byte
+value-some : (v : List ℕ) → isValue v ≡ true → 1 ≤ length v
+unfolding isValue
+value-some [] h = absurd (false≢true h)
+value-some (b ∷ v) h = omega arith
+
+-- an entry of 11 bytes for each field, which takes at least 5
+fields-room : (k : Kind) (fs : List Field) → Each (Other k) fs → 5 * length (tails fs) ≤ 11 * length (fieldsText fs)
+unfolding Each tails
+fields-room k [] h = omega arith
+fields-room k (f ∷ fs) h = omega (arith, one-more f fs, value-some (f .value .bytes) (h .0 .value), fields-room k fs (h .1))
+
+-- a record's entries, and its line
+record-room : (r : Record) → Sound r → 5 * (length (head r) + length (tails (others r))) ≤ 11 * length (recordText r)
+unfolding head place little others tails lineText keys own kind
+record-room (header v fs) h =
+    omega (arith, record-length (header v fs), one-more (own 86 78 (written (v .major) ++ (46 ∷ written (v .minor)))) fs, fields-room Header fs (h .other))
+record-room (reference p n fs) h =
+    omega (
+      arith,
+      record-length (reference p n fs),
+      one-more (own 83 78 (p .bytes)) (own 76 78 (written n) ∷ fs),
+      one-more (own 76 78 (written n)) fs,
+      fields-room ReferenceSequence fs (h .other),
+    )
+record-room (group p fs) h = omega (arith, record-length (group p fs), one-more (own 73 68 (p .bytes)) fs, fields-room ReadGroup fs (h .other))
+record-room (program p fs) h = omega (arith, record-length (program p fs), one-more (own 73 68 (p .bytes)) fs, fields-room Program fs (h .other))
+record-room (comment p) h = omega (arith, record-length (comment p))
+
+-- no entry is shorter than nine bytes
+head-some : (r : Record) → 9 ≤ length (head r)
+unfolding head place little
+head-some (header v fs) = omega arith
+head-some (reference p n fs) = omega arith
+head-some (group p fs) = omega arith
+head-some (program p fs) = omega arith
+head-some (comment p) = omega arith
+
+records-room : (rs : List Record) → Each Sound rs → 5 * length (catalogue rs) ≤ 11 * length (text rs)
+unfolding Each catalogue text
+records-room [] h = omega arith
+records-room (r ∷ rs) h =
+    omega (
+      arith,
+      length-append (head r ++ tails (others r)) (catalogue rs),
+      length-append (head r) (tails (others r)),
+      length-append (recordText r) (text rs),
+      record-room r (h .0),
+      records-room rs (h .1),
+    )
+
+pub catalogue-room : (t : List ℕ) (rs : List Record) → readText t ≡ accept rs → length (catalogue rs) ≤ 3 * length t
+unfolding Each catalogue text tidy
+catalogue-room t rs e = go rs (text-sound t rs e) (omega (arith, tidy-length t rs e, order-length rs))
+  where
+    go : (rs : List Record) → Each Sound rs → length (text rs) ≤ length t + 1 → length (catalogue rs) ≤ 3 * length t
+    go [] h l = omega arith
+    go (r ∷ rs) h l =
+        omega (
+          arith,
+          l,
+          records-room (r ∷ rs) h,
+          head-some r,
+          record-room r (h .0),
+          length-append (recordText r) (text rs),
+        )

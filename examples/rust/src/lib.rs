@@ -1,0 +1,159 @@
+//! The header library for Rust: a text with its catalogue, and what may be asked of it. `include/sam_header.h` says what each call answers.
+use std::fmt;
+
+#[rustfmt::skip]
+unsafe extern "C" {
+    fn sam_header_read(text: *const u8, text_len: usize, catalogue: *mut u8, catalogue_len: usize) -> u64;
+    fn sam_header_check(text: *const u8, text_len: usize, catalogue: *const u8, catalogue_len: usize) -> u64;
+    fn sam_header_tidy(text: *const u8, text_len: usize, out: *mut u8, out_len: usize) -> u64;
+    fn sam_header_count(text: *const u8, text_len: usize, catalogue: *const u8, catalogue_len: usize, kind: u8) -> u64;
+    fn sam_header_key(text: *const u8, text_len: usize, catalogue: *const u8, catalogue_len: usize, kind: u8, ordinal: u32) -> u64;
+    fn sam_header_length(text: *const u8, text_len: usize, catalogue: *const u8, catalogue_len: usize, ordinal: u32, length: *mut u64) -> u64;
+    fn sam_header_field(text: *const u8, text_len: usize, catalogue: *const u8, catalogue_len: usize, kind: u8, ordinal: u32, tag_0: u8, tag_1: u8) -> u64;
+    fn sam_header_leaves(text: *const u8, text_len: usize, catalogue: *const u8, catalogue_len: usize, out: *mut u32, out_len: usize) -> u64;
+}
+
+/// A refusal: its number (docs/REFUSALS.md) and its line.
+#[derive(Clone, Copy, Debug, Eq, PartialEq)]
+pub struct Refusal {
+    pub number: u8,
+    pub line: u32,
+}
+
+impl fmt::Display for Refusal {
+    fn fmt(&self, f: &mut fmt::Formatter) -> fmt::Result {
+        write!(f, "refused {} line {}", self.number, self.line)
+    }
+}
+
+impl std::error::Error for Refusal {}
+
+/// The kinds of records, by their numbers.
+#[derive(Clone, Copy, Debug, Eq, PartialEq)]
+pub enum Kind {
+    Header = 1,
+    ReferenceSequence = 2,
+    ReadGroup = 3,
+    Program = 4,
+    Comment = 5,
+}
+
+fn answer(word: u64) -> Result<u64, Refusal> {
+    if word >> 63 == 0 { Ok(word) } else { Err(Refusal { number: (word >> 32) as u8, line: word as u32 }) }
+}
+
+/// The tidy text of a header.
+pub fn tidy(text: &[u8]) -> Result<Vec<u8>, Refusal> {
+    let mut out = vec![0; text.len() + 1]; // it is at most one byte longer
+    let n = answer(unsafe { sam_header_tidy(text.as_ptr(), text.len(), out.as_mut_ptr(), out.len()) })?;
+    out.truncate(n as usize);
+    Ok(out)
+}
+
+/// A text that reading accepts, and its catalogue.
+pub struct Header<'a> {
+    text: &'a [u8],
+    catalogue: Vec<u8>,
+}
+
+impl<'a> Header<'a> {
+    pub fn read(text: &'a [u8]) -> Result<Self, Refusal> {
+        let mut catalogue = vec![0; 3 * text.len()]; // as much as any accepted text needs
+        let n = answer(unsafe { sam_header_read(text.as_ptr(), text.len(), catalogue.as_mut_ptr(), catalogue.len()) })?;
+        catalogue.truncate(n as usize);
+        Ok(Header { text, catalogue })
+    }
+
+    /// The text with a catalogue that was kept: 21 if it is not this text's.
+    pub fn with_kept(text: &'a [u8], catalogue: Vec<u8>) -> Result<Self, Refusal> {
+        answer(unsafe { sam_header_check(text.as_ptr(), text.len(), catalogue.as_ptr(), catalogue.len()) })?;
+        Ok(Header { text, catalogue })
+    }
+
+    /// What a plan keeps.
+    pub fn catalogue(&self) -> &[u8] {
+        &self.catalogue
+    }
+
+    pub fn count(&self, kind: Kind) -> Result<usize, Refusal> {
+        let (t, c) = (self.text, &self.catalogue);
+        answer(unsafe { sam_header_count(t.as_ptr(), t.len(), c.as_ptr(), c.len(), kind as u8) }).map(|n| n as usize)
+    }
+
+    fn part(&self, place: u64) -> &'a [u8] {
+        &self.text[(place >> 32) as usize..][..place as u32 as usize]
+    }
+
+    /// SN or ID of a record.
+    pub fn key(&self, kind: Kind, ordinal: u32) -> Result<&'a [u8], Refusal> {
+        let (t, c) = (self.text, &self.catalogue);
+        let place = answer(unsafe { sam_header_key(t.as_ptr(), t.len(), c.as_ptr(), c.len(), kind as u8, ordinal) })?;
+        Ok(self.part(place))
+    }
+
+    /// LN of an SQ.
+    pub fn length(&self, ordinal: u32) -> Result<u64, Refusal> {
+        let (t, c) = (self.text, &self.catalogue);
+        let mut length = 0;
+        answer(unsafe { sam_header_length(t.as_ptr(), t.len(), c.as_ptr(), c.len(), ordinal, &mut length) })?;
+        Ok(length)
+    }
+
+    /// The value of a field; None where the record has none with this tag.
+    pub fn field(&self, kind: Kind, ordinal: u32, [a, b]: [u8; 2]) -> Option<&'a [u8]> {
+        let (t, c) = (self.text, &self.catalogue);
+        let place = unsafe { sam_header_field(t.as_ptr(), t.len(), c.as_ptr(), c.len(), kind as u8, ordinal, a, b) };
+        (place != u64::MAX).then(|| self.part(place))
+    }
+
+    /// The programs that no PP names.
+    pub fn leaves(&self) -> Result<Vec<u32>, Refusal> {
+        let (t, c) = (self.text, &self.catalogue);
+        let mut out = vec![0; 1024]; // as many programs as a header has at most
+        let word = answer(unsafe { sam_header_leaves(t.as_ptr(), t.len(), c.as_ptr(), c.len(), out.as_mut_ptr(), out.len()) })?;
+        out.truncate(word as u32 as usize);
+        Ok(out)
+    }
+}
+
+#[cfg(test)]
+mod tests {
+    use super::*;
+
+    const TEXT: &[u8] = b"@PG\tID:bwa\n@SQ\tLN:0248956422\tSN:chr1\r\n@PG\tID:sort\tPP:bwa\n@RG\tID:lane3\tSM:NA12878\n";
+
+    #[test]
+    fn what_a_plan_asks() {
+        let header = Header::read(TEXT).unwrap();
+        assert_eq!(header.count(Kind::ReferenceSequence), Ok(1));
+        assert_eq!(header.key(Kind::ReferenceSequence, 0), Ok(&b"chr1"[..]));
+        assert_eq!(header.length(0), Ok(248956422));
+        assert_eq!(header.field(Kind::ReadGroup, 0, *b"SM"), Some(&b"NA12878"[..]));
+        assert_eq!(header.field(Kind::ReadGroup, 0, *b"DS"), None);
+        assert_eq!(header.leaves(), Ok(vec![1]));
+        assert_eq!(header.key(Kind::Program, 2), Err(Refusal { number: 25, line: 0 }));
+    }
+
+    #[test]
+    fn a_kept_catalogue() {
+        let kept = Header::read(TEXT).unwrap().catalogue().to_vec();
+        assert!(Header::with_kept(TEXT, kept.clone()).is_ok());
+        let stale = Header::with_kept(&TEXT[..TEXT.len() - 30], kept).err();
+        assert_eq!(stale, Some(Refusal { number: 21, line: 0 }));
+    }
+
+    #[test]
+    fn tidied() {
+        let tidied = tidy(TEXT).unwrap();
+        assert!(tidied.starts_with(b"@SQ\tSN:chr1\tLN:248956422\n@RG\tID:lane3\tSM:NA12878\n@PG\tID:bwa\n"));
+        assert_eq!(tidy(b"@SQ\tSN:chr1\tLN:0"), Err(Refusal { number: 13, line: 0 }));
+    }
+
+    #[test]
+    fn room_for_every_text() {
+        for text in [&b""[..], b"@CO\t", b"@CO\t\n@CO\t", b"@RG\tID:a\tAA:a\tAB:a\tAC:a"] {
+            assert!(Header::read(text).is_ok());
+            assert!(tidy(text).is_ok());
+        }
+    }
+}
