@@ -38,12 +38,21 @@ impl Keys {
     pub fn with(self, a: u8, v: Value) -> Keys
         ensures { λ r. ⌜ r ≡ withKey self a v ⌝ }
     {
-        let key = self.key;
-        let number = self.number;
+        let mut key_at = self.key.at;
+        let mut key_len = self.key.len;
+        let mut number_at = self.number.at;
+        let mut number_len = self.number.len;
         if a == b'L' {
-            return Keys { key, number: v };
+            number_at = v.at;
+            number_len = v.len;
+        } else {
+            key_at = v.at;
+            key_len = v.len;
         }
-        Keys { key: v, number }
+        Keys {
+            key: Value { at: key_at, len: key_len },
+            number: Value { at: number_at, len: number_len },
+        }
     }
 }
 
