@@ -39,7 +39,11 @@ pub enum Kind {
 }
 
 fn answer(word: u64) -> Result<u64, Refusal> {
-    if word >> 63 == 0 { Ok(word) } else { Err(Refusal { number: (word >> 32) as u8, line: word as u32 }) }
+    if word >> 63 == 0 {
+        Ok(word)
+    } else {
+        Err(Refusal { number: (word >> 32) as u8, line: word as u32 })
+    }
 }
 
 /// The tidy text of a header.
@@ -138,7 +142,8 @@ mod tests {
     fn a_kept_catalogue() {
         let kept = Header::read(TEXT).unwrap().catalogue().to_vec();
         assert!(Header::with_kept(TEXT, kept.clone()).is_ok());
-        let stale = Header::with_kept(&TEXT[..TEXT.len() - 30], kept).err();
+        let longer = [TEXT, b"@CO\tone line more\n"].concat();
+        let stale = Header::with_kept(&longer, kept).err();
         assert_eq!(stale, Some(Refusal { number: 21, line: 0 }));
     }
 
