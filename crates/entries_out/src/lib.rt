@@ -34,7 +34,7 @@ fn put_sequence(out: &mut [u8], at: usize, name: Place, n: u64)
 {
     let offset = name.at;
     let len = name.len;
-    put_kind(out, at, 2, offset, len);
+    put_kind(out, at, format::REFERENCE_SEQUENCE, offset, len);
     text::put_u64(out, at + 9, n);
 }
 
@@ -71,12 +71,12 @@ pub fn put_entry(out: &mut [u8], at: usize, e: Entry) -> usize
         Entry::ReadGroup(p) => {
             let offset = p.at;
             let len = p.len;
-            put_kind(out, at, 3, offset, len);
+            put_kind(out, at, format::READ_GROUP, offset, len);
         }
         Entry::Program(p) => {
             let offset = p.at;
             let len = p.len;
-            put_kind(out, at, 4, offset, len);
+            put_kind(out, at, format::PROGRAM, offset, len);
         }
         Entry::Comment(p) => {
             let offset = p.at;

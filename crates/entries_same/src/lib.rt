@@ -38,7 +38,7 @@ fn has_sequence(s: &[u8], at: usize, name: Place, n: u64) -> bool
 {
     let offset = name.at;
     let len = name.len;
-    if !has_kind(s, at, 2, offset, len) {
+    if !has_kind(s, at, format::REFERENCE_SEQUENCE, offset, len) {
         return false;
     }
     text::get_u64(s, at + 9) == n
@@ -90,12 +90,12 @@ fn has_entry(s: &[u8], at: usize, e: Entry) -> bool
         Entry::ReadGroup(p) => {
             let offset = p.at;
             let len = p.len;
-            has_kind(s, at, 3, offset, len)
+            has_kind(s, at, format::READ_GROUP, offset, len)
         }
         Entry::Program(p) => {
             let offset = p.at;
             let len = p.len;
-            has_kind(s, at, 4, offset, len)
+            has_kind(s, at, format::PROGRAM, offset, len)
         }
         Entry::Comment(p) => {
             let offset = p.at;

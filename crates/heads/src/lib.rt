@@ -50,8 +50,14 @@ impl Keys {
             key_len = v.len;
         }
         Keys {
-            key: Value { at: key_at, len: key_len },
-            number: Value { at: number_at, len: number_len },
+            key: Value {
+                at: key_at,
+                len: key_len,
+            },
+            number: Value {
+                at: number_at,
+                len: number_len,
+            },
         }
     }
 }

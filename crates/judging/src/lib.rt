@@ -187,7 +187,7 @@ fn judge_lines(text: &[u8], strict: bool) -> Judged
 pub fn judge(text: &[u8]) -> Judged
     ensures { λ r. ⌜ r ≡ judgedOf (readText (now (text .entry))) ⌝ }
 {
-    if 16777216 < text.len() {
+    if format::LONGEST < text.len() {
         return Judged::Refused(1, LineNo(0));
     }
     judge_lines(text, rules::is_strict(text))

@@ -172,9 +172,15 @@ pub fn meet(text: &[u8], area: &mut [u32], head: Head, room: bool) -> bool
     match head {
         Head::Refused(_) => false,
         Head::Header(_, _) => false,
-        Head::ReferenceSequence(p, _, _) => meet_at(text, area, 2, p, room),
-        Head::ReadGroup(p, _) => meet_at(text, area, 3, p, room),
-        Head::Program(p, _) => meet_at(text, area, 4, p, room),
+        Head::ReferenceSequence(p, _, _) => meet_at(
+            text,
+            area,
+            format::REFERENCE_SEQUENCE,
+            p,
+            room,
+        ),
+        Head::ReadGroup(p, _) => meet_at(text, area, format::READ_GROUP, p, room),
+        Head::Program(p, _) => meet_at(text, area, format::PROGRAM, p, room),
         Head::Comment(_) => false,
     }
 }

@@ -52,7 +52,7 @@ pub fn find_key(catalogue: &[u8], kind: u8, ordinal: u32) -> Found
 pub fn find_length(catalogue: &[u8], ordinal: u32) -> Sized
     ensures { λ r. ⌜ r ≡ lengthIn ordinal (entriesIn (now (catalogue .entry))) ⌝ }
 {
-    let at = entries::find_record(catalogue, 2, ordinal as usize);
+    let at = entries::find_record(catalogue, format::REFERENCE_SEQUENCE, ordinal as usize);
     length_of(entries::entry_at(catalogue, at))
 }
 

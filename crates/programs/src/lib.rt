@@ -74,17 +74,17 @@ fn put_all(
 fn is_too_long(prefix: &[u8], fields: &[u8]) -> bool
     ensures { λ r. ⌜ r ≡ (ltb 16777216 (length (now (prefix .entry))) || ltb 16777216 (length (now (fields .entry)))) ⌝ }
 {
-    16777216 < prefix.len() || 16777216 < fields.len()
+    format::LONGEST < prefix.len() || format::LONGEST < fields.len()
 }
 
 // Whether two lengths together are more than a text may have.
 fn is_over(n: usize, more: usize) -> bool
     ensures { λ r. ⌜ r ≡ ltb 16777216 (n + more) ⌝ }
 {
-    if 16777216 < n {
+    if format::LONGEST < n {
         return true;
     }
-    16777216 - n < more
+    format::LONGEST - n < more
 }
 
 // Writes the tidy text with the new programs: 24, then 1, then 20.

@@ -24,7 +24,7 @@ fn write_accepted(text: &[u8], strict: bool, out: &mut [u8]) -> Answer
         Measured::Bad(line) => Answer::Refused(24, line),
         Measured::Is(sizes) => {
             let n = sizes.total();
-            if 16777216 < n {
+            if format::LONGEST < n {
                 return Answer::Refused(1, LineNo(0));
             }
             if out.len() < n {
