@@ -4,6 +4,10 @@
  * PTRDIFF_MAX; and no slice that a call writes overlaps another slice of that call. Calls keep no state and lend nothing on: they may run side by side.
  * A call takes less than 1 MiB of stack.
  *
+ * Room that always suffices: for read three times text_len bytes; for tidy text_len + 1; for roots and leaves 1,024 ordinals; for names as many ordinals as the
+ * list has names, and the slots that are said there; for add what tidy needs and for each new program, one after each leaf, prefix_len + fields_len, twice
+ * the leaf's ID and 13 bytes more. An output that is too short is refusal 20.
+ *
  * An answer of 2^63 or more is a refusal, which changes no byte. Any other counts what was written at the front of the output, where a call says
  * nothing else. docs/REFUSALS.md says of each number what it means, which calls give it and what its line is. */
 #ifndef SAM_HEADER_H
