@@ -12,10 +12,10 @@ use borrow.Author.Tests.{ltb-true, ltb-false}
 use Rattle.format.specs.Tidy.{fieldText}
 use Rattle.format.specs.declared.Kind.the-variants.{Program}
 use Rattle.text.proofs.Over.{over-none}
-use Rattle.writer.specs.Parts.{prefixText}
-use Rattle.writer.proofs.Wrote.{Wrote}
+use Rattle.parts.specs.Parts.{prefixText}
+use Rattle.parts.proofs.Wrote.{Wrote}
 use Rattle.accepted.proofs.Bools.{split}
-use Rattle.gathered.specs.Gathered.{idsAt, Placed}
+use Rattle.id_search.specs.Places.{idsAt, Placed}
 use Rattle.ids.specs.Taken.{idIn}
 use Rattle.ids.proofs.Search.{id-none, id-some}
 use Rattle.added.specs.Lines.{newLines, addedText}

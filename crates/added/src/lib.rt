@@ -5,7 +5,7 @@ ghost use mathlib.Core.Path.{_≡_};
 ghost use Prim.Native.Nat.{_≤_, _+_};
 ghost use lib.ListN.{length};
 ghost use Rattle.text.specs.Over.{over};
-ghost use Rattle.gathered.specs.Gathered.{idsAt, Placed};
+ghost use Rattle.id_search.specs.Places.{idsAt, Placed};
 ghost use Rattle.added.specs.Line.{joining, linking, ending, newLine};
 ghost use Rattle.added.specs.Lines.{addedText};
 
@@ -46,7 +46,7 @@ fn put_linking(out: &mut [u8], o: usize, id: &[u8], linked: bool) -> usize
     ensures wrote { λ _. ⌜ now (out .exit) ≡ over (now (out .entry)) o (linking linked (now (id .entry))) ⌝ }
 {
     if linked {
-        return writer::put_field(out, o, b'P', b'P', id, 0, id.len());
+        return parts::put_field(out, o, b'P', b'P', id, 0, id.len());
     }
     o
 }
@@ -77,8 +77,8 @@ pub fn put_line(
     ensures next { λ r. ⌜ r ≡ o + length (newLine alone linked (now (prefix .entry)) (now (fields .entry)) (now (id .entry))) ⌝ }
     ensures wrote { λ _. ⌜ now (out .exit) ≡ over (now (out .entry)) o (newLine alone linked (now (prefix .entry)) (now (fields .entry)) (now (id .entry))) ⌝ }
 {
-    let n = writer::put_prefix(out, o, Kind::Program);
-    let n = writer::put_tag(out, n, b'I', b'D');
+    let n = parts::put_prefix(out, o, Kind::Program);
+    let n = parts::put_tag(out, n, b'I', b'D');
     let n = put_slice(out, n, prefix);
     let n = put_joining(out, n, id, alone);
     put_ending(out, n, fields, id, linked)

@@ -7,7 +7,7 @@ use lib.ListN.{length, set, length-append}
 use Rattle.format.specs.Decimal.{written}
 use Rattle.text.specs.Over.{over}
 use Rattle.decimal.proofs.Written.{written-short}
-use Rattle.writer.proofs.Wrote.{Wrote, wrote-then, wrote-one}
+use Rattle.parts.proofs.Wrote.{Wrote, wrote-then, wrote-one}
 use Rattle.answer.specs.Program.{refusedWord, lineWord, refusal}
 
 pub refusal-size : (n l : ℕ) → length (refusal n l) ≡ 8 + length (written n) + 6 + length (written l) + 1

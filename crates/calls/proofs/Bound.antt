@@ -13,8 +13,8 @@ use Rattle.accepted.proofs.Bools.{split}
 use Rattle.accepted.specs.Read.{recordsOf}
 use Rattle.chains.proofs.Bound.{hops-bound}
 use Rattle.chains.proofs.Leaf.{leaves-length}
-use Rattle.gathered.proofs.Numbers.{links-count, links-named}
-use Rattle.gathered.proofs.Road.{none-dangles, none-loops}
+use Rattle.parents.proofs.Numbers.{links-count, links-named}
+use Rattle.parents.proofs.Road.{none-dangles, none-loops}
 use Rattle.calls.proofs.Fresh.{Current, refused, passed}
 use Rattle.calls.proofs.Chained.{too-short, fits, opened, leaves-tangled, leaves-own}
 

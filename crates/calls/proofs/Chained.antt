@@ -16,7 +16,7 @@ use Rattle.entries.specs.Entries.{entriesIn, counted}
 use Rattle.lookup.proofs.Kept.{text-few}
 use Rattle.gathered.specs.declared.Programs.{Programs}
 use Rattle.gathered.specs.Gathered.{notedIn, gatheredOf}
-use Rattle.gathered.proofs.Own.{few-programs}
+use Rattle.parents.proofs.Own.{few-programs}
 use Rattle.parser.specs.Answers.{answerOf, outputOf}
 use Rattle.parser.proofs.Told.{refused-answer}
 use Rattle.calls.specs.declared.LeavesAnswer.the-variants.{Refused}

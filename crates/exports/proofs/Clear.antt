@@ -9,15 +9,15 @@ use Rattle.format.specs.Calls.{yes, keying, valuing, leafing}
 use Rattle.calls.specs.Answers.{keyOf, placeOf, leavesOf}
 use Rattle.calls.proofs.Bound.{hops-few, leaves-few}
 use Rattle.calls.proofs.Told.{key-short, value-short}
-use Rattle.exports.specs.Words.{leavesWord, placeWord, keyWord, fieldWord}
+use Rattle.words.specs.Words.{leavesWord, pairWord, keyWord, fieldWord}
 
-place-clear : (p : Piece) → p .at + length (p .bytes) ≤ 16777216 → placeWord (p .at) (length (p .bytes)) < 2 ^ 63
-unfolding placeWord
+place-clear : (p : Piece) → p .at + length (p .bytes) ≤ 16777216 → pairWord (p .at) (length (p .bytes)) < 2 ^ 63
+unfolding pairWord
 place-clear p h = omega (arith, h)
 
 module _ (t c : List ℕ) where
   pub leaves-clear : (room : ℕ) (xs : List ℕ) (h : ℕ) → leafing t c room ≡ yes (xs, h) → leavesWord (leavesOf (leafing t c room)) < 2 ^ 63
-  unfolding leavesWord leavesOf
+  unfolding leavesWord leavesOf pairWord
   leaves-clear room xs h is =
       let z : h * 2 ^ 32 + length xs < 2 ^ 63 = omega (arith, hops-few t c room xs h is, leaves-few t c room xs h is) in
       subst (λ a. leavesWord (leavesOf a) < 2 ^ 63) (sym is) z

@@ -1,12 +1,7 @@
 // The calls for programs in C and Rust: each answer is one number (include/sam_header.h).
-use calls::KeyAnswer;
 use calls::LeavesAnswer;
 use calls::LengthAnswer;
-use calls::ValuePlace;
-use format::LineNo;
 use names::NamesAnswer;
-use parser::Answer;
-use parser::Checked;
 ghost use mathlib.Core.Path.{_≡_};
 ghost use lib.ListN.{length};
 ghost use Rattle.format.specs.Calls.{reading, fresh, tidying, counting, keying, sizing, valuing, rooting, leafing, adding};
@@ -14,69 +9,21 @@ ghost use Rattle.names.specs.Batch.{batching};
 ghost use Rattle.names.specs.Answers.{namesOf, resultsOf, slotsOf};
 ghost use Rattle.parser.specs.Answers.{answerOf, outputOf, checkedOf};
 ghost use Rattle.calls.specs.Answers.{countOf, keyOf, lengthOf, leavesOf, listOf, placeOf};
-ghost use Rattle.exports.specs.Words.{refusalWord, answerWord, checkedWord, leavesWord, placeWord, keyWord, fieldWord, lengthWord, lengthLeft, namesWord, namesLeft};
-
-fn refusal_word(n: u8, line: LineNo) -> u64
-    ensures { λ r. ⌜ r ≡ refusalWord n (line .0) ⌝ }
-{
-    9223372036854775808 + (n as u64) * 4294967296 + (line.0 as u64)
-}
-
-fn answer_word(answer: Answer) -> u64
-    ensures { λ r. ⌜ r ≡ answerWord answer ⌝ }
-{
-    match answer {
-        Answer::Refused(n, line) => refusal_word(n, line),
-        Answer::Count(n) => n as u64,
-    }
-}
-
-fn checked_word(checked: Checked) -> u64
-    ensures { λ r. ⌜ r ≡ checkedWord checked ⌝ }
-{
-    match checked {
-        Checked::Refused(n, line) => refusal_word(n, line),
-        Checked::Fresh => 0,
-    }
-}
-
-fn place_word(at: u32, len: u32) -> u64
-    ensures { λ r. ⌜ r ≡ placeWord at len ⌝ }
-{
-    (at as u64) * 4294967296 + (len as u64)
-}
-
-fn key_word(answer: KeyAnswer) -> u64
-    ensures { λ r. ⌜ r ≡ keyWord answer ⌝ }
-{
-    match answer {
-        KeyAnswer::Refused(n, line) => refusal_word(n, line),
-        KeyAnswer::At(at, len) => place_word(at, len),
-    }
-}
-
-fn field_word(place: ValuePlace) -> u64
-    ensures { λ r. ⌜ r ≡ fieldWord place ⌝ }
-{
-    match place {
-        ValuePlace::StandIn => 18446744073709551615, // all ones
-        ValuePlace::At(at, len) => place_word(at, len),
-    }
-}
+ghost use Rattle.words.specs.Words.{answerWord, checkedWord, leavesWord, keyWord, fieldWord, lengthWord, lengthLeft, namesWord, namesLeft};
 
 #[no_mangle]
 pub extern "C" fn sam_header_read(text: &[u8], catalogue: &mut [u8]) -> u64
     ensures answer { λ r. ⌜ r ≡ answerWord (answerOf (reading (now (text .entry)) (length (now (catalogue .entry))))) ⌝ }
     ensures wrote { λ _. ⌜ now (catalogue .exit) ≡ outputOf (reading (now (text .entry)) (length (now (catalogue .entry)))) (now (catalogue .entry)) ⌝ }
 {
-    answer_word(parser::read(text, catalogue))
+    words::answer_word(parser::read(text, catalogue))
 }
 
 #[no_mangle]
 pub extern "C" fn sam_header_check(text: &[u8], catalogue: &[u8]) -> u64
     ensures { λ r. ⌜ r ≡ checkedWord (checkedOf (fresh (now (text .entry)) (now (catalogue .entry)))) ⌝ }
 {
-    checked_word(parser::check(text, catalogue))
+    words::checked_word(parser::check(text, catalogue))
 }
 
 #[no_mangle]
@@ -84,14 +31,14 @@ pub extern "C" fn sam_header_tidy(text: &[u8], out: &mut [u8]) -> u64
     ensures answer { λ r. ⌜ r ≡ answerWord (answerOf (tidying (now (text .entry)) (length (now (out .entry))))) ⌝ }
     ensures wrote { λ _. ⌜ now (out .exit) ≡ outputOf (tidying (now (text .entry)) (length (now (out .entry)))) (now (out .entry)) ⌝ }
 {
-    answer_word(tidying::tidy(text, out))
+    words::answer_word(tidying::tidy(text, out))
 }
 
 #[no_mangle]
 pub extern "C" fn sam_header_count(text: &[u8], catalogue: &[u8], kind: u8) -> u64
     ensures { λ r. ⌜ r ≡ answerWord (countOf (counting (now (text .entry)) (now (catalogue .entry)) kind)) ⌝ }
 {
-    answer_word(calls::count(text, catalogue, kind))
+    words::answer_word(calls::count(text, catalogue, kind))
 }
 
 #[no_mangle]
@@ -99,7 +46,7 @@ pub extern "C" fn sam_header_roots(text: &[u8], catalogue: &[u8], out: &mut [u32
     ensures answer { λ r. ⌜ r ≡ answerWord (answerOf (rooting (now (text .entry)) (now (catalogue .entry)) (length (now (out .entry))))) ⌝ }
     ensures wrote { λ _. ⌜ now (out .exit) ≡ outputOf (rooting (now (text .entry)) (now (catalogue .entry)) (length (now (out .entry)))) (now (out .entry)) ⌝ }
 {
-    answer_word(calls::roots(text, catalogue, out))
+    words::answer_word(calls::roots(text, catalogue, out))
 }
 
 #[no_mangle]
@@ -108,8 +55,8 @@ pub extern "C" fn sam_header_leaves(text: &[u8], catalogue: &[u8], out: &mut [u3
     ensures wrote { λ _. ⌜ now (out .exit) ≡ outputOf (listOf (leafing (now (text .entry)) (now (catalogue .entry)) (length (now (out .entry))))) (now (out .entry)) ⌝ }
 {
     match calls::leaves(text, catalogue, out) {
-        LeavesAnswer::Refused(n, line) => refusal_word(n, line),
-        LeavesAnswer::Counted(n, hops) => (hops as u64) * 4294967296 + (n as u64),
+        LeavesAnswer::Refused(n, line) => words::refusal_word(n, line),
+        LeavesAnswer::Counted(n, hops) => words::pair_word(hops, n as u32),
     }
 }
 
@@ -117,7 +64,7 @@ pub extern "C" fn sam_header_leaves(text: &[u8], catalogue: &[u8], out: &mut [u3
 pub extern "C" fn sam_header_key(text: &[u8], catalogue: &[u8], kind: u8, ordinal: u32) -> u64
     ensures { λ r. ⌜ r ≡ keyWord (keyOf (keying (now (text .entry)) (now (catalogue .entry)) kind ordinal)) ⌝ }
 {
-    key_word(calls::key(text, catalogue, kind, ordinal))
+    words::key_word(calls::key(text, catalogue, kind, ordinal))
 }
 
 #[no_mangle]
@@ -131,7 +78,7 @@ pub extern "C" fn sam_header_length(
     ensures wrote { λ _. ⌜ now (length .exit) ≡ lengthLeft (lengthOf (sizing (now (text .entry)) (now (catalogue .entry)) ordinal)) (now (length .entry)) ⌝ }
 {
     match calls::length(text, catalogue, ordinal) {
-        LengthAnswer::Refused(n, line) => refusal_word(n, line),
+        LengthAnswer::Refused(n, line) => words::refusal_word(n, line),
         LengthAnswer::Is(n) => {
             *length = n;
             0
@@ -150,7 +97,7 @@ pub extern "C" fn sam_header_field(
 ) -> u64
     ensures { λ r. ⌜ r ≡ fieldWord (placeOf (valuing (now (text .entry)) (now (catalogue .entry)) kind ordinal tag_0 tag_1)) ⌝ }
 {
-    field_word(calls::place(text, catalogue, kind, ordinal, tag_0, tag_1))
+    words::field_word(calls::place(text, catalogue, kind, ordinal, tag_0, tag_1))
 }
 
 #[no_mangle]
@@ -164,7 +111,7 @@ pub extern "C" fn sam_header_add(
     ensures answer { λ r. ⌜ r ≡ answerWord (answerOf (adding (now (text .entry)) (now (catalogue .entry)) (now (prefix .entry)) (now (fields .entry)) (length (now (out .entry))))) ⌝ }
     ensures wrote { λ _. ⌜ now (out .exit) ≡ outputOf (adding (now (text .entry)) (now (catalogue .entry)) (now (prefix .entry)) (now (fields .entry)) (length (now (out .entry)))) (now (out .entry)) ⌝ }
 {
-    answer_word(programs::add(text, catalogue, prefix, fields, out))
+    words::answer_word(programs::add(text, catalogue, prefix, fields, out))
 }
 
 #[no_mangle]
@@ -182,7 +129,7 @@ pub extern "C" fn sam_header_names(
     ensures looks { λ _. ⌜ now (inspected .exit) ≡ namesLeft (namesOf (batching (now (text .entry)) (now (catalogue .entry)) (now (list .entry)) (length (now (work .entry))) (length (now (out .entry))))) (now (inspected .entry)) ⌝ }
 {
     match names::names(text, catalogue, list, work, out) {
-        NamesAnswer::Refused(n, line) => refusal_word(n, line),
+        NamesAnswer::Refused(n, line) => words::refusal_word(n, line),
         NamesAnswer::Counted(n, looks) => {
             *inspected = looks;
             n as u64

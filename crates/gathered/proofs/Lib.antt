@@ -1,6 +1,1 @@
 pub mod Noting
-pub mod Search
-pub mod Numbers
-pub mod Says
-pub mod Own
-pub mod Road

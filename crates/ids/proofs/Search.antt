@@ -10,9 +10,9 @@ use lib.ListN.{length, take, drop, getD, drop-of-length-le, List·getD-eq-defaul
 use lib.Seq.{drop-cons}
 use Rattle.format.specs.Bytes.{same}
 use Rattle.format.specs.Adding.{isKnown}
-use Rattle.gathered.specs.Gathered.{idsAt, Placed}
-use Rattle.gathered.specs.Parents.{ordinalIn}
-use Rattle.gathered.proofs.Search.{ids-length, ids-at}
+use Rattle.id_search.specs.Places.{idsAt, Placed}
+use Rattle.id_search.specs.Search.{ordinalIn}
+use Rattle.id_search.proofs.Search.{ids-length, ids-at}
 use Rattle.ids.specs.Taken.{joined, known, idIn, standing, taken}
 
 -- ---- one ID

@@ -19,8 +19,8 @@ use Rattle.accepted.proofs.Bools.{or-left, or-right, or-false, or-true, and-lef
 use Rattle.accepted.proofs.Pairs.{each-all, each-both}
 use Rattle.chains.specs.Listed.{named, distinct}
 use Rattle.chains.proofs.Leaf.{leaves-exactly, leaves-distinct}
-use Rattle.gathered.specs.Parents.{idsOf, ordinalIn}
-use Rattle.gathered.proofs.Says.{ordinal-ids}
+use Rattle.id_search.specs.Search.{idsOf, ordinalIn}
+use Rattle.id_search.proofs.Search.{ordinal-ids}
 use Rattle.ids.specs.Taken.{joined, known, idIn, taken}
 use Rattle.ids.proofs.Joined.{joined-same, joined-prefix}
 use Rattle.ids.proofs.Apart.{ids-apart}

@@ -4,7 +4,7 @@ use mathlib.Core.Bool.{Bool, false, _||_}
 use mathlib.Core.List.{List, [], _∷_, _++_}
 use lib.ListN.{getD}
 use Rattle.format.specs.Adding.{isKnown}
-use Rattle.gathered.specs.Parents.{ordinalIn}
+use Rattle.id_search.specs.Search.{ordinalIn}
 
 -- prefix, `-`, ID
 unfoldable pub joined : List ℕ → List ℕ → List ℕ

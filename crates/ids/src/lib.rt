@@ -2,7 +2,7 @@
 use format::ProgramNo;
 ghost use mathlib.Core.Path.{_≡_};
 ghost use Rattle.format.specs.Bytes.{same};
-ghost use Rattle.gathered.specs.Gathered.{idsAt, Placed};
+ghost use Rattle.id_search.specs.Places.{idsAt, Placed};
 ghost use Rattle.ids.specs.Taken.{joined, known, idIn, standing, taken};
 
 // Whether an ID is the prefix, `-` and another ID: the lengths first, then part by part.

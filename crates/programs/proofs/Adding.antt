@@ -13,9 +13,9 @@ use Rattle.format.specs.Tidy.{tidy, unwritable}
 use Rattle.format.specs.Adding.{given, misformed, isKnown, added, unaddable}
 use Rattle.format.specs.Calls.{no, then, fresh, untangled, writing, adding}
 use Rattle.accepted.specs.Read.{recordsOf}
-use Rattle.gathered.specs.Parents.{idsOf}
-use Rattle.gathered.proofs.Says.{ordinal-ids}
-use Rattle.gathered.proofs.Road.{none-dangles}
+use Rattle.id_search.specs.Search.{idsOf}
+use Rattle.id_search.proofs.Search.{ordinal-ids}
+use Rattle.parents.proofs.Road.{none-dangles}
 use Rattle.calls.proofs.Fresh.{Current, goes-on, stops}
 use Rattle.ids.specs.Taken.{known}
 use Rattle.programs.specs.Added.{stray, crowded, addingOn}

@@ -15,8 +15,8 @@ use Rattle.format.specs.Programs.{Program, programs, links, leaves, ordinalFrom
 use Rattle.format.specs.Tidy.{tidy, unwritable, fieldsText}
 use Rattle.format.specs.Adding.{isKnown, added, used}
 use Rattle.format.specs.Calls.{no, then, untangled, writing}
-use Rattle.gathered.specs.Parents.{idsOf}
-use Rattle.gathered.proofs.Says.{ordinal-ids}
+use Rattle.id_search.specs.Search.{idsOf}
+use Rattle.id_search.proofs.Search.{ordinal-ids}
 use Rattle.ids.specs.Taken.{known, taken}
 use Rattle.ids.proofs.Used.{used-added, added-count}
 use Rattle.added.specs.Lines.{addedText}

@@ -10,9 +10,9 @@ use Rattle.format.specs.Lines.{Piece}
 use Rattle.format.specs.Fields.{lastOf}
 use Rattle.format.specs.Adding.{given, isKnown}
 use Rattle.format.specs.declared.ProgramNo.{ProgramNo}
-use Rattle.gathered.specs.declared.Named.{Named}
-use Rattle.gathered.specs.declared.Named.the-variants.{Nobody, Is}
-use Rattle.gathered.specs.Parents.{ordinalIn, namedOf}
+use Rattle.id_search.specs.declared.Named.{Named}
+use Rattle.id_search.specs.declared.Named.the-variants.{Nobody, Is}
+use Rattle.id_search.specs.Search.{ordinalIn, namedOf}
 use Rattle.ids.specs.Taken.{known}
 use Rattle.given.specs.declared.Given.{Given}
 use Rattle.given.specs.declared.Given.the-variants.{Nothing, At}

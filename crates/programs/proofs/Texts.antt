@@ -17,10 +17,11 @@ use Rattle.format.specs.Adding.{nobody, unplaced, orElse, chained, isKnown, aft
 use Rattle.format.specs.declared.Kind.{Kind}
 use Rattle.format.specs.declared.Kind.the-variants as kind
 use Rattle.text.specs.Stands.{Each}
-use Rattle.writer.specs.Parts.{prefixText}
-use Rattle.tidy_text.specs.Kinds.{numberOf, textOfKind, frontText}
+use Rattle.parts.specs.Parts.{prefixText}
+use Rattle.per_kind.specs.Numbers.{numberOf}
+use Rattle.tidy_text.specs.Kinds.{textOfKind, frontText}
 use Rattle.tidy_text.proofs.Total.{tidy-kinds, text-append}
-use Rattle.gathered.specs.Parents.{idsOf}
+use Rattle.id_search.specs.Search.{idsOf}
 use Rattle.ids.specs.Taken.{idIn}
 use Rattle.added.specs.Line.{joining, linking, ending, newLine}
 use Rattle.added.specs.Lines.{newLines, addedText}

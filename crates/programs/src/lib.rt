@@ -1,17 +1,16 @@
 // Adding programs: one after each leaf, and then the tidy text with the new programs behind the old ones.
 use added::Shape;
 use format::LineNo;
-use gathered::Named;
 use given::Given;
+use id_search::Named;
 use parser::Answer;
 use parser::Checked;
+use per_kind::PerKind;
 use tidy_text::Measured;
-use tidy_text::PerKind;
 ghost use mathlib.Core.Path.{_≡_};
 ghost use mathlib.Core.Bool.{true, false, not, _||_, cond};
-ghost use Prim.Native.Nat.{_≤_, _<_, _+_};
+ghost use Prim.Native.Nat.{_≤_, _<_, _+_, min};
 ghost use lib.ListN.{length};
-ghost use Prim.Native.Nat.{min};
 ghost use lib.Dec.{ltb};
 ghost use Rattle.format.specs.Fields.{lastOf};
 ghost use Rattle.format.specs.Lines.{lines};
@@ -22,8 +21,8 @@ ghost use Rattle.format.specs.Adding.{given};
 ghost use Rattle.format.specs.Calls.{writing, adding};
 ghost use Rattle.text.specs.Over.{over};
 ghost use Rattle.accepted.specs.Read.{isAccepted, recordsOf};
-ghost use Rattle.gathered.specs.Gathered.{idsAt, Placed};
-ghost use Rattle.gathered.specs.Parents.{idsOf};
+ghost use Rattle.id_search.specs.Places.{idsAt, Placed};
+ghost use Rattle.id_search.specs.Search.{idsOf};
 ghost use Rattle.parser.specs.Answers.{answerOf, outputOf};
 ghost use Rattle.ids.specs.Taken.{known};
 ghost use Rattle.given.specs.Given.{givenOf};
@@ -142,7 +141,7 @@ fn is_free(text: &[u8], ats: &[u32], lens: &[u32], id: &[u8]) -> bool
     requires { ⌜ Placed (now text) (now ats) (now lens) ⌝ }
     ensures { λ r. ⌜ r ≡ not (known (now (id .entry)) (idsAt (now (text .entry)) (now (ats .entry)) (now (lens .entry)))) ⌝ }
 {
-    match gathered::find_program(text, ats, lens, id) {
+    match id_search::find_program(text, ats, lens, id) {
         Named::Nobody => true,
         Named::Is(_) => false,
     }
@@ -249,7 +248,7 @@ pub fn add(text: &[u8], kept: &[u8], prefix: &[u8], fields: &[u8], out: &mut [u8
             if is_stray(text, ats, lens, fields, previous) {
                 return Answer::Refused(22, LineNo(0)); // the given PP
             }
-            let graph = gathered::find_leaves(text, programs);
+            let graph = parents::find_leaves(text, programs);
             if graph.refusal != 0 {
                 return Answer::Refused(graph.refusal, LineNo(0));
             }

@@ -12,8 +12,9 @@ use Rattle.writer.specs.Line.{lineText, lineWritable, sizeOf}
 use Rattle.writer.specs.declared.Size.the-variants.{Unwritable, Is}
 use Rattle.format.specs.declared.Kind.{Kind}
 use Rattle.tidy_text.specs.Accepted.{onto, recordsFrom}
-use Rattle.tidy_text.specs.Sizes.{plus, grownBy}
-use Rattle.tidy_text.specs.declared.PerKind.{PerKind}
+use Rattle.per_kind.specs.Numbers.{plus}
+use Rattle.tidy_text.specs.Sizes.{grownBy}
+use Rattle.per_kind.specs.declared.PerKind.{PerKind}
 use Rattle.tidy_text.specs.declared.Grown.the-variants as grown
 use Rattle.tidy_text.proofs.Lines.{lent, Turn, ended}
 use Rattle.text.specs.declared.Cut.{Cut}

@@ -20,7 +20,8 @@ use Rattle.accepted.proofs.Spelled.{line-accepted}
 use Rattle.accepted.specs.Read.{isRead}
 use Rattle.writer.specs.Line.{lineText}
 use Rattle.tidy_text.specs.Accepted.{onto}
-use Rattle.tidy_text.specs.Kinds.{numberOf, kindText, textOfKind}
+use Rattle.per_kind.specs.Numbers.{numberOf}
+use Rattle.tidy_text.specs.Kinds.{kindText, textOfKind}
 use Rattle.heads.specs.Found.{kindBy}
 use Rattle.heads.proofs.Finds.{first-byte}
 

@@ -11,12 +11,13 @@ use Rattle.format.specs.declared.Kind.the-variants.{Header, ReferenceSequence, 
 use Rattle.text.specs.Over.{over}
 use Rattle.text.proofs.Over.{over-none, over-length, over-over}
 use Rattle.writer.specs.Line.{lineText}
-use Rattle.writer.proofs.Wrote.{Wrote, wrote-then}
+use Rattle.parts.proofs.Wrote.{Wrote, wrote-then}
 use Rattle.tidy_text.specs.Accepted.{onto}
-use Rattle.tidy_text.specs.Kinds.{numberOf, kindText, textOfKind, frontText}
-use Rattle.tidy_text.specs.Sizes.{get, plus, front, starts, sizesOf}
+use Rattle.per_kind.specs.Numbers.{numberOf, get, plus, front, starts}
+use Rattle.tidy_text.specs.Kinds.{kindText, textOfKind, frontText}
+use Rattle.tidy_text.specs.Sizes.{sizesOf}
 use Rattle.tidy_text.specs.Placed.{Part, placed, begins, Apart, parts}
-use Rattle.tidy_text.specs.declared.PerKind.{PerKind}
+use Rattle.per_kind.specs.declared.PerKind.{PerKind}
 use Rattle.tidy_text.proofs.OfKind.{only, kind-turn}
 use Rattle.tidy_text.proofs.Sizes.{size-none, front-size}
 use Rattle.tidy_text.proofs.Total.{front-sizes, tidy-sizes, tidy-kinds}

@@ -13,9 +13,10 @@ use Rattle.format.specs.declared.Kind.{Kind}
 use Rattle.format.specs.declared.Kind.the-variants.{Header, ReferenceSequence, ReadGroup, Program, Comment}
 use Rattle.writer.specs.Line.{lineText}
 use Rattle.tidy_text.specs.Accepted.{onto}
-use Rattle.tidy_text.specs.Kinds.{numberOf, kindText, textOfKind, frontText}
-use Rattle.tidy_text.specs.Sizes.{each, get, noBytes, plus, front, total, sizesOf}
-use Rattle.tidy_text.specs.declared.PerKind.{PerKind}
+use Rattle.per_kind.specs.Numbers.{numberOf, each, get, noBytes, plus, front, total}
+use Rattle.tidy_text.specs.Kinds.{kindText, textOfKind, frontText}
+use Rattle.tidy_text.specs.Sizes.{sizesOf}
+use Rattle.per_kind.specs.declared.PerKind.{PerKind}
 use Rattle.tidy_text.proofs.OfKind.{only, kind-turn}
 use Rattle.tidy_text.proofs.Total.{size, front-sizes, tidy-sizes}
 

@@ -12,7 +12,8 @@ use Rattle.format.specs.declared.Kind.{Kind}
 use Rattle.format.specs.declared.Kind.the-variants.{Header, ReferenceSequence, ReadGroup, Program, Comment}
 use Rattle.writer.specs.Line.{lineText}
 use Rattle.tidy_text.specs.Accepted.{onto, recordsFrom}
-use Rattle.tidy_text.specs.Kinds.{numberOf, textOfKind, frontText}
+use Rattle.per_kind.specs.Numbers.{numberOf}
+use Rattle.tidy_text.specs.Kinds.{textOfKind, frontText}
 use Rattle.tidy_text.proofs.Lines.{Opened, lent, Turn, ended}
 use Rattle.text.specs.declared.Cut.{Cut}
 use Rattle.accepted.specs.Read.{recordsOf}

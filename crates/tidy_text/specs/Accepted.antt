@@ -7,7 +7,7 @@ use lib.ListN.{drop}
 use Rattle.format.specs.Lines.{Piece, linesFrom}
 use Rattle.format.specs.Records.{Record, Line, refused, read, line}
 use Rattle.accepted.specs.Read.{isRead}
-use Rattle.tidy_text.specs.declared.PerKind.{PerKind}
+use Rattle.per_kind.specs.declared.PerKind.{PerKind}
 use Rattle.tidy_text.specs.declared.Measured.{Measured}
 use Rattle.tidy_text.specs.declared.Measured.the-variants as measured
 

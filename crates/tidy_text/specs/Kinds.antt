@@ -1,21 +1,14 @@
--- A kind by its number, and a line's text if it is of a kind.
+-- A line's text if it is of a kind, and the text of a kind.
 use Prim.Native.Nat.{ℕ}
-use mathlib.Core.Bool.{Bool, cond}
+use mathlib.Core.Bool.{cond}
 use mathlib.Core.List.{List, [], _++_}
 use lib.Dec.{eqb}
 use Rattle.format.specs.Records.{Record, code, Line, refused, read}
 use Rattle.format.specs.Reading.{ofKind}
 use Rattle.format.specs.Tidy.{recordText, text}
 use Rattle.format.specs.declared.Kind.{Kind}
-use Rattle.format.specs.declared.Kind.the-variants.{Header, ReferenceSequence, ReadGroup, Program, Comment}
-
--- as `code` numbers the records
-unfoldable pub numberOf : Kind → ℕ
-numberOf Header = 1
-numberOf ReferenceSequence = 2
-numberOf ReadGroup = 3
-numberOf Program = 4
-numberOf Comment = 5
+use Rattle.format.specs.declared.Kind.the-variants.{Header, ReferenceSequence, ReadGroup, Program}
+use Rattle.per_kind.specs.Numbers.{numberOf}
 
 unfoldable pub kindText : Kind → Line → List ℕ
 unfolding numberOf code recordText

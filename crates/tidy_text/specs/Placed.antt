@@ -7,8 +7,8 @@ use Rattle.format.specs.declared.Kind.{Kind}
 use Rattle.format.specs.declared.Kind.the-variants.{Header, ReferenceSequence, ReadGroup, Program, Comment}
 use Rattle.text.specs.Over.{over}
 use Rattle.tidy_text.specs.Kinds.{textOfKind}
-use Rattle.tidy_text.specs.Sizes.{get}
-use Rattle.tidy_text.specs.declared.PerKind.{PerKind}
+use Rattle.per_kind.specs.Numbers.{get}
+use Rattle.per_kind.specs.declared.PerKind.{PerKind}
 
 pub record Part : Type 0 where
   pub at : ℕ

@@ -1,7 +1,7 @@
 // The tidy text of an accepted text: HD, then all SQ, RG, PG, CO, each kind in text order. One pass measures each kind, and one
 // puts each record at its kind's own place.
-use format::Kind;
 use format::LineNo;
+use per_kind::PerKind;
 use writer::Size;
 ghost use mathlib.Core.Path.{_≡_};
 ghost use mathlib.Core.Bool.{true};
@@ -18,103 +18,9 @@ ghost use Rattle.accepted.specs.Read.{isAccepted, isRead, recordsOf};
 ghost use Rattle.heads.specs.Found.{kindBy};
 ghost use Rattle.tidy_text.specs.Accepted.{measuredOf};
 ghost use Rattle.tidy_text.specs.Kinds.{textOfKind, frontText};
-ghost use Rattle.tidy_text.specs.Sizes.{noBytes, get, plus, front, total, starts, grownBy, sizesOf};
+ghost use Rattle.per_kind.specs.Numbers.{get, plus};
+ghost use Rattle.tidy_text.specs.Sizes.{grownBy, sizesOf};
 ghost use Rattle.tidy_text.specs.Placed.{placed, parts, Apart};
-
-// A number for each kind of record: how many bytes its records have, or where its next one goes.
-pub struct PerKind {
-    pub hd: usize,
-    pub sq: usize,
-    pub rg: usize,
-    pub pg: usize,
-    pub co: usize,
-}
-
-impl PerKind {
-    fn new() -> Self
-        ensures { λ r. ⌜ r ≡ noBytes ⌝ }
-    {
-        PerKind {
-            hd: 0,
-            sq: 0,
-            rg: 0,
-            pg: 0,
-            co: 0,
-        }
-    }
-
-    // The number of a kind.
-    fn get(self, kind: Kind) -> usize
-        ensures { λ r. ⌜ r ≡ get kind self ⌝ }
-    {
-        match kind {
-            Kind::Header => self.hd,
-            Kind::ReferenceSequence => self.sq,
-            Kind::ReadGroup => self.rg,
-            Kind::Program => self.pg,
-            Kind::Comment => self.co,
-        }
-    }
-
-    // With `n` more for a kind.
-    fn plus(self, kind: Kind, n: usize) -> PerKind
-        requires { ⌜ get kind self + n ≤ 18446744073709551615 ⌝ }
-        ensures { λ r. ⌜ r ≡ plus kind n self ⌝ }
-    {
-        let mut next = self;
-        match kind {
-            Kind::Header => {
-                next.hd = next.hd + n;
-            }
-            Kind::ReferenceSequence => {
-                next.sq = next.sq + n;
-            }
-            Kind::ReadGroup => {
-                next.rg = next.rg + n;
-            }
-            Kind::Program => {
-                next.pg = next.pg + n;
-            }
-            Kind::Comment => {
-                next.co = next.co + n;
-            }
-        }
-        next
-    }
-
-    // Of all kinds but the comments.
-    pub fn front(self) -> usize
-        requires { ⌜ front self ≤ 18446744073709551615 ⌝ }
-        ensures { λ r. ⌜ r ≡ front self ⌝ }
-    {
-        self.hd + self.sq + self.rg + self.pg
-    }
-
-    // Of all kinds.
-    pub fn total(self) -> usize
-        requires { ⌜ total self ≤ 18446744073709551615 ⌝ }
-        ensures { λ r. ⌜ r ≡ total self ⌝ }
-    {
-        self.hd + self.sq + self.rg + self.pg + self.co
-    }
-
-    // Where the records of each kind start, with `gap` bytes before the comments.
-    fn starts(self, gap: usize) -> PerKind
-        requires { ⌜ front self + gap ≤ 18446744073709551615 ⌝ }
-        ensures { λ r. ⌜ r ≡ starts gap self ⌝ }
-    {
-        let sq = self.hd;
-        let rg = sq + self.sq;
-        let pg = rg + self.rg;
-        PerKind {
-            hd: 0,
-            sq,
-            rg,
-            pg,
-            co: pg + self.pg + gap,
-        }
-    }
-}
 
 // How many bytes each kind has in the tidy text, or the line of the first SQ whose name can't be written.
 pub enum Measured {

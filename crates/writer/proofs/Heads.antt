@@ -25,7 +25,8 @@ use Rattle.walk.proofs.Start.{accepted-others}
 use Rattle.heads.specs.Found.{kindBy, isComment, uncounted}
 use Rattle.heads.proofs.Finds.{accepted-byte, by-record}
 use Rattle.writer.specs.Line.{lineText, lineWritable}
-use Rattle.writer.specs.Parts.{prefixText, versionText, othersText}
+use Rattle.parts.specs.Parts.{prefixText, versionText}
+use Rattle.other_fields.specs.Others.{othersText}
 use Rattle.writer.specs.Texts.{Inside, placeText, headerText, sequenceText, mapText}
 use Rattle.writer.specs.Heads.{headText, headWritable, Holds}
 use Rattle.writer.proofs.Sizes.{kindOfHead}

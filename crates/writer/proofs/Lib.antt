@@ -1,5 +1,3 @@
-pub mod Wrote
-pub mod Others
 pub mod Texts
 pub mod Sizes
 pub mod Heads

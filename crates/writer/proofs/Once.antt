@@ -29,7 +29,7 @@ use Rattle.heads.specs.Keys.{lastKey, lastNumber, keysFrom, keysIn}
 use Rattle.heads.proofs.Finds.{accepted-byte, by-record}
 use Rattle.roundtrip.proofs.Once.{without-absent, last-absent, settled-once}
 use Rattle.roundtrip.proofs.Length.{one-more, last-without}
-use Rattle.writer.specs.Parts.{othersText}
+use Rattle.other_fields.specs.Others.{othersText}
 use Rattle.writer.specs.Heads.{keysLength}
 use Rattle.writer.proofs.Heads.{spelled}
 

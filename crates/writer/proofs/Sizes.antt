@@ -16,12 +16,9 @@ use Rattle.record.specs.declared.Head.{Head}
 use Rattle.record.specs.declared.Head.the-variants as head
 use Rattle.record.specs.declared.Head.the-variants.{Refused, ReadGroup, Program, Comment}
 use Rattle.writer.specs.Heads.{headText, Holds, placeLength, headLength}
-use Rattle.writer.specs.Parts.{prefixText, versionText, othersText}
+use Rattle.parts.specs.Parts.{prefixText, versionText}
+use Rattle.other_fields.specs.Others.{othersText}
 use Rattle.writer.specs.Texts.{Inside, placeText, headerText, sequenceText, mapText}
-
-pub version-size : (v : Version) → length (versionText v) ≡ length (written (v .major)) + 1 + length (written (v .minor))
-unfolding versionText
-version-size v = omega (arith, length-append (written (v .major)) (46 ∷ written (v .minor)))
 
 -- the kind of a head's fields
 unfoldable pub kindOfHead : Head → Kind

@@ -10,7 +10,7 @@ use Rattle.format.specs.declared.Kind.the-variants as kind
 use Rattle.record.specs.declared.Head.{Head}
 use Rattle.record.specs.declared.Head.the-variants.{Refused, Header, ReferenceSequence, ReadGroup, Program, Comment}
 use Rattle.heads.specs.declared.Keys.{Keys}
-use Rattle.writer.specs.Parts.{versionText}
+use Rattle.parts.specs.Parts.{versionText}
 use Rattle.writer.specs.Texts.{Inside, placeText, headerText, sequenceText, mapText}
 
 -- neither a refusal nor a comment is written part by part

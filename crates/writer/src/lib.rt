@@ -10,18 +10,14 @@ ghost use mathlib.Core.List.{[], _∷_, _++_};
 ghost use Prim.Native.Nat.{_≤_, _<_, _+_};
 ghost use lib.ListN.{length, take, drop, getD};
 ghost use Rattle.format.specs.Records.{line};
-ghost use Rattle.format.specs.Tidy.{fieldText};
 ghost use Rattle.text.specs.Over.{over};
-ghost use Rattle.accepted.specs.Spelled.{kind₀, kind₁};
 ghost use Rattle.accepted.specs.Read.{isRead};
-ghost use Rattle.accepted.specs.Sound.{isKey};
 ghost use Rattle.walk.specs.Run.{AtField, fieldsFrom};
-ghost use Rattle.walk.specs.Next.{isFirst};
 ghost use Rattle.walk.specs.Tables.{Walkable};
 ghost use Rattle.heads.specs.Found.{kindBy, isComment};
 ghost use Rattle.heads.specs.Keys.{keysIn};
 ghost use Rattle.writer.specs.Line.{lineText, lineWritable, sizeOf};
-ghost use Rattle.writer.specs.Parts.{prefixText, versionText, othersText};
+ghost use Rattle.other_fields.specs.Others.{othersText};
 ghost use Rattle.writer.specs.Heads.{placeLength, headLength, keysLength};
 ghost use Rattle.writer.specs.Texts.{Inside, headerText, sequenceText, mapText};
 
@@ -29,156 +25,6 @@ ghost use Rattle.writer.specs.Texts.{Inside, headerText, sequenceText, m
 pub enum Size {
     Unwritable,
     Is(usize),
-}
-
-// The first byte of a kind.
-pub fn kind_first(kind: Kind) -> u8
-    ensures { λ r. ⌜ r ≡ kind₀ kind ⌝ }
-{
-    match kind {
-        Kind::Header => b'H',
-        Kind::ReferenceSequence => b'S',
-        Kind::ReadGroup => b'R',
-        Kind::Program => b'P',
-        Kind::Comment => b'C',
-    }
-}
-
-// The second.
-pub fn kind_second(kind: Kind) -> u8
-    ensures { λ r. ⌜ r ≡ kind₁ kind ⌝ }
-{
-    match kind {
-        Kind::Header => b'D',
-        Kind::ReferenceSequence => b'Q',
-        Kind::ReadGroup => b'G',
-        Kind::Program => b'G',
-        Kind::Comment => b'O',
-    }
-}
-
-// Writes the `@` and the two bytes of a kind.
-pub fn put_prefix(out: &mut [u8], o: usize, kind: Kind) -> usize
-    requires { ⌜ o + 3 ≤ length (now out) ⌝ }
-    ensures next { λ r. ⌜ r ≡ o + 3 ⌝ }
-    ensures wrote { λ _. ⌜ now (out .exit) ≡ over (now (out .entry)) o (prefixText kind) ⌝ }
-{
-    out[o] = b'@';
-    out[o + 1] = kind_first(kind);
-    out[o + 2] = kind_second(kind);
-    o + 3
-}
-
-// Writes what stands before a value: a tab, a tag, a colon.
-pub fn put_tag(out: &mut [u8], o: usize, a: u8, b: u8) -> usize
-    requires { ⌜ o + 4 ≤ length (now out) ⌝ }
-    ensures next { λ r. ⌜ r ≡ o + 4 ⌝ }
-    ensures wrote { λ _. ⌜ now (out .exit) ≡ over (now (out .entry)) o (9 ∷ a ∷ b ∷ 58 ∷ []) ⌝ }
-{
-    out[o] = b'\t';
-    out[o + 1] = a;
-    out[o + 2] = b;
-    out[o + 3] = b':';
-    o + 4
-}
-
-// Writes a field whose value is the `len` bytes of the line from `from` on.
-pub fn put_field(
-    out: &mut [u8],
-    o: usize,
-    a: u8,
-    b: u8,
-    line: &[u8],
-    from: usize,
-    len: usize,
-) -> usize
-    requires { ⌜ from + len ≤ length (now line) ⌝ }
-    requires { ⌜ o + 4 + len ≤ length (now out) ⌝ }
-    ensures next { λ r. ⌜ r ≡ o + length (fieldText a b (take len (drop from (now (line .entry))))) ⌝ }
-    ensures wrote { λ _. ⌜ now (out .exit) ≡ over (now (out .entry)) o (fieldText a b (take len (drop from (now (line .entry))))) ⌝ }
-{
-    let n = put_tag(out, o, a, b);
-    text::put_bytes(out, n, &line[from..from + len]);
-    n + len
-}
-
-// Writes the two numbers of a version, and the dot between.
-fn put_version(out: &mut [u8], o: usize, v: Version) -> usize
-    requires { ⌜ o + length (versionText v) ≤ length (now out) ⌝ }
-    ensures next { λ r. ⌜ r ≡ o + length (versionText v) ⌝ }
-    ensures wrote { λ _. ⌜ now (out .exit) ≡ over (now (out .entry)) o (versionText v) ⌝ }
-{
-    let major = v.major;
-    let minor = v.minor;
-    let n = decimal::write_u32(out, o, major);
-    out[n] = b'.';
-    decimal::write_u32(out, n + 1, minor)
-}
-
-// Whether the field at `i` is no key and stands at its tag's first place.
-fn is_other(kind: Kind, line: &[u8], at: usize, i: usize, once: bool, tables: &[u32]) -> bool
-    requires { ⌜ Walkable once at (now line) (now tables) ⌝ }
-    requires { ⌜ AtField once at (now line) i ⌝ }
-    requires { ⌜ i < length (now line) ⌝ }
-    requires { ⌜ at + length (now line) ≤ 16777216 ⌝ }
-    ensures { λ r. ⌜ r ≡ not (isKey kind (getD (now (line .entry)) (i + 1) 0) (getD (now (line .entry)) (i + 2) 0)) && isFirst at (now (line .entry)) i ⌝ }
-{
-    if tags::is_key(kind, line[i + 1], line[i + 2]) {
-        return false;
-    }
-    walk::is_first(line, at, i, once, tables)
-}
-
-// Writes the fields of an accepted line that are no keys, each tag at its first place with its last value.
-fn put_other_fields(
-    out: &mut [u8],
-    o: usize,
-    kind: Kind,
-    line: &[u8],
-    at: usize,
-    once: bool,
-    tables: &[u32],
-) -> usize
-    requires { ⌜ Walkable once at (now line) (now tables) ⌝ }
-    requires { ⌜ at + length (now line) ≤ 16777216 ⌝ }
-    requires { ⌜ o + length (othersText kind at (now line)) ≤ length (now out) ⌝ }
-    ensures next { λ r. ⌜ r ≡ o + length (othersText kind at (now (line .entry))) ⌝ }
-    ensures wrote { λ _. ⌜ now (out .exit) ≡ over (now (out .entry)) o (othersText kind at (now (line .entry))) ⌝ }
-{
-    let mut n = o;
-    let mut i: usize = 3;
-    while i < line.len() {
-        let end = walk::field_end(line, i);
-        let a = line[i + 1];
-        let b = line[i + 2];
-        if is_other(kind, line, at, i, once, tables) {
-            let v = walk::kept_value(line, at, i, end, once, tables);
-            n = put_field(out, n, a, b, line, v.at - at, v.len);
-        }
-        i = end;
-    }
-    n
-}
-
-// Writes the other fields of an accepted line, and the LF that ends its record.
-fn put_rest(
-    out: &mut [u8],
-    o: usize,
-    kind: Kind,
-    line: &[u8],
-    at: usize,
-    once: bool,
-    tables: &[u32],
-) -> usize
-    requires { ⌜ Walkable once at (now line) (now tables) ⌝ }
-    requires { ⌜ at + length (now line) ≤ 16777216 ⌝ }
-    requires { ⌜ o + length (othersText kind at (now line)) + 1 ≤ length (now out) ⌝ }
-    ensures next { λ r. ⌜ r ≡ o + length (othersText kind at (now (line .entry)) ++ (10 ∷ [])) ⌝ }
-    ensures wrote { λ _. ⌜ now (out .exit) ≡ over (now (out .entry)) o (othersText kind at (now (line .entry)) ++ (10 ∷ [])) ⌝ }
-{
-    let n = put_other_fields(out, o, kind, line, at, once, tables);
-    out[n] = b'\n'; // after the last field
-    n + 1
 }
 
 // Writes an HD: its version, then the other fields of its line.
@@ -197,10 +43,10 @@ fn put_header(
     ensures next { λ r. ⌜ r ≡ o + length (headerText v at (now (line .entry))) ⌝ }
     ensures wrote { λ _. ⌜ now (out .exit) ≡ over (now (out .entry)) o (headerText v at (now (line .entry))) ⌝ }
 {
-    let n = put_prefix(out, o, Kind::Header);
-    let n = put_tag(out, n, b'V', b'N');
-    let n = put_version(out, n, v);
-    put_rest(out, n, Kind::Header, line, at, once, tables)
+    let n = parts::put_prefix(out, o, Kind::Header);
+    let n = parts::put_tag(out, n, b'V', b'N');
+    let n = parts::put_version(out, n, v);
+    other_fields::put_rest(out, n, Kind::Header, line, at, once, tables)
 }
 
 // Writes an SQ: the name that stands in its line, its length, then the other fields.
@@ -223,11 +69,11 @@ fn put_reference_sequence(
 {
     let from = name.at - at;
     let len = name.len;
-    let n = put_prefix(out, o, Kind::ReferenceSequence);
-    let n = put_field(out, n, b'S', b'N', line, from, len);
-    let n = put_tag(out, n, b'L', b'N');
+    let n = parts::put_prefix(out, o, Kind::ReferenceSequence);
+    let n = parts::put_field(out, n, b'S', b'N', line, from, len);
+    let n = parts::put_tag(out, n, b'L', b'N');
     let n = decimal::write_u64(out, n, ln);
-    put_rest(out, n, Kind::ReferenceSequence, line, at, once, tables)
+    other_fields::put_rest(out, n, Kind::ReferenceSequence, line, at, once, tables)
 }
 
 // Writes an RG or a PG: the ID that stands in its line, then the other fields.
@@ -250,9 +96,9 @@ fn put_map(
 {
     let from = id.at - at;
     let len = id.len;
-    let n = put_prefix(out, o, kind);
-    let n = put_field(out, n, b'I', b'D', line, from, len);
-    put_rest(out, n, kind, line, at, once, tables)
+    let n = parts::put_prefix(out, o, kind);
+    let n = parts::put_field(out, n, b'I', b'D', line, from, len);
+    other_fields::put_rest(out, n, kind, line, at, once, tables)
 }
 
 // Writes the record of an accepted line of fields part by part.
@@ -347,34 +193,6 @@ pub fn put_record(out: &mut [u8], o: usize, src: &[u8], at: usize, strict: bool)
     put_noted(out, o, kind, src, at)
 }
 
-// How many bytes the other fields of an accepted line have, by its tables.
-fn other_fields_len(kind: Kind, line: &[u8], at: usize, tables: &[u32]) -> usize
-    requires { ⌜ Walkable false at (now line) (now tables) ⌝ }
-    requires { ⌜ at + length (now line) ≤ 16777216 ⌝ }
-    ensures { λ r. ⌜ r ≡ length (othersText kind at (now (line .entry))) ⌝ }
-{
-    let mut n: usize = 0;
-    let mut i: usize = 3;
-    while i < line.len() {
-        let end = walk::field_end(line, i);
-        if is_other(kind, line, at, i, false, tables) {
-            let v = walk::kept_value(line, at, i, end, false, tables);
-            n = n + 4 + v.len;
-        }
-        i = end;
-    }
-    n
-}
-
-// How many bytes the two numbers of a version have, with the dot between.
-fn version_len(v: Version) -> usize
-    ensures { λ r. ⌜ r ≡ length (versionText v) ⌝ }
-{
-    let major = v.major;
-    let minor = v.minor;
-    decimal::len_u64(major as u64) + 1 + decimal::len_u64(minor as u64)
-}
-
 // How many bytes the fields of a kind's keys have in their line: four before each value.
 fn keys_len(kind: Kind, keys: Keys) -> usize
     requires { ⌜ keysLength kind keys ≤ 16777216 ⌝ }
@@ -398,7 +216,7 @@ fn head_len(head: Head, others: usize) -> usize
 {
     match head {
         Head::Refused(_) => 0,
-        Head::Header(v, _) => 8 + version_len(v) + others,
+        Head::Header(v, _) => 8 + parts::version_len(v) + others,
         Head::ReferenceSequence(p, n, _) => {
             let name = p.len;
             12 + name + decimal::len_u64(n) + others
@@ -478,7 +296,7 @@ fn noted_size(kind: Kind, src: &[u8], at: usize) -> Size
         return Size::Unwritable;
     }
     let keys = heads::find_keys(kind, src, at, false, &tables);
-    let others = other_fields_len(kind, src, at, &tables);
+    let others = other_fields::other_fields_len(kind, src, at, &tables);
     Size::Is(parts_len(kind, src, at, keys, others))
 }
 

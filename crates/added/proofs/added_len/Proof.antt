@@ -5,7 +5,7 @@ use mathlib.Core.Bool.{false}
 use native.Mathlib.Omega.{arith}
 use borrow.Author.Needs.{needs}
 use lib.ListN.{length, drop, getD, length-append}
-use Rattle.gathered.specs.Gathered.{idsAt}
+use Rattle.id_search.specs.Places.{idsAt}
 use Rattle.ids.specs.Taken.{idIn}
 use Rattle.added.specs.Line.{newLine}
 use Rattle.added.specs.Lines.{newLines, addedText}

@@ -8,8 +8,8 @@ use borrow.Author.Needs.{needs}
 use lib.ListN.{length, drop, length-append}
 use Rattle.text.specs.Over.{over}
 use Rattle.text.proofs.Over.{over-none}
-use Rattle.writer.proofs.Wrote.{Wrote, wrote-onward}
-use Rattle.gathered.specs.Gathered.{idsAt}
+use Rattle.parts.proofs.Wrote.{Wrote, wrote-onward}
+use Rattle.id_search.specs.Places.{idsAt}
 use Rattle.added.specs.Line.{newLine}
 use Rattle.added.specs.Lines.{newLines, addedText}
 use Rattle.added.proofs.Lines.{lines-more, lines-done, added-one, added-each}

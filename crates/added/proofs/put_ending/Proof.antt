@@ -4,7 +4,7 @@ use mathlib.Core.Path.{_≡_, refl, _∙_}
 use mathlib.Core.List.{[], _∷_, _++_}
 use native.Mathlib.Omega.{arith}
 use lib.ListN.{length, set, length-set, length-append}
-use Rattle.writer.proofs.Wrote.{wrote-then, wrote-one}
+use Rattle.parts.proofs.Wrote.{wrote-then, wrote-one}
 use Rattle.added.specs.Line.{linking, ending}
 use Rattle.added.proofs.Lines.{ending-size}
 use Rattle.added.proofs.put_ending.Statement.{statement}

@@ -5,7 +5,7 @@ use mathlib.Core.List.{[], _∷_}
 use native.Mathlib.Omega.{arith}
 use borrow.Author.Needs.{needs}
 use lib.ListN.{length, set, length-set}
-use Rattle.writer.proofs.Wrote.{Wrote, wrote-then, wrote-one}
+use Rattle.parts.proofs.Wrote.{Wrote, wrote-then, wrote-one}
 use Rattle.added.proofs.Lines.{joining-none, joining-some, wrote-none}
 use Rattle.added.proofs.put_joining.Statement.{statement}
 use Rattle.added.proofs.put_joining.Tie as tie

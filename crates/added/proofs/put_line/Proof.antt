@@ -4,8 +4,8 @@ use mathlib.Core.List.{List, [], _∷_, _++_}
 use native.Mathlib.Omega.{arith}
 use borrow.Author.Needs.{needs}
 use lib.ListN.{length, length-append}
-use Rattle.writer.proofs.Wrote.{wrote-then}
-use Rattle.writer.specs.Parts.{prefixText}
+use Rattle.parts.proofs.Wrote.{wrote-then}
+use Rattle.parts.specs.Parts.{prefixText}
 use Rattle.format.specs.declared.Kind.the-variants.{Program}
 use Rattle.added.specs.Line.{joining, linking, ending, newLine}
 use Rattle.added.proofs.Lines.{ending-size, line-size}

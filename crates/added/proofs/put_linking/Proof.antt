@@ -4,7 +4,7 @@ use native.Mathlib.Omega.{arith}
 use borrow.Author.Needs.{needs}
 use lib.ListN.{length}
 use lib.Seq.{take-length}
-use Rattle.writer.proofs.Wrote.{Wrote}
+use Rattle.parts.proofs.Wrote.{Wrote}
 use Rattle.format.specs.Tidy.{fieldText}
 use Rattle.added.proofs.Lines.{linking-some, linking-none, wrote-none}
 use Rattle.added.proofs.put_linking.Statement.{statement}

@@ -8,7 +8,7 @@ use Rattle.format.specs.Calls.{then, fitting, leafing, yes}
 use Rattle.accepted.specs.Read.{recordsOf}
 use Rattle.chains.specs.Parents.{inArray}
 use Rattle.chains.proofs.Arrays.{front, front-count, front-inside}
-use Rattle.gathered.proofs.Road.{lent-count, lent-inside, lent-few, lent-within, lent-links, graph-refusal, graph-parents, graph-undangled, graph-list, graph-count}
+use Rattle.parents.proofs.Road.{lent-count, lent-inside, lent-few, lent-within, lent-links, graph-refusal, graph-parents, graph-undangled, graph-list, graph-count}
 use Rattle.parser.specs.Answers.{answerOf, outputOf}
 use Rattle.calls.specs.Answers.{withHops}
 use Rattle.calls.proofs.Fresh.{refused-by, fresh-by}

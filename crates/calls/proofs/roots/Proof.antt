@@ -7,7 +7,7 @@ use Rattle.format.specs.Calls.{fitting, rooting}
 use Rattle.accepted.specs.Read.{recordsOf}
 use Rattle.chains.specs.Parents.{inArray}
 use Rattle.chains.proofs.Arrays.{front, front-count, front-inside}
-use Rattle.gathered.proofs.Road.{lent-count, lent-inside, lent-few, lent-roots}
+use Rattle.parents.proofs.Road.{lent-count, lent-inside, lent-few, lent-roots}
 use Rattle.parser.specs.Answers.{answerOf, outputOf}
 use Rattle.parser.proofs.Told.{refused-answer}
 use Rattle.calls.proofs.Fresh.{refused-by, fresh-by}

@@ -1,6 +1,6 @@
 -- `exports::sam_header_check` meets its contract. Assumes nothing.
 use mathlib.Core.Path.{_≡_, sym, ap, _∙_}
-use Rattle.exports.specs.Words.{checkedWord}
+use Rattle.words.specs.Words.{checkedWord}
 use borrow.Author.Needs.{needs}
 use Rattle.exports.proofs.sam_header_check.Statement.{statement}
 use Rattle.exports.proofs.sam_header_check.Tie as tie

@@ -1,6 +1,6 @@
 -- `exports::sam_header_field` meets its contract. Assumes nothing.
 use mathlib.Core.Path.{_≡_, sym, ap, _∙_}
-use Rattle.exports.specs.Words.{fieldWord}
+use Rattle.words.specs.Words.{fieldWord}
 use borrow.Author.Needs.{needs}
 use Rattle.exports.proofs.sam_header_field.Statement.{statement}
 use Rattle.exports.proofs.sam_header_field.Tie as tie

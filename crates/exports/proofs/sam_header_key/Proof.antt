@@ -1,6 +1,6 @@
 -- `exports::sam_header_key` meets its contract. Assumes nothing.
 use mathlib.Core.Path.{_≡_, sym, ap, _∙_}
-use Rattle.exports.specs.Words.{keyWord}
+use Rattle.words.specs.Words.{keyWord}
 use borrow.Author.Needs.{needs}
 use Rattle.exports.proofs.sam_header_key.Statement.{statement}
 use Rattle.exports.proofs.sam_header_key.Tie as tie

@@ -9,7 +9,7 @@ use Rattle.accepted.proofs.Bools.{never}
 use Rattle.calls.specs.declared.LeavesAnswer.the-variants.{Refused, Counted}
 use Rattle.calls.specs.Answers.{leavesOf}
 use Rattle.calls.proofs.Bound.{leaves-few}
-use Rattle.exports.specs.Words.{leavesWord}
+use Rattle.words.specs.Words.{leavesWord}
 use borrow.Author.Needs.{needs}
 use Rattle.exports.proofs.sam_header_leaves.Statement.{statement}
 use Rattle.exports.proofs.sam_header_leaves.Tie as tie
@@ -36,19 +36,16 @@ refusal-word-requires c κs = search needs
 enum-known-n-2 : tie.Need-enum-known-n-2
 enum-known-n-2 c = search needs
 
-cast-result : tie.Need-cast-result
-cast-result c = search needs
-
-mul-result : tie.Need-mul-result
-mul-result c = search needs
-
-add-result : tie.Need-add-result
-add-result c =
+cast-pair-word : tie.Need-cast-pair-word
+cast-pair-word c =
     let k = c .before .before .before .before .before in
     let a = k .before .before .before .before .before .args in
     let g = c .before .n2 .given in
     let h : g .0 .0 ≤ 1024 = few (a .text .now) (a .catalogue .now) (length (a .out .now)) (g .0 .0) (g .0 .1 .0) (sym (g .1) ∙ k .leaves .ensures .0) in
     search (needs, h)
+
+pair-word-requires : tie.Need-pair-word-requires
+pair-word-requires c κs = search needs
 
 same-length : tie.Need-same-length
 same-length c = search needs
@@ -65,8 +62,8 @@ same-length-2 c = search needs
 returns-2 : tie.Need-returns-2
 unfolding leavesWord
 returns-2 c =
-    let k = c .before .before .before .before .before in
-    (ap leavesWord (sym (c .before .n2 .given .1) ∙ k .leaves .ensures .0), k .leaves .ensures .1)
+    let k = c .before .before .before .before .before .before in
+    (c .pair-word .ensures ∙ ap leavesWord (sym (c .before .before .n2 .given .1) ∙ k .leaves .ensures .0), k .leaves .ensures .1)
 
 pub sam-header-leaves-spec : {M : Type 1} → statement M
 sam-header-leaves-spec =
@@ -76,9 +73,8 @@ sam-header-leaves-spec =
     enum-known-n
     refusal-word-requires
     enum-known-n-2
-    cast-result
-    mul-result
-    add-result
+    cast-pair-word
+    pair-word-requires
     same-length
     returns
     same-length-2

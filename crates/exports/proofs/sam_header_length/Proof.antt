@@ -1,6 +1,6 @@
 -- `exports::sam_header_length` meets its contract. Assumes nothing.
 use mathlib.Core.Path.{_≡_, sym, ap, _∙_}
-use Rattle.exports.specs.Words.{lengthWord, lengthLeft}
+use Rattle.words.specs.Words.{lengthWord, lengthLeft}
 use borrow.Author.Needs.{needs}
 use Rattle.exports.proofs.sam_header_length.Statement.{statement}
 use Rattle.exports.proofs.sam_header_length.Tie as tie

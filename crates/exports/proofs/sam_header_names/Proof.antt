@@ -1,6 +1,6 @@
 -- `exports::sam_header_names` meets its contract. Assumes nothing.
 use mathlib.Core.Path.{_≡_, sym, ap, _∙_}
-use Rattle.exports.specs.Words.{namesWord, namesLeft}
+use Rattle.words.specs.Words.{namesWord, namesLeft}
 use borrow.Author.Needs.{needs}
 use Rattle.exports.proofs.sam_header_names.Statement.{statement}
 use Rattle.exports.proofs.sam_header_names.Tie as tie

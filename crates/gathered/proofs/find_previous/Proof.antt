@@ -1,7 +1,8 @@
 -- `gathered::find_previous` meets its contract: the PP that is found, or no place.
 use mathlib.Core.Path.{sym, ap, _∙_}
 use borrow.Author.Needs.{needs}
-use Rattle.gathered.specs.Gathered.{nowhere, orNowhere}
+use Rattle.id_search.specs.Places.{nowhere}
+use Rattle.gathered.specs.Gathered.{orNowhere}
 use Rattle.gathered.proofs.find_previous.Statement.{statement}
 use Rattle.gathered.proofs.find_previous.Tie as tie
 

@@ -6,8 +6,8 @@ use native.Mathlib.Omega.{arith}
 use borrow.Author.Needs.{needs}
 use lib.ListN.{length, drop}
 use Rattle.format.specs.Bytes.{same}
-use Rattle.gathered.specs.Gathered.{idsAt}
-use Rattle.gathered.proofs.Search.{ids-length}
+use Rattle.id_search.specs.Places.{idsAt}
+use Rattle.id_search.proofs.Search.{ids-length}
 use Rattle.ids.specs.Taken.{joined, known}
 use Rattle.ids.proofs.Search.{known-end, known-step}
 use Rattle.ids.proofs.is_known.Statement.{statement}

@@ -5,7 +5,7 @@ use mathlib.Core.Bool.{Bool, true, false, _||_}
 use native.Mathlib.Omega.{arith}
 use borrow.Author.Needs.{needs}
 use lib.ListN.{length, drop}
-use Rattle.gathered.specs.Gathered.{idsAt}
+use Rattle.id_search.specs.Places.{idsAt}
 use Rattle.ids.specs.Taken.{joined, known, taken}
 use Rattle.ids.proofs.Search.{taken-end, taken-step}
 use Rattle.ids.proofs.is_taken.Statement.{statement}

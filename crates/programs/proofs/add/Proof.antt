@@ -17,10 +17,11 @@ use Rattle.accepted.specs.Read.{isAccepted, recordsOf}
 use Rattle.chains.specs.Parents.{inArray}
 use Rattle.chains.proofs.Arrays.{front, front-count, front-inside}
 use Rattle.entries.specs.Entries.{entriesIn}
-use Rattle.gathered.specs.Gathered.{notedIn, gatheredOf, idsAt}
-use Rattle.gathered.specs.Parents.{idsOf}
-use Rattle.gathered.proofs.Own.{own-count, own-ats, own-lens, ats-inside, lens-inside, own-placed, own-ids}
-use Rattle.gathered.proofs.Road.{graph-refusal, graph-list, graph-count, some-leaf}
+use Rattle.gathered.specs.Gathered.{notedIn, gatheredOf}
+use Rattle.id_search.specs.Places.{idsAt}
+use Rattle.id_search.specs.Search.{idsOf}
+use Rattle.parents.proofs.Own.{own-count, own-ats, own-lens, ats-inside, lens-inside, own-placed, own-ids}
+use Rattle.parents.proofs.Road.{graph-refusal, graph-list, graph-count, some-leaf}
 use Rattle.parser.specs.Answers.{answerOf, outputOf}
 use Rattle.parser.proofs.Told.{refused-answer}
 use Rattle.calls.proofs.Fresh.{refused-by, fresh-by}

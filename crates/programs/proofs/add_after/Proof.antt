@@ -17,11 +17,11 @@ use Rattle.format.specs.Calls.{writing}
 use Rattle.accepted.specs.Read.{recordsOf}
 use Rattle.accepted.proofs.Read.{accepted-reads}
 use Rattle.field.proofs.Before.{rest}
-use Rattle.gathered.specs.Gathered.{idsAt, Placed}
-use Rattle.gathered.specs.Parents.{idsOf}
-use Rattle.gathered.proofs.Search.{ids-length}
-use Rattle.gathered.proofs.Numbers.{links-count}
-use Rattle.gathered.proofs.Own.{few-programs}
+use Rattle.id_search.specs.Places.{idsAt, Placed}
+use Rattle.id_search.specs.Search.{idsOf}
+use Rattle.id_search.proofs.Search.{ids-length}
+use Rattle.parents.proofs.Numbers.{links-count}
+use Rattle.parents.proofs.Own.{few-programs}
 use Rattle.parser.specs.Answers.{answerOf, outputOf}
 use Rattle.parser.proofs.Told.{refused-answer}
 use Rattle.chains.proofs.Leaf.{leaves-length}

@@ -1,5 +1,5 @@
 -- `programs::is_free` meets its contract: nobody has this ID.
-use Rattle.gathered.specs.Gathered.{idsAt}
+use Rattle.id_search.specs.Places.{idsAt}
 use Rattle.programs.proofs.Prior.{free-nobody, free-somebody}
 use mathlib.Core.Path.{sym, _∙_}
 use borrow.Author.Needs.{needs}

@@ -2,7 +2,7 @@
 use lib.ListN.{length, take, drop}
 use Rattle.format.specs.Fields.{lastOf}
 use Rattle.format.specs.Adding.{given}
-use Rattle.gathered.specs.Gathered.{idsAt}
+use Rattle.id_search.specs.Places.{idsAt}
 use Rattle.ids.specs.Taken.{known}
 use Rattle.programs.specs.Added.{stray}
 use Rattle.programs.proofs.Prior.{stray-nothing, stray-at}

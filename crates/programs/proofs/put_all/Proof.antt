@@ -8,9 +8,9 @@ use Rattle.format.specs.Records.{Record}
 use Rattle.format.specs.Tidy.{tidy}
 use Rattle.format.specs.declared.Kind.the-variants.{Comment}
 use Rattle.accepted.specs.Read.{recordsOf}
-use Rattle.gathered.specs.Gathered.{idsAt}
+use Rattle.id_search.specs.Places.{idsAt}
 use Rattle.tidy_text.specs.Kinds.{textOfKind, frontText}
-use Rattle.tidy_text.specs.Sizes.{get, front}
+use Rattle.per_kind.specs.Numbers.{get, front}
 use Rattle.text.specs.Over.{over}
 use Rattle.tidy_text.proofs.Lines.{opened}
 use Rattle.tidy_text.proofs.Total.{tidy-small}

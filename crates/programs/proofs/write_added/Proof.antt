@@ -10,9 +10,10 @@ use Rattle.format.specs.Records.{Record}
 use Rattle.format.specs.Tidy.{tidy, unwritable}
 use Rattle.format.specs.Calls.{writing}
 use Rattle.accepted.specs.Read.{recordsOf}
-use Rattle.gathered.specs.Gathered.{idsAt}
+use Rattle.id_search.specs.Places.{idsAt}
 use Rattle.parser.proofs.Told.{refused-answer, written-answer}
-use Rattle.tidy_text.specs.Sizes.{total, sizesOf}
+use Rattle.per_kind.specs.Numbers.{total}
+use Rattle.tidy_text.specs.Sizes.{sizesOf}
 use Rattle.tidy_text.proofs.Lines.{opened}
 use Rattle.tidy_text.proofs.Total.{tidy-small}
 use Rattle.tidy_text.proofs.Sizes.{total-size}

@@ -15,7 +15,8 @@ use Rattle.accepted.specs.Read.{recordsOf}
 use Rattle.writer.specs.Line.{lineText, lineWritable}
 use Rattle.tidy_text.specs.Accepted.{onto, measuredOf, allRead, recordsFrom}
 use Rattle.tidy_text.specs.Kinds.{kindText, textOfKind}
-use Rattle.tidy_text.specs.Sizes.{get, plus, sizesOf}
+use Rattle.per_kind.specs.Numbers.{get, plus}
+use Rattle.tidy_text.specs.Sizes.{sizesOf}
 use Rattle.heads.specs.Found.{kindBy}
 use Rattle.tidy_text.specs.declared.Measured.the-variants as measured
 use Rattle.tidy_text.proofs.Lines.{Opened, opened, lent, Turn, turn, ended}

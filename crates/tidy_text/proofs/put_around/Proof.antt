@@ -5,7 +5,8 @@ use native.Mathlib.Omega.{arith}
 use lib.ListN.{length}
 use Rattle.format.specs.Reading.{readText}
 use Rattle.accepted.specs.Read.{recordsOf}
-use Rattle.tidy_text.specs.Sizes.{front, starts, sizesOf}
+use Rattle.per_kind.specs.Numbers.{front, starts}
+use Rattle.tidy_text.specs.Sizes.{sizesOf}
 use Rattle.tidy_text.specs.Placed.{placed, parts, Apart}
 use Rattle.tidy_text.proofs.Lines.{opened}
 use Rattle.tidy_text.proofs.Total.{front-sizes, tidy-sizes, tidy-small}

@@ -6,7 +6,7 @@ use lib.ListN.{length, getD}
 use Rattle.format.specs.Records.{line}
 use Rattle.text.specs.Over.{over}
 use Rattle.writer.specs.Line.{lineText}
-use Rattle.tidy_text.specs.Sizes.{get, plus}
+use Rattle.per_kind.specs.Numbers.{get, plus}
 use Rattle.heads.specs.Found.{kindBy}
 use Rattle.tidy_text.proofs.OfKind.{three}
 use borrow.Author.Needs.{needs}

@@ -11,7 +11,7 @@ use Rattle.format.specs.Reading.{readText}
 use Rattle.accepted.specs.Read.{recordsOf}
 use Rattle.writer.specs.Line.{lineText}
 use Rattle.tidy_text.specs.Accepted.{onto, allRead, recordsFrom}
-use Rattle.tidy_text.specs.Sizes.{get, plus}
+use Rattle.per_kind.specs.Numbers.{get, plus}
 use Rattle.heads.specs.Found.{kindBy}
 use Rattle.tidy_text.specs.Placed.{placed, parts, Apart}
 use Rattle.tidy_text.proofs.Lines.{Opened, opened, lent, Turn, turn, ended}

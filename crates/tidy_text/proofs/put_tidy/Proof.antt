@@ -6,7 +6,7 @@ use lib.ListN.{length}
 use Rattle.format.specs.Reading.{readText}
 use Rattle.format.specs.Tidy.{tidy}
 use Rattle.accepted.specs.Read.{recordsOf}
-use Rattle.tidy_text.specs.Sizes.{total}
+use Rattle.per_kind.specs.Numbers.{total}
 use Rattle.tidy_text.proofs.Lines.{opened}
 use Rattle.tidy_text.proofs.Total.{tidy-small}
 use Rattle.tidy_text.proofs.Sizes.{total-size}

@@ -7,7 +7,7 @@ use Rattle.format.specs.Records.{Line, line}
 use Rattle.format.specs.declared.Kind.{Kind}
 use Rattle.writer.specs.Line.{lineText, sizeOf}
 use Rattle.writer.specs.declared.Size.the-variants.{Is}
-use Rattle.tidy_text.specs.Sizes.{get, plus}
+use Rattle.per_kind.specs.Numbers.{get, plus}
 use Rattle.heads.specs.Found.{kindBy}
 use Rattle.tidy_text.specs.declared.Grown.the-variants as grown
 use Rattle.tidy_text.proofs.OfKind.{three}

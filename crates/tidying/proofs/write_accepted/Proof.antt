@@ -8,7 +8,8 @@ use Rattle.format.specs.Reading.{readText}
 use Rattle.format.specs.Tidy.{tidy, unwritable}
 use Rattle.format.specs.Calls.{writing}
 use Rattle.accepted.specs.Read.{recordsOf}
-use Rattle.tidy_text.specs.Sizes.{total, sizesOf}
+use Rattle.per_kind.specs.Numbers.{total}
+use Rattle.tidy_text.specs.Sizes.{sizesOf}
 use Rattle.tidy_text.proofs.Lines.{opened}
 use Rattle.tidy_text.proofs.Total.{tidy-small}
 use Rattle.tidy_text.proofs.Sizes.{total-size}

@@ -7,9 +7,9 @@ use borrow.Author.Needs.{needs}
 use Rattle.format.specs.Decimal.{written}
 use Rattle.decimal.proofs.Written.{written-short}
 use Rattle.record.specs.declared.Head.{Head}
-use Rattle.writer.specs.Parts.{versionText}
+use Rattle.parts.specs.Parts.{versionText}
 use Rattle.writer.specs.Heads.{placeLength, headLength}
-use Rattle.writer.proofs.Sizes.{version-size}
+use Rattle.parts.proofs.Sizes.{version-size}
 use Rattle.writer.proofs.head_len.Statement.{statement}
 use Rattle.writer.proofs.head_len.Tie as tie
 

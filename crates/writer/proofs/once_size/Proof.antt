@@ -13,7 +13,7 @@ use Rattle.walk.proofs.Start.{once-walkable}
 use Rattle.heads.specs.Keys.{keysIn}
 use Rattle.heads.proofs.Finds.{three}
 use Rattle.writer.specs.Line.{lineText, lineWritable, sizeOf}
-use Rattle.writer.specs.Parts.{othersText}
+use Rattle.other_fields.specs.Others.{othersText}
 use Rattle.writer.specs.Heads.{keysLength}
 use Rattle.writer.specs.declared.Size.the-variants.{Is}
 use Rattle.writer.proofs.Whole.{whole-text}

@@ -8,7 +8,7 @@ use Rattle.heads.specs.Found.{isComment}
 use Rattle.heads.proofs.Finds.{fielded}
 use Rattle.writer.specs.Heads.{headLength}
 use Rattle.writer.proofs.Heads.{Told, told}
-use Rattle.writer.proofs.Others.{others-short}
+use Rattle.other_fields.proofs.Others.{others-short}
 use Rattle.writer.proofs.Sizes.{head-size, place-short}
 use Rattle.writer.proofs.parts_len.Statement.{statement}
 use Rattle.writer.proofs.parts_len.Tie as tie

@@ -3,9 +3,10 @@ use mathlib.Core.List.{[], _∷_, _++_}
 use native.Mathlib.Omega.{arith}
 use Rattle.format.specs.Tidy.{fieldText}
 use Rattle.format.specs.declared.Kind.the-variants.{Header}
-use Rattle.writer.specs.Parts.{prefixText, versionText, othersText}
+use Rattle.parts.specs.Parts.{prefixText, versionText}
+use Rattle.other_fields.specs.Others.{othersText}
 use Rattle.writer.specs.Texts.{headerText}
-use Rattle.writer.proofs.Wrote.{wrote-then}
+use Rattle.parts.proofs.Wrote.{wrote-then}
 use Rattle.writer.proofs.Sizes.{header-size}
 use borrow.Author.Needs.{needs}
 use Rattle.writer.proofs.put_header.Statement.{statement}

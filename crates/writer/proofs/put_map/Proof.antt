@@ -2,9 +2,10 @@
 use mathlib.Core.List.{[], _∷_, _++_}
 use native.Mathlib.Omega.{arith}
 use Rattle.format.specs.Tidy.{fieldText}
-use Rattle.writer.specs.Parts.{prefixText, othersText}
+use Rattle.parts.specs.Parts.{prefixText}
+use Rattle.other_fields.specs.Others.{othersText}
 use Rattle.writer.specs.Texts.{placeText, mapText}
-use Rattle.writer.proofs.Wrote.{wrote-then}
+use Rattle.parts.proofs.Wrote.{wrote-then}
 use Rattle.writer.proofs.Sizes.{place-size, map-size}
 use borrow.Author.Needs.{needs}
 use Rattle.writer.proofs.put_map.Statement.{statement}

@@ -10,7 +10,7 @@ use Rattle.format.specs.Records.{line}
 use Rattle.walk.proofs.Start.{once-walkable}
 use Rattle.heads.proofs.Finds.{three}
 use Rattle.writer.specs.Line.{lineText}
-use Rattle.writer.proofs.Wrote.{Wrote}
+use Rattle.parts.proofs.Wrote.{Wrote}
 use Rattle.writer.proofs.Whole.{whole-text}
 use Rattle.writer.proofs.put_once.Statement.{statement}
 use Rattle.writer.proofs.put_once.Tie as tie

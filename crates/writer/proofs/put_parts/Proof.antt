@@ -6,7 +6,7 @@ use lib.ListN.{length}
 use borrow.Author.Needs.{needs}
 use Rattle.record.specs.declared.Head.{Head}
 use Rattle.writer.specs.Heads.{headText, Holds}
-use Rattle.writer.proofs.Wrote.{Wrote}
+use Rattle.parts.proofs.Wrote.{Wrote}
 use Rattle.writer.proofs.Heads.{Told, told}
 use Rattle.writer.proofs.put_parts.Statement.{statement}
 use Rattle.writer.proofs.put_parts.Tie as tie

@@ -13,7 +13,7 @@ use Rattle.heads.specs.Found.{kindBy, isComment}
 use Rattle.heads.proofs.Lax.{line-lax, read-lax}
 use Rattle.heads.proofs.Finds.{comment-is, three, fielded}
 use Rattle.writer.specs.Line.{lineText}
-use Rattle.writer.proofs.Wrote.{Wrote}
+use Rattle.parts.proofs.Wrote.{Wrote}
 use Rattle.writer.proofs.Whole.{comment-text}
 use Rattle.writer.proofs.put_record.Statement.{statement}
 use Rattle.writer.proofs.put_record.Tie as tie

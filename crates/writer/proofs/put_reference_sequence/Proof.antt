@@ -7,9 +7,10 @@ use lib.ListN.{length, length-append}
 use Rattle.format.specs.Decimal.{written}
 use Rattle.format.specs.Tidy.{fieldText}
 use Rattle.format.specs.declared.Kind.the-variants.{ReferenceSequence}
-use Rattle.writer.specs.Parts.{prefixText, othersText}
+use Rattle.parts.specs.Parts.{prefixText}
+use Rattle.other_fields.specs.Others.{othersText}
 use Rattle.writer.specs.Texts.{placeText, sequenceText}
-use Rattle.writer.proofs.Wrote.{wrote-then}
+use Rattle.parts.proofs.Wrote.{wrote-then}
 use Rattle.writer.proofs.Sizes.{place-size, sequence-size}
 use borrow.Author.Needs.{needs}
 use Rattle.writer.proofs.put_reference_sequence.Statement.{statement}

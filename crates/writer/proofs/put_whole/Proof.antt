@@ -4,7 +4,7 @@ use mathlib.Core.Path.{_≡_, refl}
 use mathlib.Core.List.{[], _∷_, _++_}
 use native.Mathlib.Omega.{arith}
 use lib.ListN.{length, length-append}
-use Rattle.writer.proofs.Wrote.{wrote-then, wrote-one}
+use Rattle.parts.proofs.Wrote.{wrote-then, wrote-one}
 use borrow.Author.Needs.{needs}
 use Rattle.writer.proofs.put_whole.Statement.{statement}
 use Rattle.writer.proofs.put_whole.Tie as tie

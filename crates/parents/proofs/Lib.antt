@@ -1,0 +1,4 @@
+pub mod Numbers
+pub mod Says
+pub mod Own
+pub mod Road

@@ -1,0 +1,74 @@
+-- Answers as one number: what is counted; or bit 63, the refusal number shifted left by 32, and the line.
+use Prim.Native.Nat.{ℕ, _+_, _*_, _^_}
+use Rattle.parser.specs.declared.Answer.{Answer}
+use Rattle.parser.specs.declared.Answer.the-variants.{Refused, Count}
+use Rattle.parser.specs.declared.Checked.{Checked}
+use Rattle.parser.specs.declared.Checked.the-variants as checked
+use Rattle.calls.specs.declared.KeyAnswer.{KeyAnswer}
+use Rattle.calls.specs.declared.KeyAnswer.the-variants as key
+use Rattle.calls.specs.declared.ValuePlace.{ValuePlace}
+use Rattle.calls.specs.declared.ValuePlace.the-variants as field
+use Rattle.calls.specs.declared.LengthAnswer.{LengthAnswer}
+use Rattle.calls.specs.declared.LengthAnswer.the-variants as ln
+use Rattle.calls.specs.declared.LeavesAnswer.{LeavesAnswer}
+use Rattle.calls.specs.declared.LeavesAnswer.the-variants as leaves
+use Rattle.names.specs.declared.NamesAnswer.{NamesAnswer}
+use Rattle.names.specs.declared.NamesAnswer.the-variants as names
+
+unfoldable pub refusalWord : ℕ → ℕ → ℕ
+refusalWord n l = 2 ^ 63 + n * 2 ^ 32 + l
+
+unfoldable pub answerWord : Answer → ℕ
+unfolding refusalWord
+answerWord (Refused n l) = refusalWord n (l .0)
+answerWord (Count n) = n
+
+-- 0 if the catalogue is this text's
+unfoldable pub checkedWord : Checked → ℕ
+unfolding refusalWord
+checkedWord (checked.Refused n l) = refusalWord n (l .0)
+checkedWord checked.Fresh = 0
+
+-- two numbers: the first shifted left by 32, and the second
+unfoldable pub pairWord : ℕ → ℕ → ℕ
+pairWord a b = a * 2 ^ 32 + b
+
+-- the hops, and how many leaves
+unfoldable pub leavesWord : LeavesAnswer → ℕ
+unfolding refusalWord pairWord
+leavesWord (leaves.Refused n l) = refusalWord n (l .0)
+leavesWord (leaves.Counted n h) = pairWord h n
+
+-- the key's offset, and its length
+unfoldable pub keyWord : KeyAnswer → ℕ
+unfolding refusalWord pairWord
+keyWord (key.Refused n l) = refusalWord n (l .0)
+keyWord (key.At at len) = pairWord at len
+
+-- the value's offset and its length, or all ones where the stand-in takes its place
+unfoldable pub fieldWord : ValuePlace → ℕ
+unfolding pairWord
+fieldWord field.StandIn = 18446744073709551615
+fieldWord (field.At at len) = pairWord at len
+
+-- 0 if there is such an SQ
+unfoldable pub lengthWord : LengthAnswer → ℕ
+unfolding refusalWord
+lengthWord (ln.Refused n l) = refusalWord n (l .0)
+lengthWord (ln.Is n) = 0
+
+-- the LN takes the place of the caller's number; a refusal leaves it
+unfoldable pub lengthLeft : LengthAnswer → ℕ → ℕ
+lengthLeft (ln.Refused n l) old = old
+lengthLeft (ln.Is n) old = n
+
+-- how many names are answered
+unfoldable pub namesWord : NamesAnswer → ℕ
+unfolding refusalWord
+namesWord (names.Refused n l) = refusalWord n (l .0)
+namesWord (names.Counted n looks) = n
+
+-- the slots that were looked at take the place of the caller's number; a refusal leaves it
+unfoldable pub namesLeft : NamesAnswer → ℕ → ℕ
+namesLeft (names.Refused n l) old = old
+namesLeft (names.Counted n looks) old = looks

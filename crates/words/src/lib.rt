@@ -1,0 +1,62 @@
+// Answers as one number, for programs in C and Rust (include/sam_header.h).
+use calls::KeyAnswer;
+use calls::ValuePlace;
+use format::LineNo;
+use parser::Answer;
+use parser::Checked;
+ghost use mathlib.Core.Path.{_≡_};
+ghost use Rattle.words.specs.Words.{refusalWord, answerWord, checkedWord, pairWord, keyWord, fieldWord};
+
+// A refusal: bit 63, its number and its line.
+pub fn refusal_word(n: u8, line: LineNo) -> u64
+    ensures { λ r. ⌜ r ≡ refusalWord n (line .0) ⌝ }
+{
+    9223372036854775808 + (n as u64) * 4294967296 + (line.0 as u64)
+}
+
+// How many bytes or ordinals are written, or records are counted.
+pub fn answer_word(answer: Answer) -> u64
+    ensures { λ r. ⌜ r ≡ answerWord answer ⌝ }
+{
+    match answer {
+        Answer::Refused(n, line) => refusal_word(n, line),
+        Answer::Count(n) => n as u64,
+    }
+}
+
+// 0 for a catalogue that is the text's.
+pub fn checked_word(checked: Checked) -> u64
+    ensures { λ r. ⌜ r ≡ checkedWord checked ⌝ }
+{
+    match checked {
+        Checked::Refused(n, line) => refusal_word(n, line),
+        Checked::Fresh => 0,
+    }
+}
+
+// Two numbers: a place's offset and length, or the hops and how many leaves there are.
+pub fn pair_word(high: u32, low: u32) -> u64
+    ensures { λ r. ⌜ r ≡ pairWord high low ⌝ }
+{
+    (high as u64) * 4294967296 + (low as u64)
+}
+
+// Where a key stands.
+pub fn key_word(answer: KeyAnswer) -> u64
+    ensures { λ r. ⌜ r ≡ keyWord answer ⌝ }
+{
+    match answer {
+        KeyAnswer::Refused(n, line) => refusal_word(n, line),
+        KeyAnswer::At(at, len) => pair_word(at, len),
+    }
+}
+
+// Where a value stands, or that the stand-in takes its place.
+pub fn field_word(place: ValuePlace) -> u64
+    ensures { λ r. ⌜ r ≡ fieldWord place ⌝ }
+{
+    match place {
+        ValuePlace::StandIn => 18446744073709551615, // all ones
+        ValuePlace::At(at, len) => pair_word(at, len),
+    }
+}
