@@ -13,6 +13,25 @@ pub seat-lt : (at : ℕ) (slots : List ℕ) → 0 < length slots → seat at slo
 unfolding seat
 seat-lt at slots some = mod-lt _ some
 
+-- the slots from the slot `f` on
+module _ (slots : List ℕ) (f : ℕ) (below : f < length slots) where
+  pub around-long : length (around f slots) ≡ length slots
+  around-long = around-length f slots (omega (arith, below))
+
+  -- the slot `at` of a turn that is `i` slots on
+  module _ (i at : ℕ) (on : at ≡ (f + i) % length slots) where
+    pub within : at < length slots
+    within = rw on (mod-lt _ (omega (arith, below)))
+
+    pub around-slot : i < length slots → getD (around f slots) i 0 ≡ getD slots at 0
+    around-slot l = around-at slots f i below l ∙ ap (λ k. getD slots k 0) (sym on)
+
+    -- it is the one that is entered if those before it are full
+    pub seated : full (around f slots) ≡ i → at ≡ seat f slots
+    unfolding seat
+    seated e = on ∙ ap (λ k. (f + k) % length slots) (sym e)
+
+-- the slots from a name's first slot on
 module _ (slots x : List ℕ) (some : 0 < length slots) where
   pub first-lt : first (length slots) x < length slots
   unfolding first
@@ -20,21 +39,8 @@ module _ (slots x : List ℕ) (some : 0 < length slots) where
 
   pub path-length : length (path x slots) ≡ length slots
   unfolding path
-  path-length = around-length (first (length slots) x) slots (omega (arith, first-lt))
+  path-length = around-long slots (first (length slots) x) first-lt
 
   pub path-at : (i : ℕ) → i < length slots → getD (path x slots) i 0 ≡ getD slots ((first (length slots) x + i) % length slots) 0
   unfolding path
   path-at i l = around-at slots (first (length slots) x) i first-lt l
-
-  -- the slot `at` of a turn that is `i` slots on from the first slot `f`
-  module _ (f : ℕ) (is : f ≡ first (length slots) x) (i at : ℕ) (on : at ≡ (f + i) % length slots) where
-    pub within : at < length slots
-    within = rw on (mod-lt _ some)
-
-    pub path-slot : i < length slots → getD (path x slots) i 0 ≡ getD slots at 0
-    path-slot l = path-at i l ∙ ap (λ k. getD slots ((k + i) % length slots) 0) (sym is) ∙ ap (λ k. getD slots k 0) (sym on)
-
-    -- it is the one that the name enters if those before it are full
-    pub seated : full (path x slots) ≡ i → at ≡ seat (first (length slots) x) slots
-    unfolding path seat
-    seated e = on ∙ ap (λ k. (k + i) % length slots) is ∙ ap (λ k. (first (length slots) x + k) % length slots) (sym e)

@@ -99,3 +99,22 @@ slots-shift m p h =
     let top = leading-top 32 (2 * m - 1) (omega (arith, p)) h in
     let e : 32 - leadingZeros 32 (2 * m - 1) ≡ suc (top .0) = omega (arith, top .1) in
     rw e (between (slotCount m) (slots-power m .0) (top .0) (slots-power m .1) (slots-smallest m (top .0) (omega (arith, top .3, p))) (omega (arith, top .2, slots-enough m, p)))
+
+pub power-some : (n e : ℕ) → n ≡ 2 ^ e → 0 < n
+power-some n e is = omega (arith, is, pow-le-pow-right {n = 2} (omega arith) {i = 0} {j = e} (omega arith), pow-zero 2)
+
+-- a power of two from its own leading zeros
+pub power-shift : (n e : ℕ) → n ≡ 2 ^ e → n < 2 ^ 32 → (leadingZeros 32 n ≤ 31) × (n ≡ 2 ^ (31 - leadingZeros 32 n))
+power-shift n e is l = (omega (arith, top .1), rw place (go (leb e (top .0)) refl (leb (top .0) e) refl))
+  where
+    top : (j : ℕ) × (leadingZeros 32 n + suc j ≡ 32) × (2 ^ j ≤ n) × (n < 2 ^ suc j)
+    top = leading-top 32 n (power-some n e is) l
+
+    place : 31 - leadingZeros 32 n ≡ top .0
+    place = omega (arith, top .1)
+
+    go : (s : Bool) → leb e (top .0) ≡ s → (t : Bool) → leb (top .0) e ≡ t → n ≡ 2 ^ top .0
+    go true q true r = let c : e ≡ top .0 = omega (arith, leb-true e (top .0) q, leb-true (top .0) e r) in is ∙ ap (λ k. 2 ^ k) c
+    go false q t r = absurd (omega (arith, is, top .3, pow-le-pow-right {n = 2} (omega arith) {i = suc (top .0)} {j = e} (omega (arith, leb-false e (top .0) q))))
+    go true q false r =
+        absurd (omega (arith, is, top .2, double e, pow-le-pow-right {n = 2} (omega arith) {i = suc e} {j = top .0} (omega (arith, leb-false (top .0) e r)), power-some n e is))

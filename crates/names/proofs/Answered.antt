@@ -1,4 +1,4 @@
--- Slots filled with offsets and looked in, then filled with ordinals and read: what the result list holds and how much is looked at, step by step.
+-- Slots filled with places and looked in, then filled with ordinals and read: what the result list holds and how much is looked at, step by step.
 use Prim.Native.Nat.{ℕ, _+_, _≤_}
 use mathlib.Core.Path.{_≡_, refl, sym, ap, ap₂, _∙_}
 use mathlib.Core.Bool.{true, false}
@@ -6,9 +6,10 @@ use mathlib.Core.List.{List, [], _∷_, _++_, map, append-nil}
 use native.Mathlib.Omega.{arith}
 use lib.ListN.{length, replicate, length-map, drop-of-length-le}
 use Rattle.text.specs.Over.{over}
+use Rattle.text.specs.Stands.{Each}
 use Rattle.entries.specs.Entries.{entriesIn}
 use Rattle.name_index.specs.Index.{ordinalIn, slotCount, index, looks}
-use Rattle.sq_index.specs.Filled.{namesIn, entering, slotOf, looksOf, ordinalAt}
+use Rattle.sq_index.specs.Filled.{namesIn, Told, entering, slotOf, looksOf, ordinalAt}
 use Rattle.sq_index.proofs.Found.{filled-index, places-length, found-ordinal, found-looks}
 use Rattle.names.specs.Batch.{asked, summed}
 
@@ -27,30 +28,30 @@ all-summed f g e [] = refl
 all-summed f g e (y ∷ ys) = ap₂ (λ a b. a + b) (e y) (all-summed f g e ys)
 
 module _ (t c slots₀ slots₁ : List ℕ) (size : length slots₀ ≡ slotCount (length (namesIn t (entriesIn c))))
-    (first-fill : slots₁ ≡ entering false t 0 0 (entriesIn c) (replicate (length slots₀) 0)) where
+    (first-fill : slots₁ ≡ entering false t 0 (entriesIn c) (replicate (length slots₀) 0)) where
   abbrev names : List (List ℕ)
   names = namesIn t (entriesIn c)
 
-  by-offsets : slots₁ ≡ entering false t 0 0 (entriesIn c) (replicate (slotCount (length names)) 0)
-  by-offsets = first-fill ∙ ap (λ n. entering false t 0 0 (entriesIn c) (replicate n 0)) size
+  by-places : slots₁ ≡ entering false t 0 (entriesIn c) (replicate (slotCount (length names)) 0)
+  by-places = first-fill ∙ ap (λ n. entering false t 0 (entriesIn c) (replicate n 0)) size
 
   pub long₁ : length slots₁ ≡ slotCount (length names)
-  long₁ = ap length by-offsets ∙ places-length t c
+  long₁ = ap length by-places ∙ places-length t c
 
-  pub looks-told : (ys : List (List ℕ)) → summed (looksOf t c slots₁) ys ≡ summed (looks names) ys
-  looks-told ys =
-      ap (λ s. summed (looksOf t c s) ys) by-offsets
-      ∙ all-summed (looksOf t c (entering false t 0 0 (entriesIn c) (replicate (slotCount (length names)) 0))) (looks names) (found-looks t c) ys
+  pub looks-told : Each (Told t) (entriesIn c) → (ys : List (List ℕ)) → summed (looksOf t slots₁) ys ≡ summed (looks names) ys
+  looks-told told ys =
+      ap (λ s. summed (looksOf t s) ys) by-places
+      ∙ all-summed (looksOf t (entering false t 0 (entriesIn c) (replicate (slotCount (length names)) 0))) (looks names) (found-looks t c told) ys
 
-  module _ (slots₂ : List ℕ) (second-fill : slots₂ ≡ entering true t 0 0 (entriesIn c) (replicate (length slots₁) 0)) where
+  module _ (slots₂ : List ℕ) (second-fill : slots₂ ≡ entering true t 0 (entriesIn c) (replicate (length slots₁) 0)) where
     pub index-told : slots₂ ≡ index names
-    index-told = second-fill ∙ ap (λ n. entering true t 0 0 (entriesIn c) (replicate n 0)) long₁ ∙ filled-index t c
+    index-told = second-fill ∙ ap (λ n. entering true t 0 (entriesIn c) (replicate n 0)) long₁ ∙ filled-index t c
 
-    pub found-told : length names ≤ 16777216 → (list out₀ out₁ out₂ : List ℕ) → length out₀ ≡ length (asked list)
-        → out₁ ≡ over out₀ 0 (map (slotOf t c slots₁) (asked list)) → out₂ ≡ map (ordinalAt slots₂) out₁ → out₂ ≡ map (ordinalIn names) (asked list)
-    found-told few list out₀ out₁ out₂ room wrote read =
+    pub found-told : Each (Told t) (entriesIn c) → length names ≤ 16777216 → (list out₀ out₁ out₂ : List ℕ) → length out₀ ≡ length (asked list)
+        → out₁ ≡ over out₀ 0 (map (slotOf t slots₁) (asked list)) → out₂ ≡ map (ordinalAt slots₂) out₁ → out₂ ≡ map (ordinalIn names) (asked list)
+    found-told told few list out₀ out₁ out₂ room wrote read =
         let ys : List (List ℕ) = asked list in
         read
-        ∙ ap₂ (λ s o. map (ordinalAt s) o) index-told (wrote ∙ over-whole out₀ (map (slotOf t c slots₁) ys) (room ∙ sym (length-map ys (slotOf t c slots₁))))
-        ∙ ap (λ s. map (ordinalAt (index names)) (map (slotOf t c s) ys)) by-offsets
-        ∙ all-found (slotOf t c (entering false t 0 0 (entriesIn c) (replicate (slotCount (length names)) 0))) (ordinalIn names) (ordinalAt (index names)) (found-ordinal t c few) ys
+        ∙ ap₂ (λ s o. map (ordinalAt s) o) index-told (wrote ∙ over-whole out₀ (map (slotOf t slots₁) ys) (room ∙ sym (length-map ys (slotOf t slots₁))))
+        ∙ ap (λ s. map (ordinalAt (index names)) (map (slotOf t s) ys)) by-places
+        ∙ all-found (slotOf t (entering false t 0 (entriesIn c) (replicate (slotCount (length names)) 0))) (ordinalIn names) (ordinalAt (index names)) (found-ordinal t c told few) ys

@@ -1,12 +1,13 @@
 -- What a batch answers over a catalogue that is the text's own, and what an answer says and leaves.
 use Prim.Native.Nat.{ℕ, _≤_, _<_}
-use mathlib.Core.Path.{_≡_, refl, sym, ap, _∙_}
+use mathlib.Core.Path.{_≡_, refl, sym, ap, subst, _∙_}
 use mathlib.Core.List.{List, _++_, map}
 use native.Mathlib.Omega.{arith}
 use lib.ListN.{length, drop, length-map}
 use borrow.Author.Tests.{lt-ltb, le-ltb}
 use Rattle.format.specs.Reading.{longest}
 use Rattle.format.specs.Calls.{Answer, no, yes, then, fresh}
+use Rattle.text.specs.Stands.{Each}
 use Rattle.format.specs.declared.LineNo.{LineNo}
 use Rattle.accepted.specs.Read.{recordsOf}
 use Rattle.entries.specs.Entries.{entriesIn, counted}
@@ -15,12 +16,13 @@ use Rattle.calls.proofs.Fresh.{Current, goes-on, stops}
 use Rattle.calls.proofs.Chained.{too-short, fits}
 use Rattle.name_index.specs.Index.{ordinalIn, slotCount, index, looks}
 use Rattle.name_index.proofs.Indexed.{index-length}
-use Rattle.sq_index.specs.Filled.{namesIn}
+use Rattle.sq_index.specs.Filled.{namesIn, Told}
 use Rattle.sq_index.proofs.Named.{names-counted}
 use Rattle.names.specs.Batch.{references, asked, summed, batched, batching}
 use Rattle.names.specs.declared.NamesAnswer.the-variants.{Refused, Counted}
 use Rattle.names.specs.Answers.{namesOf, resultsOf, slotsOf}
 use Rattle.names.proofs.References.{text-names, few-names}
+use Rattle.names.proofs.Told.{text-told}
 use Rattle.names.proofs.Short.{text-short}
 
 -- a refusal of the check
@@ -43,28 +45,31 @@ module _ (t c : List ℕ) (own : Current t c) where
   pub short : length c ≤ 4294967294
   short = omega (arith, ap length (own .own), text-short t (recordsOf t) (own .reads))
 
+  pub told : Each (Told t) (entriesIn c)
+  told = subst (λ s. Each (Told t) (entriesIn s)) (sym (own .own)) (text-told t (recordsOf t) (own .reads))
+
   pub many : counted 2 (entriesIn c) ≡ length names
   many = sym (names-counted t (entriesIn c))
 
   module _ (list : List ℕ) (work room : ℕ) where
-    told : batching t c list work room ≡ batched names list work room
+    is-batched : batching t c list work room ≡ batched names list work room
     unfolding batching
-    told = goes-on t c (λ rs. batched (references rs) list work room) own ∙ ap (λ xs. batched xs list work room) (sym are)
+    is-batched = goes-on t c (λ rs. batched (references rs) list work room) own ∙ ap (λ xs. batched xs list work room) (sym are)
 
     pub batch-long : 16777216 < length list → batching t c list work room ≡ no 1 0
     unfolding batched longest
-    batch-long h = told ∙ rw (lt-ltb 16777216 (length list) h) refl
+    batch-long h = is-batched ∙ rw (lt-ltb 16777216 (length list) h) refl
 
     module _ (h : length list ≤ 16777216) where
       pub batch-work : work < slotCount (length names) → batching t c list work room ≡ no 20 0
       unfolding batched longest then
-      batch-work l = told ∙ rw (le-ltb 16777216 (length list) h, too-short work (index names) (omega (arith, l, index-length names))) refl
+      batch-work l = is-batched ∙ rw (le-ltb 16777216 (length list) h, too-short work (index names) (omega (arith, l, index-length names))) refl
 
       module _ (w : slotCount (length names) ≤ work) where
         pub batch-room : room < length (asked list) → batching t c list work room ≡ no 20 0
         unfolding batched longest then
         batch-room l =
-            told
+            is-batched
             ∙ rw (
               le-ltb 16777216 (length list) h,
               fits work (index names) (omega (arith, w, index-length names)),
@@ -74,7 +79,7 @@ module _ (t c : List ℕ) (own : Current t c) where
         pub batch-all : length (asked list) ≤ room → batching t c list work room ≡ yes (map (ordinalIn names) (asked list), index names, summed (looks names) (asked list))
         unfolding batched longest then
         batch-all l =
-            told
+            is-batched
             ∙ rw (
               le-ltb 16777216 (length list) h,
               fits work (index names) (omega (arith, w, index-length names)),

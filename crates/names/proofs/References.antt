@@ -28,7 +28,7 @@ names-fields t [] es = refl
 names-fields t (f ∷ fs) es = names-fields t fs es
 
 -- the bytes at the place of a piece
-stands-bytes : (t : List ℕ) (p : Piece) → Stands t 0 p → take (length (p .bytes)) (drop (p .at) t) ≡ p .bytes
+pub stands-bytes : (t : List ℕ) (p : Piece) → Stands t 0 p → take (length (p .bytes)) (drop (p .at) t) ≡ p .bytes
 stands-bytes t p s = let z : p .at - 0 ≡ p .at = omega arith in sym (s .bytes ∙ ap (λ n. take (length (p .bytes)) (drop n t)) z)
 
 names-records : (t : List ℕ) (rs : List Record) → Each (λ r. Each (Stands t 0) (pieces r)) rs → namesIn t (entriesOf rs) ≡ references rs

@@ -3,13 +3,14 @@ use format::LineNo;
 use parser::Checked;
 ghost use mathlib.Core.Path.{_≡_};
 ghost use mathlib.Core.List.{map};
-ghost use Prim.Native.Nat.{_≤_, _<_};
+ghost use Prim.Native.Nat.{ℕ, _≤_, _^_};
 ghost use lib.ListN.{length};
 ghost use Rattle.text.specs.Over.{over};
+ghost use Rattle.text.specs.Stands.{Each};
 ghost use Rattle.entries.specs.Entries.{entriesIn};
 ghost use Rattle.parser.specs.Answers.{outputOf};
 ghost use Rattle.name_index.specs.Index.{ordinalIn, slotCount, index, looks};
-ghost use Rattle.sq_index.specs.Filled.{namesIn, slotOf, looksOf};
+ghost use Rattle.sq_index.specs.Filled.{namesIn, Told, slotOf, looksOf};
 ghost use Rattle.names.specs.Batch.{asked, summed, batching};
 ghost use Rattle.names.specs.Answers.{namesOf, resultsOf, slotsOf};
 
@@ -38,20 +39,20 @@ fn count_names(list: &[u8]) -> usize
 }
 
 // Looks for each name of a list: the slot with it goes into `out`, and the slots that were looked at are summed.
-fn find_slots(text: &[u8], catalogue: &[u8], slots: &[u32], list: &[u8], out: &mut [u32]) -> u64
-    requires { ⌜ 0 < length (now slots) ⌝ }
+fn find_slots(text: &[u8], slots: &[u32], list: &[u8], out: &mut [u32]) -> u64
     requires { ⌜ length (now slots) ≤ 33554432 ⌝ }
+    requires { ⌜ ((e : ℕ) × (length (now slots) ≡ 2 ^ e)) ⌝ }
     requires { ⌜ length (now list) ≤ 16777216 ⌝ }
     requires { ⌜ length (asked (now list)) ≤ length (now out) ⌝ }
-    ensures wrote { λ _. ⌜ now (out .exit) ≡ over (now (out .entry)) 0 (map (slotOf (now (text .entry)) (now (catalogue .entry)) (now (slots .entry))) (asked (now (list .entry)))) ⌝ }
-    ensures looks { λ r. ⌜ r ≡ summed (looksOf (now (text .entry)) (now (catalogue .entry)) (now (slots .entry))) (asked (now (list .entry))) ⌝ }
+    ensures wrote { λ _. ⌜ now (out .exit) ≡ over (now (out .entry)) 0 (map (slotOf (now (text .entry)) (now (slots .entry))) (asked (now (list .entry)))) ⌝ }
+    ensures looks { λ r. ⌜ r ≡ summed (looksOf (now (text .entry)) (now (slots .entry))) (asked (now (list .entry))) ⌝ }
 {
     let mut at: usize = 0;
     let mut j: usize = 0;
     let mut looks: u64 = 0;
     while at < list.len() {
         let end = at + text::upto(&list[at..], b'\n');
-        let found = sq_index::find_slot(text, catalogue, slots, &list[at..end]);
+        let found = sq_index::find_slot(text, slots, &list[at..end]);
         out[j] = found.slot;
         looks += found.looks as u64;
         j += 1;
@@ -60,20 +61,21 @@ fn find_slots(text: &[u8], catalogue: &[u8], slots: &[u32], list: &[u8], out: &m
     looks
 }
 
-// Once nothing refuses: each name's ordinal in `out`, the index in `slots`, and the slots that were looked at. The slots hold offsets while
-// names are looked for, so that a slot's name is found at once, and the ordinals afterwards: each name enters the same slot.
+// Once nothing refuses: each name's ordinal in `out`, the index in `slots`, and the slots that were looked at. While names are looked for
+// the slots tell where names stand, so that a slot's name is found at once, and the ordinals afterwards: each name enters the same slot.
 fn answer(text: &[u8], kept: &[u8], list: &[u8], slots: &mut [u32], out: &mut [u32]) -> u64
     requires { ⌜ length (now kept) ≤ 4294967294 ⌝ }
     requires { ⌜ length (now list) ≤ 16777216 ⌝ }
     requires { ⌜ length (namesIn (now text) (entriesIn (now kept))) ≤ 16777216 ⌝ }
     requires { ⌜ length (now slots) ≡ slotCount (length (namesIn (now text) (entriesIn (now kept)))) ⌝ }
     requires { ⌜ length (now out) ≡ length (asked (now list)) ⌝ }
+    requires { ⌜ Each (Told (now text)) (entriesIn (now kept)) ⌝ }
     ensures slots { λ _. ⌜ now (slots .exit) ≡ index (namesIn (now (text .entry)) (entriesIn (now (kept .entry)))) ⌝ }
     ensures found { λ _. ⌜ now (out .exit) ≡ map (ordinalIn (namesIn (now (text .entry)) (entriesIn (now (kept .entry))))) (asked (now (list .entry))) ⌝ }
     ensures looks { λ r. ⌜ r ≡ summed (looks (namesIn (now (text .entry)) (entriesIn (now (kept .entry))))) (asked (now (list .entry))) ⌝ }
 {
     sq_index::fill(text, kept, slots, false);
-    let looks = find_slots(text, kept, slots, list, out);
+    let looks = find_slots(text, slots, list, out);
     sq_index::fill(text, kept, slots, true);
     sq_index::to_ordinals(slots, out);
     looks
@@ -100,7 +102,7 @@ pub fn names(
                 return NamesAnswer::Refused(1, LineNo(0));
             }
             let room = work.len();
-            let n = name_index::slot_count(entries::count_kind(kept, 2) as u32) as usize;
+            let n = name_index::slot_count(sq_index::count(kept) as u32) as usize;
             if room < n {
                 return NamesAnswer::Refused(20, LineNo(0));
             }

@@ -1,4 +1,4 @@
--- Slots of a catalogue: filled with offsets and looked in, then filled with ordinals and read, they answer as the plain search does, and as much is
+-- Slots of a catalogue: filled with places and looked in, then filled with ordinals and read, they answer as the plain search does, and as much is
 -- looked at as the rule says.
 use Prim.Native.Nat.{ℕ, _≤_, _<_}
 use mathlib.Core.Path.{_≡_, sym, ap, _∙_}
@@ -6,13 +6,14 @@ use mathlib.Core.Bool.{true, false}
 use mathlib.Core.List.{List, map}
 use native.Mathlib.Omega.{arith}
 use lib.ListN.{length, replicate, length-map}
+use Rattle.text.specs.Stands.{Each}
 use Rattle.entries.specs.Entries.{entriesIn}
 use Rattle.name_index.specs.Index.{absent, ordinalIn, slotCount, path, index, tells, looked, looks}
-use Rattle.sq_index.specs.Filled.{namesIn, says, entering, landed, slotOf, looksOf, ordinalAt}
+use Rattle.sq_index.specs.Filled.{namesIn, Told, says, entering, landed, slotOf, looksOf, ordinalAt}
 use Rattle.name_index.proofs.SlotCount.{slots-some, slots-few}
 use Rattle.name_index.proofs.Indexed.{indexed, index-length}
 use Rattle.sq_index.proofs.Recoded.{recode, none-recode, landed-recode, looks-recode, landed-holds}
-use Rattle.sq_index.proofs.Named.{with-ordinals, offset, offset-tells, filled-offsets}
+use Rattle.sq_index.proofs.Named.{with-ordinals, code, code-tells, filled-codes}
 
 -- no slot is the one that says that there is none
 below-absent : (n : ℕ) → n ≤ 33554432 → n ≤ absent
@@ -27,33 +28,34 @@ module _ (t c : List ℕ) where
   empty = replicate (slotCount (length names)) 0
 
   -- filled with ordinals
-  pub filled-index : entering true t 0 0 (entriesIn c) empty ≡ index names
+  pub filled-index : entering true t 0 (entriesIn c) empty ≡ index names
   unfolding index
-  filled-index = with-ordinals t 0 0 (entriesIn c) empty
+  filled-index = with-ordinals t 0 (entriesIn c) empty
 
-  -- filled with offsets: the same places
+  -- filled with places: the same slots
   abbrev places : List ℕ
-  places = entering false t 0 0 (entriesIn c) empty
+  places = entering false t 0 (entriesIn c) empty
 
-  same-places : places ≡ map (recode (offset c)) (index names)
+  same-places : places ≡ map (recode (code t c)) (index names)
   unfolding index
-  same-places = ap (entering false t 0 0 (entriesIn c)) (sym (none-recode (offset c) (slotCount (length names)))) ∙ filled-offsets t c empty
+  same-places = ap (entering false t 0 (entriesIn c)) (sym (none-recode (code t c) (slotCount (length names)))) ∙ filled-codes t c empty
 
   pub places-length : length places ≡ slotCount (length names)
-  places-length = ap length same-places ∙ length-map (index names) (recode (offset c)) ∙ index-length names
+  places-length = ap length same-places ∙ length-map (index names) (recode (code t c)) ∙ index-length names
 
-  -- the slot in which a name's offset is found holds the name's ordinal
-  pub found-ordinal : length names ≤ 16777216 → (x : List ℕ) → ordinalAt (index names) (slotOf t c places x) ≡ ordinalIn names x
-  unfolding slotOf
-  found-ordinal few x =
-      let n : ℕ = length names in
-      ap (λ s. ordinalAt (index names) (landed (says t c x) s x)) same-places
-      ∙ ap (ordinalAt (index names)) (landed-recode (offset c) (says t c x) (tells names x) (offset-tells t c x) (index names) x)
-      ∙ landed-holds (tells names x) x (index names) (omega (arith, index-length names, slots-some n)) (below-absent (length (index names)) (omega (arith, index-length names, slots-few n few)))
-      ∙ indexed names .finds x
+  module _ (told : Each (Told t) (entriesIn c)) where
+    -- the slot in which a name is found holds the name's ordinal
+    pub found-ordinal : length names ≤ 16777216 → (x : List ℕ) → ordinalAt (index names) (slotOf t places x) ≡ ordinalIn names x
+    unfolding slotOf
+    found-ordinal few x =
+        let n : ℕ = length names in
+        ap (λ s. ordinalAt (index names) (landed (says t x) s x)) same-places
+        ∙ ap (ordinalAt (index names)) (landed-recode (code t c) (says t x) (tells names x) (code-tells t c told x) (index names) x)
+        ∙ landed-holds (tells names x) x (index names) (omega (arith, index-length names, slots-some n)) (below-absent (length (index names)) (omega (arith, index-length names, slots-few n few)))
+        ∙ indexed names .finds x
 
-  -- as many slots are looked at as in the index
-  pub found-looks : (x : List ℕ) → looksOf t c places x ≡ looks names x
-  unfolding looksOf looks
-  found-looks x =
-      ap (λ s. looked (says t c x) (path x s)) same-places ∙ looks-recode (offset c) (says t c x) (tells names x) (offset-tells t c x) (index names) x
+    -- as many slots are looked at as in the index
+    pub found-looks : (x : List ℕ) → looksOf t places x ≡ looks names x
+    unfolding looksOf looks
+    found-looks x =
+        ap (λ s. looked (says t x) (path x s)) same-places ∙ looks-recode (code t c) (says t x) (tells names x) (code-tells t c told x) (index names) x

@@ -59,6 +59,6 @@ looked-most hit (suc v ∷ ss) = go (hit (suc v)) (looked-most hit ss)
     go true h = omega arith
     go false h = omega arith
 
-pub looks-most : (t c slots x : List ℕ) → 0 < length slots → looksOf t c slots x ≤ length slots
+pub looks-most : (t slots x : List ℕ) → 0 < length slots → looksOf t slots x ≤ length slots
 unfolding looksOf
-looks-most t c slots x some = omega (arith, looked-most (says t c x) (path x slots), path-length slots x some)
+looks-most t slots x some = omega (arith, looked-most (says t x) (path x slots), path-length slots x some)

@@ -1,19 +1,29 @@
--- Slots filled from a catalogue: with ordinals they are the index, and with offsets they are the index with other values.
-use Prim.Native.Nat.{ℕ, zero, suc, _+_, _-_}
-use mathlib.Core.Path.{_≡_, refl, sym, ap, _∙_}
-use mathlib.Core.Bool.{Bool, true, false, cond}
+-- Slots filled from a catalogue: with ordinals they are the index, and with places they are the index with other values.
+use Prim.Native.Nat.{ℕ, zero, suc, _+_, _-_, _*_, _/_, _%_, _<_}
+use mathlib.Core.Path.{_≡_, refl, sym, ap, ap₂, _∙_}
+use mathlib.Core.Bool.{Bool, true, false, _&&_, cond}
 use mathlib.Core.List.{List, [], _∷_, map}
 use native.Mathlib.Omega.{arith}
+use native.Mathlib.Nat.{mod-lt, mod-eq-of-lt}
 use lib.ListN.{length, getD, drop}
+use lib.Seq.{drop-length}
 use lib.Dec.{eqb}
+use borrow.Author.Tests.{eq-eqb}
 use Rattle.format.specs.Bytes.{same}
+use Rattle.text.specs.Stands.{Each}
+use Rattle.text.proofs.Equal.{same-equal}
+use Rattle.key_index.specs.Word.{word}
 use Rattle.entries.specs.declared.Entry.{Entry}
-use Rattle.entries.specs.Entries.{kindOf, sizeOf, entryOf, entriesIn, entriesBefore, counted, sizes}
+use Rattle.entries.specs.declared.Entry.the-variants.{End, Header, ReferenceSequence, ReadGroup, Program, Comment, Field}
+use Rattle.entries.specs.Entries.{kindOf, entriesIn, counted}
 use Rattle.lookup.specs.Lookup.{entriesFrom, front}
-use Rattle.lookup.proofs.Walks.{found-entry}
-use Rattle.name_index.specs.Index.{enter, enterFrom, nameOf, tells}
-use Rattle.sq_index.specs.Filled.{nameIn, namesIn, says, valueOf, entering}
+use Rattle.name_index.specs.Index.{hashFrom, enter, enterFrom, nameOf, tells}
+use Rattle.sq_index.specs.Filled.{nameIn, namesIn, startIn, Told, markOf, says, valueOf, entering}
 use Rattle.sq_index.proofs.Recoded.{recode, enter-recode}
+
+pub mark-lt : (h : ℕ) → markOf h < 128
+unfolding markOf
+mark-lt h = mod-lt _ (omega arith)
 
 module _ (t : List ℕ) where
   pub names-counted : (es : List Entry) → length (namesIn t es) ≡ counted 2 es
@@ -27,71 +37,108 @@ module _ (t : List ℕ) where
 
   -- ---- with ordinals
 
-  pub with-ordinals : (at k : ℕ) (es : List Entry) (slots : List ℕ) → entering true t at k es slots ≡ enterFrom k (namesIn t es) slots
+  pub with-ordinals : (k : ℕ) (es : List Entry) (slots : List ℕ) → entering true t k es slots ≡ enterFrom k (namesIn t es) slots
   unfolding entering enterFrom namesIn valueOf
-  with-ordinals at k [] slots = refl
-  with-ordinals at k (e ∷ es) slots = go (eqb (kindOf e) 2) (with-ordinals (at + sizeOf e) (k + 1) es (enter (suc k) (nameIn t e) slots)) (with-ordinals (at + sizeOf e) k es slots)
+  with-ordinals k [] slots = refl
+  with-ordinals k (e ∷ es) slots = go (eqb (kindOf e) 2) (with-ordinals (k + 1) es (enter (suc k) (nameIn t e) slots)) (with-ordinals k es slots)
     where
-      go : (b : Bool) → entering true t (at + sizeOf e) (k + 1) es (enter (suc k) (nameIn t e) slots) ≡ enterFrom (k + 1) (namesIn t es) (enter (suc k) (nameIn t e) slots)
-          → entering true t (at + sizeOf e) k es slots ≡ enterFrom k (namesIn t es) slots
-          → cond b (entering true t (at + sizeOf e) (k + 1) es (enter (suc k) (nameIn t e) slots)) (entering true t (at + sizeOf e) k es slots)
-          ≡ enterFrom k (cond b (nameIn t e ∷ namesIn t es) (namesIn t es)) slots
+      go : (b : Bool) → entering true t (k + 1) es (enter (suc k) (nameIn t e) slots) ≡ enterFrom (k + 1) (namesIn t es) (enter (suc k) (nameIn t e) slots)
+          → entering true t k es slots ≡ enterFrom k (namesIn t es) slots
+          → cond b (entering true t (k + 1) es (enter (suc k) (nameIn t e) slots)) (entering true t k es slots) ≡ enterFrom k (cond b (nameIn t e ∷ namesIn t es) (namesIn t es)) slots
       go true ih jh = ih
       go false ih jh = jh
 
-  -- ---- with offsets
+  -- ---- with places
 
-  -- `f` gives the offsets of the SQ entries of `es`, the first entry at `at`, the first SQ with the ordinal `k`
-  abbrev Offsets : (ℕ → ℕ) → ℕ → ℕ → List Entry → Type 0
-  Offsets f at k es = (r : ℕ) → f (k + r) ≡ at + sizes (entriesBefore 2 r es)
+  -- what a slot tells the name of an entry by, less one
+  unfoldable pub codeOf : Entry → ℕ
+  codeOf e = startIn t e * 128 + markOf (hashFrom 0 (nameIn t e))
 
-  module _ (f : ℕ → ℕ) (at k : ℕ) (e : Entry) (es : List Entry) (h : Offsets f at k (e ∷ es)) where
-    here : eqb (kindOf e) 2 ≡ true → f k ≡ at
-    unfolding entriesBefore sizes
-    here q =
-        let z : f (k + 0) ≡ at + sizes (cond (eqb (kindOf e) 2) [] (e ∷ entriesBefore 2 0 es)) = h 0 in
-        let y : k + 0 ≡ k = omega arith in
-        let w : sizes (cond (eqb (kindOf e) 2) [] (e ∷ entriesBefore 2 0 es)) ≡ 0 = ap (λ b. sizes (cond b [] (e ∷ entriesBefore 2 0 es))) q in
-        ap f (sym y) ∙ omega (arith, z, w)
+  -- `f` gives those of the SQ entries of `es`, the first SQ with the ordinal `k`
+  abbrev Codes : (ℕ → ℕ) → ℕ → List Entry → Type 0
+  Codes f k es = (r : ℕ) → f (k + r) ≡ codeOf (front (entriesFrom 2 r es))
 
-    behind : eqb (kindOf e) 2 ≡ true → Offsets f (at + sizeOf e) (k + 1) es
-    unfolding entriesBefore sizes
-    behind q r =
-        let z : f (k + suc r) ≡ at + (sizeOf e + sizes (cond (eqb (kindOf e) 2) (entriesBefore 2 r es) (entriesBefore 2 (suc r) es))) = h (suc r) in
-        let y : k + 1 + r ≡ k + suc r = omega arith in
-        let w : sizes (cond (eqb (kindOf e) 2) (entriesBefore 2 r es) (entriesBefore 2 (suc r) es)) ≡ sizes (entriesBefore 2 r es) = ap (λ b. sizes (cond b (entriesBefore 2 r es) (entriesBefore 2 (suc r) es))) q in
-        ap f y ∙ omega (arith, z, w)
+  module _ (f : ℕ → ℕ) (k : ℕ) (e : Entry) (es : List Entry) (h : Codes f k (e ∷ es)) where
+    here : eqb (kindOf e) 2 ≡ true → f k ≡ codeOf e
+    unfolding entriesFrom front
+    here q = let y : k ≡ k + 0 = omega arith in ap f y ∙ h 0 ∙ ap (λ b. codeOf (front (cond b (e ∷ es) (entriesFrom 2 0 es)))) q
 
-    beside : eqb (kindOf e) 2 ≡ false → Offsets f (at + sizeOf e) k es
-    unfolding entriesBefore sizes
-    beside q zero =
-        let z : f (k + 0) ≡ at + sizes (cond (eqb (kindOf e) 2) [] (e ∷ entriesBefore 2 0 es)) = h 0 in
-        let w : sizes (cond (eqb (kindOf e) 2) [] (e ∷ entriesBefore 2 0 es)) ≡ sizeOf e + sizes (entriesBefore 2 0 es) = ap (λ b. sizes (cond b [] (e ∷ entriesBefore 2 0 es))) q in
-        omega (arith, z, w)
-    beside q (suc r) =
-        let z : f (k + suc r) ≡ at + (sizeOf e + sizes (cond (eqb (kindOf e) 2) (entriesBefore 2 r es) (entriesBefore 2 (suc r) es))) = h (suc r) in
-        let w : sizes (cond (eqb (kindOf e) 2) (entriesBefore 2 r es) (entriesBefore 2 (suc r) es)) ≡ sizes (entriesBefore 2 (suc r) es) = ap (λ b. sizes (cond b (entriesBefore 2 r es) (entriesBefore 2 (suc r) es))) q in
-        omega (arith, z, w)
+    behind : eqb (kindOf e) 2 ≡ true → Codes f (k + 1) es
+    unfolding entriesFrom
+    behind q r = let y : k + 1 + r ≡ k + suc r = omega arith in ap f y ∙ h (suc r) ∙ ap (λ b. codeOf (front (cond b (entriesFrom 2 r es) (entriesFrom 2 (suc r) es)))) q
 
-  pub with-offsets : (f : ℕ → ℕ) (at k : ℕ) (es : List Entry) (slots : List ℕ) → Offsets f at k es
-      → entering false t at k es (map (recode f) slots) ≡ map (recode f) (enterFrom k (namesIn t es) slots)
-  unfolding entering enterFrom namesIn valueOf
-  with-offsets f at k [] slots h = refl
-  with-offsets f at k (e ∷ es) slots h =
-      go (eqb (kindOf e) 2) refl (λ g. with-offsets f (at + sizeOf e) (k + 1) es (enter (suc k) (nameIn t e) slots) g) (λ g. with-offsets f (at + sizeOf e) k es slots g)
+    beside : eqb (kindOf e) 2 ≡ false → Codes f k es
+    unfolding entriesFrom
+    beside q zero = h 0 ∙ ap (λ b. codeOf (front (cond b (e ∷ es) (entriesFrom 2 0 es)))) q
+    beside q (suc r) = h (suc r) ∙ ap (λ b. codeOf (front (cond b (entriesFrom 2 r es) (entriesFrom 2 (suc r) es)))) q
+
+  pub with-codes : (f : ℕ → ℕ) (k : ℕ) (es : List Entry) (slots : List ℕ) → Codes f k es
+      → entering false t k es (map (recode f) slots) ≡ map (recode f) (enterFrom k (namesIn t es) slots)
+  unfolding entering enterFrom namesIn valueOf codeOf
+  with-codes f k [] slots h = refl
+  with-codes f k (e ∷ es) slots h =
+      go (eqb (kindOf e) 2) refl (λ g. with-codes f (k + 1) es (enter (suc k) (nameIn t e) slots) g) (λ g. with-codes f k es slots g)
     where
       go : (b : Bool) → eqb (kindOf e) 2 ≡ b
-          → (Offsets f (at + sizeOf e) (k + 1) es → entering false t (at + sizeOf e) (k + 1) es (map (recode f) (enter (suc k) (nameIn t e) slots)) ≡ map (recode f) (enterFrom (k + 1) (namesIn t es) (enter (suc k) (nameIn t e) slots)))
-          → (Offsets f (at + sizeOf e) k es → entering false t (at + sizeOf e) k es (map (recode f) slots) ≡ map (recode f) (enterFrom k (namesIn t es) slots))
-          → cond b (entering false t (at + sizeOf e) (k + 1) es (enter (suc at) (nameIn t e) (map (recode f) slots))) (entering false t (at + sizeOf e) k es (map (recode f) slots))
+          → (Codes f (k + 1) es → entering false t (k + 1) es (map (recode f) (enter (suc k) (nameIn t e) slots)) ≡ map (recode f) (enterFrom (k + 1) (namesIn t es) (enter (suc k) (nameIn t e) slots)))
+          → (Codes f k es → entering false t k es (map (recode f) slots) ≡ map (recode f) (enterFrom k (namesIn t es) slots))
+          → cond b (entering false t (k + 1) es (enter (suc (codeOf e)) (nameIn t e) (map (recode f) slots))) (entering false t k es (map (recode f) slots))
           ≡ map (recode f) (enterFrom k (cond b (nameIn t e ∷ namesIn t es) (namesIn t es)) slots)
       go true q ih jh =
-          ap (λ v. entering false t (at + sizeOf e) (k + 1) es (enter (suc v) (nameIn t e) (map (recode f) slots))) (sym (here f at k e es h q))
-          ∙ ap (entering false t (at + sizeOf e) (k + 1) es) (enter-recode f k (nameIn t e) slots)
-          ∙ ih (behind f at k e es h q)
-      go false q ih jh = jh (beside f at k e es h q)
+          ap (λ v. entering false t (k + 1) es (enter (suc v) (nameIn t e) (map (recode f) slots))) (sym (here f k e es h q))
+          ∙ ap (entering false t (k + 1) es) (enter-recode f k (nameIn t e) slots)
+          ∙ ih (behind f k e es h q)
+      go false q ih jh = jh (beside f k e es h q)
 
-  -- ---- the names that the offsets stand for
+  -- ---- the names that the places stand for
+
+  -- a name is where its entry says
+  told-word : (e : Entry) → Told t e → word (drop (startIn t e) t) ≡ nameIn t e
+  unfolding word nameIn startIn Told
+  told-word End h = ap word (drop-length t)
+  told-word (Header v) h = ap word (drop-length t)
+  told-word (ReferenceSequence p n) h = ap (λ at. word (drop at t)) (mod-eq-of-lt (h .0)) ∙ h .1
+  told-word (ReadGroup p) h = ap word (drop-length t)
+  told-word (Program p) h = ap word (drop-length t)
+  told-word (Comment p) h = ap word (drop-length t)
+  told-word (Field a b p) h = ap word (drop-length t)
+
+  -- names that are equal have one mark
+  mark-same : (x y : List ℕ) → (eqb (markOf (hashFrom 0 x)) (markOf (hashFrom 0 y)) && same x y) ≡ same x y
+  mark-same x y = go (same x y) refl
+    where
+      and-none : (b : Bool) → (b && false) ≡ false
+      and-none true = refl
+      and-none false = refl
+
+      go : (b : Bool) → same x y ≡ b → (eqb (markOf (hashFrom 0 x)) (markOf (hashFrom 0 y)) && b) ≡ b
+      go true q = ap (λ w. w && true) (eq-eqb (markOf (hashFrom 0 x)) (markOf (hashFrom 0 y)) (ap (λ z. markOf (hashFrom 0 z)) (same-equal x y q)))
+      go false q = and-none (eqb (markOf (hashFrom 0 x)) (markOf (hashFrom 0 y)))
+
+  code-says : (x : List ℕ) (e : Entry) → Told t e → says t x (suc (codeOf e)) ≡ same x (nameIn t e)
+  unfolding says codeOf
+  code-says x e h =
+      let m : ℕ = markOf (hashFrom 0 (nameIn t e)) in
+      let l : m < 128 = mark-lt (hashFrom 0 (nameIn t e)) in
+      let low : (suc (startIn t e * 128 + m) - 1) % 128 ≡ m = omega (arith, l) in
+      let high : (suc (startIn t e * 128 + m) - 1) / 128 ≡ startIn t e = omega (arith, l) in
+      ap₂ (λ a b. eqb (markOf (hashFrom 0 x)) a && same x (word (drop b t))) low high
+      ∙ ap (λ w. eqb (markOf (hashFrom 0 x)) m && same x w) (told-word e h)
+      ∙ mark-same x (nameIn t e)
+
+  front-told : (k : ℕ) (es : List Entry) → Each (Told t) es → Told t (front (entriesFrom 2 k es))
+  unfolding Each Told front entriesFrom
+  front-told k [] h = tt
+  front-told zero (e ∷ es) h = go (eqb (kindOf e) 2) (front-told zero es (h .1))
+    where
+      go : (b : Bool) → Told t (front (entriesFrom 2 0 es)) → Told t (front (cond b (e ∷ es) (entriesFrom 2 0 es)))
+      go true ih = h .0
+      go false ih = ih
+  front-told (suc k) (e ∷ es) h = go (eqb (kindOf e) 2) (front-told k es (h .1)) (front-told (suc k) es (h .1))
+    where
+      go : (b : Bool) → Told t (front (entriesFrom 2 k es)) → Told t (front (entriesFrom 2 (suc k) es)) → Told t (front (cond b (entriesFrom 2 k es) (entriesFrom 2 (suc k) es)))
+      go true ih jh = ih
+      go false ih jh = jh
 
   name-from : (k : ℕ) (es : List Entry) → nameIn t (front (entriesFrom 2 k es)) ≡ getD (namesIn t es) k []
   unfolding nameIn front entriesFrom namesIn
@@ -109,23 +156,17 @@ module _ (t : List ℕ) where
       go true ih jh = ih
       go false ih jh = jh
 
--- where the entry of the SQ with an ordinal stands
-unfoldable pub offset : List ℕ → ℕ → ℕ
-unfolding sizes entriesBefore entriesIn
-offset c k = sizes (entriesBefore 2 k (entriesIn c))
+-- what a slot tells the name of the SQ with an ordinal by, less one
+unfoldable pub code : List ℕ → List ℕ → ℕ → ℕ
+unfolding codeOf front entriesFrom entriesIn
+code t c k = codeOf t (front (entriesFrom 2 k (entriesIn c)))
 
 module _ (t c : List ℕ) where
-  -- an entry's offset tells the name that the ordinal tells
-  pub offset-tells : (x : List ℕ) (k : ℕ) → says t c x (suc (offset c k)) ≡ tells (namesIn t (entriesIn c)) x (suc k)
-  unfolding says tells nameOf offset
-  offset-tells x k =
-      let z : suc (offset c k) - 1 ≡ offset c k = omega arith in
-      ap (λ at. same x (nameIn t (entryOf (drop at c)))) z
-      ∙ ap (same x) (ap (nameIn t) (found-entry 2 k c (offset c k) refl) ∙ name-from t k (entriesIn c))
+  -- it tells the name that the ordinal tells
+  pub code-tells : Each (Told t) (entriesIn c) → (x : List ℕ) (k : ℕ) → says t x (suc (code t c k)) ≡ tells (namesIn t (entriesIn c)) x (suc k)
+  unfolding tells nameOf code
+  code-tells h x k = code-says t x (front (entriesFrom 2 k (entriesIn c))) (front-told t k (entriesIn c) h) ∙ ap (same x) (name-from t k (entriesIn c))
 
-  pub filled-offsets : (slots : List ℕ) → entering false t 0 0 (entriesIn c) (map (recode (offset c)) slots) ≡ map (recode (offset c)) (enterFrom 0 (namesIn t (entriesIn c)) slots)
-  unfolding offset
-  filled-offsets slots = with-offsets t (offset c) 0 0 (entriesIn c) slots (λ r. ap (offset c) (front-zero r) ∙ sym (front-zero (sizes (entriesBefore 2 r (entriesIn c)))))
-    where
-      front-zero : (r : ℕ) → 0 + r ≡ r
-      front-zero r = omega arith
+  pub filled-codes : (slots : List ℕ) → entering false t 0 (entriesIn c) (map (recode (code t c)) slots) ≡ map (recode (code t c)) (enterFrom 0 (namesIn t (entriesIn c)) slots)
+  unfolding code
+  filled-codes slots = with-codes t (code t c) 0 (entriesIn c) slots (λ r. let z : 0 + r ≡ r = omega arith in ap (code t c) z)

@@ -1,15 +1,73 @@
-// The SQ names of a catalogue in an index of names: slots are filled with them, and one is looked for in the slots.
+// The SQ names of a catalogue in an index of names: slots are filled with them, and one is looked for in the slots. While names are looked
+// for, a slot tells a name by its offset in the text and by a mark; a name ends at the first byte below 32, or with the text.
 use entries::Entry;
 use entries::Place;
 ghost use mathlib.Core.Path.{_≡_};
+ghost use mathlib.Core.Bool.{_&&_};
 ghost use mathlib.Core.List.{map};
-ghost use Prim.Native.Nat.{_≤_, _<_};
+ghost use Prim.Native.Nat.{ℕ, _≤_, _<_, _+_, _-_, _/_, _%_, _^_};
+ghost use lib.Dec.{eqb};
 ghost use lib.ListN.{length, take, drop, replicate};
-ghost use Rattle.entries.specs.Entries.{entriesIn};
-ghost use Rattle.sq_index.specs.Filled.{nameIn, says, valueOf, entering, slotOf, looksOf, ordinalAt};
+ghost use Rattle.format.specs.Bytes.{same, none?};
+ghost use Rattle.key_index.specs.Word.{word};
+ghost use Rattle.entries.specs.Entries.{entriesIn, entriesBefore, sizes, counted};
+ghost use Rattle.name_index.specs.Index.{hashFrom, enter};
+ghost use Rattle.sq_index.specs.Filled.{markOf, valueOf, entering, slotOf, looksOf, ordinalAt};
 
 // What is answered for a name that no SQ has.
 pub const ABSENT: u32 = 4294967295;
+
+// Passes the entries of fields from `start` on: the next SQ entry is the same.
+fn pass_fields(catalogue: &[u8], start: usize) -> usize
+    requires { ⌜ start ≤ length (now catalogue) ⌝ }
+    ensures { λ r. ⌜ (start ≤ r) × (r ≤ length (now (catalogue .entry))) × (start + sizes (entriesBefore 2 0 (entriesIn (drop start (now (catalogue .entry))))) ≡ r + sizes (entriesBefore 2 0 (entriesIn (drop r (now (catalogue .entry)))))) ⌝ }
+{
+    let mut at = start;
+    while 11 <= catalogue.len() - at {
+        if catalogue[at] != 6 {
+            return at;
+        }
+        at += 11;
+    }
+    at
+}
+
+// Where the next SQ entry stands, from `start` on: behind the last entry where there is none.
+fn next_sq(catalogue: &[u8], start: usize) -> usize
+    requires { ⌜ start ≤ length (now catalogue) ⌝ }
+    ensures { λ r. ⌜ r ≡ start + sizes (entriesBefore 2 0 (entriesIn (drop start (now (catalogue .entry))))) ⌝ }
+{
+    let mut at = start;
+    loop {
+        at = pass_fields(catalogue, at);
+        let e = entries::entry_at(catalogue, at);
+        let len = entries::size(e);
+        if len == 0 {
+            return at;
+        }
+        if entries::kind_of(e) == 2 {
+            return at;
+        }
+        at += len;
+    }
+}
+
+// How many SQ entries a catalogue has.
+pub fn count(catalogue: &[u8]) -> usize
+    ensures { λ r. ⌜ r ≡ counted 2 (entriesIn (now (catalogue .entry))) ⌝ }
+{
+    let mut at: usize = 0;
+    let mut n: usize = 0;
+    loop {
+        at = next_sq(catalogue, at);
+        let e = entries::entry_at(catalogue, at);
+        if entries::kind_of(e) != 2 {
+            return n;
+        }
+        n += 1;
+        at += 17;
+    }
+}
 
 // The bytes of a text at a place: as many of them as the text has.
 fn bytes_at<'a>(text: &'a [u8], p: Place) -> &'a [u8]
@@ -28,70 +86,111 @@ fn bytes_at<'a>(text: &'a [u8], p: Place) -> &'a [u8]
     &text[start..end]
 }
 
-// The name that an entry says: that of SQ.
-fn name_of<'a>(text: &'a [u8], e: Entry) -> &'a [u8]
-    ensures { λ r. ⌜ now r ≡ nameIn (now (text .entry)) e ⌝ }
+// What a slot keeps of a name besides its place: seven bits of its number, by which most other names are told apart.
+fn mark(number: u32) -> u32
+    ensures { λ r. ⌜ r ≡ markOf number ⌝ }
 {
-    match e {
-        Entry::ReferenceSequence(p, _) => bytes_at(text, p),
-        _ => &text[..0],
-    }
+    (number % 65536 + number / 65536) % 128
 }
 
-// What a slot is to hold: the ordinal plus one, or the entry's offset plus one.
-fn value(ordinals: bool, k: usize, at: usize) -> u32
+// What a slot is to hold for the name at `at` with this number: the ordinal plus one, or the offset with the mark below it, plus one.
+fn value(ordinals: bool, k: usize, number: u32, at: u32) -> u32
     requires { ⌜ k ≤ 4294967294 ⌝ }
-    requires { ⌜ at ≤ 4294967294 ⌝ }
-    ensures { λ r. ⌜ r ≡ valueOf ordinals k at ⌝ }
+    requires { ⌜ at < 16777216 ⌝ }
+    ensures { λ r. ⌜ r ≡ valueOf ordinals k number at ⌝ }
 {
     if ordinals {
         return (k + 1) as u32;
     }
-    (at + 1) as u32
+    at * 128 + mark(number) + 1
 }
 
-// The names of the SQ entries enter in order, each with its ordinal plus one, or with its entry's offset plus one.
-fn put_names(text: &[u8], catalogue: &[u8], slots: &mut [u32], ordinals: bool)
-    requires { ⌜ 0 < length (now slots) ⌝ }
+// The name at a place enters.
+fn put_name(text: &[u8], p: Place, k: usize, slots: &mut [u32], ordinals: bool)
+    requires { ⌜ k ≤ 4294967294 ⌝ }
     requires { ⌜ length (now slots) ≤ 33554432 ⌝ }
+    requires { ⌜ ((e : ℕ) × (length (now slots) ≡ 2 ^ e)) ⌝ }
+    ensures { λ _. ⌜ now (slots .exit) ≡ enter (valueOf ordinals k (hashFrom 0 (take (p .len) (drop (p .at) (now (text .entry))))) (p .at % 16777216)) (take (p .len) (drop (p .at) (now (text .entry)))) (now (slots .entry)) ⌝ }
+{
+    let number = name_index::hash(bytes_at(text, p));
+    let first = name_index::first_slot(number, slots.len());
+    let v = value(ordinals, k, number, p.at % 16777216);
+    name_index::enter(slots, first, v);
+}
+
+// The names of the SQ entries enter in order, each with its ordinal plus one, or with its mark and offset.
+fn put_names(text: &[u8], catalogue: &[u8], slots: &mut [u32], ordinals: bool)
+    requires { ⌜ length (now slots) ≤ 33554432 ⌝ }
+    requires { ⌜ ((e : ℕ) × (length (now slots) ≡ 2 ^ e)) ⌝ }
     requires { ⌜ length (now catalogue) ≤ 4294967294 ⌝ }
-    ensures { λ _. ⌜ now (slots .exit) ≡ entering ordinals (now (text .entry)) 0 0 (entriesIn (now (catalogue .entry))) (now (slots .entry)) ⌝ }
+    ensures { λ _. ⌜ now (slots .exit) ≡ entering ordinals (now (text .entry)) 0 (entriesIn (now (catalogue .entry))) (now (slots .entry)) ⌝ }
 {
     let mut at: usize = 0;
     let mut k: usize = 0;
     loop {
+        at = next_sq(catalogue, at);
         let e = entries::entry_at(catalogue, at);
-        let len = entries::size(e);
-        if len == 0 {
-            return;
+        match e {
+            Entry::ReferenceSequence(p, _) => {
+                put_name(text, p, k, slots, ordinals);
+                k += 1;
+                at += 17;
+            }
+            _ => return,
         }
-        if entries::kind_of(e) == 2 {
-            let v = value(ordinals, k, at);
-            name_index::enter(slots, name_of(text, e), v);
-            k += 1;
-        }
-        at += len;
     }
 }
 
 // Empties the slots, and then the names of the SQ entries enter.
 pub fn fill(text: &[u8], catalogue: &[u8], slots: &mut [u32], ordinals: bool)
-    requires { ⌜ 0 < length (now slots) ⌝ }
     requires { ⌜ length (now slots) ≤ 33554432 ⌝ }
+    requires { ⌜ ((e : ℕ) × (length (now slots) ≡ 2 ^ e)) ⌝ }
     requires { ⌜ length (now catalogue) ≤ 4294967294 ⌝ }
-    ensures { λ _. ⌜ now (slots .exit) ≡ entering ordinals (now (text .entry)) 0 0 (entriesIn (now (catalogue .entry))) (replicate (length (now (slots .entry))) 0) ⌝ }
+    ensures { λ _. ⌜ now (slots .exit) ≡ entering ordinals (now (text .entry)) 0 (entriesIn (now (catalogue .entry))) (replicate (length (now (slots .entry))) 0) ⌝ }
 {
     key_index::clear(slots);
     put_names(text, catalogue, slots, ordinals);
 }
 
-// Whether the entry whose offset plus one is `v` says a name.
-fn is_said(text: &[u8], catalogue: &[u8], v: u32, name: &[u8]) -> bool
-    requires { ⌜ 0 < v ⌝ }
-    ensures { λ r. ⌜ r ≡ says (now (text .entry)) (now (catalogue .entry)) (now (name .entry)) v ⌝ }
+// Whether no name goes on at `at`: a byte below 32, or the end of the text.
+fn ends(text: &[u8], at: usize) -> bool
+    ensures { λ r. ⌜ r ≡ none? (word (drop at (now (text .entry)))) ⌝ }
 {
-    let e = entries::entry_at(catalogue, (v - 1) as usize);
-    text::same(name, name_of(text, e))
+    if text.len() <= at {
+        return true;
+    }
+    text[at] < 32
+}
+
+// Whether the name at `at` is `name`.
+fn is_at(text: &[u8], at: usize, name: &[u8]) -> bool
+    requires { ⌜ at + length (now name) ≤ 67108864 ⌝ }
+    ensures { λ r. ⌜ r ≡ same (now (name .entry)) (word (drop at (now (text .entry)))) ⌝ }
+{
+    let mut i: usize = 0;
+    while i < name.len() {
+        if ends(text, at + i) {
+            return false; // a name that only starts `name`
+        }
+        if text[at + i] != name[i] {
+            return false;
+        }
+        i += 1;
+    }
+    ends(text, at + i)
+}
+
+// Whether a slot tells a name with this mark: only where the marks are equal the text is looked at.
+fn is_told(text: &[u8], v: u32, told: u32, name: &[u8]) -> bool
+    requires { ⌜ 0 < v ⌝ }
+    requires { ⌜ length (now name) ≤ 16777216 ⌝ }
+    ensures { λ r. ⌜ r ≡ (eqb told ((v - 1) % 128) && same (now (name .entry)) (word (drop ((v - 1) / 128) (now (text .entry))))) ⌝ }
+{
+    let code = v - 1;
+    if code % 128 != told {
+        return false;
+    }
+    is_at(text, (code / 128) as usize, name)
 }
 
 // The slot with a name, or ABSENT, and how many slots were looked at.
@@ -101,13 +200,16 @@ pub struct Looked {
 }
 
 // Looks for a name in slots that hold offsets: from its first slot on, up to the one with the name or the first empty one.
-pub fn find_slot(text: &[u8], catalogue: &[u8], slots: &[u32], name: &[u8]) -> Looked
-    requires { ⌜ 0 < length (now slots) ⌝ }
+pub fn find_slot(text: &[u8], slots: &[u32], name: &[u8]) -> Looked
     requires { ⌜ length (now slots) ≤ 33554432 ⌝ }
-    ensures { λ r. ⌜ (r .slot ≡ slotOf (now (text .entry)) (now (catalogue .entry)) (now (slots .entry)) (now (name .entry))) × (r .looks ≡ looksOf (now (text .entry)) (now (catalogue .entry)) (now (slots .entry)) (now (name .entry))) ⌝ }
+    requires { ⌜ ((e : ℕ) × (length (now slots) ≡ 2 ^ e)) ⌝ }
+    requires { ⌜ length (now name) ≤ 16777216 ⌝ }
+    ensures { λ r. ⌜ (r .slot ≡ slotOf (now (text .entry)) (now (slots .entry)) (now (name .entry))) × (r .looks ≡ looksOf (now (text .entry)) (now (slots .entry)) (now (name .entry))) ⌝ }
 {
     let n = slots.len();
-    let first = name_index::first_slot(name, n);
+    let number = name_index::hash(name);
+    let told = mark(number);
+    let first = name_index::first_slot(number, n);
     let mut i: usize = 0;
     while i < n {
         let at = name_index::turned(first, i, n);
@@ -118,7 +220,7 @@ pub fn find_slot(text: &[u8], catalogue: &[u8], slots: &[u32], name: &[u8]) -> L
                 looks: (i + 1) as u32, // the empty slot too
             };
         }
-        if is_said(text, catalogue, v, name) {
+        if is_told(text, v, told, name) {
             return Looked {
                 slot: at as u32,
                 looks: (i + 1) as u32, // and no slot behind it

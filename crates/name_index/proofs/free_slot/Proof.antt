@@ -4,53 +4,37 @@ use mathlib.Core.Path.{_≡_, sym, _∙_}
 use native.Mathlib.Omega.{arith}
 use borrow.Author.Needs.{needs}
 use lib.ListN.{length, getD, drop}
-use Rattle.format.specs.Slots.{full}
-use Rattle.name_index.specs.Index.{first, path}
-use Rattle.name_index.proofs.Path.{first-lt, path-length, within, path-slot, seated}
+use Rattle.format.specs.Slots.{around, full}
+use Rattle.name_index.proofs.Path.{around-long, within, around-slot, seated}
 use Rattle.name_index.proofs.Passing.{full-end, full-here, full-on}
 use Rattle.name_index.proofs.free_slot.Statement.{statement}
 use Rattle.name_index.proofs.free_slot.Tie as tie
 
 abbrev Inv-loop : tie.InvT-loop
-Inv-loop slots name n first i₀ i = (i ≤ n) × (full (path name slots) ≡ i + full (drop i (path name slots)))
+Inv-loop slots first n i₀ i = (i ≤ n) × (full (around first slots) ≡ i + full (drop i (around first slots)))
 
 abbrev μ-loop : tie.MeasureT-loop
-μ-loop slots name n first i₀ i = n - i
-
-first-slot-requires : tie.Need-first-slot-requires Inv-loop μ-loop
-first-slot-requires c κs = search needs
+μ-loop slots first n i₀ i = n - i
 
 loop-holds : tie.Need-loop-holds Inv-loop μ-loop
 loop-holds c = (omega arith, omega arith)
 
--- the first slot is one of them, and the path has as many
-begins : (c : tie.After-first-slot Inv-loop μ-loop) → c .first-slot .result < length (c .before .before .before .args .slots .now)
-begins c = let a = c .before .before .before in omega (arith, c .first-slot .ensures, first-lt (a .args .slots .now) (a .args .name .now) (a .pre .0))
-
-long : (c : tie.After-first-slot Inv-loop μ-loop) → let a = c .before .before .before .args in length (path (a .name .now) (a .slots .now)) ≡ length (a .slots .now)
-long c = path-length _ _ (c .before .before .before .pre .0)
-
 turned-requires : tie.Need-turned-requires Inv-loop μ-loop
-turned-requires c κs = (begins (c .before .before), (omega arith, omega arith))
+turned-requires c κs = (c .before .before .before .pre .0, (omega arith, omega arith))
 
 -- ---- in a turn
 
-inside : (c : tie.After-turned Inv-loop μ-loop) → c .turned .result < length (c .before .before .before .before .before .before .args .slots .now)
-inside c =
-    let s = c .before .before .before in
-    let a = s .before .before .before in
-    within (a .args .slots .now) (a .args .name .now) (a .pre .0) (s .first-slot .result) (s .first-slot .ensures) (c .before .before .loop .i) (c .turned .result) (c .turned .ensures)
+abbrev start : tie.After-turned Inv-loop μ-loop → tie.Start Inv-loop μ-loop
+start c = c .before .before .before .before
 
-seen : (c : tie.After-turned Inv-loop μ-loop) →
-    let a = c .before .before .before .before .before .before .args in
-    getD (path (a .name .now) (a .slots .now)) (c .before .before .loop .i) 0 ≡ getD (a .slots .now) (c .turned .result) 0
-seen c =
-    let s = c .before .before .before in
-    let a = s .before .before .before in
-    path-slot (a .args .slots .now) (a .args .name .now) (a .pre .0) (s .first-slot .result) (s .first-slot .ensures) (c .before .before .loop .i) (c .turned .result) (c .turned .ensures) (c .before .loop-test .taken)
+inside : (c : tie.After-turned Inv-loop μ-loop) → c .turned .result < length (start c .args .slots .now)
+inside c = let s = start c in within (s .args .slots .now) (s .args .first) (s .pre .0) (c .before .before .loop .i) (c .turned .result) (c .turned .ensures)
 
-left : (c : tie.After-turned Inv-loop μ-loop) → let a = c .before .before .before .before .before .before .args in c .before .before .loop .i < length (path (a .name .now) (a .slots .now))
-left c = omega (arith, long (c .before .before .before), c .before .loop-test .taken)
+seen : (c : tie.After-turned Inv-loop μ-loop) → getD (around (start c .args .first) (start c .args .slots .now)) (c .before .before .loop .i) 0 ≡ getD (start c .args .slots .now) (c .turned .result) 0
+seen c = let s = start c in around-slot (s .args .slots .now) (s .args .first) (s .pre .0) (c .before .before .loop .i) (c .turned .result) (c .turned .ensures) (c .before .loop-test .taken)
+
+left : (c : tie.After-turned Inv-loop μ-loop) → c .before .before .loop .i < length (around (start c .args .first) (start c .args .slots .now))
+left c = let s = start c in omega (arith, around-long (s .args .slots .now) (s .args .first) (s .pre .0), c .before .loop-test .taken)
 
 mul-if1 : tie.Need-mul-if1 Inv-loop μ-loop
 mul-if1 c = search (needs, inside c)
@@ -61,11 +45,10 @@ shared-slice-read-if1 c = inside (c .before)
 returns : tie.Need-returns Inv-loop μ-loop
 returns c =
     let t = c .before .before in
-    let s = t .before .before .before in
-    let a = s .before .before .before in
+    let s = start t in
     let l = t .before .before .loop in
-    seated (a .args .slots .now) (a .args .name .now) (a .pre .0) (s .first-slot .result) (s .first-slot .ensures) (l .i) (t .turned .result) (t .turned .ensures)
-    (omega (arith, l .inv .1, full-here (path (a .args .name .now) (a .args .slots .now)) (l .i) (left t) (seen t ∙ c .if1 .taken)))
+    seated (s .args .slots .now) (s .args .first) (s .pre .0) (l .i) (t .turned .result) (t .turned .ensures)
+    (omega (arith, l .inv .1, full-here (around (s .args .first) (s .args .slots .now)) (l .i) (left t) (seen t ∙ c .if1 .taken)))
 
 add-i : tie.Need-add-i Inv-loop μ-loop
 add-i c = omega arith
@@ -76,20 +59,20 @@ loop-less c = omega arith
 loop-again : tie.Need-loop-again Inv-loop μ-loop
 loop-again c =
     let t = c .before .before in
-    let a = t .before .before .before .before .before .before .args in
+    let s = start t in
     let l = t .before .before .loop in
-    (omega (arith, t .before .loop-test .taken), omega (arith, l .inv .1, full-on (path (a .name .now) (a .slots .now)) (l .i) (left t) (λ e. c .if1 .left (sym (seen t) ∙ e))))
+    (omega (arith, t .before .loop-test .taken), omega (arith, l .inv .1, full-on (around (s .args .first) (s .args .slots .now)) (l .i) (left t) (λ e. c .if1 .left (sym (seen t) ∙ e))))
 
 turned-requires-2 : tie.Need-turned-requires-2 Inv-loop μ-loop
-turned-requires-2 c κs = (begins (c .before .before), (omega arith, omega arith))
+turned-requires-2 c κs = (c .before .before .before .pre .0, (omega arith, omega arith))
 
 returns-2 : tie.Need-returns-2 Inv-loop μ-loop
 returns-2 c =
-    let s = c .before .before .before in
-    let a = s .before .before .before in
-    let l = c .before .before .loop in
-    seated (a .args .slots .now) (a .args .name .now) (a .pre .0) (s .first-slot .result) (s .first-slot .ensures) (length (a .args .slots .now)) (c .turned2 .result) (c .turned2 .ensures)
-    (omega (arith, l .inv .1, c .before .loop-test .left, full-end (path (a .args .name .now) (a .args .slots .now)) (l .i) (omega (arith, long s, c .before .loop-test .left))))
+    let l = c .before .before in
+    let s = l .before .before in
+    let long = around-long (s .args .slots .now) (s .args .first) (s .pre .0) in
+    seated (s .args .slots .now) (s .args .first) (s .pre .0) (length (s .args .slots .now)) (c .turned2 .result) (c .turned2 .ensures)
+    (omega (arith, l .loop .inv .1, c .before .loop-test .left, full-end (around (s .args .first) (s .args .slots .now)) (l .loop .i) (omega (arith, long, c .before .loop-test .left))))
 
 pub free-slot-spec : {M : Type 1} → statement M
 free-slot-spec =
@@ -97,7 +80,6 @@ free-slot-spec =
     (tie.spec
     Inv-loop
     μ-loop
-    first-slot-requires
     loop-holds
     turned-requires
     mul-if1

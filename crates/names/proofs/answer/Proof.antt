@@ -1,12 +1,12 @@
--- `names::answer` meets its contract: the slots are filled with offsets, looked in, filled with ordinals and read.
-use Prim.Native.Nat.{ℕ, _≤_, _<_}
+-- `names::answer` meets its contract: the slots are filled with places, looked in, filled with ordinals and read.
+use Prim.Native.Nat.{ℕ, suc, _^_, _≤_}
 use mathlib.Core.Path.{_≡_, _∙_}
 use native.Mathlib.Omega.{arith}
 use lib.ListN.{length}
 use Rattle.name_index.specs.Index.{slotCount}
 use Rattle.entries.specs.Entries.{entriesIn}
 use Rattle.sq_index.specs.Filled.{namesIn}
-use Rattle.name_index.proofs.SlotCount.{slots-some, slots-few}
+use Rattle.name_index.proofs.SlotCount.{slots-power, slots-few}
 use Rattle.names.specs.Batch.{asked}
 use Rattle.names.proofs.Answered.{long₁, looks-told, index-told, found-told}
 use borrow.Author.Needs.{needs}
@@ -14,13 +14,10 @@ use Rattle.names.proofs.answer.Statement.{statement}
 use Rattle.names.proofs.answer.Tie as tie
 
 -- so many slots
-enough : (n m : ℕ) → n ≡ m → 0 < m → m ≤ 33554432 → (0 < n) × (n ≤ 33554432)
-enough n m e a b = (omega (arith, e, a), omega (arith, e, b))
-
-sized : (s : tie.Start) (n : ℕ) → n ≡ slotCount (length (namesIn (s .args .text .now) (entriesIn (s .args .kept .now)))) → (0 < n) × (n ≤ 33554432)
+sized : (s : tie.Start) (n : ℕ) → n ≡ slotCount (length (namesIn (s .args .text .now) (entriesIn (s .args .kept .now)))) → (n ≤ 33554432) × ((e : ℕ) × (n ≡ 2 ^ e))
 sized s n e =
-    let xs = namesIn (s .args .text .now) (entriesIn (s .args .kept .now)) in
-    enough n (slotCount (length xs)) e (slots-some (length xs)) (slots-few (length xs) (s .pre .1 .1 .0))
+    let m : ℕ = length (namesIn (s .args .text .now) (entriesIn (s .args .kept .now))) in
+    (omega (arith, e, slots-few m (s .pre .1 .1 .0)), (suc (slots-power m .0), e ∙ slots-power m .1))
 
 -- after the first filling
 refilled : (c : tie.After-fill) → let s = c .before .before .before .before .before .before .before in length (c .fill .last .1 .1 .0) ≡ slotCount (length (namesIn (s .args .text .now) (entriesIn (s .args .kept .now))))
@@ -32,7 +29,7 @@ fill-requires : tie.Need-fill-requires
 fill-requires c κs = let s = c .before .before .before .before .before .before in let z = sized s (length (s .args .slots .now)) (s .pre .1 .1 .1 .0) in (z .0, (z .1, s .pre .0))
 
 find-slots-requires : tie.Need-find-slots-requires
-find-slots-requires c κs = let f = c .before .before .before .before in let s = f .before .before .before .before .before .before .before in let z = sized s (length (f .fill .last .1 .1 .0)) (refilled f) in (z .0, (z .1, (s .pre .1 .0, omega (arith, s .pre .1 .1 .1 .1))))
+find-slots-requires c κs = let f = c .before .before .before .before in let s = f .before .before .before .before .before .before .before in let z = sized s (length (f .fill .last .1 .1 .0)) (refilled f) in (z .0, (z .1, (s .pre .1 .0, omega (arith, s .pre .1 .1 .1 .1 .0))))
 
 fill-requires-2 : tie.Need-fill-requires-2
 fill-requires-2 c κs = let f = c .before .before .before .before .before .before .before .before in let s = f .before .before .before .before .before .before .before in let z = sized s (length (f .fill .last .1 .1 .0)) (refilled f) in (z .0, (z .1, s .pre .0))
@@ -60,9 +57,9 @@ returns c =
     let slots₂ = g .fill2 .last .1 .1 .0 in (
       index-told t k (a .slots .now) slots₁ (s .pre .1 .1 .1 .0) (f .fill .ensures) slots₂ (g .fill2 .ensures),
       (
-        found-told t k (a .slots .now) slots₁ (s .pre .1 .1 .1 .0) (f .fill .ensures) slots₂ (g .fill2 .ensures) (s .pre .1 .1 .0) (a .list .now) (a .out .now)
-            (l .find-slots .last .1 .1 .1 .1 .0) (o .to-ordinals .last .1 .0) (s .pre .1 .1 .1 .1) (l .find-slots .ensures .0) (o .to-ordinals .ensures),
-        l .find-slots .ensures .1 ∙ looks-told t k (a .slots .now) slots₁ (s .pre .1 .1 .1 .0) (f .fill .ensures) (asked (a .list .now)),
+        found-told t k (a .slots .now) slots₁ (s .pre .1 .1 .1 .0) (f .fill .ensures) slots₂ (g .fill2 .ensures) (s .pre .1 .1 .1 .1 .1) (s .pre .1 .1 .0) (a .list .now) (a .out .now)
+            (l .find-slots .last .1 .1 .1 .0) (o .to-ordinals .last .1 .0) (s .pre .1 .1 .1 .1 .0) (l .find-slots .ensures .0) (o .to-ordinals .ensures),
+        l .find-slots .ensures .1 ∙ looks-told t k (a .slots .now) slots₁ (s .pre .1 .1 .1 .0) (f .fill .ensures) (s .pre .1 .1 .1 .1 .1) (asked (a .list .now)),
       ),
     )
 

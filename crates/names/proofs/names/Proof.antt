@@ -12,7 +12,7 @@ use Rattle.name_index.specs.Index.{ordinalIn, slotCount, index, looks}
 use Rattle.name_index.proofs.Indexed.{index-length}
 use Rattle.sq_index.specs.Filled.{namesIn}
 use Rattle.names.specs.Batch.{asked, summed, batching}
-use Rattle.names.proofs.Batched.{batch-refused, batch-long, batch-work, batch-room, batch-all, few, short, many, told-refusal, told-answer}
+use Rattle.names.proofs.Batched.{batch-refused, batch-long, batch-work, batch-room, batch-all, few, short, many, told, told-refusal, told-answer}
 use borrow.Author.Needs.{needs}
 use Rattle.names.proofs.names.Statement.{statement}
 use Rattle.names.proofs.names.Tie as tie
@@ -40,10 +40,10 @@ abbrev batch : tie.Start → Answer (List ℕ × List ℕ × ℕ)
 batch s = batching (s .args .text .now) (s .args .kept .now) (s .args .list .now) (length (s .args .work .now)) (length (s .args .out .now))
 
 -- how many there are
-number : (c : tie.After-count-kind) → c .count-kind .result ≡ length (names (c .before .before))
-number c = let e = c .before .before in let a = e .before .before .before .before .before .before .before .before .args in c .count-kind .ensures ∙ many (a .text .now) (a .kept .now) (own e)
+number : (c : tie.After-count) → c .count .result ≡ length (names (c .before .before))
+number c = let e = c .before .before in let a = e .before .before .before .before .before .before .before .before .args in c .count .ensures ∙ many (a .text .now) (a .kept .now) (own e)
 
-few-names : (c : tie.After-count-kind) → c .count-kind .result ≤ 16777216
+few-names : (c : tie.After-count) → c .count .result ≤ 16777216
 few-names c = let e = c .before .before in let a = e .before .before .before .before .before .before .before .before .args in omega (arith, number c, few (a .text .now) (a .kept .now) (own e))
 
 -- how many slots
@@ -57,8 +57,8 @@ returns c =
     let a = s .args in
     told-refusal (batch s) (a .work .now) (a .out .now) 1 (record { 0 = 0 }) (batch-long (a .text .now) (a .kept .now) (own e) (a .list .now) (length (a .work .now)) (length (a .out .now)) (c .if1 .taken))
 
-count-kind-requires : tie.Need-count-kind-requires
-count-kind-requires c κs = search needs
+count-requires : tie.Need-count-requires
+count-requires c κs = search needs
 
 cast-slot-count : tie.Need-cast-slot-count
 cast-slot-count c = omega (arith, few-names c)
@@ -120,7 +120,7 @@ answer-requires c κs =
           few (a .text .now) (a .kept .now) (own e),
           (
             length-take-le (n .slot-count .result) (a .work .now) (k .before .if2 .left) ∙ slots n,
-            length-take-le (k .count-names .result) (a .out .now) (c .before .before .if3 .left) ∙ k .count-names .ensures,
+            (length-take-le (k .count-names .result) (a .out .now) (c .before .before .if3 .left) ∙ k .count-names .ensures, told (a .text .now) (a .kept .now) (own e)),
           ),
         ),
       ),
@@ -168,7 +168,7 @@ names-spec =
     enum-known-n
     enum-told
     returns
-    count-kind-requires
+    count-requires
     cast-slot-count
     slot-count-requires
     cast-n

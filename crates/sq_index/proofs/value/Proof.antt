@@ -1,8 +1,12 @@
--- `sq_index::value` meets its contract: the ordinal or the offset, plus one.
-use Prim.Native.Nat.{_-_}
+-- `sq_index::value` meets its contract: the ordinal, or the offset and the mark, plus one.
+use Prim.Native.Nat.{_+_, _*_, _%_, _<_}
+use mathlib.Core.Path.{ap, _∙_}
+use native.Mathlib.Omega.{arith}
+use native.Mathlib.Nat.{mod-lt}
 use native.Mathlib.Numerals.{add-one}
 use borrow.Author.Needs.{needs}
-use Rattle.sq_index.specs.Filled.{valueOf}
+use Rattle.sq_index.specs.Filled.{markOf, valueOf}
+use Rattle.sq_index.proofs.Named.{mark-lt}
 use Rattle.sq_index.proofs.value.Statement.{statement}
 use Rattle.sq_index.proofs.value.Tie as tie
 
@@ -16,16 +20,36 @@ returns : tie.Need-returns
 unfolding valueOf
 returns c = rw (c .if1 .taken) (add-one (c .before .args .k))
 
-add-result-2 : tie.Need-add-result-2
-add-result-2 c = search needs
+mul-result : tie.Need-mul-result
+mul-result c = search needs
 
-cast-result-2 : tie.Need-cast-result-2
-cast-result-2 c = search needs
+mark-requires : tie.Need-mark-requires
+mark-requires c κs = search needs
+
+small : (c : tie.After-mark) → c .mark .result < 128
+small c = omega (arith, c .mark .ensures, mark-lt (c .before .before .args .number))
+
+add-result-2 : tie.Need-add-result-2
+add-result-2 c = omega (arith, small c)
+
+add-result-3 : tie.Need-add-result-3
+add-result-3 c = omega (arith, small c)
 
 returns-2 : tie.Need-returns-2
 unfolding valueOf
-returns-2 c = rw (c .if1 .left) (add-one (c .before .args .at))
+returns-2 c =
+    let a = c .before .before .args in
+    rw (c .before .if1 .left) (ap (λ m. a .at * 128 + m + 1) (c .mark .ensures) ∙ add-one (a .at * 128 + markOf (a .number)))
 
 pub value-spec : {M : Type 1} → statement M
 value-spec =
-    tie.close (tie.spec add-result cast-result returns add-result-2 cast-result-2 returns-2)
+    tie.close
+    (tie.spec
+    add-result
+    cast-result
+    returns
+    mul-result
+    mark-requires
+    add-result-2
+    add-result-3
+    returns-2)
