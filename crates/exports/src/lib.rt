@@ -72,15 +72,15 @@ pub extern "C" fn sam_header_length(
     text: &[u8],
     catalogue: &[u8],
     ordinal: u32,
-    length: &mut u64,
+    ln: &mut u64,
 ) -> u64
     ensures answer { λ r. ⌜ r ≡ lengthWord (lengthOf (sizing (now (text .entry)) (now (catalogue .entry)) ordinal)) ⌝ }
-    ensures wrote { λ _. ⌜ now (length .exit) ≡ lengthLeft (lengthOf (sizing (now (text .entry)) (now (catalogue .entry)) ordinal)) (now (length .entry)) ⌝ }
+    ensures wrote { λ _. ⌜ now (ln .exit) ≡ lengthLeft (lengthOf (sizing (now (text .entry)) (now (catalogue .entry)) ordinal)) (now (ln .entry)) ⌝ }
 {
     match calls::length(text, catalogue, ordinal) {
         LengthAnswer::Refused(n, line) => words::refusal_word(n, line),
         LengthAnswer::Is(n) => {
-            *length = n;
+            *ln = n;
             0
         }
     }

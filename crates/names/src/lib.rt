@@ -98,7 +98,7 @@ pub fn names(
     match parser::check(text, kept) {
         Checked::Refused(n, line) => NamesAnswer::Refused(n, line),
         Checked::Fresh => {
-            if 16777216 < list.len() {
+            if format::LONGEST < list.len() {
                 return NamesAnswer::Refused(1, LineNo(0));
             }
             let room = work.len();

@@ -45,7 +45,7 @@ fn next_sq(catalogue: &[u8], start: usize) -> usize
         if len == 0 {
             return at;
         }
-        if entries::kind_of(e) == 2 {
+        if entries::kind_of(e) == format::REFERENCE_SEQUENCE {
             return at;
         }
         at += len;

@@ -22,14 +22,14 @@ unfolding lengthWord lengthLeft
 returns c =
     let k = c .before .before .before .before in
     let e = sym (c .before .before .n .given .1) ∙ k .length .ensures in
-    (c .refusal-word .ensures ∙ ap lengthWord e, ap (λ x. lengthLeft x (k .before .before .before .args .length .now)) e)
+    (c .refusal-word .ensures ∙ ap lengthWord e, ap (λ x. lengthLeft x (k .before .before .before .args .ln .now)) e)
 
 returns-2 : tie.Need-returns-2
 unfolding lengthWord lengthLeft
 returns-2 c =
     let k = c .before .before .before in
     let e = sym (c .before .n2 .given .1) ∙ k .length .ensures in
-    (ap lengthWord e, ap (λ x. lengthLeft x (k .before .before .before .args .length .now)) e)
+    (ap lengthWord e, ap (λ x. lengthLeft x (k .before .before .before .args .ln .now)) e)
 
 pub sam-header-length-spec : {M : Type 1} → statement M
 sam-header-length-spec =
