@@ -4,13 +4,16 @@ use mathlib.Core.Path.{_≡_, refl, sym, ap, _∙_}
 use mathlib.Core.Bool.{Bool, true, false, cond}
 use mathlib.Core.List.{List, [], _∷_}
 use native.Mathlib.Omega.{arith}
-use lib.ListN.{length, take, drop, length-drop, drop-of-length-le}
-use lib.Seq.{drop-drop, take-all}
+use lib.ListN.{length, getD, take, drop, length-drop, drop-of-length-le}
+use lib.Seq.{drop-cons, drop-drop, take-all}
+use native.Mathlib.Numerals.{add-one}
 use lib.Dec.{eqb}
+use borrow.Author.Tests.{eq-eqb, ne-eqb}
 use Rattle.format.specs.Lines.{onto}
 use Rattle.text.specs.Upto.{upto}
 use Rattle.text.proofs.Lines.{upto-le}
 use Rattle.names.specs.Batch.{asked}
+use Rattle.names.specs.Ends.{ends}
 
 -- a byte that is no LF stands before the first name of what follows
 onto-asked : (b : ℕ) (s : List ℕ) → ((c : ℕ) (r : List ℕ) → s ≡ c ∷ r → asked s ≡ take (upto 10 s) s ∷ asked (drop (suc (upto 10 s)) s))
@@ -36,6 +39,70 @@ first-asked b (c ∷ s) = go (eqb b 10) (onto-asked b (c ∷ s) (λ d r e. first
 pub asked-first : (s : List ℕ) → 0 < length s → asked s ≡ take (upto 10 s) s ∷ asked (drop (suc (upto 10 s)) s)
 asked-first [] h = absurd (omega arith)
 asked-first (b ∷ s) h = first-asked b s
+
+-- ---- how many there are
+
+onto-length : (b : ℕ) (xs : List (List ℕ)) → 0 < length xs → length (onto b xs) ≡ length xs
+unfolding onto
+onto-length b [] h = absurd (omega arith)
+onto-length b (x ∷ xs) h = refl
+
+-- one for each LF, and one more where the last byte is no LF
+pub asked-count : (b : ℕ) (s : List ℕ) → length (asked (b ∷ s)) ≡ ends (b ∷ s) + cond (eqb (getD (b ∷ s) (length s) 0) 10) 0 1
+unfolding asked ends onto
+asked-count b [] = go (eqb b 10)
+  where
+    go : (t : Bool) → length (cond t ([] ∷ asked []) (onto b (asked []))) ≡ cond t (suc (ends [])) (ends []) + cond t 0 1
+    go true = refl
+    go false = refl
+asked-count b (c ∷ s) = go (eqb b 10) (asked-count c s)
+  where
+    more : 0 < length (asked (c ∷ s))
+    more = omega (arith, ap length (first-asked c s))
+
+    go : (t : Bool) → length (asked (c ∷ s)) ≡ ends (c ∷ s) + cond (eqb (getD (c ∷ s) (length s) 0) 10) 0 1
+        → length (cond t ([] ∷ asked (c ∷ s)) (onto b (asked (c ∷ s)))) ≡ cond t (suc (ends (c ∷ s))) (ends (c ∷ s)) + cond (eqb (getD (c ∷ s) (length s) 0) 10) 0 1
+    go true h = omega (arith, h)
+    go false h = onto-length b (asked (c ∷ s)) more ∙ h
+
+module _ (list : List ℕ) where
+  pub count-none : length list ≡ 0 → length (asked list) ≡ ends list
+  unfolding asked ends
+  count-none h = go list h
+    where
+      go : (s : List ℕ) → length s ≡ 0 → length (asked s) ≡ ends s
+      go [] h = refl
+      go (b ∷ s) h = absurd (omega (arith, h))
+
+  last : (length list ≡ 0 → ⊥) → length (asked list) ≡ ends list + cond (eqb (getD list (length list - 1) 0) 10) 0 1
+  last h = go list h
+    where
+      go : (s : List ℕ) → (length s ≡ 0 → ⊥) → length (asked s) ≡ ends s + cond (eqb (getD s (length s - 1) 0) 10) 0 1
+      go [] h = absurd (h refl)
+      go (b ∷ s) h = let z : suc (length s) - 1 ≡ length s = omega arith in asked-count b s ∙ ap (λ i. ends (b ∷ s) + cond (eqb (getD (b ∷ s) i 0) 10) 0 1) (sym z)
+
+  pub count-ended : (length list ≡ 0 → ⊥) → getD list (length list - 1) 0 ≡ 10 → length (asked list) ≡ ends list
+  count-ended h q = last h ∙ ap (λ b. ends list + cond b 0 1) (eq-eqb _ 10 q) ∙ omega arith
+
+  pub count-left : (length list ≡ 0 → ⊥) → (getD list (length list - 1) 0 ≡ 10 → ⊥) → length (asked list) ≡ ends list + 1
+  count-left h q = last h ∙ ap (λ b. ends list + cond b 0 1) (ne-eqb _ 10 q)
+
+-- a walk that counts LFs, at `i`
+module _ (list : List ℕ) (i : ℕ) where
+  pub ends-none : length list ≤ i → ends (drop i list) ≡ 0
+  unfolding ends
+  ends-none h = ap ends (drop-of-length-le list h)
+
+  module _ (l : i < length list) where
+    opened : ends (drop i list) ≡ cond (eqb (getD list i 0) 10) (suc (ends (drop (i + 1) list))) (ends (drop (i + 1) list))
+    unfolding ends
+    opened = rw (drop-cons list i 0 l, add-one i) refl
+
+    pub ends-one : getD list i 0 ≡ 10 → ends (drop i list) ≡ suc (ends (drop (i + 1) list))
+    ends-one q = opened ∙ ap (λ b. cond b (suc (ends (drop (i + 1) list))) (ends (drop (i + 1) list))) (eq-eqb (getD list i 0) 10 q)
+
+    pub ends-on : (getD list i 0 ≡ 10 → ⊥) → ends (drop i list) ≡ ends (drop (i + 1) list)
+    ends-on q = opened ∙ ap (λ b. cond b (suc (ends (drop (i + 1) list))) (ends (drop (i + 1) list))) (ne-eqb (getD list i 0) 10 q)
 
 -- ---- a turn of a walk that is at `at`, with `n` bytes before the next LF
 

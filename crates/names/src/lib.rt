@@ -11,6 +11,7 @@ ghost use Rattle.entries.specs.Entries.{entriesIn};
 ghost use Rattle.parser.specs.Answers.{outputOf};
 ghost use Rattle.name_index.specs.Index.{ordinalIn, slotCount, index, looks};
 ghost use Rattle.sq_index.specs.Filled.{namesIn, Told, slotOf, looksOf};
+ghost use Rattle.names.specs.Ends.{ends};
 ghost use Rattle.names.specs.Batch.{asked, summed, batching};
 ghost use Rattle.names.specs.Answers.{namesOf, resultsOf, slotsOf};
 
@@ -20,22 +21,36 @@ pub enum NamesAnswer {
     Counted(usize, u64),
 }
 
+// How many LFs a list has: in 32 bits, so that a processor can take more bytes at once.
+fn count_ends(list: &[u8]) -> u32
+    requires { ⌜ length (now list) ≤ 16777216 ⌝ }
+    ensures { λ r. ⌜ r ≡ ends (now (list .entry)) ⌝ }
+{
+    let mut i: usize = 0;
+    let mut n: u32 = 0;
+    while i < list.len() {
+        if list[i] == b'\n' {
+            n += 1;
+        }
+        i += 1;
+    }
+    n
+}
+
 // How many names a list has: each LF ends one, and bytes after the last LF are one name more.
 fn count_names(list: &[u8]) -> usize
     requires { ⌜ length (now list) ≤ 16777216 ⌝ }
     ensures { λ r. ⌜ r ≡ length (asked (now (list .entry))) ⌝ }
 {
-    let mut at: usize = 0;
-    let mut n: usize = 0;
-    while at < list.len() {
-        let end = at + text::upto(&list[at..], b'\n');
-        if end == list.len() {
-            return n + 1; // no LF is left
-        }
-        n += 1;
-        at = end + 1; // an empty name may follow
+    let n = count_ends(list) as usize;
+    let len = list.len();
+    if len == 0 {
+        return n;
     }
-    n
+    if list[len - 1] == b'\n' {
+        return n;
+    }
+    n + 1 // no LF ends the last
 }
 
 // Looks for each name of a list: the slot with it goes into `out`, and the slots that were looked at are summed.
@@ -56,7 +71,7 @@ fn find_slots(text: &[u8], slots: &[u32], list: &[u8], out: &mut [u32]) -> u64
         out[j] = found.slot;
         looks += found.looks as u64;
         j += 1;
-        at = end + 1;
+        at = end + 1; // an empty name may follow
     }
     looks
 }

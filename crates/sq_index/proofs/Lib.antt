@@ -1,6 +1,7 @@
 pub mod Turns
 pub mod Mapped
 pub mod Looking
+pub mod Same
 pub mod Recoded
 pub mod Named
 pub mod Found

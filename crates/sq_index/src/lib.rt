@@ -162,22 +162,30 @@ fn ends(text: &[u8], at: usize) -> bool
     text[at] < 32
 }
 
-// Whether the name at `at` is `name`.
+// Whether the name at `at` is `name`: first whether it ends there, and then byte by byte.
 fn is_at(text: &[u8], at: usize, name: &[u8]) -> bool
     requires { ⌜ at + length (now name) ≤ 67108864 ⌝ }
     ensures { λ r. ⌜ r ≡ same (now (name .entry)) (word (drop at (now (text .entry)))) ⌝ }
 {
+    let end = at + name.len();
+    if text.len() < end {
+        return name.len() == 0; // behind the text there is but the empty name
+    }
+    if !ends(text, end) {
+        return false; // a name that goes on
+    }
     let mut i: usize = 0;
     while i < name.len() {
-        if ends(text, at + i) {
-            return false; // a name that only starts `name`
-        }
-        if text[at + i] != name[i] {
+        let b = name[i];
+        if text[at + i] != b {
             return false;
+        }
+        if b < 32 {
+            return false; // a name that ended before
         }
         i += 1;
     }
-    ends(text, at + i)
+    true
 }
 
 // Whether a slot tells a name with this mark: only where the marks are equal the text is looked at.
