@@ -45,7 +45,7 @@ enum {
     SAM_HEADER_BAD_VERSION = 11,   /* VN of HD */
     SAM_HEADER_BAD_LENGTH = 12,    /* LN of SQ: no digit, or too large */
     SAM_HEADER_ZERO_LENGTH = 13,   /* LN of SQ is 0 */
-    SAM_HEADER_REPEATED_TAG = 14,
+    SAM_HEADER_REPEATED_TAG = 14,  /* in a line, at version 1.6 or more alone */
     SAM_HEADER_NO_KEY = 15,        /* VN, SN or ID missing */
     SAM_HEADER_NO_LENGTH = 16,     /* LN of SQ missing */
     SAM_HEADER_LATE_HD = 17,       /* HD after another line */

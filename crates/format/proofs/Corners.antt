@@ -1,4 +1,5 @@
--- Document 01's cases that are marked (P), as one table and one statement: every call in it gives the answer beside it.
+-- Document 01's cases that are marked (P), and document 02's headers without a readable version, as one table and one statement: every call in
+-- it gives the answer beside it.
 use Prim.Native.Nat.{ℕ}
 use Prim.Native.Char.{code}
 use Prim.Native.String.{String, [] as nil, _∷_ as cons}
@@ -15,12 +16,12 @@ ascii : String → List ℕ
 ascii nil = []
 ascii (cons c s) = code c ∷ ascii s
 
--- a call, its arguments, and its answer; calls over a catalogue are given the one that reading the text gives
+-- a call, its arguments, and its answer; calls over a catalogue are given the one that reading the text gives, and adding a prefix and fields
 pub data Case : Type 0 where
   reading : String → Answer (List ℕ) → Case
   looking : String → ℕ → ℕ → ℕ → ℕ → String → Case
   leafing : String → Answer (List ℕ × ℕ) → Case
-  adding : String → String → Answer String → Case
+  adding : String → String → String → Answer String → Case
 
 -- ---- the test
 
@@ -44,7 +45,7 @@ unfolding ascii sameAnswer own same calls.reading calls.looking calls.leafing ca
 holds (reading t a) = sameAnswer same (calls.reading (ascii t) 1000) a
 holds (looking t k i a b v) = same (calls.looking (ascii t) (own (ascii t)) k i a b []) (ascii v)
 holds (leafing t a) = sameAnswer (λ x y. same (x .0) (y .0) && eqb (x .1) (y .1)) (calls.leafing (ascii t) (own (ascii t)) 1000) a
-holds (adding t p a) = sameAnswer (λ x y. same x (ascii y)) (calls.adding (ascii t) (own (ascii t)) (ascii p) [] 1000) a
+holds (adding t p f a) = sameAnswer (λ x y. same x (ascii y)) (calls.adding (ascii t) (own (ascii t)) (ascii p) (ascii f) 1000) a
 
 pub holdAll : List Case → Bool
 unfolding holds
@@ -78,11 +79,15 @@ cases =
     ∷ reading "@HD\tVN:1.6\tSO:unsorted\tSO:coordinate\n" (no 14 0)
     ∷ reading "@HD\tVN:1.5\tVN:1.6\n" (yes one-six)
     ∷ leafing pg0-pg3 (yes (3 ∷ 2 ∷ [], 3))
-    ∷ adding pg0-pg3 "x" (yes "@PG\tID:pg0\n@PG\tID:pg1\tPP:pg0\n@PG\tID:pg2\tPP:pg1\n@PG\tID:pg3\n@PG\tID:x\tPP:pg3\n@PG\tID:x-pg2\tPP:pg2\n")
-    ∷ adding pg0-pg3 "pg0" (yes "@PG\tID:pg0\n@PG\tID:pg1\tPP:pg0\n@PG\tID:pg2\tPP:pg1\n@PG\tID:pg3\n@PG\tID:pg0-pg3\tPP:pg3\n@PG\tID:pg0-pg2\tPP:pg2\n")
+    ∷ adding pg0-pg3 "x" "" (yes "@PG\tID:pg0\n@PG\tID:pg1\tPP:pg0\n@PG\tID:pg2\tPP:pg1\n@PG\tID:pg3\n@PG\tID:x\tPP:pg3\n@PG\tID:x-pg2\tPP:pg2\n")
+    ∷ adding pg0-pg3 "pg0" "" (yes "@PG\tID:pg0\n@PG\tID:pg1\tPP:pg0\n@PG\tID:pg2\tPP:pg1\n@PG\tID:pg3\n@PG\tID:pg0-pg3\tPP:pg3\n@PG\tID:pg0-pg2\tPP:pg2\n")
     ∷ leafing "@PG\tID:c\tPP:a\n@PG\tID:a\tPP:b\n@PG\tID:b\tPP:a\n" (no 23 0)
     ∷ leafing "@PG\tID:a\tPP:a\n" (no 23 0)
     ∷ leafing "@PG\tID:a\tPP:b\n" (no 22 0)
+    ∷ looking "@RG\tID:a\tPL:x\tPL:y\n" 3 0 80 76 "y"
+    ∷ reading "@HD\tSO:a\tSO:b\n" (no 15 0)
+    ∷ reading "@HD\tSO:a\tSO:b\tVN:x\n" (no 11 0)
+    ∷ adding "@PG\tID:a\tPN:x\tPN:y\n" "b" "\tCL:x\tCL:y" (no 26 0)
     ∷ []
 
 -- ---- the statement

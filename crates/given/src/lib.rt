@@ -1,4 +1,5 @@
-// What a caller gives to have programs added: an ID prefix, and fields as in the body of a PG line, each with its leading tab.
+// What a caller gives to have programs added: an ID prefix, and fields as in the body of a PG line, each with its leading tab. The header's
+// rule for repeated tags is not asked: a tag that is given twice is refused under every header.
 use format::Kind;
 ghost use mathlib.Core.Path.{_≡_};
 ghost use mathlib.Core.Bool.{not, _||_};
@@ -35,7 +36,7 @@ fn is_barred(src: &[u8], a: u8, b: u8) -> bool
     tags::occurs(src, a, b)
 }
 
-// Whether something is wrong with the fields: not in form, ID among them, or a tag twice.
+// Whether something is wrong with the fields: not in form, ID among them, or a tag twice, which no header allows here.
 fn is_marred(fields: &[u8]) -> bool
     ensures { λ r. ⌜ r ≡ marred (given (now (fields .entry))) ⌝ }
 {

@@ -1,10 +1,10 @@
 // Runs a list of texts through `parser::read` and `parser::check`, and writes what it got.
 //
 // A line of the input is a case: the text in hex (`-` for the empty one), a space, and the room for
-// the catalogue. 123 cases are the corners of document 01: each refusal of reading but 1, on both
-// sides, 1,024 programs and one more. 107 are longer texts. What is expected of the longer ones comes
-// from a model written from document 01 alone, and of the others from document 01 by hand: none of
-// it from this program.
+// the catalogue. 125 cases are the corners of documents 01 and 02: each refusal of reading but 1, on both
+// sides, 1,024 programs and one more. 139 are longer texts. What is expected of the longer ones comes
+// from a model written from these documents alone, and of the others from them by hand: none of it from
+// this program.
 //
 // A line of the output is `refused N line L`, or `read N` and the catalogue in hex. Then `kept` says
 // that no byte of the buffer has changed but those of the catalogue, in the room or behind it, and

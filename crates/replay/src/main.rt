@@ -1,12 +1,13 @@
 // Replays stored answers: each line of the files that its arguments name is a question with its answer, and what the library answers is
 // compared with it. One line of counts is written for each file.
 //
-// `vectors.txt`: 856 questions to `count`, `key`, `length`, `field`, `roots`, `leaves`, `add` and `answer`, answered by a model written from
+// `vectors.txt`: 853 questions to `count`, `key`, `length`, `field`, `roots`, `leaves`, `add` and `answer`, answered by a model written from
 // document 01 alone.
 // `chains.txt`: chains, forests, dangling and looping headers, stale catalogues, the corners of each call and of adding, written by
 // `oracle/chains` from document 01's rules; no answer in it comes from this library or from the crate.
-// `oracle.txt`: 546 texts, answered by noodles-sam 0.93.0 (`oracle/README.md`, "The fixed sample").
+// `oracle.txt`: 534 texts, answered by noodles-sam 0.93.0 (`oracle/README.md`, "The fixed sample").
 // `names.txt`: questions to `names`, answered by a model written from document 02 alone.
+// `requests.txt`: questions to every call, answered by that model, request by request.
 //
 // Words are parted by one space; byte strings are in hex, `-` for none. A line is a call, its text, its catalogue (`=` for the one that
 // `parser::read` gives), its other arguments, and the answer:
@@ -19,9 +20,10 @@
 //     add TEXT KEPT ROOM PREFIX FIELDS ok BYTES
 //     names TEXT KEPT LIST WORK ROOM ok ORDINALS INDEX LOOKS
 // or `refused NUMBER LINE` in place of `ok ..`. ORDINALS have four hex digits each; those of names have eight, and so have the slots of
-// INDEX; LOOKS is `-` where it is not stored. `program TEXT BYTES` has what the program on standard input writes. A line of the oracle has
-// its text first; each such text is read, tidied, and asked for its roots and leaves. Of an output that is lent every element is looked at:
-// what is not the answer must be as it was. Where the field call's answer stands no program can see: its contract says it.
+// INDEX; LOOKS is `-` where it is not stored. `program TEXT BYTES` has what the program on standard input writes, `tidy TEXT ROOM ok BYTES` the
+// tidy text. A line of the oracle has its text first; each such text is read, tidied, and asked for its roots and leaves. Of an output that is
+// lent every element is looked at: what is not the answer must be as it was. Where the field call's answer stands no program can see: its
+// contract says it.
 //
 // A line that starts with `!` holds a wrong answer, and the program must find it wrong: so it is seen that each comparison can fail. One that
 // starts with `#` is a note.
@@ -55,19 +57,21 @@ const NAMES: usize = 7;
 
 const PROGRAM: usize = 8;
 
-const REFUSED: usize = 9;
+const TIDIED: usize = 9;
 
-const ACCEPTED: usize = 10;
+const REFUSED: usize = 10;
 
-const UNWRITABLE: usize = 11;
+const ACCEPTED: usize = 11;
 
-const UNKNOWN: usize = 12;
+const UNWRITABLE: usize = 12;
 
-const WRONG: usize = 13;
+const UNKNOWN: usize = 13;
 
-const MARKED: usize = 14;
+const WRONG: usize = 14;
 
-const FOUND: usize = 15;
+const MARKED: usize = 15;
+
+const FOUND: usize = 16;
 
 // Whether `s` is `n` in decimal, without leading zeros.
 fn is_number(s: &[u8], n: u64) -> bool {
@@ -347,7 +351,7 @@ fn is_call(line: &[u8], asked: usize, text: &[u8], kept: &[u8], out: &mut [u32])
     }
 }
 
-// Whether a call answers as the line says.
+// Whether a call over text and catalogue answers as the line says.
 fn is_answer(line: &[u8], asked: usize, text: &[u8]) -> bool {
     let mut kept = io::large_buffer();
     let n = keep(cases::word(line, 2), text, &mut kept);
@@ -368,6 +372,24 @@ fn tidied(text: &[u8], out: &mut [u8]) -> Answer
     ensures { λ _. ⌜ length (now (out .exit)) ≡ length (now (out .entry)) ⌝ }
 {
     tidying::tidy(text, out)
+}
+
+// Whether the tidy text is the line's, in an output of as many bytes as it says.
+fn is_tidied(line: &[u8], text: &[u8], out: &mut [u8]) -> bool {
+    let room = cases::least(cases::number(cases::word(line, 2)), out.len());
+    match tidied(text, &mut out[..room]) {
+        Answer::Refused(n, no) => is_refusal(line, 3, n, no) && cases::is_untouched(out),
+        Answer::Count(n) => is_ok(line, 3, 1) && is_text(cases::word(line, 4), out, n),
+    }
+}
+
+// Whether a call over a text alone answers as the line says.
+fn is_written(line: &[u8], asked: usize, text: &[u8]) -> bool {
+    if asked == PROGRAM {
+        return is_program(line, text);
+    }
+    let mut out = bytes();
+    is_tidied(line, text, &mut out)
 }
 
 // Whether reading refuses a text as the crate does, and writes nothing.
@@ -497,6 +519,9 @@ fn asked_by(line: &[u8]) -> usize {
     if text::same(call, b"program") {
         return PROGRAM;
     }
+    if text::same(call, b"tidy") {
+        return TIDIED;
+    }
     judged_by(cases::word(line, 1))
 }
 
@@ -521,9 +546,9 @@ fn is_right(line: &[u8], asked: usize) -> bool {
         let n = cases::decode(cases::word(line, 1), &mut text);
         return is_answer(line, asked, &text[..n]);
     }
-    if asked == PROGRAM {
+    if asked < REFUSED {
         let n = cases::decode(cases::word(line, 1), &mut text);
-        return is_program(line, &text[..n]);
+        return is_written(line, asked, &text[..n]);
     }
     let n = cases::decode(cases::word(line, 0), &mut text);
     is_sample(line, asked, &text[..n])
@@ -647,7 +672,7 @@ fn print_count(name: &[u8], n: u32) {
 
 // Writes how many lines ask each call.
 fn print_asked(tally: &[u32])
-    requires { ⌜ length (now tally) ≡ 16 ⌝ }
+    requires { ⌜ length (now tally) ≡ 17 ⌝ }
 {
     print_count(b" count ", tally[COUNT]);
     print_count(b" key ", tally[KEY]);
@@ -658,11 +683,12 @@ fn print_asked(tally: &[u32])
     print_count(b" add ", tally[ADDED]);
     print_count(b" names ", tally[NAMES]);
     print_count(b" program ", tally[PROGRAM]);
+    print_count(b" tidy ", tally[TIDIED]);
 }
 
 // Writes how many texts the crate judged in each way, and how many lines ask nothing.
 fn print_judged(tally: &[u32])
-    requires { ⌜ length (now tally) ≡ 16 ⌝ }
+    requires { ⌜ length (now tally) ≡ 17 ⌝ }
 {
     print_count(b" refused ", tally[REFUSED]);
     print_count(b" accepted ", tally[ACCEPTED]);
@@ -672,7 +698,7 @@ fn print_judged(tally: &[u32])
 
 // Writes how many answers were wrong, and how many of the marked lines were found.
 fn print_found(tally: &[u32])
-    requires { ⌜ length (now tally) ≡ 16 ⌝ }
+    requires { ⌜ length (now tally) ≡ 17 ⌝ }
 {
     print_number(b" wrong ", tally[WRONG]);
     print_number(b", known wrong found ", tally[FOUND]);
@@ -689,7 +715,7 @@ fn replay(place: usize) {
         os::fail(&name[..n]);
         return;
     }
-    let mut tally: [u32; 16] = [0; 16];
+    let mut tally: [u32; 17] = [0; 17];
     all_blocks(fd, &mut tally);
     libc::close(fd);
     io::write_all(STDOUT_FILENO, &name[..n]);

@@ -1,4 +1,4 @@
-// The rule for repeated tags: a header that announces a version below 1.6 may repeat a tag in a line, and any other header may not.
+// The rule for repeated tags: a header that announces 1.6 or a later version may not repeat a tag in a line, and any other header may.
 use field::Spelled;
 use format::Version;
 ghost use mathlib.Core.Path.{_≡_};
@@ -46,14 +46,14 @@ fn announced(line: &[u8]) -> Spelled
     Spelled::Invalid
 }
 
-// Whether a tag that comes twice in a line is refused: also where no version is announced.
+// Whether a tag that comes twice in a line is refused: never where no version is announced.
 pub fn is_strict(text: &[u8]) -> bool
     ensures { λ r. ⌜ r ≡ isStrict (announced (lines (now (text .entry)))) ⌝ }
 {
     let line = text::first_line(text);
     let len = line.len;
     match announced(&text[..len]) {
-        Spelled::Invalid => true,
+        Spelled::Invalid => false,
         Spelled::Is(version) => !version.is_below(Version::default()),
     }
 }

@@ -78,12 +78,27 @@ fn line_in_domain(line: &[u8]) -> bool {
             || line[3..].split(|&b| b == b'\t').skip(1).all(|piece| piece_in_domain(kind, piece)))
 }
 
+/// One or more digits, worth at most `max`.
+fn is_number(s: &[u8], max: u128) -> bool {
+    !s.is_empty()
+        && s.iter().all(u8::is_ascii_digit)
+        && s.iter().try_fold(0u128, |n, b| Some(10 * n + u128::from(b - b'0')).filter(|&n| n <= max)).is_some()
+}
+
+/// Two numbers of 32 bits with a dot between.
+fn is_version(s: &[u8]) -> bool {
+    let sides = s.iter().position(|&b| b == b'.').map(|i| (&s[..i], &s[i + 1..]));
+    sides.is_some_and(|(major, minor)| is_number(major, u32::MAX.into()) && is_number(minor, u32::MAX.into()))
+}
+
+/// Whether line 0 gives the repeat rule a version: it starts `@HD` tab, and its first piece that starts `VN:` has document 01's form.
+pub fn has_version(text: &[u8]) -> bool {
+    let line = spans(text).next().map_or(&b""[..], |(a, b)| &text[a..b]);
+    let first = line.strip_prefix(b"@HD\t").and_then(|l| l.split(|&b| b == b'\t').find_map(|p| p.strip_prefix(b"VN:")));
+    first.is_some_and(is_version)
+}
+
 fn piece_in_domain(kind: &[u8], piece: &[u8]) -> bool {
-    let number = |s: &[u8], max: u128| {
-        !s.is_empty()
-            && s.iter().all(u8::is_ascii_digit)
-            && s.iter().try_fold(0u128, |n, b| Some(10 * n + u128::from(b - b'0')).filter(|&n| n <= max)).is_some()
-    };
     let (Some(tag), rest) = (piece.get(..2), piece.get(2..).unwrap_or(b"")) else {
         return false; // a short tag
     };
@@ -97,11 +112,8 @@ fn piece_in_domain(kind: &[u8], piece: &[u8]) -> bool {
         return false;
     }
     match (kind, tag) {
-        (b"@HD", b"VN") => match value.iter().position(|&b| b == b'.') {
-            Some(i) => number(&value[..i], u32::MAX.into()) && number(&value[i + 1..], u32::MAX.into()),
-            None => false,
-        },
-        (b"@SQ", b"LN") => number(value, u64::MAX.into()) && value.iter().any(|&b| b != b'0'),
+        (b"@HD", b"VN") => is_version(value),
+        (b"@SQ", b"LN") => is_number(value, u64::MAX.into()) && value.iter().any(|&b| b != b'0'),
         _ => true,
     }
 }

@@ -104,28 +104,36 @@ fn number(line: &[u8], error: &str) -> u32 {
 /// The crate's answer to a text. UTF-8 texts go through its whole-text parser, others line by line; for UTF-8 both are run and
 /// must agree, since only the second tells the line.
 pub fn parse(text: &[u8]) -> Result<Header, Refused> {
-    let mut parser = Parser::default();
-    let mut refused: Option<(Refused, ParseError)> = None;
-    for (line, (a, b)) in spans(text).enumerate() {
-        if let Err(e) = parser.parse_partial(&text[a..b]) {
-            let error = format!("{e:?}");
-            let number = number(&text[a..b], &error);
-            refused = Some((Refused { number, line, error }, e));
-            break;
-        }
-    }
     let whole = str::from_utf8(text).ok().map(|s| s.parse::<Header>());
-    match refused {
-        Some((refused, e)) => {
+    match by_line(Parser::default(), text) {
+        Err((refused, e)) => {
             assert!(whole.is_none_or(|w| w == Err(e)), "whole and by line differ");
             Err(refused)
         }
-        None => {
-            let header = parser.finish();
+        Ok(header) => {
             assert!(whole.is_none_or(|w| w.as_ref() == Ok(&header)), "whole and by line differ");
             Ok(header)
         }
     }
+}
+
+/// The crate's answer to a text, line by line, where repeated tags are allowed unless line 0 says otherwise: an `@HD` line of
+/// 1.5 that it refuses comes before, and sets its rule all the same.
+pub fn parse_lax(text: &[u8]) -> Result<Header, Refused> {
+    let mut parser = Parser::default();
+    assert!(parser.parse_partial(b"@HD\tVN:1.5\t").is_err(), "a tag is missing");
+    by_line(parser, text).map_err(|(refused, _)| refused)
+}
+
+fn by_line(mut parser: Parser, text: &[u8]) -> Result<Header, (Refused, ParseError)> {
+    for (line, (a, b)) in spans(text).enumerate() {
+        if let Err(e) = parser.parse_partial(&text[a..b]) {
+            let error = format!("{e:?}");
+            let number = number(&text[a..b], &error);
+            return Err((Refused { number, line, error }, e));
+        }
+    }
+    Ok(parser.finish())
 }
 
 /// As the crate's `parse_partial` goes on after a refused line: the refusals, and what was accepted.

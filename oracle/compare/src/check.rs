@@ -4,7 +4,7 @@ use library::{Answer, Element, Lent, Refusal};
 #[cfg(feature = "names")]
 use oracle::index::{self, Index};
 use oracle::{
-    Header,
+    Header, Refused,
     inputs::{self, Rng},
 };
 
@@ -315,7 +315,7 @@ impl Checker {
 
     // Reads the text on both sides: the refusal, or the catalogue and the crate's records; none where there is nothing to go on with.
     fn read(&mut self, text: &[u8]) -> Option<Result<(Vec<u8>, Header), Refusal>> {
-        let theirs = oracle::parse(text);
+        let theirs = self.crates_answer(text);
         let need = theirs.as_ref().map(catalogue_len);
         let ours = library::read(text, self.bytes.lend(need.as_ref().map_or(40, |n| n + 9)));
         match (ours, theirs) {
@@ -341,6 +341,23 @@ impl Checker {
                 Some(Ok((catalogue, header)))
             }
         }
+    }
+
+    // The crate's answer. Where line 0 gives no readable version and it says 14, it is asked again with repeats allowed: that this
+    // library is asked to go on there is a known kind, and everything else must be as the crate then has it.
+    fn crates_answer(&mut self, text: &[u8]) -> Result<Header, Refused> {
+        let repeated = |r: &Result<Header, Refused>| r.as_ref().is_err_and(|t| t.number == 14);
+        let strict = oracle::parse(text);
+        if !repeated(&strict) || inputs::has_version(text) {
+            return strict;
+        }
+        let lax = oracle::parse_lax(text);
+        // It reads a version with a sign.
+        if repeated(&lax) {
+            return strict;
+        }
+        self.differ(Call::Read, Some(Kind::RepeatDefault), "a repeated tag is allowed; the crate: 14".into());
+        lax
     }
 
     // The catalogue that reading left, held to the crate's records.

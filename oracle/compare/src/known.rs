@@ -13,6 +13,7 @@ pub enum Kind {
     LengthZero,
     VersionSign,
     RepeatSign,
+    RepeatDefault,
     Programs,
     Dangling,
     CycleFirst,
@@ -22,14 +23,15 @@ pub enum Kind {
     Lenient,
 }
 
-pub const ALL: [(Kind, &str); 14] = [
+pub const ALL: [(Kind, &str); 15] = [
     (Kind::Size, "a text, or one to be written, over 16,777,216 bytes: 1; the crate has no limit"),
     (Kind::CommentReturn, "a CR inside a comment: 2; the crate keeps it"),
     (Kind::OtherReturn, "a CR inside another line: 2; the crate has another error for it"),
     (Kind::LengthPlus, "LN with a plus sign: 12; the crate reads `+8` as 8"),
     (Kind::LengthZero, "LN that starts with something else than a digit: 12; the crate says zero (13)"),
     (Kind::VersionSign, "HD's VN with a sign: 11; the crate reads `+1.6` as 1.6"),
-    (Kind::RepeatSign, "a signed first VN gives the repeat rule no version: 14; the crate reads it there too"),
+    (Kind::RepeatSign, "a signed first VN gives the repeat rule no version; the crate reads it there too (14)"),
+    (Kind::RepeatDefault, "a tag repeated where line 0 gives no readable version: its last value stands; the crate says 14"),
     (Kind::Programs, "a 1,025th program: 19; the crate has no limit"),
     (Kind::Dangling, "leaves or add where a PP names no program: 22; the crate panics"),
     (Kind::CycleFirst, "leaves or add where a PP names no program, after a cycle: 22; the crate says that there is a cycle"),
@@ -70,6 +72,10 @@ pub fn reading(text: &[u8], ours: Refusal, theirs: Option<&Refused>) -> Option<K
         2 if !line.contains(&b'\r') => None,
         2 if line.starts_with(b"@CO\t") => here.is_none().then_some(Kind::CommentReturn),
         2 => (here.is_some() || LENIENT).then_some(Kind::OtherReturn),
+        6 | 8..=11 if here == Some(14) => {
+            let first = values(line, b"VN:").next();
+            (at == 0 && line.starts_with(b"@HD\t") && first.is_some_and(signed_version)).then_some(Kind::RepeatSign)
+        }
         11 => (line.starts_with(b"@HD\t") && values(line, b"VN:").any(signed_version)).then_some(Kind::VersionSign),
         12 if line.starts_with(b"@SQ\t") => {
             if values(line, b"LN:").any(|v| v.first() == Some(&b'+')) {
@@ -78,10 +84,6 @@ pub fn reading(text: &[u8], ours: Refusal, theirs: Option<&Refused>) -> Option<K
                 let bare = values(line, b"LN:").any(|v| !v.first().is_some_and(u8::is_ascii_digit));
                 (bare && here == Some(13)).then_some(Kind::LengthZero)
             }
-        }
-        14 => {
-            let first = values(line, b"VN:").next();
-            (at == 0 && line.starts_with(b"@HD\t") && first.is_some_and(signed_version)).then_some(Kind::RepeatSign)
         }
         19 => {
             let programs = spans(text).take(at + 1).filter(|&(a, b)| text[a..b].starts_with(b"@PG")).count();

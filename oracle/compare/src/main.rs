@@ -28,6 +28,7 @@ struct Run {
     checker: Checker,
     texts: u64,
     inside: u64,
+    repeating: u64,
     known: BTreeMap<Kind, (u64, Case)>,
     unlisted: Vec<(Case, Difference)>,
     unlisted_count: u64,
@@ -59,9 +60,10 @@ fn replay(case: &Case) -> String {
     if o.len() > 2_000 { "(too long to print)".into() } else { o }
 }
 
-// On the domain no difference in reading or tidying is a known one.
+// On the domain no difference in reading or tidying is a known one, but for the size and for repeats without a version.
 fn judged(case: &Case, mut found: Vec<Difference>) -> Vec<Difference> {
-    if found.iter().any(|d| matches!(d.call, tally::Call::Read | tally::Call::Tidy) && d.kind.is_some_and(|k| k != Kind::Size))
+    let outside = |k: Kind| !matches!(k, Kind::Size | Kind::RepeatDefault);
+    if found.iter().any(|d| matches!(d.call, tally::Call::Read | tally::Call::Tidy) && d.kind.is_some_and(outside))
         && in_domain(&case.text)
     {
         for d in &mut found {
@@ -86,8 +88,11 @@ impl Run {
             eprintln!("{}", replay(case));
         }
         self.texts += 1;
-        self.inside += u64::from(in_domain(&case.text));
         let found = compared(&mut self.checker, case);
+        let repeating = found.iter().any(|d| d.kind == Some(Kind::RepeatDefault));
+        let inside = in_domain(&case.text);
+        self.inside += u64::from(inside && !repeating);
+        self.repeating += u64::from(inside && repeating);
         if found.is_empty() {
             return;
         }
@@ -307,6 +312,7 @@ fn main() -> ExitCode {
         checker: Checker::default(),
         texts: 0,
         inside: 0,
+        repeating: 0,
         known: BTreeMap::new(),
         unlisted: Vec::new(),
         unlisted_count: 0,
@@ -322,6 +328,7 @@ fn main() -> ExitCode {
         println!("{phase}: {} texts, {:.1} s", run.texts - before, at.elapsed().as_secs_f64());
     }
     println!("\n{} texts, {} of them in the domain, {:.0} s.", run.texts, run.inside, began.elapsed().as_secs_f64());
+    println!("{} more in the domain but for a tag repeated without a version.", run.repeating);
     print!("{}", run.checker.tally);
     println!("\nKnown kinds of difference, with the smallest input:");
     for (kind, meaning) in known::ALL {

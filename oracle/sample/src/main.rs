@@ -1,15 +1,15 @@
 //! sample: a fixed sample of the crate's answers, for a program that has no Rust at hand to replay.
 //!
 //! sample          writes it to standard output
-//! sample FILE     exit status 1 if FILE, without the lines that start with `!`, is not what it would write
+//! sample FILE     exit status 1 if FILE, without the lines that start with `!` or `#`, is not what it would write
 //!
 //! One case to a line, words with one space between; byte strings in lower-case hex, `-` for no bytes:
 //!     TEXT refused NUMBER LINE              document 01's number for the crate's error, and the line, in decimal
 //!     TEXT accepted TIDY ROOTS LEAVES       the crate's written text
 //!     TEXT unwritable LINE ROOTS LEAVES     read, but its writer refuses a name: refusal 24 on that line
 //! ROOTS and LEAVES are program ordinals, two bytes each, the higher first; LEAVES is `cycle` where the crate says so.
-//! A text on which document 01 is known to differ from the crate, or where a PP names no program or a walk of the crate's leaves
-//! never ends, is not in it.
+//! A text on which document 01 or 02 is known to differ from the crate, or where a PP names no program or a walk of the crate's
+//! leaves never ends, is not in it.
 
 use std::{collections::HashSet, fmt::Write, process::ExitCode};
 
@@ -62,7 +62,10 @@ impl Sample {
         }
         let (number, answer) = answer(text)?;
         self.seen.insert(text.to_vec());
-        writeln!(self.out, "{} {answer}", hex(text)).unwrap();
+        // Where line 0 gives no readable version the crate alone refuses a repeated tag.
+        if number != 14 || inputs::has_version(text) {
+            writeln!(self.out, "{} {answer}", hex(text)).unwrap();
+        }
         Some(number)
     }
 
@@ -115,8 +118,8 @@ fn main() -> ExitCode {
         None => print!("{now}"),
         Some(file) => {
             let held = std::fs::read_to_string(&file).unwrap_or_default();
-            // Such a line holds a wrong answer, for the program that replays the file to find.
-            let held: String = held.split_inclusive('\n').filter(|l| !l.starts_with('!')).collect();
+            // Such a line holds a wrong answer, for the program that replays the file to find, or it is a note.
+            let held: String = held.split_inclusive('\n').filter(|l| !l.starts_with(['!', '#'])).collect();
             if held != now {
                 eprintln!("sample: {file} is not the crate's answers now");
                 return ExitCode::FAILURE;

@@ -1,6 +1,6 @@
 -- `rules::is_strict` meets its contract: line 0 is the first line, and a text with none announces nothing.
 use mathlib.Core.Path.{_≡_, refl, sym, ap, _∙_}
-use mathlib.Core.Bool.{true, not}
+use mathlib.Core.Bool.{false, not}
 use mathlib.Core.Option.{Option, none, some}
 use native.Mathlib.Omega.{arith}
 use borrow.Author.Needs.{needs}
@@ -17,10 +17,10 @@ use Rattle.rules.proofs.is_strict.Statement.{statement}
 use Rattle.rules.proofs.is_strict.Tie as tie
 
 -- what an answer says of the version
-none-strict : (o : Option Version) → Invalid ≡ spelledOf o → true ≡ isStrict o
+none-lax : (o : Option Version) → Invalid ≡ spelledOf o → false ≡ isStrict o
 unfolding spelledOf isStrict
-none-strict none e = refl
-none-strict (some v) e = cc
+none-lax none e = refl
+none-lax (some v) e = cc
 
 some-strict : (o : Option Version) (v : Version) → Is v ≡ spelledOf o → not (isBelow v (record { major = 1; minor = 6 })) ≡ isStrict o
 unfolding spelledOf isStrict
@@ -59,7 +59,7 @@ is-below-requires : tie.Need-is-below-requires
 is-below-requires c κs = search needs
 
 returns : tie.Need-returns
-returns c = none-strict _ (sym (c .enum-told .given .1) ∙ told (c .before .before))
+returns c = none-lax _ (sym (c .enum-told .given .1) ∙ told (c .before .before))
 
 returns-2 : tie.Need-returns-2
 returns-2 c =
