@@ -4,11 +4,11 @@ use mathlib.Core.Path.{_≡_, refl, sym, ap, subst, _∙_}
 use mathlib.Core.Bool.{Bool, true, false}
 use mathlib.Core.List.{List, [], _∷_, _++_, map}
 use native.Mathlib.Omega.{arith}
-use lib.ListN.{length, take, drop, length-drop, drop-of-length-le}
+use lib.ListN.{length, drop, length-drop, drop-of-length-le}
 use lib.Seq.{drop-drop}
 use lib.Dec.{ltb}
 use borrow.Author.Tests.{ltb-true, ltb-false}
-use Rattle.format.specs.Lines.{Piece, lines, linesFrom}
+use Rattle.format.specs.Lines.{lines, linesFrom}
 use Rattle.format.specs.Fields.{Field}
 use Rattle.format.specs.Records.{Record, header, reference, group, program, comment, line, read, others}
 use Rattle.format.specs.Reading.{readText, accept}

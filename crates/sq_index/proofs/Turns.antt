@@ -1,5 +1,5 @@
 -- Walks from one SQ entry to the next: where it stands, how many there are, and slots that are filled with their names.
-use Prim.Native.Nat.{ℕ, suc, _+_, _≤_, _<_}
+use Prim.Native.Nat.{ℕ, suc, _+_, _≤_}
 use mathlib.Core.Path.{_≡_, refl, sym, ap, _∙_}
 use mathlib.Core.Bool.{Bool, true, false, cond}
 use mathlib.Core.List.{List, [], _∷_}
@@ -9,7 +9,6 @@ use lib.ListN.{length, getD, drop, length-drop}
 use lib.Seq.{drop-drop, drop-cons}
 use lib.Dec.{eqb}
 use Rattle.entries.specs.declared.Entry.{Entry}
-use Rattle.entries.specs.declared.Entry.the-variants.{End, Header, ReferenceSequence, ReadGroup, Program, Comment, Field}
 use Rattle.entries.specs.Entries.{kindOf, kindSize, sizeOf, bodied, entryOf, entriesIn, entriesBefore, sizes, counted}
 use Rattle.entries.proofs.Walk.{turn-end, turn-on, turn-within}
 use Rattle.lookup.specs.Lookup.{entriesFrom, front}

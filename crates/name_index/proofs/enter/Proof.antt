@@ -1,6 +1,6 @@
 -- `name_index::enter` meets its contract: the slot that is free holds the value.
 use Prim.Native.Nat.{_<_}
-use mathlib.Core.Path.{_≡_, ap}
+use mathlib.Core.Path.{ap}
 use native.Mathlib.Omega.{arith}
 use borrow.Author.Needs.{needs}
 use lib.ListN.{length, set}

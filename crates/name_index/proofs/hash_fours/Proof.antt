@@ -1,8 +1,7 @@
 -- `name_index::hash_fours` meets its contract: the number of the bytes that were passed.
-use Prim.Native.Nat.{ℕ, _+_, _*_, _/_, _%_, _-_, _≤_, _<_}
+use Prim.Native.Nat.{_*_, _/_, _%_, _-_, _≤_}
 use mathlib.Core.Path.{_≡_, refl, sym, ap, _∙_}
 use native.Mathlib.Omega.{arith}
-use borrow.Author.Needs.{needs}
 use lib.ListN.{length, take, drop}
 use lib.Seq.{take-add}
 use Rattle.name_index.specs.Index.{hashFrom}

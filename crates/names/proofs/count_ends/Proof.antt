@@ -1,9 +1,8 @@
 -- `names::count_ends` meets its contract: the LFs that were passed, and those that are left.
 use Prim.Native.Nat.{_+_, _-_, _≤_}
-use mathlib.Core.Path.{_≡_, _∙_}
+use mathlib.Core.Path.{_≡_}
 use mathlib.Core.Logic.{⊎-elim}
 use native.Mathlib.Omega.{arith}
-use borrow.Author.Needs.{needs}
 use lib.ListN.{length, drop}
 use Rattle.names.specs.Ends.{ends}
 use Rattle.names.proofs.Asked.{ends-none, ends-one, ends-on}

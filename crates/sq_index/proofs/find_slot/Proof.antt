@@ -1,7 +1,7 @@
 -- `sq_index::find_slot` meets its contract: what looking along the slots that are left finds is what looking along all finds.
 use Prim.Native.Nat.{ℕ, _+_, _-_, _/_, _%_, _≤_, _<_}
 use mathlib.Core.Path.{_≡_, refl, sym, ap, _∙_}
-use mathlib.Core.Bool.{Bool, _&&_}
+use mathlib.Core.Bool.{_&&_}
 use mathlib.Core.List.{List}
 use native.Mathlib.Omega.{arith}
 use native.Mathlib.Nat.{mod-lt}
@@ -10,7 +10,7 @@ use lib.ListN.{length, getD, drop}
 use lib.Dec.{eqb}
 use Rattle.format.specs.Bytes.{same}
 use Rattle.key_index.specs.Word.{word}
-use Rattle.name_index.specs.Index.{absent, hashFrom, first, path, looked}
+use Rattle.name_index.specs.Index.{absent, first, path, looked}
 use Rattle.sq_index.specs.Filled.{markOf, says, landing, landed, slotOf, looksOf}
 use Rattle.name_index.proofs.Path.{first-lt, path-length, path-at}
 use Rattle.name_index.proofs.SlotCount.{power-some}

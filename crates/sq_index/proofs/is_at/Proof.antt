@@ -1,11 +1,11 @@
 -- `sq_index::is_at` meets its contract: a name that ends there, and then what is left of both decides.
 use Prim.Native.Nat.{ℕ, _+_, _-_, _≤_, _<_}
-use mathlib.Core.Path.{_≡_, refl, sym, ap, _∙_}
+use mathlib.Core.Path.{_≡_, sym, ap, _∙_}
 use mathlib.Core.Bool.{true, false}
 use native.Mathlib.Omega.{arith}
 use borrow.Author.Needs.{needs}
 use borrow.Author.Tests.{not-true, not-false}
-use lib.ListN.{length, drop, getD}
+use lib.ListN.{length, drop}
 use Rattle.format.specs.Bytes.{same, none?}
 use Rattle.key_index.specs.Word.{word}
 use Rattle.key_index.proofs.Word.{same-none}

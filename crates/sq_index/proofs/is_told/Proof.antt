@@ -1,8 +1,7 @@
 -- `sq_index::is_told` meets its contract: the mark first, then the name.
 use Prim.Native.Nat.{_-_, _/_, _%_}
-use mathlib.Core.Path.{_≡_, sym, ap, _∙_}
+use mathlib.Core.Path.{sym, ap, _∙_}
 use mathlib.Core.Bool.{_&&_}
-use native.Mathlib.Omega.{arith}
 use borrow.Author.Tests.{eq-eqb, ne-eqb}
 use lib.ListN.{drop}
 use Rattle.format.specs.Bytes.{same}

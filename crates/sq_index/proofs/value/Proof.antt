@@ -1,8 +1,7 @@
 -- `sq_index::value` meets its contract: the ordinal, or the offset and the mark, plus one.
-use Prim.Native.Nat.{_+_, _*_, _%_, _<_}
+use Prim.Native.Nat.{_+_, _*_, _<_}
 use mathlib.Core.Path.{ap, _∙_}
 use native.Mathlib.Omega.{arith}
-use native.Mathlib.Nat.{mod-lt}
 use native.Mathlib.Numerals.{add-one}
 use borrow.Author.Needs.{needs}
 use Rattle.sq_index.specs.Filled.{markOf, valueOf}
