@@ -289,19 +289,20 @@ pub fn is_later(b: u8) -> bool
     class_of(b) != NEVER
 }
 
-// Whether `s` can be written as a reference name.
+// Whether `s` can be written as a reference name. The table is laid down once for all of its bytes.
 pub fn is_name(s: &[u8]) -> bool
     ensures { λ r. ⌜ r ≡ isName (now (s .entry)) ⌝ }
 {
     if s.len() == 0 {
         return false;
     }
-    if !is_first(s[0]) {
+    let classes = CLASSES;
+    if classes[s[0] as usize] != ANYWHERE {
         return false;
     }
     let mut i: usize = 1;
     while i < s.len() {
-        if !is_later(s[i]) {
+        if classes[s[i] as usize] == NEVER {
             return false;
         }
         i += 1;
