@@ -1,13 +1,14 @@
 //! bench: the library's calls timed: beside the crate on headers as tools write them, and alone on texts made to be slow.
 //!
 //! bench [--rounds N] [FOLDER]          the first table
+//! bench rows WORD                      its rows that have this word in their names
 //! bench worst [WORD]                   the second table (`worst.rs`), or its rows that have this word in their names
 //! bench names [--rounds N] [FOLDER]    the third table (`names.rs`), where the archive has the call
 //!
 //! FOLDER has real headers, `*.sam` (default ../shared/headers beside the repository).
 //!
 //! A row of the first table is a text: its name and bytes, then library/crate for each call, the library's time for a line of
-//! reading in ns, and how often all ran. Both sides take the same bytes in the same process, one after the other, and the best
+//! reading and of tidying in ns, and how often all ran. Both sides take the same bytes in the same process, one after the other, and the best
 //! time of each counts: of N times (default 100), of fewer where ten seconds are over, but of three at least.
 //!
 //!   read, check, count    against the crate's whole-text parser; here and below dropping its header is not timed
@@ -22,6 +23,7 @@
 //!   N SQ, random          with names of twelve letters and digits
 //!   N SQ, assembler       with names as `NODE_12_length_4711_cov_9.3`
 //!   200000 short SQ       with SN and LN alone
+//!   20000 SQ, names of N  the same, with names of as many letters and digits
 //!   20000 RG              of five fields
 //!   1024 chained PG       after 20,000 SQ of five fields; one more may not be added (19)
 
@@ -126,7 +128,11 @@ fn row(name: &str, bytes: &[u8], rounds: usize) {
             Err(r) => print!("{:>9}", format!("({})", r.number)),
         }
     }
-    println!("{:>9.0}{ran:>9}", best[0].0.as_nanos() as f64 / oracle::spans(bytes).count().max(1) as f64);
+    let lines = oracle::spans(bytes).count().max(1) as f64;
+    for (ours, _) in [best[0], best[CALLS.len() - 1]] {
+        print!("{:>9.0}", ours.as_nanos() as f64 / lines);
+    }
+    println!("{ran:>9}");
 }
 
 /// The kind of processor, as the system tells it.
@@ -153,7 +159,7 @@ fn main() -> ExitCode {
             return ExitCode::from(2);
         }
         ["worst"] | ["worst", _] if !many => (0, None),
-        [] => (100, Some(HEADERS)),
+        [] | ["rows", _] => (100, Some(HEADERS)),
         [folder] if !folder.starts_with('-') => (100, Some(folder)),
         ["--rounds", n] if n.parse::<usize>().is_ok() => (n.parse().unwrap(), Some(HEADERS)),
         ["--rounds", n, folder] if n.parse::<usize>().is_ok() => (n.parse().unwrap(), Some(folder)),
@@ -176,8 +182,14 @@ fn main() -> ExitCode {
     for (call, _) in CALLS {
         print!("{call:>9}");
     }
-    println!("{:>9}{:>9}", "ns/line", "best of");
-    texts::made(&mut |name, text| row(name, text, rounds));
-    texts::found(Path::new(folder), &mut |name, text| row(name, text, rounds));
+    println!("{:>9}{:>9}{:>9}", "ns read", "ns tidy", "best of");
+    let word = if let ["rows", word] = *args { word } else { "" };
+    let mut asked = |name: &str, text: &[u8]| {
+        if name.contains(word) {
+            row(name, text, rounds);
+        }
+    };
+    texts::made(&mut asked);
+    texts::found(Path::new(folder), &mut asked);
     ExitCode::SUCCESS
 }
