@@ -43,7 +43,7 @@ enum {
     SAM_HEADER_NO_COLON = 9,
     SAM_HEADER_BAD_VALUE = 10,
     SAM_HEADER_BAD_VERSION = 11,   /* VN of HD */
-    SAM_HEADER_BAD_LENGTH = 12,    /* LN of SQ: no digit, or too large */
+    SAM_HEADER_BAD_LENGTH = 12,    /* LN of SQ: no digit, or more than 64 bits */
     SAM_HEADER_ZERO_LENGTH = 13,   /* LN of SQ is 0 */
     SAM_HEADER_REPEATED_TAG = 14,  /* in a line, at version 1.6 or more alone */
     SAM_HEADER_NO_KEY = 15,        /* VN, SN or ID missing */
@@ -57,7 +57,8 @@ enum {
     SAM_HEADER_CYCLE = 23,
     SAM_HEADER_UNWRITABLE = 24,    /* SN can't be written */
     SAM_HEADER_NO_RECORD = 25,     /* kind not served, or no record at that ordinal */
-    SAM_HEADER_BAD_GIVEN = 26      /* add: prefix or fields */
+    SAM_HEADER_BAD_GIVEN = 26,     /* add: prefix or fields */
+    SAM_HEADER_LONG_LENGTH = 27    /* LN of SQ: above 2,147,483,647, in 64 bits */
 };
 
 /* Field's answer where the caller's stand-in takes the value's place: all ones. It has no number and no line. */
@@ -83,7 +84,7 @@ uint64_t sam_header_count(const uint8_t *text, size_t text_len, const uint8_t *c
 uint64_t sam_header_key(const uint8_t *text, size_t text_len, const uint8_t *catalogue, size_t catalogue_len, uint8_t kind,
                         uint32_t ordinal);
 
-/* The LN of an SQ in `*length`, and 0. */
+/* The LN of an SQ in `*length`, and 0. It is 1 to 2,147,483,647: reading refuses any other. */
 uint64_t sam_header_length(const uint8_t *text, size_t text_len, const uint8_t *catalogue, size_t catalogue_len, uint32_t ordinal,
                            uint64_t *length);
 

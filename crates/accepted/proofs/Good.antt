@@ -88,22 +88,24 @@ version-kept at v f e = go (isValue v) e
 length-kept : (at : ℕ) (ds rest : List ℕ) (f : Field) → all digit ds ≡ true → lengthField at (ds, rest) ≡ good f → Kept ReferenceSequence 76 78 at (ds ++ rest) f
 unfolding lengthField none? isValue Sized digits
 length-kept at [] rest f p e = absurd (never (cc))
-length-kept at (d ∷ ds) rest f p e = go (ltb n (2 ^ 64)) (eqb n 0) rest refl refl e
+length-kept at (d ∷ ds) rest f p e = go (ltb n (2 ^ 64)) (eqb n 0) (ltb n (2 ^ 31)) rest refl refl e
   where
     n : ℕ
     n = worth (d ∷ ds)
 
-    go : (t u : Bool) (rest : List ℕ) → ltb n (2 ^ 64) ≡ t → eqb n 0 ≡ u
-        → cond (not t) (bad 12) (cond u (bad 13) (cond (none? rest) (good (own 76 78 at (d ∷ ds))) (goodThen (own 76 78 at (d ∷ ds)) 6))) ≡ good f
+    go : (t u v : Bool) (rest : List ℕ) → ltb n (2 ^ 31) ≡ v → eqb n 0 ≡ u
+        → cond (not t) (bad 12) (cond u (bad 13) (cond (not v) (bad 27) (cond (none? rest) (good (own 76 78 at (d ∷ ds))) (goodThen (own 76 78 at (d ∷ ds)) 6))))
+        ≡ good f
         → Kept ReferenceSequence 76 78 at (d ∷ ds ++ rest) f
-    go false u r h k e = absurd (never (cc))
-    go true true r h k e = absurd (never (cc))
-    go true false (c ∷ cs) h k e = absurd (never (cc))
-    go true false [] h k e =
+    go false u v r h k e = absurd (never (cc))
+    go true true v r h k e = absurd (never (cc))
+    go true false false r h k e = absurd (never (cc))
+    go true false true (c ∷ cs) h k e = absurd (never (cc))
+    go true false true [] h k e =
         let q : f ≡ own 76 78 at (d ∷ ds) = cc in
         let j : d ∷ ds ++ [] ≡ d ∷ ds = append-nil (d ∷ ds) in
         let l : 1 ≤ n = one-up n (eqb-false n 0 k) in
-        rw j (record { same = q; value = digits-printable (d ∷ ds) p; sized = rw q (λ t. (l, ltb-true n (2 ^ 64) h, p)) })
+        rw j (record { same = q; value = digits-printable (d ∷ ds) p; sized = rw q (λ t. (l, ltb-true n (2 ^ 31) h, p)) })
       where
         one-up : (m : ℕ) → (m ≡ 0 → ⊥) → 1 ≤ m
         one-up zero z = absurd (z refl)

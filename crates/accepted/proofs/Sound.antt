@@ -92,7 +92,7 @@ two-out fs h =
 
 -- ---- the record
 
-last-sized : (fs : List Field) (n : Piece) → Each (Meant ReferenceSequence) fs → lastOf 76 78 fs ≡ some n → (1 ≤ worth (n .bytes)) × (worth (n .bytes) < 2 ^ 64)
+last-sized : (fs : List Field) (n : Piece) → Each (Meant ReferenceSequence) fs → lastOf 76 78 fs ≡ some n → (1 ≤ worth (n .bytes)) × (worth (n .bytes) < 2 ^ 31)
 unfolding Sized
 last-sized fs n h e =
     let o : Of (Meant ReferenceSequence) 76 78 n = lastOf-of (Meant ReferenceSequence) 76 78 fs n h e in

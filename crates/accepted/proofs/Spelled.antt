@@ -51,7 +51,8 @@ unfolding lengthField
 length-stops at s =
     let f : Field = record { tag₀ = 76; tag₁ = 78; value = record { at = at; bytes = s .0 } } in
     either (none? (s .0) || not (ltb (worth (s .0)) (2 ^ 64))) (at-bad 11)
-    (either (eqb (worth (s .0)) 0) (at-bad 12) (either (none? (s .1)) (at-good f) (at-then f 5)))
+    (either (eqb (worth (s .0)) 0) (at-bad 12)
+    (either (not (ltb (worth (s .0)) (2 ^ 31))) (at-bad 26) (either (none? (s .1)) (at-good f) (at-then f 5))))
 
 value-stops : (k : Kind) (a b at : ℕ) (v : List ℕ) → Stops (valueField k a b at v)
 unfolding valueField

@@ -29,7 +29,7 @@ kind (comment p) = Comment
 -- a version's two numbers, and a length
 unfoldable pub Fits : Record → Type 0
 Fits (header v fs) = (v .major < 2 ^ 32) × (v .minor < 2 ^ 32)
-Fits (reference p n fs) = (1 ≤ n) × (n < 2 ^ 64)
+Fits (reference p n fs) = (1 ≤ n) × (n < 2 ^ 31)
 Fits (group p fs) = Unit
 Fits (program p fs) = Unit
 Fits (comment p) = Unit

@@ -14,11 +14,11 @@ use Rattle.format.specs.declared.Kind.{Kind}
 use Rattle.format.specs.declared.Kind.the-variants.{Header, ReferenceSequence, ReadGroup, Program, Comment}
 use Rattle.accepted.specs.Pieces.{Pairs}
 
--- LN of SQ is a number from 1 to 2 ^ 64 - 1, all digits
+-- LN of SQ is a number from 1 to 2 ^ 31 - 1, all digits
 unfoldable pub Sized : Kind → Field → Type 0
 unfolding tagged worth digits
 Sized Header f = Unit
-Sized ReferenceSequence f = tagged 76 78 f ≡ true → (1 ≤ worth (f .value .bytes)) × (worth (f .value .bytes) < 2 ^ 64) × (digits (f .value .bytes) ≡ true)
+Sized ReferenceSequence f = tagged 76 78 f ≡ true → (1 ≤ worth (f .value .bytes)) × (worth (f .value .bytes) < 2 ^ 31) × (digits (f .value .bytes) ≡ true)
 Sized ReadGroup f = Unit
 Sized Program f = Unit
 Sized Comment f = Unit

@@ -71,7 +71,7 @@ module _ (strict : Bool) (p : Piece) (r : Record) (e : line strict p ≡ read r)
     where
       go : (r : Record) → sound.Fits r → Each (λ q. FitsPlace (pieceAt q)) (pieces r) → Fits (headEntry r)
       go (header v fs) s k = s
-      go (reference p n fs) s k = (k .0, s .1)
+      go (reference p n fs) s k = (k .0, omega (arith, s .1))
       go (group p fs) s k = k .0
       go (program p fs) s k = k .0
       go (comment p) s k = k .0

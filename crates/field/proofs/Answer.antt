@@ -61,7 +61,8 @@ version-sound at v = go (isValue v) refl (version v) refl
 length-sound : (at : ℕ) (ds more : List ℕ) → Sound ReferenceSequence (lengthField at (ds, more))
 unfolding Sound lengthField valued
 length-sound at [] more = λ z. omega arith
-length-sound at (b ∷ ds) more = go (not (ltb (worth (b ∷ ds)) 18446744073709551616)) (eqb (worth (b ∷ ds)) 0) refl (none? more)
+length-sound at (b ∷ ds) more =
+    go (not (ltb (worth (b ∷ ds)) 18446744073709551616)) (eqb (worth (b ∷ ds)) 0) refl (not (ltb (worth (b ∷ ds)) 2147483648)) (none? more)
   where
     f : Field
     f = record { tag₀ = 76; tag₁ = 78; value = record { at = at; bytes = b ∷ ds } }
@@ -69,11 +70,13 @@ length-sound at (b ∷ ds) more = go (not (ltb (worth (b ∷ ds)) 18446744073709
     told : eqb (worth (b ∷ ds)) 0 ≡ false → Told ReferenceSequence f
     told e = record { stop = refl; some = λ z. omega arith; sized = λ l. eqb-false (worth (b ∷ ds)) 0 e }
 
-    go : (t u : Bool) → eqb (worth (b ∷ ds)) 0 ≡ u → (w : Bool) → Sound ReferenceSequence (cond t (bad 12) (cond u (bad 13) (cond w (good f) (goodThen f 6))))
-    go true u e w = λ z. omega arith
-    go false true e w = λ z. omega arith
-    go false false e true = told e
-    go false false e false = told e
+    go : (t u : Bool) → eqb (worth (b ∷ ds)) 0 ≡ u → (v w : Bool)
+        → Sound ReferenceSequence (cond t (bad 12) (cond u (bad 13) (cond v (bad 27) (cond w (good f) (goodThen f 6)))))
+    go true u e v w = λ z. omega arith
+    go false true e v w = λ z. omega arith
+    go false false e true w = λ z. omega arith
+    go false false e false true = told e
+    go false false e false false = told e
 
 value-sound : (k : Kind) (a b at : ℕ) (v : List ℕ) → Sound k (valueField k a b at v)
 value-sound k a b at v = go (isLength k a b) refl (isVersion k a b) refl

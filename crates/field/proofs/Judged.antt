@@ -52,12 +52,12 @@ no-value v e = go (isValue v) refl e
 unfoldable pub lengthBy : Number → Field
 lengthBy number.NoDigit = refusedBy 12
 lengthBy number.TooLarge = refusedBy 12
-lengthBy (number.Is n k) = cond (eqb n 0) (refusedBy 13) (sizedBy k n)
+lengthBy (number.Is n k) = cond (eqb n 0) (refusedBy 13) (cond (ltb n (2 ^ 31)) (sizedBy k n) (refusedBy 27))
 
 pub length-sized : (at : ℕ) (ds rest : List ℕ) → parsedOf ReferenceSequence (lengthField at (ds, rest)) ≡ lengthBy (counted (2 ^ 64) ds)
 unfolding parsedOf lengthField lengthBy counted
 length-sized at [] rest = refl
-length-sized at (b ∷ ds) rest = go (ltb (worth (b ∷ ds)) (2 ^ 64)) (eqb (worth (b ∷ ds)) 0) refl (none? rest)
+length-sized at (b ∷ ds) rest = go (ltb n (2 ^ 64)) (eqb n 0) refl (ltb n (2 ^ 31)) refl (none? rest)
   where
     f : fields.Field
     f = record { tag₀ = 76; tag₁ = 78; value = record { at = at; bytes = b ∷ ds } }
@@ -65,13 +65,14 @@ length-sized at (b ∷ ds) rest = go (ltb (worth (b ∷ ds)) (2 ^ 64)) (eqb (wor
     n : ℕ
     n = worth (b ∷ ds)
 
-    go : (t u : Bool) → eqb n 0 ≡ u → (w : Bool)
-        → parsedOf ReferenceSequence (cond (not t) (bad 12) (cond u (bad 13) (cond w (good f) (goodThen f 6))))
+    go : (t u : Bool) → eqb n 0 ≡ u → (v : Bool) → ltb n (2 ^ 31) ≡ v → (w : Bool)
+        → parsedOf ReferenceSequence (cond (not t) (bad 12) (cond u (bad 13) (cond (not v) (bad 27) (cond w (good f) (goodThen f 6)))))
         ≡ lengthBy (cond t (number.Is n (length (b ∷ ds))) number.TooLarge)
-    go true true k w = rw k refl
-    go true false k true = rw k refl
-    go true false k false = rw k refl
-    go false u k w = refl
+    go true true k v l w = rw k refl
+    go true false k true l true = rw (k, l) refl
+    go true false k true l false = rw (k, l) refl
+    go true false k false l w = rw (k, l) refl
+    go false u k v l w = refl
 
 -- ---- by kind and tag
 

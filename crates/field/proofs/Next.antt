@@ -68,7 +68,7 @@ span-append (b ∷ s) = go (digit b) (span-append s)
 -- `ds` and then `more`
 length-used : (at : ℕ) (ds more : List ℕ) → Used 76 78 at (ds ++ more) (lengthField at (ds, more))
 unfolding Used lengthField
-length-used at ds more = go (none? ds || not (ltb (worth ds) 18446744073709551616)) (eqb (worth ds) 0) more
+length-used at ds more = go (none? ds || not (ltb (worth ds) 18446744073709551616)) (eqb (worth ds) 0) (not (ltb (worth ds) 2147483648)) more
   where
     f : Field
     f = record { tag₀ = 76; tag₁ = 78; value = record { at = at; bytes = ds } }
@@ -76,11 +76,13 @@ length-used at ds more = go (none? ds || not (ltb (worth ds) 1844674407370955161
     kept : (l : List ℕ) → Kept 76 78 at (ds ++ l) f
     kept l = record { first = refl; second = refl; starts = refl; bytes = sym (take-append-seam ds l) }
 
-    go : (t u : Bool) (l : List ℕ) → Used 76 78 at (ds ++ l) (cond t (bad 12) (cond u (bad 13) (cond (none? l) (good f) (goodThen f 6))))
-    go true u l = tt
-    go false true l = tt
-    go false false [] = (kept [], omega (arith, length-append ds []))
-    go false false (b ∷ l) = (kept (b ∷ l), refl, omega (arith, length-append ds (b ∷ l)))
+    go : (t u v : Bool) (l : List ℕ)
+        → Used 76 78 at (ds ++ l) (cond t (bad 12) (cond u (bad 13) (cond v (bad 27) (cond (none? l) (good f) (goodThen f 6)))))
+    go true u v l = tt
+    go false true v l = tt
+    go false false true l = tt
+    go false false false [] = (kept [], omega (arith, length-append ds []))
+    go false false false (b ∷ l) = (kept (b ∷ l), refl, omega (arith, length-append ds (b ∷ l)))
 
 value-used : (k : Kind) (a b at : ℕ) (p : List ℕ) → Used a b at p (valueField k a b at p)
 unfolding valueField

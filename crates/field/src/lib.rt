@@ -216,7 +216,7 @@ fn parse_version_value(src: &[u8]) -> Field
     }
 }
 
-// LN of SQ: not a value, so what follows its digits is not judged here.
+// LN of SQ: not a value, so what follows its digits is not judged here. A number of 64 bits that is above 2,147,483,647 has a refusal of its own.
 fn parse_length_value(src: &[u8]) -> Field
     ensures { λ r. ⌜ r ≡ parsedOf Kind.ReferenceSequence (lengthField 3 (span (before 9 (now (src .entry))))) ⌝ }
 {
@@ -226,6 +226,9 @@ fn parse_length_value(src: &[u8]) -> Field
         Number::Is(n, len) => {
             if n == 0 {
                 return Field::refused(13);
+            }
+            if 2147483647 < n {
+                return Field::refused(27);
             }
             Field {
                 stop: 0,

@@ -1,5 +1,5 @@
--- Document 01's cases that are marked (P), and document 02's headers without a readable version, as one table and one statement: every call in
--- it gives the answer beside it.
+-- Document 01's cases that are marked (P), with document 02's lengths and headers without a readable version, as one table and one statement:
+-- every call in it gives the answer beside it.
 use Prim.Native.Nat.{ℕ}
 use Prim.Native.Char.{code}
 use Prim.Native.String.{String, [] as nil, _∷_ as cons}
@@ -57,9 +57,9 @@ holdAll (c ∷ cs) = holds c && holdAll cs
 pg0-pg3 : String
 pg0-pg3 = "@PG\tID:pg0\n@PG\tID:pg1\tPP:pg0\n@PG\tID:pg2\tPP:pg1\n@PG\tID:pg3\n"
 
--- SN at offset 7, one byte, and LN in eight bytes, the largest number
+-- SN at offset 7, one byte, and LN in eight bytes, the largest that is accepted
 largest : List ℕ
-largest = 2 ∷ 7 ∷ 0 ∷ 0 ∷ 0 ∷ 1 ∷ 0 ∷ 0 ∷ 0 ∷ 255 ∷ 255 ∷ 255 ∷ 255 ∷ 255 ∷ 255 ∷ 255 ∷ 255 ∷ []
+largest = 2 ∷ 7 ∷ 0 ∷ 0 ∷ 0 ∷ 1 ∷ 0 ∷ 0 ∷ 0 ∷ 255 ∷ 255 ∷ 255 ∷ 127 ∷ 0 ∷ 0 ∷ 0 ∷ 0 ∷ []
 
 -- version 1.6, no field
 one-six : List ℕ
@@ -70,7 +70,9 @@ unfolding pg0-pg3 largest one-six
 cases =
     reading "@SQ\tSN:s\tLN:0" (no 13 0)
     ∷ reading "@SQ\tSN:s\tLN:8x" (no 6 0)
-    ∷ reading "@SQ\tSN:s\tLN:18446744073709551615" (yes largest)
+    ∷ reading "@SQ\tSN:s\tLN:2147483647" (yes largest)
+    ∷ reading "@SQ\tSN:s\tLN:2147483648" (no 27 0)
+    ∷ reading "@SQ\tSN:s\tLN:18446744073709551615" (no 27 0)
     ∷ reading "@SQ\tSN:s\tLN:18446744073709551616" (no 12 0)
     ∷ reading "@HD" (no 15 0)
     ∷ reading "@CO\t\n@HD\tVN:1.6\n" (no 17 1)

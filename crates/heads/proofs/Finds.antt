@@ -128,7 +128,7 @@ module _ (strict : Bool) (at : ℕ) (s : List ℕ) where
     number k p e =
         let o = lastOf-of (Sized ReferenceSequence) 76 78 (a .fields) p (subst (λ k. Each (Sized k) (a .fields)) k sized) e in
         let n = o .holds (o .tag) in
-        subst Number (o .value) (n .1, n .2)
+        subst Number (o .value) (omega (arith, n .1), n .2)
 
 accepted-held : (strict : Bool) (at : ℕ) (s : List ℕ) (r : Record) → Accepted strict at s r → Held strict (kind r) at s (uncounted (recordHead r))
 unfolding Held uncounted recordHead kind placeOf

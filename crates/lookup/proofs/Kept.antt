@@ -99,7 +99,7 @@ small-fits p h = (omega arith, omega arith)
 own-fits : (r : Record) → sound.Fits r → Each Small (pieces r) → Fits (headEntry r)
 unfolding sound.Fits Each pieces Fits headEntry
 own-fits (header v fs) h p = h
-own-fits (reference q n fs) h p = (small-fits q (p .0), h .1)
+own-fits (reference q n fs) h p = (small-fits q (p .0), omega (arith, h .1))
 own-fits (group q fs) h p = small-fits q (p .0)
 own-fits (program q fs) h p = small-fits q (p .0)
 own-fits (comment q) h p = small-fits q (p .0)

@@ -1,8 +1,8 @@
 // Runs a list of texts through `parser::read` and `parser::check`, and writes what it got.
 //
 // A line of the input is a case: the text in hex (`-` for the empty one), a space, and the room for
-// the catalogue. 125 cases are the corners of documents 01 and 02: each refusal of reading but 1, on both
-// sides, 1,024 programs and one more. 139 are longer texts. What is expected of the longer ones comes
+// the catalogue. 128 cases are the corners of documents 01 and 02: each refusal of reading but 1, on both
+// sides, 1,024 programs and one more. 110 are longer texts. What is expected of the longer ones comes
 // from a model written from these documents alone, and of the others from them by hand: none of it from
 // this program.
 //

@@ -1,11 +1,11 @@
 // Replays stored answers: each line of the files that its arguments name is a question with its answer, and what the library answers is
 // compared with it. One line of counts is written for each file.
 //
-// `vectors.txt`: 853 questions to `count`, `key`, `length`, `field`, `roots`, `leaves`, `add` and `answer`, answered by a model written from
+// `vectors.txt`: 373 questions to `count`, `key`, `length`, `field`, `roots`, `leaves`, `add` and `answer`, answered by a model written from
 // document 01 alone.
 // `chains.txt`: chains, forests, dangling and looping headers, stale catalogues, the corners of each call and of adding, written by
 // `oracle/chains` from document 01's rules; no answer in it comes from this library or from the crate.
-// `oracle.txt`: 534 texts, answered by noodles-sam 0.93.0 (`oracle/README.md`, "The fixed sample").
+// `oracle.txt`: 536 texts, answered by noodles-sam 0.93.0 (`oracle/README.md`, "The fixed sample").
 // `names.txt`: questions to `names`, answered by a model written from document 02 alone.
 // `requests.txt`: questions to every call, answered by that model, request by request.
 //

@@ -97,14 +97,15 @@ span-digits [] h = refl
 span-digits (b ∷ s) h = rw (and-left (digit b) (all digit s) h, span-digits s (and-right (digit b) (all digit s) h)) refl
 
 -- LN
-pub fine-length : (n : ℕ) → 1 ≤ n → n < 2 ^ 64 → Fine ReferenceSequence (own 76 78 (written n))
+pub fine-length : (n : ℕ) → 1 ≤ n → n < 2 ^ 31 → Fine ReferenceSequence (own 76 78 (written n))
 unfolding own valueField lengthField put-at digits isTag
 fine-length n l u =
     let d : digits (written n) ≡ true = written-digits n (omega arith) in
     let s : span (written n) ≡ (written n, []) = span-digits (written n) (and-right (not (none? (written n))) (all digit (written n)) d) in
     let w : worth (written n) ≡ n = reads-back n (omega arith) in
     let z : none? (written n) ≡ false = not-true (none? (written n)) (and-left (not (none? (written n))) (all digit (written n)) d) in
-    by-value ReferenceSequence (own 76 78 (written n)) refl (digits-value (written n) d) (λ at. rw (s, z, w, lt-ltb n (2 ^ 64) u, ne-eqb n 0 (λ e. omega arith)) refl)
+    by-value ReferenceSequence (own 76 78 (written n)) refl (digits-value (written n) d)
+    (λ at. rw (s, z, w, lt-ltb n (2 ^ 64) (omega arith), lt-ltb n (2 ^ 31) u, ne-eqb n 0 (λ e. omega arith)) refl)
 
 -- ---- versions
 

@@ -2,11 +2,11 @@
 // `answer` gives for its bytes.
 //
 // The arguments name the files. `example` is document 01's own text, `crlf`, `no_last_lf` and `empty`
-// are its variants, and `repeats` and `longest_ln` are corners of it. `refused_2` to `refused_24` have
+// are its variants, and `repeats` and `longest_ln` are corners of it. `refused_2` to `refused_27` have
 // one refusal each, on a line other than 0 where that can be; `reading_first` has a 24 before a 5.
 // `full` has 65,535 bytes and no last LF, so that its tidy text has 65,536; `full_refused` has 65,535
 // bytes, and `over` and `over_refused` have 65,536, each a long comment. What is expected of all these
-// was written by hand from document 01, the long ones by repeating a byte. The files `model_0` to
+// was written by hand from document 01, the long ones by repeating a byte. The files `model_3` to
 // `model_252`, and what is expected of them, come from a model written from document 01 alone. None
 // of it was made by this program.
 use libc::STDOUT_FILENO;

@@ -2,7 +2,7 @@
 
 use std::{collections::HashSet, fmt::Write};
 
-use crate::{LONGEST, PROGRAMS, spans};
+use crate::{LONGEST, LONGEST_SEQUENCE, PROGRAMS, spans};
 
 /// Lower-case hex, `-` for no bytes.
 pub fn hex(b: &[u8]) -> String {
@@ -85,6 +85,19 @@ fn is_number(s: &[u8], max: u128) -> bool {
         && s.iter().try_fold(0u128, |n, b| Some(10 * n + u128::from(b - b'0')).filter(|&n| n <= max)).is_some()
 }
 
+/// The digits at the front are worth more than document 02 takes as a length, and still a number of 64 bits.
+pub fn is_long_length(value: &[u8]) -> bool {
+    let digits = &value[..value.iter().position(|b| !b.is_ascii_digit()).unwrap_or(value.len())];
+    is_number(digits, u64::MAX.into()) && !is_number(digits, LONGEST_SEQUENCE.into())
+}
+
+/// The first line that is an SQ with such a length.
+pub fn long_length(text: &[u8]) -> Option<usize> {
+    spans(text).map(|(a, b)| &text[a..b]).position(|line| {
+        line.starts_with(b"@SQ\t") && line.split(|&b| b == b'\t').filter_map(|p| p.strip_prefix(b"LN:")).any(is_long_length)
+    })
+}
+
 /// Two numbers of 32 bits with a dot between.
 fn is_version(s: &[u8]) -> bool {
     let sides = s.iter().position(|&b| b == b'.').map(|i| (&s[..i], &s[i + 1..]));
@@ -113,7 +126,7 @@ fn piece_in_domain(kind: &[u8], piece: &[u8]) -> bool {
     }
     match (kind, tag) {
         (b"@HD", b"VN") => is_version(value),
-        (b"@SQ", b"LN") => is_number(value, u64::MAX.into()) && value.iter().any(|&b| b != b'0'),
+        (b"@SQ", b"LN") => is_number(value, LONGEST_SEQUENCE.into()) && value.iter().any(|&b| b != b'0'),
         _ => true,
     }
 }
@@ -319,6 +332,8 @@ fn length(rng: &mut Rng) -> Vec<u8> {
         1 => rng.next() >> rng.below(64),
         _ => rng.below(100_000) as u64,
     };
+    // Of the lengths that document 02 refuses some are left.
+    let n = if n % 8 == 7 { n } else { n & LONGEST_SEQUENCE };
     digits(rng, n.max(1)).into_bytes()
 }
 

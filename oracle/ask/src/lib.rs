@@ -24,6 +24,9 @@ pub const LONGEST: usize = 16_777_216;
 /// The most programs that document 01 takes. The crate has no limit.
 pub const PROGRAMS: usize = 1_024;
 
+/// The largest LN that document 02 takes, which is the specification's. The crate takes 64 bits.
+pub const LONGEST_SEQUENCE: u64 = 2_147_483_647;
+
 /// Whether the crate was built with any two bytes as a tag and any bytes as a value.
 pub const LENIENT: bool = cfg!(feature = "lenient");
 

@@ -2,7 +2,7 @@
 //! recognised here is reported as unlisted.
 
 use library::Refusal;
-use oracle::{LENIENT, LONGEST, PROGRAMS, Refused, spans};
+use oracle::{LENIENT, LONGEST, PROGRAMS, Refused, inputs, spans};
 
 #[derive(Clone, Copy, Debug, Eq, Ord, PartialEq, PartialOrd)]
 pub enum Kind {
@@ -11,6 +11,7 @@ pub enum Kind {
     OtherReturn,
     LengthPlus,
     LengthZero,
+    LengthLong,
     VersionSign,
     RepeatSign,
     RepeatDefault,
@@ -23,12 +24,13 @@ pub enum Kind {
     Lenient,
 }
 
-pub const ALL: [(Kind, &str); 15] = [
+pub const ALL: [(Kind, &str); 16] = [
     (Kind::Size, "a text, or one to be written, over 16,777,216 bytes: 1; the crate has no limit"),
     (Kind::CommentReturn, "a CR inside a comment: 2; the crate keeps it"),
     (Kind::OtherReturn, "a CR inside another line: 2; the crate has another error for it"),
     (Kind::LengthPlus, "LN with a plus sign: 12; the crate reads `+8` as 8"),
     (Kind::LengthZero, "LN that starts with something else than a digit: 12; the crate says zero (13)"),
+    (Kind::LengthLong, "LN above 2,147,483,647, in 64 bits: 27; the crate takes it"),
     (Kind::VersionSign, "HD's VN with a sign: 11; the crate reads `+1.6` as 1.6"),
     (Kind::RepeatSign, "a signed first VN gives the repeat rule no version; the crate reads it there too (14)"),
     (Kind::RepeatDefault, "a tag repeated where line 0 gives no readable version: its last value stands; the crate says 14"),
@@ -85,6 +87,7 @@ pub fn reading(text: &[u8], ours: Refusal, theirs: Option<&Refused>) -> Option<K
                 (bare && here == Some(13)).then_some(Kind::LengthZero)
             }
         }
+        27 => (line.starts_with(b"@SQ\t") && values(line, b"LN:").any(inputs::is_long_length)).then_some(Kind::LengthLong),
         19 => {
             let programs = spans(text).take(at + 1).filter(|&(a, b)| text[a..b].starts_with(b"@PG")).count();
             (programs == PROGRAMS + 1 && line.starts_with(b"@PG")).then_some(Kind::Programs)

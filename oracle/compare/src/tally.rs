@@ -32,12 +32,15 @@ const CALLS: [Call; 11] = [
     Call::Names,
 ];
 
+/// Refusals have the numbers from 1 to 27.
+const NUMBERS: usize = 28;
+
 /// How often both sides agreed. A number is a refusal's, 0 an acceptance. Field lookup gives no number: where the stand-in takes
 /// the value's place, it is counted under the number that key would give.
 #[derive(Default)]
 pub struct Tally {
-    texts: [u64; 27],
-    calls: [[u64; 27]; CALLS.len()],
+    texts: [u64; NUMBERS],
+    calls: [[u64; NUMBERS]; CALLS.len()],
     refused: [u64; CALLS.len()],
 }
 
@@ -58,7 +61,7 @@ impl Tally {
     }
 }
 
-fn row(f: &mut fmt::Formatter<'_>, row: &[u64; 27]) -> fmt::Result {
+fn row(f: &mut fmt::Formatter<'_>, row: &[u64; NUMBERS]) -> fmt::Result {
     write!(f, "accepted {}", row[0])?;
     for (number, n) in row.iter().enumerate().skip(1).filter(|&(_, &n)| n > 0) {
         write!(f, ", {number}: {n}")?;

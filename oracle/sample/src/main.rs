@@ -24,10 +24,10 @@ fn ordinals(l: &[usize]) -> String {
     hex(&l.iter().flat_map(|&i| (i as u16).to_be_bytes()).collect::<Vec<u8>>())
 }
 
-/// The crate's answer as a line's end; None where it has none to compare.
-fn answer(text: &[u8]) -> Option<(u32, String)> {
+/// The crate's answer: its number, the line where it refuses, and a line's end; None where it has none to compare.
+fn answer(text: &[u8]) -> Option<(u32, Option<usize>, String)> {
     let header = match oracle::parse(text) {
-        Err(r) => return Some((r.number, format!("refused {} {}", r.number, r.line))),
+        Err(r) => return Some((r.number, Some(r.line), format!("refused {} {}", r.number, r.line))),
         Ok(header) => header,
     };
     if oracle::parents(&header).contains(&Parent::Nobody) {
@@ -40,11 +40,11 @@ fn answer(text: &[u8]) -> Option<(u32, String)> {
     };
     let graph = format!("{} {leaves}", ordinals(&oracle::roots(&header)));
     match oracle::tidy(&header) {
-        Ok(tidy) => Some((0, format!("accepted {} {graph}", hex(&tidy)))),
+        Ok(tidy) => Some((0, None, format!("accepted {} {graph}", hex(&tidy)))),
         Err(_) => {
             let mut sq = oracle::spans(text).enumerate().filter(|&(_, (a, b))| text[a..b].starts_with(b"@SQ"));
             let line = sq.nth(oracle::unwritable(&header)?)?.0;
-            Some((24, format!("unwritable {line} {graph}")))
+            Some((24, None, format!("unwritable {line} {graph}")))
         }
     }
 }
@@ -60,12 +60,14 @@ impl Sample {
         if text.len() > longest || self.seen.contains(text) || !undisputed(text) {
             return None;
         }
-        let (number, answer) = answer(text)?;
-        self.seen.insert(text.to_vec());
-        // Where line 0 gives no readable version the crate alone refuses a repeated tag.
-        if number != 14 || inputs::has_version(text) {
-            writeln!(self.out, "{} {answer}", hex(text)).unwrap();
+        let (number, line, answer) = answer(text)?;
+        // Where line 0 gives no readable version the crate alone refuses a repeated tag, and it alone takes a long length.
+        let repeated = number == 14 && !inputs::has_version(text);
+        if repeated || inputs::long_length(text).is_some_and(|n| line.is_none_or(|l| l >= n)) {
+            return None;
         }
+        self.seen.insert(text.to_vec());
+        writeln!(self.out, "{} {answer}", hex(text)).unwrap();
         Some(number)
     }
 

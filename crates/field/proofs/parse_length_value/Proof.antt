@@ -2,8 +2,9 @@
 use Prim.Native.Nat.{ℕ, _^_}
 use mathlib.Core.Path.{_≡_, sym, ap, _∙_}
 use mathlib.Core.List.{List}
+use native.Mathlib.Omega.{arith}
 use borrow.Author.Needs.{needs}
-use borrow.Author.Tests.{eq-eqb, ne-eqb}
+use borrow.Author.Tests.{eq-eqb, ne-eqb, lt-ltb, le-ltb}
 use Rattle.decimal.specs.Number.{counted, front}
 use Rattle.format.specs.Decimal.{span}
 use Rattle.format.specs.Fields.{lengthField}
@@ -49,24 +50,38 @@ returns c =
     let r = n .before .before in
     c .refused3 .ensures ∙ sym (sym (sized _) ∙ ap lengthBy (sym (r .read-u64 .ensures) ∙ n .n .given .1) ∙ simp (eq-eqb _ _ (c .before .if1 .taken)))
 
+refused-requires-4 : tie.Need-refused-requires-4
+refused-requires-4 c κs = search needs
+
 returns-2 : tie.Need-returns-2
 unfolding lengthBy
 returns-2 c =
-    let e = c .before in
-    c .refused .ensures ∙ ap lengthBy (sym (e .enum-told .given .1) ∙ e .before .before .read-u64 .ensures) ∙ sized _
+    let n = c .before .before .before .before in
+    let r = n .before .before in
+    let zero = ne-eqb (n .n .given .0 .0) 0 (c .before .before .if1 .left) in
+    let large = le-ltb (n .n .given .0 .0) (2 ^ 31) (omega (arith, c .before .if2 .taken)) in
+    c .refused4 .ensures ∙ sym (sym (sized _) ∙ ap lengthBy (sym (r .read-u64 .ensures) ∙ n .n .given .1) ∙ simp (zero, large))
 
 returns-3 : tie.Need-returns-3
 unfolding lengthBy
 returns-3 c =
     let e = c .before in
-    c .refused2 .ensures ∙ ap lengthBy (sym (e .enum-told2 .given .1) ∙ e .before .before .read-u64 .ensures) ∙ sized _
+    c .refused .ensures ∙ ap lengthBy (sym (e .enum-told .given .1) ∙ e .before .before .read-u64 .ensures) ∙ sized _
 
 returns-4 : tie.Need-returns-4
 unfolding lengthBy
 returns-4 c =
-    let n = c .before .before in
+    let e = c .before in
+    c .refused2 .ensures ∙ ap lengthBy (sym (e .enum-told2 .given .1) ∙ e .before .before .read-u64 .ensures) ∙ sized _
+
+returns-5 : tie.Need-returns-5
+unfolding lengthBy
+returns-5 c =
+    let n = c .before .before .before in
     let r = n .before .before in
-    sym (sym (sized _) ∙ ap lengthBy (sym (r .read-u64 .ensures) ∙ n .n .given .1) ∙ simp (ne-eqb _ _ (c .if1 .left)))
+    let zero = ne-eqb (n .n .given .0 .0) 0 (c .before .if1 .left) in
+    let small = lt-ltb (n .n .given .0 .0) (2 ^ 31) (omega (arith, c .if2 .left)) in
+    sym (sym (sized _) ∙ ap lengthBy (sym (r .read-u64 .ensures) ∙ n .n .given .1) ∙ simp (zero, small))
 
 pub parse-length-value-spec : {M : Type 1} → statement M
 parse-length-value-spec =
@@ -80,6 +95,8 @@ parse-length-value-spec =
     enum-known-n
     refused-requires-3
     returns
+    refused-requires-4
     returns-2
     returns-3
-    returns-4)
+    returns-4
+    returns-5)
