@@ -24,6 +24,8 @@
 //!   200000 short SQ       with SN and LN alone
 //!   20000 RG              of five fields
 //!   1024 chained PG       after 20,000 SQ of five fields; one more may not be added (19)
+//!   500 PG, long CL       with command lines of 400 bytes
+//!   500 PG, accented CL   the same with accents, as many bytes; the crate, whose stand-in takes none, is given the row before
 
 mod calls;
 #[cfg(feature = "names")]
@@ -96,8 +98,9 @@ const CRATE: [(fn(&mut Theirs, &str) -> Header, bool); CALLS.len()] = [
     (Theirs::tidy, true),
 ];
 
-fn row(name: &str, bytes: &[u8], rounds: usize) {
-    let Ok(text) = str::from_utf8(bytes) else {
+/// Times the library on a text, and the crate on the same or on one that stands for it.
+fn row(name: &str, bytes: &[u8], given: &[u8], rounds: usize) {
+    let Ok(text) = str::from_utf8(given) else {
         return println!("{name}: not UTF-8, which the crate's whole-text parser needs");
     };
     let mut room = Room::new();
@@ -116,7 +119,7 @@ fn row(name: &str, bytes: &[u8], rounds: usize) {
             }
             drop(timed(&mut best[i].1, || crates(&mut theirs, black_box(text))));
             let n = timed(&mut best[i].0, || ours(black_box(bytes), &mut room)).expect("accepted as before");
-            assert!(!writes || room.out[..n as usize] == theirs.written[..], "both wrote the same");
+            assert!(!writes || bytes != given || room.out[..n as usize] == theirs.written[..], "both wrote the same");
         }
     }
     print!("{name:<27}{:>10}", bytes.len());
@@ -177,7 +180,10 @@ fn main() -> ExitCode {
         print!("{call:>9}");
     }
     println!("{:>9}{:>9}", "ns/line", "best of");
-    texts::made(&mut |name, text| row(name, text, rounds));
-    texts::found(Path::new(folder), &mut |name, text| row(name, text, rounds));
+    texts::made(&mut |name, text| row(name, text, text, rounds));
+    let [plain, accented] = texts::commands(500);
+    row("500 PG, long CL", plain.as_bytes(), plain.as_bytes(), rounds);
+    row("500 PG, accented CL", accented.as_bytes(), plain.as_bytes(), rounds);
+    texts::found(Path::new(folder), &mut |name, text| row(name, text, text, rounds));
     ExitCode::SUCCESS
 }
