@@ -41,7 +41,7 @@ enum {
     SAM_HEADER_NO_COMMENT = 7,     /* @CO ends there */
     SAM_HEADER_BAD_TAG = 8,
     SAM_HEADER_NO_COLON = 9,
-    SAM_HEADER_BAD_VALUE = 10,
+    SAM_HEADER_BAD_VALUE = 10,     /* empty or a wrong byte; DS of SQ, RG and PG, and CL of PG: empty or not UTF-8 */
     SAM_HEADER_BAD_VERSION = 11,   /* VN of HD */
     SAM_HEADER_BAD_LENGTH = 12,    /* LN of SQ: no digit, or more than 64 bits */
     SAM_HEADER_ZERO_LENGTH = 13,   /* LN of SQ is 0 */

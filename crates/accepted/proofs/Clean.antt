@@ -1,19 +1,22 @@
--- An accepted line of fields holds tabs and printable bytes alone: no LF and no CR.
+-- An accepted line of fields holds no byte below 32 but tabs, and no 127: no LF and no CR.
 use Prim.Native.Nat.{ℕ, _+_, _≤_}
 use mathlib.Core.Path.{_≡_, refl}
 use mathlib.Core.Bool.{Bool, true, false, not, _&&_, _||_, cond}
 use mathlib.Core.List.{List, [], _∷_}
 use native.Mathlib.Omega.{arith}
 use lib.Dec.{eqb, leb}
-use borrow.Author.Tests.{leb-true, le-leb, ne-eqb}
+use borrow.Author.Tests.{leb-true, ne-eqb}
 use Rattle.format.specs.Bytes.{between, digit, letter, printable, all, any, none?}
 use Rattle.format.specs.Lines.{Piece, onto, cut, placed}
-use Rattle.format.specs.Fields.{Field, isValue, isTag}
+use Rattle.format.specs.Fields.{Field, isValue, isWideValue, isWide, allows, isTag}
 use Rattle.format.specs.Records.{Record, code, read, prefixed, breaks}
 use Rattle.format.specs.declared.Kind.{Kind}
 use Rattle.format.specs.declared.Kind.the-variants.{Header, ReferenceSequence, ReadGroup, Program, Comment}
 use Rattle.text.specs.Stands.{Each}
 use Rattle.text.proofs.Stands.{each-bytes}
+use Rattle.format.specs.Utf8.{characters}
+use Rattle.utf8.specs.Shown.{shown}
+use Rattle.utf8.proofs.Shown.{shown-byte, whole-shown}
 use Rattle.accepted.specs.Clean.{clean}
 use Rattle.accepted.specs.Spelled as sp
 use Rattle.accepted.specs.Spelled.{Good, kind₀, kind₁, Accepted}
@@ -23,9 +26,12 @@ use Rattle.accepted.proofs.Spelled.{prefixed-accepted}
 
 -- ---- bytes
 
-pub clean-between : (b : ℕ) → 32 ≤ b → b ≤ 126 → clean b ≡ true
-unfolding clean printable
-clean-between b l u = rw (le-leb 32 b l, le-leb b 126 u) (or-true (eqb b 9))
+pub shown-between : (b : ℕ) → 32 ≤ b → b ≤ 126 → shown b ≡ true
+shown-between b l u = shown-byte b l (λ e. omega arith)
+
+shown-clean : (b : ℕ) → shown b ≡ true → clean b ≡ true
+unfolding clean
+shown-clean b h = rw h (or-true (eqb b 9))
 
 -- letters and digits by their bounds
 pub between-bounds : (lo hi b : ℕ) → between lo hi b ≡ true → (lo ≤ b) × (b ≤ hi)
@@ -49,23 +55,38 @@ tag-bounds a b h = (
 
 -- ---- pieces
 
-printable-clean : (s : List ℕ) → all printable s ≡ true → all clean s ≡ true
-unfolding all clean
-printable-clean [] h = refl
-printable-clean (b ∷ s) h =
-    rw (and-left (printable b) (all printable s) h, or-true (eqb b 9), printable-clean s (and-right (printable b) (all printable s) h)) refl
+-- a value by the old rule, and by either
+printable-shown : (s : List ℕ) → all printable s ≡ true → all shown s ≡ true
+unfolding all printable
+printable-shown [] h = refl
+printable-shown (b ∷ s) h =
+    let x = between-bounds 32 126 b (and-left (printable b) (all printable s) h) in
+    rw (shown-between b (x .0) (x .1), printable-shown s (and-right (printable b) (all printable s) h)) refl
+
+pub allowed-shown : (k : Kind) (a b : ℕ) (v : List ℕ) → allows k a b v ≡ true → all shown v ≡ true
+unfolding allows isWideValue isValue
+allowed-shown k a b v h = go (isWide k a b) h
+  where
+    go : (t : Bool) → cond t (not (none? v) && characters [] v) (not (none? v) && all printable v) ≡ true → all shown v ≡ true
+    go true h = whole-shown v (and-right (not (none? v)) (characters [] v) h)
+    go false h = printable-shown v (and-right (not (none? v)) (all printable v) h)
+
+all-clean : (s : List ℕ) → all shown s ≡ true → all clean s ≡ true
+unfolding all
+all-clean [] h = refl
+all-clean (b ∷ s) h = rw (shown-clean b (and-left (shown b) (all shown s) h), all-clean s (and-right (shown b) (all shown s) h)) refl
 
 good-clean : (k : Kind) (at : ℕ) (s : List ℕ) (f : Field) → Good k at s f → all clean s ≡ true
-unfolding all isValue
+unfolding all
 good-clean k at s f g =
     let t = tag-bounds (f .tag₀) (f .tag₁) (g .tag) in
     let v : List ℕ = f .value .bytes in
     rw (
       g .spells,
-      clean-between (f .tag₀) (omega arith) (omega arith),
-      clean-between (f .tag₁) (omega arith) (omega arith),
-      clean-between 58 (omega arith) (omega arith),
-      printable-clean v (and-right (not (none? v)) (all printable v) (g .value)),
+      shown-clean (f .tag₀) (shown-between (f .tag₀) (omega arith) (omega arith)),
+      shown-clean (f .tag₁) (shown-between (f .tag₁) (omega arith) (omega arith)),
+      shown-clean 58 (shown-between 58 (omega arith) (omega arith)),
+      all-clean v (allowed-shown k (f .tag₀) (f .tag₁) v (g .value)),
     ) refl
 
 -- pieces with tabs between them
@@ -105,7 +126,7 @@ accepted-clean strict at s r (sp.of-fields a) n =
 
 -- neither LF nor CR
 pub clean-unbroken : (s : List ℕ) → all clean s ≡ true → any breaks s ≡ false
-unfolding all any breaks clean printable
+unfolding all any breaks clean shown
 clean-unbroken [] h = refl
 clean-unbroken (b ∷ s) h =
     let c : clean b ≡ true = and-left (clean b) (all clean s) h in

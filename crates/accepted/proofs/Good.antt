@@ -9,7 +9,7 @@ use lib.Dec.{eqb, ltb, leb}
 use borrow.Author.Tests.{eqb-true, eqb-false, ltb-true, leb-true, le-leb}
 use Rattle.format.specs.Bytes.{digit, printable, all, none?}
 use Rattle.format.specs.Decimal.{worth, span, digits}
-use Rattle.format.specs.Fields.{Field, bad, good, goodThen, tagged, isValue, isTag, plain, spelled, versionField, lengthField, valueField, field}
+use Rattle.format.specs.Fields.{Field, bad, good, goodThen, tagged, isValue, isWide, allows, isTag, plain, spelled, versionField, lengthField, valueField, field}
 use Rattle.format.specs.Version.{version}
 use Rattle.format.specs.declared.Version.{Version}
 use Rattle.format.specs.declared.Kind.{Kind}
@@ -55,18 +55,18 @@ span-join (b ∷ s) = go (digit b) (span-join s)
 -- the value `v` was kept as it stands
 record Kept (k : Kind) (a b at : ℕ) (v : List ℕ) (f : Field) : Type 0 where
   same : f ≡ record { tag₀ = a; tag₁ = b; value = record { at = at; bytes = v } }
-  value : isValue v ≡ true
+  value : allows k a b v ≡ true
   sized : Sized k f
 
 -- the field itself
 abbrev own : ℕ → ℕ → ℕ → List ℕ → Field
 own a b at v = record { tag₀ = a; tag₁ = b; value = record { at = at; bytes = v } }
 
-plain-kept : (k : Kind) (a b at : ℕ) (v : List ℕ) (f : Field) → Sized k (own a b at v) → plain a b at v ≡ good f → Kept k a b at v f
+plain-kept : (k : Kind) (a b at : ℕ) (v : List ℕ) (f : Field) → Sized k (own a b at v) → plain k a b at v ≡ good f → Kept k a b at v f
 unfolding plain
-plain-kept k a b at v f z e = go (isValue v) refl e
+plain-kept k a b at v f z e = go (allows k a b v) refl e
   where
-    go : (t : Bool) → isValue v ≡ t → cond t (good (own a b at v)) (bad 10) ≡ good f → Kept k a b at v f
+    go : (t : Bool) → allows k a b v ≡ t → cond t (good (own a b at v)) (bad 10) ≡ good f → Kept k a b at v f
     go true h e =
         let q : f ≡ own a b at v = cc in
         record { same = q; value = h; sized = rw q z }
@@ -76,17 +76,17 @@ version-kept : (at : ℕ) (v : List ℕ) (f : Field) → versionField at v ≡ g
 unfolding versionField spelled Sized
 version-kept at v f e = go (isValue v) e
   where
-    inner : (o : Option Version) → spelled o (plain 86 78 at v) ≡ good f → Kept Header 86 78 at v f
+    inner : (o : Option Version) → spelled o (plain Header 86 78 at v) ≡ good f → Kept Header 86 78 at v f
     inner none e = absurd (never (cc))
     inner (some w) e = plain-kept Header 86 78 at v f tt e
 
-    go : (t : Bool) → cond t (spelled (version v) (plain 86 78 at v)) (bad 10) ≡ good f → Kept Header 86 78 at v f
+    go : (t : Bool) → cond t (spelled (version v) (plain Header 86 78 at v)) (bad 10) ≡ good f → Kept Header 86 78 at v f
     go true e = inner (version v) e
     go false e = absurd (never (cc))
 
 -- digits, and nothing after them
 length-kept : (at : ℕ) (ds rest : List ℕ) (f : Field) → all digit ds ≡ true → lengthField at (ds, rest) ≡ good f → Kept ReferenceSequence 76 78 at (ds ++ rest) f
-unfolding lengthField none? isValue Sized digits
+unfolding lengthField none? isValue allows isWide Sized digits
 length-kept at [] rest f p e = absurd (never (cc))
 length-kept at (d ∷ ds) rest f p e = go (ltb n (2 ^ 64)) (eqb n 0) (ltb n (2 ^ 31)) rest refl refl e
   where
@@ -115,12 +115,12 @@ value-kept : (k : Kind) (a b at : ℕ) (v : List ℕ) (f : Field) → valueField
 unfolding valueField Sized tagged
 value-kept Header a b at v f e = go (eqb a 86 && eqb b 78) refl e
   where
-    go : (t : Bool) → eqb a 86 && eqb b 78 ≡ t → cond t (versionField at v) (plain a b at v) ≡ good f → Kept Header a b at v f
+    go : (t : Bool) → eqb a 86 && eqb b 78 ≡ t → cond t (versionField at v) (plain Header a b at v) ≡ good f → Kept Header a b at v f
     go true h e = rw (eqb-true a 86 (and-left (eqb a 86) (eqb b 78) h), eqb-true b 78 (and-right (eqb a 86) (eqb b 78) h)) (version-kept at v f e)
     go false h e = plain-kept Header a b at v f tt e
 value-kept ReferenceSequence a b at v f e = go (eqb a 76 && eqb b 78) refl e
   where
-    go : (t : Bool) → eqb a 76 && eqb b 78 ≡ t → cond t (lengthField at (span v)) (plain a b at v) ≡ good f → Kept ReferenceSequence a b at v f
+    go : (t : Bool) → eqb a 76 && eqb b 78 ≡ t → cond t (lengthField at (span v)) (plain ReferenceSequence a b at v) ≡ good f → Kept ReferenceSequence a b at v f
     go true h e =
         rw (eqb-true a 76 (and-left (eqb a 76) (eqb b 78) h), eqb-true b 78 (and-right (eqb a 76) (eqb b 78) h), ← span-join v)
         (length-kept at (span v .0) (span v .1) f (span-digits v) e)

@@ -1,14 +1,14 @@
 -- Every record of an accepted line is sound: numbers fit, values are values, other fields are no keys and have no tag twice.
 use Prim.Native.Nat.{ℕ, _+_, _^_, _≤_, _<_}
-use mathlib.Core.Path.{_≡_, refl}
+use mathlib.Core.Path.{_≡_, refl, sym, ap, _∙_}
 use mathlib.Core.Bool.{Bool, true, false, _&&_, cond}
 use mathlib.Core.List.{List}
 use mathlib.Core.Option.{Option, none, some}
-use lib.Dec.{ltb}
-use borrow.Author.Tests.{ltb-true}
+use lib.Dec.{eqb, ltb}
+use borrow.Author.Tests.{eqb-true, ltb-true}
 use Rattle.format.specs.Decimal.{worth, digits, number}
 use Rattle.format.specs.Lines.{Piece, cut, placed}
-use Rattle.format.specs.Fields.{Field, tagged, isValue, isTag, repeats, lastOf, settled, without}
+use Rattle.format.specs.Fields.{Field, tagged, isValue, isWideValue, isWide, allows, isTag, repeats, lastOf, settled, without}
 use Rattle.format.specs.Records.{Record, key, others, read, line}
 use Rattle.format.specs.Version.{version, numbered, both, sides}
 use Rattle.format.specs.declared.Version.{Version}
@@ -19,7 +19,7 @@ use Rattle.text.proofs.Stands.{each-map}
 use Rattle.accepted.specs.Sound.{isKey, kind, Fits, Named, Other, Sound}
 use Rattle.accepted.specs.Spelled as sp
 use Rattle.accepted.specs.Spelled.{Sized, Good, Made, Spelled, Accepted}
-use Rattle.accepted.proofs.Bools.{never, and-right}
+use Rattle.accepted.proofs.Bools.{never, and-left, and-right}
 use Rattle.accepted.proofs.Pairs.{each-all, each-both, pairs-right}
 use Rattle.accepted.proofs.Fields.{Of, lastOf-of, each-without, each-settled, without-none, repeats-settled}
 use Rattle.accepted.proofs.Spelled.{line-accepted}
@@ -54,7 +54,7 @@ version-below s v e = go (sides 46 s) e
 -- what a good piece says of its field
 record Meant (k : Kind) (f : Field) : Type 0 where
   tag : isTag (f .tag₀) (f .tag₁) ≡ true
-  value : isValue (f .value .bytes) ≡ true
+  value : allows k (f .tag₀) (f .tag₁) (f .value .bytes) ≡ true
   sized : Sized k f
 
 fields-meant : (strict : Bool) (at : ℕ) (s : List ℕ) (r : Record) (a : Spelled strict at s r) → Each (Meant (a .kind)) (a .fields)
@@ -62,8 +62,19 @@ fields-meant strict at s r a =
     pairs-right (λ p f. Good (a .kind) (p .at) (p .bytes) f) (λ p. Unit) (Meant (a .kind)) (λ p f u g. record { tag = g .tag; value = g .value; sized = g .sized })
     (placed (at + 4) (cut 9 (a .rest))) (a .fields) (each-all (λ p. Unit) (λ p. tt) (placed (at + 4) (cut 9 (a .rest)))) (a .each)
 
-last-value : (k : Kind) (fs : List Field) (a b : ℕ) (p : Piece) → Each (Meant k) fs → lastOf a b fs ≡ some p → isValue (p .bytes) ≡ true
-last-value k fs a b p h e = let o : Of (Meant k) a b p = lastOf-of (Meant k) a b fs p h e in rw (← o .value) (o .holds .value)
+-- no key is in UTF-8
+narrow : (k : Kind) (a b : ℕ) (f : Field) → isWide k a b ≡ false → tagged a b f ≡ true → Meant k f → isValue (f .value .bytes) ≡ true
+unfolding allows tagged
+narrow k a b f n t m =
+    let x : Bool = eqb (f .tag₀) a in
+    let y : Bool = eqb (f .tag₁) b in
+    let e : isWide k (f .tag₀) (f .tag₁) ≡ false = rw (eqb-true (f .tag₀) a (and-left x y t), eqb-true (f .tag₁) b (and-right x y t)) n in
+    ap (λ w. cond w (isWideValue (f .value .bytes)) (isValue (f .value .bytes))) (sym e) ∙ m .value
+
+last-value : (k : Kind) (fs : List Field) (a b : ℕ) (p : Piece) → isWide k a b ≡ false → Each (Meant k) fs → lastOf a b fs ≡ some p → isValue (p .bytes) ≡ true
+last-value k fs a b p n h e =
+    let o : Of (Meant k) a b p = lastOf-of (Meant k) a b fs p h e in
+    rw (← o .value) (narrow k a b (o .field) n (o .tag) (o .holds))
 
 -- fields of which `Q` holds, which rules out the keys
 rest-other : (k : Kind) (Q : Field → Type 0) → ((f : Field) → Q f → isKey k (f .tag₀) (f .tag₁) ≡ false)
@@ -107,7 +118,7 @@ made-kind fs k r (sp.of-group p e) = refl
 made-kind fs k r (sp.of-program p e) = refl
 
 made-sound : (fs : List Field) (k : Kind) (r : Record) → Each (Meant k) fs → Made fs k r → Sound r
-unfolding Fits Named key others kind isKey tagged
+unfolding Fits Named key others kind isKey tagged isWide
 made-sound fs k r h (sp.of-header p v e g) = record {
   fits = version-below (p .bytes) v g;
   named = tt;
@@ -116,19 +127,19 @@ made-sound fs k r h (sp.of-header p v e g) = record {
 }
 made-sound fs k r h (sp.of-reference p n e g) = record {
   fits = last-sized fs n h g;
-  named = last-value ReferenceSequence fs 83 78 p h e;
+  named = last-value ReferenceSequence fs 83 78 p refl h e;
   other = two-out fs h;
   once = repeats-settled (without 83 78 (without 76 78 fs));
 }
 made-sound fs k r h (sp.of-group p e) = record {
   fits = tt;
-  named = last-value ReadGroup fs 73 68 p h e;
+  named = last-value ReadGroup fs 73 68 p refl h e;
   other = one-out ReadGroup 73 68 fs (λ f q. q) h;
   once = repeats-settled (without 73 68 fs);
 }
 made-sound fs k r h (sp.of-program p e) = record {
   fits = tt;
-  named = last-value Program fs 73 68 p h e;
+  named = last-value Program fs 73 68 p refl h e;
   other = one-out Program 73 68 fs (λ f q. q) h;
   once = repeats-settled (without 73 68 fs);
 }

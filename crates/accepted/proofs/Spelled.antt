@@ -10,7 +10,7 @@ use borrow.Author.Tests.{eqb-true}
 use Rattle.format.specs.Bytes.{any, none?}
 use Rattle.format.specs.Decimal.{worth, span}
 use Rattle.format.specs.Lines.{Piece, cut, placed}
-use Rattle.format.specs.Fields.{Field, Judged, bad, good, goodThen, isValue, isTag, plain, spelled, versionField, lengthField, valueField, field, Scan, onward, scan, repeats, lastOf, settled, without}
+use Rattle.format.specs.Fields.{Field, Judged, bad, good, goodThen, isValue, allows, isTag, plain, spelled, versionField, lengthField, valueField, field, Scan, onward, scan, repeats, lastOf, settled, without}
 use Rattle.format.specs.Records.{Record, header, reference, group, program, comment, refused, read, announcing, versioned, measured, keyed, made, stopped, judged, fielded, remark, body, kindOf, bodied, kinded, prefixed, breaks, line}
 use Rattle.format.specs.Version.{version}
 use Rattle.format.specs.declared.Version.{Version}
@@ -34,17 +34,17 @@ either : (t : Bool) {i j : Judged} → Stops i → Stops j → Stops (cond t i j
 either true h k = h
 either false h k = k
 
-plain-stops : (a b at : ℕ) (v : List ℕ) → Stops (plain a b at v)
+plain-stops : (k : Kind) (a b at : ℕ) (v : List ℕ) → Stops (plain k a b at v)
 unfolding plain
-plain-stops a b at v = either (isValue v) (at-good _) (at-bad 9)
+plain-stops k a b at v = either (allows k a b v) (at-good _) (at-bad 9)
 
 version-stops : (at : ℕ) (v : List ℕ) → Stops (versionField at v)
 unfolding versionField spelled
 version-stops at v = either (isValue v) (go (version v)) (at-bad 9)
   where
-    go : (o : Option Version) → Stops (spelled o (plain 86 78 at v))
+    go : (o : Option Version) → Stops (spelled o (plain Header 86 78 at v))
     go none = at-bad 10
-    go (some w) = plain-stops 86 78 at v
+    go (some w) = plain-stops Header 86 78 at v
 
 length-stops : (at : ℕ) (s : List ℕ × List ℕ) → Stops (lengthField at s)
 unfolding lengthField
@@ -56,11 +56,11 @@ length-stops at s =
 
 value-stops : (k : Kind) (a b at : ℕ) (v : List ℕ) → Stops (valueField k a b at v)
 unfolding valueField
-value-stops Header a b at v = either (eqb a 86 && eqb b 78) (version-stops at v) (plain-stops a b at v)
-value-stops ReferenceSequence a b at v = either (eqb a 76 && eqb b 78) (length-stops at (span v)) (plain-stops a b at v)
-value-stops ReadGroup a b at v = plain-stops a b at v
-value-stops Program a b at v = plain-stops a b at v
-value-stops Comment a b at v = plain-stops a b at v
+value-stops Header a b at v = either (eqb a 86 && eqb b 78) (version-stops at v) (plain-stops Header a b at v)
+value-stops ReferenceSequence a b at v = either (eqb a 76 && eqb b 78) (length-stops at (span v)) (plain-stops ReferenceSequence a b at v)
+value-stops ReadGroup a b at v = plain-stops ReadGroup a b at v
+value-stops Program a b at v = plain-stops Program a b at v
+value-stops Comment a b at v = plain-stops Comment a b at v
 
 field-stops : (k : Kind) (at : ℕ) (s : List ℕ) → Stops (field k at s)
 unfolding field

@@ -2,9 +2,9 @@
 use Prim.Native.Nat.{ℕ}
 use mathlib.Core.Bool.{Bool, _||_}
 use lib.Dec.{eqb}
-use Rattle.format.specs.Bytes.{printable}
+use Rattle.utf8.specs.Shown.{shown}
 
--- a tab, or from space to tilde
+-- a tab, or not below 32 and not 127
 unfoldable pub clean : ℕ → Bool
-unfolding printable
-clean b = eqb b 9 || printable b
+unfolding shown
+clean b = eqb b 9 || shown b

@@ -5,7 +5,7 @@ use mathlib.Core.Bool.{Bool, true, false, _&&_, _||_}
 use mathlib.Core.Option.{Option, none, some}
 use lib.Dec.{eqb}
 use Rattle.format.specs.Lines.{Piece}
-use Rattle.format.specs.Fields.{Field, isValue, isTag, repeats}
+use Rattle.format.specs.Fields.{Field, isValue, allows, isTag, repeats}
 use Rattle.format.specs.Records.{Record, header, reference, group, program, comment, key, others}
 use Rattle.format.specs.declared.Kind.{Kind}
 use Rattle.format.specs.declared.Kind.the-variants.{Header, ReferenceSequence, ReadGroup, Program, Comment}
@@ -44,7 +44,7 @@ Named (some p) = isValue (p .bytes) ≡ true
 pub record Other (k : Kind) (f : Field) : Type 0 where
   pub tag : isTag (f .tag₀) (f .tag₁) ≡ true
   pub no-key : isKey k (f .tag₀) (f .tag₁) ≡ false
-  pub value : isValue (f .value .bytes) ≡ true
+  pub value : allows k (f .tag₀) (f .tag₁) (f .value .bytes) ≡ true
 
 pub record Sound (r : Record) : Type 0 where
   pub fits : Fits r

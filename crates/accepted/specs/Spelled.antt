@@ -6,7 +6,7 @@ use mathlib.Core.List.{List, _∷_}
 use mathlib.Core.Option.{some}
 use Rattle.format.specs.Lines.{Piece, cut, placed}
 use Rattle.format.specs.Decimal.{worth, digits}
-use Rattle.format.specs.Fields.{Field, tagged, isValue, isTag, repeats, lastOf, settled, without}
+use Rattle.format.specs.Fields.{Field, tagged, allows, isTag, repeats, lastOf, settled, without}
 use Rattle.format.specs.Records.{Record, header, reference, group, program, comment}
 use Rattle.format.specs.Version.{version}
 use Rattle.format.specs.declared.Version.{Version}
@@ -28,7 +28,7 @@ pub record Good (k : Kind) (at : ℕ) (s : List ℕ) (f : Field) : Type 0 where
   pub place : f .value .at ≡ at + 3
   pub spells : s ≡ f .tag₀ ∷ f .tag₁ ∷ 58 ∷ f .value .bytes
   pub tag : isTag (f .tag₀) (f .tag₁) ≡ true
-  pub value : isValue (f .value .bytes) ≡ true
+  pub value : allows k (f .tag₀) (f .tag₁) (f .value .bytes) ≡ true
   pub sized : Sized k f
 
 -- the record that the fields `fs` of a line of kind `k` make

@@ -12,7 +12,7 @@ use borrow.Author.Tests.{eqb-false}
 use Rattle.format.specs.Bytes.{none?}
 use Rattle.format.specs.Decimal.{worth}
 use Rattle.format.specs.Decimal.{span}
-use Rattle.format.specs.Fields.{Field, Judged, good, bad, goodThen, isValue, plain, spelled, versionField, lengthField, valueField, isTag, field}
+use Rattle.format.specs.Fields.{Field, Judged, good, bad, goodThen, isValue, isWide, allows, plain, spelled, versionField, lengthField, valueField, isTag, field}
 use Rattle.format.specs.Fields as fields
 use Rattle.format.specs.Version.{version}
 use Rattle.format.specs.declared.Version.{Version}
@@ -20,7 +20,7 @@ use Rattle.format.specs.declared.Kind.{Kind}
 use Rattle.format.specs.declared.Kind.the-variants.{Header, ReferenceSequence}
 use Rattle.text.specs.Upto.{before}
 use Rattle.field.specs.Parsed.{parsedOf, valued, isVersion, isLength}
-use Rattle.field.proofs.Judged.{some-value, judged-length, judged-version, judged-plain}
+use Rattle.field.proofs.Judged.{some-value, none-allowed, judged-length, judged-version, judged-plain}
 use Rattle.field.proofs.Next.{then-onward}
 
 -- an accepted field is not answered as a refusal, has a value of at least one byte, and LN of SQ is at least 1
@@ -35,19 +35,19 @@ Sound k (bad n) = n ≡ 0 → ⊥
 Sound k (good f) = Told k f
 Sound k (goodThen f m) = Told k f
 
-plain-sound : (k : Kind) (a b at : ℕ) (v : List ℕ) → isLength k a b ≡ false → isVersion k a b ≡ false → Sound k (plain a b at v)
+plain-sound : (k : Kind) (a b at : ℕ) (v : List ℕ) → isLength k a b ≡ false → isVersion k a b ≡ false → Sound k (plain k a b at v)
 unfolding Sound plain valued
-plain-sound k a b at v e d = go (isValue v) refl
+plain-sound k a b at v e d = go (allows k a b v) refl
   where
     f : Field
     f = record { tag₀ = a; tag₁ = b; value = record { at = at; bytes = v } }
 
-    go : (t : Bool) → isValue v ≡ t → Sound k (cond t (good f) (bad 10))
-    go true q = record { stop = rw (e, d) refl; some = some-value v q; sized = λ l. absurd (false≢true (sym e ∙ l)) }
+    go : (t : Bool) → allows k a b v ≡ t → Sound k (cond t (good f) (bad 10))
+    go true q = record { stop = rw (e, d) refl; some = some-value (allows k a b) (none-allowed k a b) v q; sized = λ l. absurd (false≢true (sym e ∙ l)) }
     go false q = λ z. omega arith
 
 version-sound : (at : ℕ) (v : List ℕ) → Sound Header (versionField at v)
-unfolding Sound versionField plain valued isLength
+unfolding Sound versionField plain valued isLength allows isWide isValue
 version-sound at v = go (isValue v) refl (version v) refl
   where
     f : Field
@@ -55,7 +55,7 @@ version-sound at v = go (isValue v) refl (version v) refl
 
     go : (t : Bool) → isValue v ≡ t → (o : Option Version) → version v ≡ o → Sound Header (cond t (spelled o (cond t (good f) (bad 10))) (bad 10))
     go true q none k = λ z. omega arith
-    go true q (some w) k = record { stop = rw k refl; some = some-value v q; sized = λ l. absurd (false≢true l) }
+    go true q (some w) k = record { stop = rw k refl; some = some-value isValue refl v q; sized = λ l. absurd (false≢true l) }
     go false q o k = λ z. omega arith
 
 length-sound : (at : ℕ) (ds more : List ℕ) → Sound ReferenceSequence (lengthField at (ds, more))

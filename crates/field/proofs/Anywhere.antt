@@ -5,16 +5,16 @@ use mathlib.Core.Bool.{Bool, true, false, cond}
 use mathlib.Core.List.{List, [], _∷_}
 use lib.Dec.{eqb}
 use borrow.Author.Tests.{eqb-true, eqb-false}
-use Rattle.format.specs.Fields.{bad, field, valueField, isTag}
+use Rattle.format.specs.Fields.{bad, allows, field, valueField, isTag}
 use Rattle.format.specs.declared.Kind.{Kind}
 use Rattle.field.specs.Parsed.{takenOf, isVersion, isLength, parsedOf}
 use Rattle.field.proofs.Judged.{value-length, value-none, value-version, value-kept}
 
 module _ (a b at to : ℕ) (v : List ℕ) (k : Kind) where
   value-anywhere : parsedOf k (valueField k a b at v) ≡ parsedOf k (valueField k a b to v)
-  value-anywhere = go (isLength k a b) refl (eqb (takenOf v) 0) refl (isVersion k a b) refl
+  value-anywhere = go (isLength k a b) refl (eqb (takenOf (allows k a b) v) 0) refl (isVersion k a b) refl
     where
-      go : (t : Bool) → isLength k a b ≡ t → (z : Bool) → eqb (takenOf v) 0 ≡ z → (u : Bool) → isVersion k a b ≡ u
+      go : (t : Bool) → isLength k a b ≡ t → (z : Bool) → eqb (takenOf (allows k a b) v) 0 ≡ z → (u : Bool) → isVersion k a b ≡ u
           → parsedOf k (valueField k a b at v) ≡ parsedOf k (valueField k a b to v)
       go true e z f u d = value-length a b at v k e ∙ sym (value-length a b to v k e)
       go false e true f u d = value-none a b at v k e (eqb-true _ _ f) ∙ sym (value-none a b to v k e (eqb-true _ _ f))

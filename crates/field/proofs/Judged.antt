@@ -1,6 +1,6 @@
 -- What the readers of a value answer, as what is judged of its bytes.
 use Prim.Native.Nat.{ℕ, _^_}
-use mathlib.Core.Path.{_≡_, refl, ap, _∙_}
+use mathlib.Core.Path.{_≡_, refl, sym, ap, _∙_}
 use mathlib.Core.Bool.{Bool, true, false, not, cond, false≢true}
 use mathlib.Core.List.{List, [], _∷_}
 use mathlib.Core.Option.{Option, none, some}
@@ -13,7 +13,7 @@ use Rattle.decimal.specs.declared.Number.the-variants as number
 use Rattle.format.specs.Bytes.{none?}
 use Rattle.format.specs.Decimal.{worth}
 use Rattle.format.specs.Decimal.{span}
-use Rattle.format.specs.Fields.{isValue, good, bad, goodThen, plain, spelled, versionField, lengthField, valueField}
+use Rattle.format.specs.Fields.{isValue, isWideValue, isWide, allows, good, bad, goodThen, plain, spelled, versionField, lengthField, valueField}
 use Rattle.format.specs.Fields as fields
 use Rattle.format.specs.Version.{version}
 use Rattle.format.specs.declared.Version.{Version}
@@ -24,27 +24,41 @@ use Rattle.field.specs.declared.Field.{Field}
 
 -- ---- what taking a value tells
 
--- a value has at least one byte
-pub some-value : (v : List ℕ) → isValue v ≡ true → length v ≡ 0 → ⊥
-unfolding isValue
-some-value [] h e = false≢true h
-some-value (b ∷ v) h e = omega arith
+module _ (p : List ℕ → Bool) where
+  pub a-value : (v : List ℕ) → (takenOf p v ≡ 0 → ⊥) → (p v ≡ true) × (takenOf p v ≡ length v)
+  unfolding takenOf
+  a-value v n = go (p v) refl n
+    where
+      go : (t : Bool) → p v ≡ t → (cond t (length v) 0 ≡ 0 → ⊥) → (p v ≡ true) × (cond t (length v) 0 ≡ length v)
+      go true k n = (k, refl)
+      go false k n = absurd (n refl)
 
-pub a-value : (v : List ℕ) → (takenOf v ≡ 0 → ⊥) → (isValue v ≡ true) × (takenOf v ≡ length v)
-unfolding takenOf
-a-value v n = go (isValue v) refl n
-  where
-    go : (t : Bool) → isValue v ≡ t → (cond t (length v) 0 ≡ 0 → ⊥) → (isValue v ≡ true) × (cond t (length v) 0 ≡ length v)
-    go true k n = (k, refl)
-    go false k n = absurd (n refl)
+  -- a value has at least one byte
+  module _ (n : p [] ≡ false) where
+    pub some-value : (v : List ℕ) → p v ≡ true → length v ≡ 0 → ⊥
+    some-value [] h e = false≢true (sym n ∙ h)
+    some-value (b ∷ v) h e = omega arith
 
-pub no-value : (v : List ℕ) → takenOf v ≡ 0 → isValue v ≡ false
-unfolding takenOf
-no-value v e = go (isValue v) refl e
+    pub no-value : (v : List ℕ) → takenOf p v ≡ 0 → p v ≡ false
+    unfolding takenOf
+    no-value v e = go (p v) refl e
+      where
+        go : (t : Bool) → p v ≡ t → cond t (length v) 0 ≡ 0 → p v ≡ false
+        go true k e = absurd (some-value v k e)
+        go false k e = k
+
+pub none-allowed : (k : Kind) (a b : ℕ) → allows k a b [] ≡ false
+unfolding allows isWideValue isValue
+none-allowed k a b = go (isWide k a b)
   where
-    go : (t : Bool) → isValue v ≡ t → cond t (length v) 0 ≡ 0 → isValue v ≡ false
-    go true k e = absurd (some-value v k e)
-    go false k e = k
+    go : (t : Bool) → cond t false false ≡ false
+    go true = refl
+    go false = refl
+
+-- in HD no value is in UTF-8
+pub header-value : (k : Kind) (a b : ℕ) (v : List ℕ) → k ≡ Header → isValue v ≡ allows k a b v
+unfolding allows isWide
+header-value k a b v e = ap (λ l. allows l a b v) (sym e)
 
 -- ---- LN of SQ
 
@@ -95,7 +109,7 @@ module _ (a b at : ℕ) (v : List ℕ) where
   judged-version Comment e = absurd (false≢true e)
 
   -- any other field is plain, whatever the kind
-  pub judged-plain : (k : Kind) → isLength k a b ≡ false → isVersion k a b ≡ false → valueField k a b at v ≡ plain a b at v
+  pub judged-plain : (k : Kind) → isLength k a b ≡ false → isVersion k a b ≡ false → valueField k a b at v ≡ plain k a b at v
   unfolding valueField isLength isVersion
   judged-plain Header e d = rw d refl
   judged-plain ReferenceSequence e d = rw e refl
@@ -110,22 +124,24 @@ module _ (a b at : ℕ) (v : List ℕ) where
       let j = judged-length k e in
       ap (parsedOf k) (j .1) ∙ ap (λ l. parsedOf l (lengthField at (span v))) (j .0) ∙ length-sized at (span v .0) (span v .1)
 
-  pub value-none : (k : Kind) → isLength k a b ≡ false → takenOf v ≡ 0 → parsedOf k (valueField k a b at v) ≡ refusedBy 10
+  pub value-none : (k : Kind) → isLength k a b ≡ false → takenOf (allows k a b) v ≡ 0 → parsedOf k (valueField k a b at v) ≡ refusedBy 10
   unfolding parsedOf plain versionField
   value-none k e z = go (isVersion k a b) refl
     where
-      n : isValue v ≡ false
-      n = no-value v z
+      n : allows k a b v ≡ false
+      n = no-value (allows k a b) (none-allowed k a b) v z
 
       go : (t : Bool) → isVersion k a b ≡ t → parsedOf k (valueField k a b at v) ≡ refusedBy 10
-      go true d = ap (parsedOf k) (judged-version k d .1) ∙ rw n refl
+      go true d = let j = judged-version k d in ap (parsedOf k) (j .1) ∙ rw (header-value k a b v (j .0), n) refl
       go false d = ap (parsedOf k) (judged-plain k e d) ∙ rw n refl
 
-  pub value-version : (k : Kind) → isVersion k a b ≡ true → (takenOf v ≡ 0 → ⊥) → parsedOf k (valueField k a b at v) ≡ versionedBy (takenOf v) (version v)
-  unfolding parsedOf plain versionField valued
+  pub value-version : (k : Kind) → isVersion k a b ≡ true → (takenOf (allows k a b) v ≡ 0 → ⊥)
+      → parsedOf k (valueField k a b at v) ≡ versionedBy (takenOf (allows k a b) v) (version v)
+  unfolding parsedOf plain versionField valued allows isWide
   value-version k d z =
       let j = judged-version k d in
-      ap (parsedOf k) (j .1) ∙ ap (λ l. parsedOf l (versionField at v)) (j .0) ∙ rw (a-value v z .0, a-value v z .1) (go (version v) refl)
+      let w = a-value (allows k a b) v z in
+      ap (parsedOf k) (j .1) ∙ ap (λ l. parsedOf l (versionField at v)) (j .0) ∙ rw (header-value k a b v (j .0) ∙ w .0, w .1) (go (version v) refl)
     where
       f : fields.Field
       f = record { tag₀ = 86; tag₁ = 78; value = record { at = at; bytes = v } }
@@ -134,7 +150,7 @@ module _ (a b at : ℕ) (v : List ℕ) where
       go none q = refl
       go (some w) q = rw q refl
 
-  pub value-kept : (k : Kind) → isLength k a b ≡ false → isVersion k a b ≡ false → (takenOf v ≡ 0 → ⊥)
-      → parsedOf k (valueField k a b at v) ≡ keptBy a b (takenOf v)
+  pub value-kept : (k : Kind) → isLength k a b ≡ false → isVersion k a b ≡ false → (takenOf (allows k a b) v ≡ 0 → ⊥)
+      → parsedOf k (valueField k a b at v) ≡ keptBy a b (takenOf (allows k a b) v)
   unfolding parsedOf plain valued
-  value-kept k e d z = ap (parsedOf k) (judged-plain k e d) ∙ rw (a-value v z .0, a-value v z .1, e, d) refl
+  value-kept k e d z = ap (parsedOf k) (judged-plain k e d) ∙ rw (a-value (allows k a b) v z .0, a-value (allows k a b) v z .1, e, d) refl

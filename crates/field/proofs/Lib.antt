@@ -1,5 +1,6 @@
 pub mod Before
 pub mod Value
+pub mod Wide
 pub mod Sides
 pub mod Judged
 pub mod Place

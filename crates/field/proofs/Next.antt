@@ -12,7 +12,7 @@ use borrow.Author.Tests.{eqb-true}
 use Rattle.format.specs.Bytes.{digit, none?}
 use Rattle.format.specs.Decimal.{worth}
 use Rattle.format.specs.Decimal.{span}
-use Rattle.format.specs.Fields.{Field, Judged, good, bad, goodThen, isValue, plain, spelled, versionField, lengthField, valueField, isTag, field}
+use Rattle.format.specs.Fields.{Field, Judged, good, bad, goodThen, isValue, allows, plain, spelled, versionField, lengthField, valueField, isTag, field}
 use Rattle.format.specs.Version.{version}
 use Rattle.format.specs.declared.Version.{Version}
 use Rattle.format.specs.declared.Kind.{Kind}
@@ -36,9 +36,9 @@ Used a b at p (bad n) = Unit
 Used a b at p (good f) = Kept a b at p f × (length (f .value .bytes) ≡ length p)
 Used a b at p (goodThen f n) = Kept a b at p f × (n ≡ 6) × (length (f .value .bytes) < length p)
 
-plain-used : (a b at : ℕ) (p : List ℕ) → Used a b at p (plain a b at p)
+plain-used : (k : Kind) (a b at : ℕ) (p : List ℕ) → Used a b at p (plain k a b at p)
 unfolding Used plain
-plain-used a b at p = go (isValue p)
+plain-used k a b at p = go (allows k a b p)
   where
     go : (t : Bool) → Used a b at p (cond t (good (record { tag₀ = a; tag₁ = b; value = record { at = at; bytes = p } })) (bad 10))
     go true = (record { first = refl; second = refl; starts = refl; bytes = sym (take-length p) }, refl)
@@ -48,9 +48,9 @@ version-used : (at : ℕ) (p : List ℕ) → Used 86 78 at p (versionField at p)
 unfolding Used versionField
 version-used at p = go (isValue p) (version p)
   where
-    go : (t : Bool) (o : Option Version) → Used 86 78 at p (cond t (spelled o (plain 86 78 at p)) (bad 10))
+    go : (t : Bool) (o : Option Version) → Used 86 78 at p (cond t (spelled o (plain Header 86 78 at p)) (bad 10))
     go true none = tt
-    go true (some v) = plain-used 86 78 at p
+    go true (some v) = plain-used Header 86 78 at p
     go false o = tt
 
 span-append : (s : List ℕ) → span s .0 ++ span s .1 ≡ s
@@ -88,23 +88,23 @@ value-used : (k : Kind) (a b at : ℕ) (p : List ℕ) → Used a b at p (valueFi
 unfolding valueField
 value-used Header a b at p = go (eqb a 86 && eqb b 78) refl
   where
-    go : (t : Bool) → (eqb a 86 && eqb b 78) ≡ t → Used a b at p (cond t (versionField at p) (plain a b at p))
+    go : (t : Bool) → (eqb a 86 && eqb b 78) ≡ t → Used a b at p (cond t (versionField at p) (plain Header a b at p))
     go true e =
         let h = and-eq-true-iff (eqb a 86) (eqb b 78) .0 e in
         rw (eqb-true a 86 (h .0), eqb-true b 78 (h .1)) (version-used at p)
-    go false e = plain-used a b at p
+    go false e = plain-used Header a b at p
 value-used ReferenceSequence a b at p = go (eqb a 76 && eqb b 78) refl
   where
-    go : (t : Bool) → (eqb a 76 && eqb b 78) ≡ t → Used a b at p (cond t (lengthField at (span p)) (plain a b at p))
+    go : (t : Bool) → (eqb a 76 && eqb b 78) ≡ t → Used a b at p (cond t (lengthField at (span p)) (plain ReferenceSequence a b at p))
     go true e =
         let h = and-eq-true-iff (eqb a 76) (eqb b 78) .0 e in
         rw
         (eqb-true a 76 (h .0), eqb-true b 78 (h .1))
         (subst (λ (q : List ℕ). Used 76 78 at q (lengthField at (span p))) (span-append p) (length-used at (span p .0) (span p .1)))
-    go false e = plain-used a b at p
-value-used ReadGroup a b at p = plain-used a b at p
-value-used Program a b at p = plain-used a b at p
-value-used Comment a b at p = plain-used a b at p
+    go false e = plain-used ReferenceSequence a b at p
+value-used ReadGroup a b at p = plain-used ReadGroup a b at p
+value-used Program a b at p = plain-used Program a b at p
+value-used Comment a b at p = plain-used Comment a b at p
 
 -- ---- a field at the front of `s`, its first byte at `at`
 

@@ -21,7 +21,7 @@ unfoldable pub takenFrom : ℕ → List ℕ → ℕ
 unfolding all
 takenFrom n v = cond (all printable v) (n + length v) 0
 
-pub taken-start : (v : List ℕ) → takenOf v ≡ takenFrom 0 v
+pub taken-start : (v : List ℕ) → takenOf isValue v ≡ takenFrom 0 v
 unfolding takenOf takenFrom isValue
 taken-start [] = refl
 taken-start (b ∷ v) = rw (zero-add (suc (length v)))
@@ -84,6 +84,6 @@ module _ (s : List ℕ) (i : ℕ) where
     at-next e = rw (drop-cons s i 0 h, before-pass 9 _ _ (ne-eqb _ _ (tab-printable _ e)), ← add-one i) (taken-next i _ _ e)
 
 -- where bytes that may all stand in a value were passed
-pub left-run : (s : List ℕ) (i : ℕ) → i ≤ run printable s → takenOf (before 9 s) ≡ left i s
+pub left-run : (s : List ℕ) (i : ℕ) → i ≤ run printable s → takenOf isValue (before 9 s) ≡ left i s
 unfolding left
 left-run s i h = taken-start (before 9 s) ∙ taken-run i 0 s h ∙ ap (λ m. takenFrom m (before 9 (drop i s))) (zero-add i)

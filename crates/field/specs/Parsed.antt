@@ -9,7 +9,7 @@ use Rattle.format.specs.declared.Kind.{Kind}
 use Rattle.format.specs.declared.Kind.the-variants.{Header, ReferenceSequence, ReadGroup, Program, Comment}
 use Rattle.format.specs.declared.Version.{Version}
 use Rattle.format.specs.Decimal.{worth}
-use Rattle.format.specs.Fields.{isValue, Judged, bad, good, goodThen}
+use Rattle.format.specs.Fields.{Judged, bad, good, goodThen}
 use Rattle.format.specs.Fields as fields
 use Rattle.format.specs.Version.{version}
 use Rattle.field.specs.declared.Part.{Part}
@@ -18,10 +18,9 @@ use Rattle.field.specs.declared.Spelled.{Spelled}
 use Rattle.field.specs.declared.Spelled.the-variants as spelled
 use Rattle.field.specs.declared.Field.{Field}
 
--- how many of the bytes before the next tab are taken as a value: all, or none where they are no value
-unfoldable pub takenOf : List ℕ → ℕ
-unfolding isValue
-takenOf v = cond (isValue v) (length v) 0
+-- how many of the bytes before the next tab are taken as a value: all, or none where `allowed` says that they are no value
+unfoldable pub takenOf : (List ℕ → Bool) → List ℕ → ℕ
+takenOf allowed v = cond (allowed v) (length v) 0
 
 -- one side of a version's dot
 unfoldable pub partOf : Option ℕ → Part

@@ -8,7 +8,7 @@ ghost use lib.Dec.{eqb, leb};
 ghost use lib.ListN.{length, drop};
 ghost use Rattle.format.specs.Bytes.{between, letter, digit, printable};
 ghost use Rattle.format.specs.Decimal.{number, span};
-ghost use Rattle.format.specs.Fields.{isTag, field, valueField, lengthField};
+ghost use Rattle.format.specs.Fields.{isTag, isValue, isWideValue, isWide, allows, field, valueField, lengthField};
 ghost use Rattle.format.specs.Version.{version};
 ghost use Prim.Native.Nat.{_+_, _*_, _/_, _^_, _≤_};
 ghost use Rattle.text.specs.Upto.{before};
@@ -113,7 +113,7 @@ fn pass_printable(s: &[u8]) -> usize
 
 // How many bytes the value at the front of `src` has, up to the next tab or the end: 0 for one that is none.
 pub fn value_len(src: &[u8]) -> usize
-    ensures { λ r. ⌜ r ≡ takenOf (before 9 (now (src .entry))) ⌝ }
+    ensures { λ r. ⌜ r ≡ takenOf isValue (before 9 (now (src .entry))) ⌝ }
 {
     let mut i = pass_printable(src);
     while i < src.len() {
@@ -127,6 +127,40 @@ pub fn value_len(src: &[u8]) -> usize
         i += 1;
     }
     i
+}
+
+// The same for a value in UTF-8: whole blocks of 8 bytes that may stand in any value, then the characters behind them.
+fn wide_value_len(src: &[u8]) -> usize
+    ensures { λ r. ⌜ r ≡ takenOf isWideValue (before 9 (now (src .entry))) ⌝ }
+{
+    let start = pass_printable(src);
+    let end = start + text::upto(&src[start..], b'\t');
+    if utf8::is_whole(&src[start..end]) {
+        return end;
+    }
+    0
+}
+
+// Where values are in UTF-8: DS of SQ, RG and PG, and CL of PG.
+fn is_wide(kind: Kind, a: u8, b: u8) -> bool
+    ensures { λ r. ⌜ r ≡ isWide kind a b ⌝ }
+{
+    match kind {
+        Kind::ReferenceSequence => is_same_tag(a, b, b'D', b'S'),
+        Kind::ReadGroup => is_same_tag(a, b, b'D', b'S'),
+        Kind::Program => is_same_tag(a, b, b'D', b'S') || is_same_tag(a, b, b'C', b'L'),
+        Kind::Header | Kind::Comment => false,
+    }
+}
+
+// How many bytes the value of a field with the tag `a`, `b` has: 0 for one that is none.
+fn allowed_len(kind: Kind, a: u8, b: u8, src: &[u8]) -> usize
+    ensures { λ r. ⌜ r ≡ takenOf (allows kind a b) (before 9 (now (src .entry))) ⌝ }
+{
+    if is_wide(kind, a, b) {
+        return wide_value_len(src);
+    }
+    value_len(src)
 }
 
 // ---- versions
@@ -270,7 +304,7 @@ fn parse_field_value(kind: Kind, a: u8, b: u8, src: &[u8]) -> Field
     if is_length(kind, a, b) {
         return parse_length_value(src);
     }
-    let len = value_len(src);
+    let len = allowed_len(kind, a, b, src);
     if len == 0 {
         return Field::refused(10);
     }

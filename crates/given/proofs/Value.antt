@@ -35,14 +35,15 @@ module _ (s : List ℕ) where
   unfolding before
   without-tab h = ap isValue (take-all (upto 9 s) s (omega arith))
 
-  pub value-wrong : takenOf (before 9 s) ≡ 0 → isValue s ≡ false
-  value-wrong e = ⊎-elim with-tab (λ h. sym (without-tab h) ∙ no-value (before 9 s) e) (upto-cases 9 s)
+  pub value-wrong : takenOf isValue (before 9 s) ≡ 0 → isValue s ≡ false
+  unfolding isValue
+  value-wrong e = ⊎-elim with-tab (λ h. sym (without-tab h) ∙ no-value isValue refl (before 9 s) e) (upto-cases 9 s)
 
-  pub value-taken : (n : ℕ) → n ≡ takenOf (before 9 s) → (n ≡ 0 → ⊥) → eqb n (length s) ≡ isValue s
+  pub value-taken : (n : ℕ) → n ≡ takenOf isValue (before 9 s) → (n ≡ 0 → ⊥) → eqb n (length s) ≡ isValue s
   value-taken n e z = ⊎-elim less whole (upto-cases 9 s)
     where
-      v : (isValue (before 9 s) ≡ true) × (takenOf (before 9 s) ≡ length (before 9 s))
-      v = a-value (before 9 s) (λ q. z (e ∙ q))
+      v : (isValue (before 9 s) ≡ true) × (takenOf isValue (before 9 s) ≡ length (before 9 s))
+      v = a-value isValue (before 9 s) (λ q. z (e ∙ q))
 
       l : n ≡ upto 9 s
       l = e ∙ v .1 ∙ before-length 9 s

@@ -9,7 +9,7 @@ use lib.Dec.{eqb}
 use borrow.Author.Tests.{le-leb, lt-ltb, ne-eqb, not-true}
 use Rattle.format.specs.Bytes.{digit, printable, all, none?}
 use Rattle.format.specs.Decimal.{worth, span, digits, written}
-use Rattle.format.specs.Fields.{Field, good, isTag, isValue, plain, spelled, versionField, lengthField, valueField, field}
+use Rattle.format.specs.Fields.{Field, good, isTag, isValue, isWide, allows, plain, spelled, versionField, lengthField, valueField, field}
 use Rattle.format.specs.Version.{grow, sides, both, numbered, version}
 use Rattle.format.specs.declared.Version.{Version}
 use Rattle.format.specs.declared.Kind.{Kind}
@@ -17,7 +17,8 @@ use Rattle.format.specs.declared.Kind.the-variants.{Header, ReferenceSequence, 
 use Rattle.decimal.proofs.ReadBack.{number-back, reads-back, written-digits}
 use Rattle.accepted.specs.Sound.{isKey, Other}
 use Rattle.accepted.proofs.Bools.{and-left, and-right, or-right}
-use Rattle.accepted.proofs.Clean.{between-bounds, tag-bounds}
+use Rattle.utf8.specs.Shown.{shown}
+use Rattle.accepted.proofs.Clean.{between-bounds, tag-bounds, shown-between, allowed-shown}
 use Rattle.roundtrip.specs.Line.{own, pieceText, put-at}
 use Rattle.roundtrip.proofs.Pieces.{Fine}
 
@@ -41,33 +42,33 @@ all-printable (b ∷ s) h =
     rw (digit-printable b (and-left (digit b) (all digit s) h), all-printable s (and-right (digit b) (all digit s) h)) refl
 
 -- a piece with a tag and a value
-piece-printable : (a b : ℕ) (v : List ℕ) → isTag a b ≡ true → isValue v ≡ true → all printable (a ∷ b ∷ 58 ∷ v) ≡ true
-unfolding all isValue printable
-piece-printable a b v t h =
+piece-shown : (k : Kind) (a b : ℕ) (v : List ℕ) → isTag a b ≡ true → allows k a b v ≡ true → all shown (a ∷ b ∷ 58 ∷ v) ≡ true
+unfolding all
+piece-shown k a b v t h =
     let w = tag-bounds a b t in
-    let x : printable a ≡ true = within-printable a (omega arith) (omega arith) in
-    let y : printable b ≡ true = within-printable b (omega arith) (omega arith) in
-    let z : all printable v ≡ true = and-right (not (none? v)) (all printable v) h in
-    rw (x, y, z) refl
+    let x : shown a ≡ true = shown-between a (omega arith) (omega arith) in
+    let y : shown b ≡ true = shown-between b (omega arith) (omega arith) in
+    let z : all shown v ≡ true = allowed-shown k a b v h in
+    rw (x, y, shown-between 58 (omega arith) (omega arith), z) refl
 
 -- ---- a field that is kept byte for byte
 
-module _ (k : Kind) (f : Field) (t : isTag (f .tag₀) (f .tag₁) ≡ true) (h : isValue (f .value .bytes) ≡ true) where
+module _ (k : Kind) (f : Field) (t : isTag (f .tag₀) (f .tag₁) ≡ true) (h : allows k (f .tag₀) (f .tag₁) (f .value .bytes) ≡ true) where
   -- how a piece is judged is how its value is
   by-value : ((at : ℕ) → valueField k (f .tag₀) (f .tag₁) at (f .value .bytes) ≡ good (put-at at f)) → Fine k f
   unfolding pieceText field
   by-value e =
       record {
-        bytes = piece-printable (f .tag₀) (f .tag₁) (f .value .bytes) t h;
+        bytes = piece-shown k (f .tag₀) (f .tag₁) (f .value .bytes) t h;
         reads = λ at. rw t (e (at + 3));
       }
 
-  pub plain-good : (at : ℕ) → plain (f .tag₀) (f .tag₁) at (f .value .bytes) ≡ good (put-at at f)
+  pub plain-good : (at : ℕ) → plain k (f .tag₀) (f .tag₁) at (f .value .bytes) ≡ good (put-at at f)
   unfolding plain put-at
   plain-good at = rw h refl
 
 -- neither VN in HD nor LN in SQ
-plain-value : (k : Kind) (a b at : ℕ) (v : List ℕ) → isKey k a b ≡ false → valueField k a b at v ≡ plain a b at v
+plain-value : (k : Kind) (a b at : ℕ) (v : List ℕ) → isKey k a b ≡ false → valueField k a b at v ≡ plain k a b at v
 unfolding valueField isKey
 plain-value Header a b at v e = rw e refl
 plain-value ReferenceSequence a b at v e = rw (or-right (eqb a 83 && eqb b 78) (eqb a 76 && eqb b 78) e) refl
@@ -80,7 +81,7 @@ fine-other k f o =
     by-value k f (o .tag) (o .value) (λ at. plain-value k (f .tag₀) (f .tag₁) at (f .value .bytes) (o .no-key) ∙ plain-good k f (o .tag) (o .value) at)
 
 -- SN, or ID
-pub fine-key : (k : Kind) (a b : ℕ) (v : List ℕ) → isTag a b ≡ true → ((at : ℕ) → valueField k a b at v ≡ plain a b at v) → isValue v ≡ true → Fine k (own a b v)
+pub fine-key : (k : Kind) (a b : ℕ) (v : List ℕ) → isTag a b ≡ true → ((at : ℕ) → valueField k a b at v ≡ plain k a b at v) → allows k a b v ≡ true → Fine k (own a b v)
 unfolding own
 fine-key k a b v t e h = by-value k (own a b v) t h (λ at. e at ∙ plain-good k (own a b v) t h at)
 
@@ -98,7 +99,7 @@ span-digits (b ∷ s) h = rw (and-left (digit b) (all digit s) h, span-digits s 
 
 -- LN
 pub fine-length : (n : ℕ) → 1 ≤ n → n < 2 ^ 31 → Fine ReferenceSequence (own 76 78 (written n))
-unfolding own valueField lengthField put-at digits isTag
+unfolding own valueField lengthField put-at digits isTag allows isWide
 fine-length n l u =
     let d : digits (written n) ≡ true = written-digits n (omega arith) in
     let s : span (written n) ≡ (written n, []) = span-digits (written n) (and-right (not (none? (written n))) (all digit (written n)) d) in
@@ -140,7 +141,7 @@ value-dot (b ∷ l) r h k = all-dot (b ∷ l) h
 
 -- VN
 pub fine-version : (v : Version) → v .major < 2 ^ 32 → v .minor < 2 ^ 32 → Fine Header (own 86 78 (written (v .major) ++ (46 ∷ written (v .minor))))
-unfolding own valueField versionField spelled isTag put-at
+unfolding own valueField versionField plain spelled isTag put-at allows isWide
 fine-version v m n =
     let s : List ℕ = written (v .major) ++ (46 ∷ written (v .minor)) in
     let h : isValue s ≡ true =

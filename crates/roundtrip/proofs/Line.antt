@@ -10,7 +10,7 @@ use lib.Dec.{eqb}
 use Rattle.format.specs.Bytes.{any}
 use Rattle.format.specs.Decimal.{written}
 use Rattle.format.specs.Lines.{Piece}
-use Rattle.format.specs.Fields.{Field, tagged, isTag, valueField, repeats}
+use Rattle.format.specs.Fields.{Field, tagged, isWide, allows, isTag, valueField, repeats}
 use Rattle.format.specs.Records.{Record, header, reference, group, program, comment, key, others, read, made, stopped, judged, fielded, remark, body, kindOf, bodied, kinded, prefixed, breaks, line}
 use Rattle.format.specs.Tidy.{fieldText, fieldsText, recordText}
 use Rattle.format.specs.declared.Version.{Version}
@@ -49,7 +49,7 @@ fine-others : (k : Kind) (fs : List Field) → Each (Other k) fs → Each (Fine 
 fine-others k fs h = each-map (Other k) (Fine k) (fine-other k) fs h
 
 fine-all : (r : Record) → Sound r → Each (Fine (kind r)) (keys r ++ others r)
-unfolding kind keys others Each Fits Named key isTag valueField
+unfolding kind keys others Each Fits Named key isTag valueField allows isWide
 fine-all (header v fs) s = (fine-version v (s .fits .0) (s .fits .1), fine-others Header fs (s .other))
 fine-all (reference p n fs) s =
     (fine-key ReferenceSequence 83 78 (p .bytes) refl (λ at. refl) (s .named), (fine-length n (s .fits .0) (s .fits .1), fine-others ReferenceSequence fs (s .other)))

@@ -1,11 +1,11 @@
 -- How much room outputs need: the catalogue of an accepted text is at most three times as long as the text.
 use Prim.Native.Nat.{ℕ, suc, _+_, _*_, _≤_}
 use mathlib.Core.Path.{_≡_, refl}
-use mathlib.Core.Bool.{true, not, _&&_, false≢true}
+use mathlib.Core.Bool.{Bool, true, false, cond, false≢true}
 use mathlib.Core.List.{List, [], _∷_, _++_}
 use native.Mathlib.Omega.{arith}
 use lib.ListN.{length, length-append}
-use Rattle.format.specs.Fields.{Field, isValue}
+use Rattle.format.specs.Fields.{Field, isValue, isWide, isWideValue, allows}
 use Rattle.format.specs.Records.{Record, header, reference, group, program, comment, others}
 use Rattle.format.specs.Reading.{accept, readText}
 use Rattle.format.specs.Decimal.{written}
@@ -21,16 +21,20 @@ use Rattle.roundtrip.proofs.Length.{one-more}
 use Rattle.roundtrip.proofs.Total.{record-length, order-length, tidy-length}
 
 -- a value has a byte
-value-some : (v : List ℕ) → isValue v ≡ true → 1 ≤ length v
-unfolding isValue
-value-some [] h = absurd (false≢true h)
-value-some (b ∷ v) h = omega arith
+value-some : (k : Kind) (a b : ℕ) (v : List ℕ) → allows k a b v ≡ true → 1 ≤ length v
+unfolding allows isWideValue isValue
+value-some k a b [] h = absurd (go (isWide k a b) h)
+  where
+    go : (t : Bool) → cond t false false ≡ true → ⊥
+    go true e = false≢true e
+    go false e = false≢true e
+value-some k a b (c ∷ v) h = omega arith
 
 -- an entry of 11 bytes for each field, which takes at least 5
 fields-room : (k : Kind) (fs : List Field) → Each (Other k) fs → 5 * length (tails fs) ≤ 11 * length (fieldsText fs)
 unfolding Each tails
 fields-room k [] h = omega arith
-fields-room k (f ∷ fs) h = omega (arith, one-more f fs, value-some (f .value .bytes) (h .0 .value), fields-room k fs (h .1))
+fields-room k (f ∷ fs) h = omega (arith, one-more f fs, value-some k (f .tag₀) (f .tag₁) (f .value .bytes) (h .0 .value), fields-room k fs (h .1))
 
 -- a record's entries, and its line
 record-room : (r : Record) → Sound r → 5 * (length (head r) + length (tails (others r))) ≤ 11 * length (recordText r)

@@ -26,6 +26,8 @@
 //!   20000 SQ, names of N  the same, with names of as many letters and digits
 //!   20000 RG              of five fields
 //!   1024 chained PG       after 20,000 SQ of five fields; one more may not be added (19)
+//!   500 PG, long CL       with command lines of 400 bytes
+//!   500 PG, accented CL   the same with accents, as many bytes; the crate, whose stand-in takes none, is given the row before
 
 mod calls;
 #[cfg(feature = "names")]
@@ -98,8 +100,9 @@ const CRATE: [(fn(&mut Theirs, &str) -> Header, bool); CALLS.len()] = [
     (Theirs::tidy, true),
 ];
 
-fn row(name: &str, bytes: &[u8], rounds: usize) {
-    let Ok(text) = str::from_utf8(bytes) else {
+/// Times the library on a text, and the crate on the same or on one that stands for it.
+fn row(name: &str, bytes: &[u8], given: &[u8], rounds: usize) {
+    let Ok(text) = str::from_utf8(given) else {
         return println!("{name}: not UTF-8, which the crate's whole-text parser needs");
     };
     let mut room = Room::new();
@@ -118,7 +121,7 @@ fn row(name: &str, bytes: &[u8], rounds: usize) {
             }
             drop(timed(&mut best[i].1, || crates(&mut theirs, black_box(text))));
             let n = timed(&mut best[i].0, || ours(black_box(bytes), &mut room)).expect("accepted as before");
-            assert!(!writes || room.out[..n as usize] == theirs.written[..], "both wrote the same");
+            assert!(!writes || bytes != given || room.out[..n as usize] == theirs.written[..], "both wrote the same");
         }
     }
     print!("{name:<27}{:>10}", bytes.len());
@@ -184,12 +187,15 @@ fn main() -> ExitCode {
     }
     println!("{:>9}{:>9}{:>9}", "ns read", "ns tidy", "best of");
     let word = if let ["rows", word] = *args { word } else { "" };
-    let mut asked = |name: &str, text: &[u8]| {
+    let mut asked = |name: &str, text: &[u8], given: &[u8]| {
         if name.contains(word) {
-            row(name, text, rounds);
+            row(name, text, given, rounds);
         }
     };
-    texts::made(&mut asked);
-    texts::found(Path::new(folder), &mut asked);
+    texts::made(&mut |name, text| asked(name, text, text));
+    let [plain, accented] = texts::commands(500);
+    asked("500 PG, long CL", plain.as_bytes(), plain.as_bytes());
+    asked("500 PG, accented CL", accented.as_bytes(), plain.as_bytes());
+    texts::found(Path::new(folder), &mut |name, text| asked(name, text, text));
     ExitCode::SUCCESS
 }

@@ -324,7 +324,8 @@ impl Checker {
                 if theirs.as_ref().is_some_and(|t| t.number == r.number && t.line == r.line as usize) {
                     self.tally.text(r.number);
                 } else {
-                    let kind = known::reading(text, r, theirs.as_ref());
+                    let wide = theirs.as_ref().and_then(|t| known::taken(text, Some(r), t));
+                    let kind = wide.or_else(|| known::reading(text, r, theirs.as_ref()));
                     let theirs = theirs.map_or("accepted".into(), |t| format!("{} line {} {}", t.number, t.line, t.error));
                     self.differ(Call::Read, kind, format!("refused {} line {}; the crate: {theirs}", r.number, r.line));
                 }
@@ -332,7 +333,7 @@ impl Checker {
             }
             (Ok(n), Err(t)) => {
                 let theirs = format!("{} line {} {}", t.number, t.line, t.error);
-                self.differ(Call::Read, None, format!("accepted ({n} bytes); the crate: {theirs}"));
+                self.differ(Call::Read, known::taken(text, None, &t), format!("accepted ({n} bytes); the crate: {theirs}"));
                 None
             }
             (Ok(n), Ok(header)) => {

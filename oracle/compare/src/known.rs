@@ -1,4 +1,4 @@
-//! Differences that document 01 makes on purpose. Each is recognised from the text and from both answers; whatever is not
+//! Differences that documents 01 and 02 make on purpose. Each is recognised from the text and from both answers; whatever is not
 //! recognised here is reported as unlisted.
 
 use library::Refusal;
@@ -21,10 +21,11 @@ pub enum Kind {
     Endless,
     AddNobody,
     AddPrograms,
+    Wide,
     Lenient,
 }
 
-pub const ALL: [(Kind, &str); 16] = [
+pub const ALL: [(Kind, &str); 17] = [
     (Kind::Size, "a text, or one to be written, over 16,777,216 bytes: 1; the crate has no limit"),
     (Kind::CommentReturn, "a CR inside a comment: 2; the crate keeps it"),
     (Kind::OtherReturn, "a CR inside another line: 2; the crate has another error for it"),
@@ -40,6 +41,7 @@ pub const ALL: [(Kind, &str); 16] = [
     (Kind::Endless, "leaves or add where a chain leads into a loop: 23, or 22 if a PP names no program; the crate never ends"),
     (Kind::AddNobody, "add with a PP that names no program: 22; the crate does not look for it"),
     (Kind::AddPrograms, "add past 1,024 programs: 19; the crate has no limit"),
+    (Kind::Wide, "DS of SQ, RG or PG, or CL of PG in UTF-8: taken; the crate's stand-in has document 01's rule and says 10"),
     (Kind::Lenient, "a tag or value outside document 01's form: 8 or 10; taken by the lenient build's stand-ins"),
 ];
 
@@ -52,9 +54,27 @@ fn values<'a>(line: &'a [u8], tag: &'static [u8]) -> impl Iterator<Item = &'a [u
     line.split(|&b| b == b'\t').filter_map(move |p| p.strip_prefix(tag))
 }
 
+/// Whether a line has a value that document 02 allows and document 01 does not.
+fn widened(line: &[u8]) -> bool {
+    let tags: &[&'static [u8]] = match line.get(..4) {
+        Some(b"@SQ\t" | b"@RG\t") => &[b"DS:"],
+        Some(b"@PG\t") => &[b"DS:", b"CL:"],
+        _ => &[],
+    };
+    let wide = |v: &[u8]| str::from_utf8(v).is_ok_and(|s| !s.is_ascii() && s.chars().all(|c| c >= ' ' && c != '\x7f'));
+    tags.iter().any(|&tag| values(line, tag).any(wide))
+}
+
 fn signed_version(v: &[u8]) -> bool {
     let dot = v.iter().position(|&b| b == b'.');
     sign(v.first()) || dot.is_some_and(|i| sign(v.get(i + 1)))
+}
+
+/// The kind of a difference in reading where the crate's stand-in refuses a value that the library takes and goes on behind.
+pub fn taken(text: &[u8], ours: Option<Refusal>, theirs: &Refused) -> Option<Kind> {
+    let (a, b) = spans(text).nth(theirs.line)?;
+    let further = ours.is_none_or(|r| theirs.line <= r.line as usize);
+    (theirs.number == 10 && further && widened(&text[a..b])).then_some(Kind::Wide)
 }
 
 /// The kind of a difference in reading: the library refuses, and the crate does not or has another refusal.

@@ -7,6 +7,7 @@ use lib.ListN.{length}
 use borrow.Author.Needs.{needs}
 use borrow.Author.Tests.{not-true, not-false}
 use Rattle.format.specs.Bytes.{printable}
+use Rattle.format.specs.Fields.{isValue}
 use Rattle.text.specs.Upto.{before}
 use Rattle.text.specs.Run.{run}
 use Rattle.text.proofs.Run.{run-le}
@@ -16,11 +17,11 @@ use Rattle.field.proofs.value_len.Statement.{statement}
 use Rattle.field.proofs.value_len.Tie as tie
 
 -- whole blocks were passed
-started : (s : List ℕ) (i : ℕ) → i ≡ run printable s / 8 * 8 → (i ≤ length s) × (takenOf (before 9 s) ≡ left i s)
+started : (s : List ℕ) (i : ℕ) → i ≡ run printable s / 8 * 8 → (i ≤ length s) × (takenOf isValue (before 9 s) ≡ left i s)
 started s i e = (omega (arith, run-le printable s), left-run s i (omega arith))
 
 abbrev Inv-loop : tie.InvT-loop
-Inv-loop src i₀ i = (i ≤ length src) × (takenOf (before 9 src) ≡ left i src)
+Inv-loop src i₀ i = (i ≤ length src) × (takenOf isValue (before 9 src) ≡ left i src)
 
 abbrev μ-loop : tie.MeasureT-loop
 μ-loop src i₀ i = length src - i
