@@ -7,7 +7,6 @@
 // was made by `oracle/characters`, with python's decoder: none of it by this program.
 use libc::STDOUT_FILENO;
 use parser::Answer;
-ghost use mathlib.Core.Path.{_≡_};
 ghost use Prim.Native.Nat.{_≤_};
 ghost use lib.ListN.{length};
 

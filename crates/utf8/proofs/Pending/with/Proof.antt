@@ -1,8 +1,8 @@
 -- `utf8::Pending::with` meets its contract: a first byte, or a later one, which is in its range or is not.
-use mathlib.Core.Path.{_≡_, refl, sym, ap, _∙_}
+use mathlib.Core.Path.{sym, ap, _∙_}
 use native.Mathlib.Omega.{arith}
 use borrow.Author.Needs.{needs}
-use Rattle.utf8.specs.Pending.{pendingOf, dueOf, after}
+use Rattle.utf8.specs.Pending.{pendingOf}
 use Rattle.utf8.proofs.Step.{inside, under, beyond, after-none, after-miss, after-next}
 use Rattle.utf8.proofs.Pending.with.Statement.{statement}
 use Rattle.utf8.proofs.Pending.with.Tie as tie
