@@ -14,8 +14,8 @@ use Rattle.format.specs.declared.LineNo.{LineNo}
 use Rattle.accepted.specs.Read.{isAccepted, recordsOf}
 use Rattle.entries.specs.Entries.{entriesIn, counted}
 use Rattle.lookup.proofs.Kept.{text-few}
-use Rattle.gathered.specs.declared.Programs.{Programs}
-use Rattle.gathered.specs.Gathered.{notedIn, gatheredOf}
+use Rattle.programs.specs.declared.Programs.{Programs}
+use Rattle.programs.specs.Gathered.{notedIn, gatheredOf}
 use Rattle.parents.proofs.Own.{few-programs}
 use Rattle.parser.specs.Answers.{answerOf, outputOf}
 use Rattle.parser.proofs.Told.{refused-answer}

@@ -138,7 +138,7 @@ pub fn roots(text: &[u8], kept: &[u8], out: &mut [u32]) -> Answer
     match parser::check(text, kept) {
         Checked::Refused(n, line) => Answer::Refused(n, line),
         Checked::Fresh => {
-            let parents = parents::find_parents(text, gathered::gather(kept));
+            let parents = parents::find_parents(text, programs::gather(kept));
             let list = parents.list;
             let found = chains::roots(&list[..parents.count]);
             let ordinals = found.list;
@@ -165,7 +165,7 @@ pub fn leaves(text: &[u8], kept: &[u8], out: &mut [u32]) -> LeavesAnswer
     match parser::check(text, kept) { // 21 comes before 22
         Checked::Refused(n, line) => LeavesAnswer::Refused(n, line),
         Checked::Fresh => {
-            let graph = parents::find_leaves(text, gathered::gather(kept));
+            let graph = parents::find_leaves(text, programs::gather(kept));
             if graph.refusal != 0 {
                 return LeavesAnswer::Refused(graph.refusal, LineNo(0));
             }

@@ -31,7 +31,7 @@ pub extern "C" fn sam_header_tidy(text: &[u8], out: &mut [u8]) -> u64
     ensures answer { λ r. ⌜ r ≡ answerWord (answerOf (tidying (now (text .entry)) (length (now (out .entry))))) ⌝ }
     ensures wrote { λ _. ⌜ now (out .exit) ≡ outputOf (tidying (now (text .entry)) (length (now (out .entry)))) (now (out .entry)) ⌝ }
 {
-    words::answer_word(tidying::tidy(text, out))
+    words::answer_word(tidy::tidy(text, out))
 }
 
 #[no_mangle]
@@ -111,7 +111,7 @@ pub extern "C" fn sam_header_add(
     ensures answer { λ r. ⌜ r ≡ answerWord (answerOf (adding (now (text .entry)) (now (catalogue .entry)) (now (prefix .entry)) (now (fields .entry)) (length (now (out .entry))))) ⌝ }
     ensures wrote { λ _. ⌜ now (out .exit) ≡ outputOf (adding (now (text .entry)) (now (catalogue .entry)) (now (prefix .entry)) (now (fields .entry)) (length (now (out .entry)))) (now (out .entry)) ⌝ }
 {
-    words::answer_word(programs::add(text, catalogue, prefix, fields, out))
+    words::answer_word(add::add(text, catalogue, prefix, fields, out))
 }
 
 #[no_mangle]

@@ -30,11 +30,11 @@ use Rattle.record.specs.Head.{placeOf, recordHead, headOf}
 use Rattle.record.specs.declared.Place.{Place}
 use Rattle.record.specs.declared.Head.{Head}
 use Rattle.record.specs.declared.Head.the-variants as head
-use Rattle.walk.specs.Run.{AtField, fieldsFrom}
-use Rattle.walk.specs.Next.{standing, orValue, nowhere}
-use Rattle.walk.specs.declared.Value.{Value}
-use Rattle.walk.specs.Tables.{HasTag}
-use Rattle.walk.proofs.Start.{accepted-start, accepted-fields, accepted-tags}
+use Rattle.other_fields.specs.Run.{AtField, fieldsFrom}
+use Rattle.other_fields.specs.Next.{standing, orValue, nowhere}
+use Rattle.other_fields.specs.declared.Value.{Value}
+use Rattle.other_fields.specs.Tables.{HasTag}
+use Rattle.other_fields.proofs.Start.{accepted-start, accepted-fields, accepted-tags}
 use borrow.Author.Tests.{lt-ltb, not-true}
 use Rattle.format.specs.Bytes.{digit, all, none?}
 use Rattle.decimal.specs.Number.{counted, front}

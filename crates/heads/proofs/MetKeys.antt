@@ -13,10 +13,10 @@ use Rattle.format.specs.declared.Kind.the-variants.{Header, ReferenceSequence, 
 use Rattle.text.specs.Upto.{upto}
 use Rattle.accepted.specs.Sound.{isKey}
 use Rattle.accepted.proofs.Bools.{never, and-left, or-left, or-right, or-split}
-use Rattle.walk.specs.Run.{fieldsFrom, AtField}
-use Rattle.walk.specs.Next.{orValue, valueAt}
-use Rattle.walk.specs.declared.Value.{Value}
-use Rattle.walk.proofs.Place.{same-at, other-at}
+use Rattle.other_fields.specs.Run.{fieldsFrom, AtField}
+use Rattle.other_fields.specs.Next.{orValue, valueAt}
+use Rattle.other_fields.specs.declared.Value.{Value}
+use Rattle.other_fields.proofs.Place.{same-at, other-at}
 use Rattle.heads.specs.Keys.{lastKey, lastNumber, keysFrom, withKey}
 use Rattle.heads.specs.declared.Keys.{Keys}
 

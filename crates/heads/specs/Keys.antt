@@ -8,8 +8,8 @@ use Rattle.format.specs.Lines.{Piece}
 use Rattle.format.specs.Fields.{Field, lastOf}
 use Rattle.format.specs.declared.Kind.{Kind}
 use Rattle.format.specs.declared.Kind.the-variants.{Header, ReferenceSequence, ReadGroup, Program, Comment}
-use Rattle.walk.specs.Next.{orValue, nowhere}
-use Rattle.walk.specs.declared.Value.{Value}
+use Rattle.other_fields.specs.Next.{orValue, nowhere}
+use Rattle.other_fields.specs.declared.Value.{Value}
 use Rattle.heads.specs.declared.Keys.{Keys}
 
 -- VN of HD, SN of SQ, ID of RG and PG

@@ -4,7 +4,7 @@ use field::Spelled;
 use format::Kind;
 use record::Head;
 use record::Place;
-use walk::Value;
+use other_fields::Value;
 ghost use mathlib.Core.Path.{_≡_};
 ghost use mathlib.Core.Bool.{true, false};
 ghost use Prim.Native.Nat.{_≤_, _+_};
@@ -13,8 +13,8 @@ ghost use Rattle.format.specs.Records.{line};
 ghost use Rattle.format.specs.declared.Kind.the-variants.{Header, ReferenceSequence};
 ghost use Rattle.accepted.specs.Read.{isRead};
 ghost use Rattle.record.specs.Head.{headOf};
-ghost use Rattle.walk.specs.Run.{fieldsFrom};
-ghost use Rattle.walk.specs.Tables.{Walkable};
+ghost use Rattle.other_fields.specs.Run.{fieldsFrom};
+ghost use Rattle.other_fields.specs.Tables.{Walkable};
 ghost use Rattle.heads.specs.Found.{kindBy, isComment, uncounted};
 ghost use Rattle.heads.specs.Keys.{noKeys, withKey, keysIn};
 
@@ -105,19 +105,19 @@ pub fn find_keys(kind: Kind, src: &[u8], at: usize, once: bool, tables: &[u32]) 
     let nowhere = Value { at: 0, len: 0 };
     match kind {
         Kind::Header => Keys {
-            key: walk::find_value(src, at, b'V', b'N', once, tables),
+            key: other_fields::find_value(src, at, b'V', b'N', once, tables),
             number: nowhere,
         },
         Kind::ReferenceSequence => Keys {
-            key: walk::find_value(src, at, b'S', b'N', once, tables),
-            number: walk::find_value(src, at, b'L', b'N', once, tables),
+            key: other_fields::find_value(src, at, b'S', b'N', once, tables),
+            number: other_fields::find_value(src, at, b'L', b'N', once, tables),
         },
         Kind::ReadGroup => Keys {
-            key: walk::find_value(src, at, b'I', b'D', once, tables),
+            key: other_fields::find_value(src, at, b'I', b'D', once, tables),
             number: nowhere,
         },
         Kind::Program => Keys {
-            key: walk::find_value(src, at, b'I', b'D', once, tables),
+            key: other_fields::find_value(src, at, b'I', b'D', once, tables),
             number: nowhere,
         },
         Kind::Comment => Keys::new(),

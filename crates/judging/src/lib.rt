@@ -136,7 +136,7 @@ fn judge_indexed(text: &[u8], strict: bool, area: &mut [u32]) -> Judged
             return Judged::Refused(n, LineNo(line as u32));
         }
         programs += programs_of(head);
-        size += catalogue::record_size(head);
+        size += line_entries::record_size(head);
         at = next;
         line += 1;
     }
@@ -190,5 +190,5 @@ pub fn judge(text: &[u8]) -> Judged
     if format::LONGEST < text.len() {
         return Judged::Refused(1, LineNo(0));
     }
-    judge_lines(text, rules::is_strict(text))
+    judge_lines(text, repeat_rule::is_strict(text))
 }

@@ -17,9 +17,9 @@ use Rattle.text.proofs.Stands.{by-parts}
 use Rattle.accepted.specs.Admits.{strictly}
 use Rattle.accepted.specs.Pieces.{Pairs}
 use Rattle.accepted.proofs.Text.{text-lines, text-fits}
-use Rattle.catalogue.specs.Line.{recordBytes}
-use Rattle.catalogue.proofs.Records.{catalogue-cons}
-use Rattle.catalogue.proofs.Length.{bytes-few}
+use Rattle.line_entries.specs.Line.{recordBytes}
+use Rattle.line_entries.proofs.Records.{catalogue-cons}
+use Rattle.line_entries.proofs.Length.{bytes-few}
 
 -- the bytes of lines
 unfoldable total : List Piece → ℕ

@@ -22,10 +22,10 @@ use Rattle.accepted.specs.Spelled as sp
 use Rattle.accepted.specs.Spelled.{Made, Spelled, Accepted, kind₀, kind₁}
 use Rattle.accepted.proofs.Bools.{never, and-left, and-right, or-left, or-right}
 use Rattle.accepted.proofs.Spelled.{line-accepted}
-use Rattle.walk.specs.Run.{fieldsFrom, AtField}
-use Rattle.walk.specs.Next.{fieldLength}
-use Rattle.walk.proofs.Here.{Here, Found, found}
-use Rattle.walk.proofs.Start.{accepted-start, accepted-fields}
+use Rattle.other_fields.specs.Run.{fieldsFrom, AtField}
+use Rattle.other_fields.specs.Next.{fieldLength}
+use Rattle.other_fields.proofs.Here.{Here, Found, found}
+use Rattle.other_fields.proofs.Start.{accepted-start, accepted-fields}
 use Rattle.heads.specs.Found.{kindBy}
 use Rattle.heads.proofs.Finds.{Number, first-byte, number}
 use Rattle.roundtrip.proofs.Once.{last-absent}

@@ -1,1 +1,8 @@
-pub mod Others
+pub mod Runs
+pub mod Here
+pub mod Turn
+pub mod Walked
+pub mod Spread
+pub mod Noted
+pub mod Place
+pub mod Start

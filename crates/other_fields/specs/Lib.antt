@@ -1,1 +1,3 @@
-pub mod Others
+pub mod Run
+pub mod Next
+pub mod Tables

@@ -1,98 +1,174 @@
-// The fields of an accepted line that are no keys, each tag at its first place with its last value: written, or measured.
-use format::Kind;
+// The fields of an accepted line, one after another: which stand at their tag's first place, and each tag's last value.
 ghost use mathlib.Core.Path.{_≡_};
-ghost use mathlib.Core.Bool.{false, not, _&&_};
-ghost use mathlib.Core.List.{[], _∷_, _++_};
+ghost use mathlib.Core.Bool.{true, false, _||_};
+ghost use mathlib.Core.List.{List};
 ghost use Prim.Native.Nat.{_≤_, _<_, _+_};
-ghost use lib.ListN.{length, getD};
-ghost use Rattle.text.specs.Over.{over};
-ghost use Rattle.accepted.specs.Sound.{isKey};
-ghost use Rattle.walk.specs.Run.{AtField};
-ghost use Rattle.walk.specs.Next.{isFirst};
-ghost use Rattle.walk.specs.Tables.{Walkable};
-ghost use Rattle.other_fields.specs.Others.{othersText};
+ghost use lib.ListN.{length, drop, replicate};
+ghost use Rattle.format.specs.Fields.{isTag};
+ghost use Rattle.text.specs.Stands.{Each};
+ghost use Rattle.text.specs.Upto.{upto};
+ghost use Rattle.other_fields.specs.Run.{AtField, fieldsFrom};
+ghost use Rattle.other_fields.specs.Next.{isFirst, valueAt, keptAt, lastIn};
+ghost use Rattle.other_fields.specs.Tables.{HasTag, spread, marked, noted, Noted, Walkable};
 
-// Whether the field at `i` is no key and stands at its tag's first place.
-fn is_other(kind: Kind, line: &[u8], at: usize, i: usize, once: bool, tables: &[u32]) -> bool
+// Where a value stands in the text.
+pub struct Value {
+    pub at: usize,
+    pub len: usize,
+}
+
+// Where the field ends that starts with the tab at `i`.
+pub fn field_end(line: &[u8], i: usize) -> usize
+    requires { ⌜ i < length (now line) ⌝ }
+    ensures { λ r. ⌜ r ≡ i + 1 + upto 9 (drop (i + 1) (now (line .entry))) ⌝ }
+{
+    i + 1 + text::upto(&line[i + 1..], b'\t')
+}
+
+// The value of the field from the tab at `i` up to `end`, in a line at the offset `at`.
+pub fn value_at(at: usize, i: usize, end: usize) -> Value
+    requires { ⌜ (i + 4 ≤ end) × (at + end ≤ 4294967295) ⌝ }
+    ensures { λ r. ⌜ r ≡ valueAt at i end ⌝ }
+{
+    Value {
+        at: at + i + 4,
+        len: end - (i + 4),
+    }
+}
+
+// Whether the tags of the accepted line at the offset `at` take different marks of 1,024: then none stands twice.
+fn is_spread(line: &[u8], at: usize) -> bool
+    requires { ⌜ AtField false at (now line) 3 ⌝ }
+    requires { ⌜ at + length (now line) ≤ 4294967295 ⌝ }
+    ensures { λ r. ⌜ r ≡ spread (replicate 1024 false) (fieldsFrom at (now (line .entry)) 3) ⌝ }
+{
+    let mut seen = [false; 1024];
+    let mut i: usize = 3;
+    while i < line.len() {
+        let end = field_end(line, i);
+        let n = tag_number::tag_number(line[i + 1], line[i + 2]) % 1024;
+        if seen[n] {
+            return false;
+        }
+        seen[n] = true;
+        i = end;
+    }
+    true
+}
+
+// Whether it is known that no tag stands twice in the accepted line at the offset `at`: where it is not forbidden, the line may tell.
+pub fn is_once(line: &[u8], at: usize, strict: bool) -> bool
+    requires { ⌜ AtField strict at (now line) 3 ⌝ }
+    requires { ⌜ at + length (now line) ≤ 4294967295 ⌝ }
+    ensures { λ r. ⌜ r ≡ strict || spread (replicate 1024 false) (fieldsFrom at (now (line .entry)) 3) ⌝ }
+{
+    if strict {
+        return true;
+    }
+    is_spread(line, at)
+}
+
+// Notes that a field whose tag has the number `n` stands at the offset `place`.
+fn mark(tables: &mut [u32], n: usize, place: u32)
+    requires { ⌜ (n < 3224) × (length (now tables) ≡ 6448) ⌝ }
+    ensures { λ _. ⌜ now (tables .exit) ≡ marked (now (tables .entry)) n place ⌝ }
+{
+    if tables[n] == 0 {
+        tables[n] = place;
+    }
+    tables[3224 + n] = place;
+}
+
+// Notes the tags of an accepted line at the offset `at`: where each stands first, and last.
+pub fn note_tags(line: &[u8], at: usize, tables: &mut [u32])
+    requires { ⌜ AtField false at (now line) 3 ⌝ }
+    requires { ⌜ Each HasTag (fieldsFrom at (now line) 3) ⌝ }
+    requires { ⌜ at + length (now line) ≤ 4294967295 ⌝ }
+    requires { ⌜ length (now tables) ≡ 6448 ⌝ }
+    ensures { λ _. ⌜ now (tables .exit) ≡ noted (now (tables .entry)) (at + 3) (fieldsFrom at (now (line .entry)) 3) ⌝ }
+{
+    let mut i: usize = 3;
+    while i < line.len() {
+        let end = field_end(line, i);
+        mark(
+            tables,
+            tag_number::tag_number(line[i + 1], line[i + 2]),
+            (at + i) as u32,
+        );
+        i = end;
+    }
+}
+
+// The last value with the tag `a`, `b`, from the tables of the line.
+fn noted_value(line: &[u8], at: usize, a: u8, b: u8, tables: &[u32]) -> Value
+    requires { ⌜ AtField false at (now line) 3 ⌝ }
+    requires { ⌜ Noted at (now line) (now tables) ⌝ }
+    requires { ⌜ isTag a b ≡ true ⌝ }
+    requires { ⌜ at + length (now line) ≤ 4294967295 ⌝ }
+    ensures { λ r. ⌜ r ≡ lastIn at (now (line .entry)) a b ⌝ }
+{
+    let place = tables[3224 + tag_number::tag_number(a, b)] as usize;
+    if place == 0 {
+        return Value { at: 0, len: 0 };
+    }
+    let i = place - at;
+    value_at(at, i, field_end(line, i))
+}
+
+// Whether the field at `i` stands at its tag's first place: where no tag stands twice, it does.
+pub fn is_first(line: &[u8], at: usize, i: usize, once: bool, tables: &[u32]) -> bool
     requires { ⌜ Walkable once at (now line) (now tables) ⌝ }
     requires { ⌜ AtField once at (now line) i ⌝ }
     requires { ⌜ i < length (now line) ⌝ }
-    requires { ⌜ at + length (now line) ≤ 16777216 ⌝ }
-    ensures { λ r. ⌜ r ≡ not (isKey kind (getD (now (line .entry)) (i + 1) 0) (getD (now (line .entry)) (i + 2) 0)) && isFirst at (now (line .entry)) i ⌝ }
+    requires { ⌜ at + length (now line) ≤ 4294967295 ⌝ }
+    ensures { λ r. ⌜ r ≡ isFirst at (now (line .entry)) i ⌝ }
 {
-    if tags::is_key(kind, line[i + 1], line[i + 2]) {
-        return false;
+    if once {
+        return true;
     }
-    walk::is_first(line, at, i, once, tables)
+    tables[tag_number::tag_number(line[i + 1], line[i + 2])] as usize == at + i
 }
 
-// Writes the fields of an accepted line that are no keys, each tag at its first place with its last value.
-fn put_other_fields(
-    out: &mut [u8],
-    o: usize,
-    kind: Kind,
-    line: &[u8],
-    at: usize,
-    once: bool,
-    tables: &[u32],
-) -> usize
+// The last value of the tag of the field from `i` up to `end`: its own, where no tag stands twice.
+pub fn kept_value(line: &[u8], at: usize, i: usize, end: usize, once: bool, tables: &[u32]) -> Value
     requires { ⌜ Walkable once at (now line) (now tables) ⌝ }
-    requires { ⌜ at + length (now line) ≤ 16777216 ⌝ }
-    requires { ⌜ o + length (othersText kind at (now line)) ≤ length (now out) ⌝ }
-    ensures next { λ r. ⌜ r ≡ o + length (othersText kind at (now (line .entry))) ⌝ }
-    ensures wrote { λ _. ⌜ now (out .exit) ≡ over (now (out .entry)) o (othersText kind at (now (line .entry))) ⌝ }
+    requires { ⌜ AtField once at (now line) i ⌝ }
+    requires { ⌜ (i < length (now line)) × (end ≡ i + 1 + upto 9 (drop (i + 1) (now line))) ⌝ }
+    requires { ⌜ at + length (now line) ≤ 4294967295 ⌝ }
+    ensures { λ r. ⌜ r ≡ keptAt at (now (line .entry)) i end ⌝ }
 {
-    let mut n = o;
+    if once {
+        return value_at(at, i, end);
+    }
+    noted_value(line, at, line[i + 1], line[i + 2], tables)
+}
+
+// The first value with the tag `a`, `b` in a line in which no tag stands twice.
+fn only_value(line: &[u8], at: usize, a: u8, b: u8) -> Value
+    requires { ⌜ AtField true at (now line) 3 ⌝ }
+    requires { ⌜ at + length (now line) ≤ 4294967295 ⌝ }
+    ensures { λ r. ⌜ r ≡ lastIn at (now (line .entry)) a b ⌝ }
+{
     let mut i: usize = 3;
     while i < line.len() {
-        let end = walk::field_end(line, i);
-        let a = line[i + 1];
-        let b = line[i + 2];
-        if is_other(kind, line, at, i, once, tables) {
-            let v = walk::kept_value(line, at, i, end, once, tables);
-            n = parts::put_field(out, n, a, b, line, v.at - at, v.len);
+        let end = field_end(line, i);
+        if field::is_same_tag(line[i + 1], line[i + 2], a, b) {
+            return value_at(at, i, end);
         }
         i = end;
     }
-    n
+    Value { at: 0, len: 0 }
 }
 
-// Writes the other fields of an accepted line, and the LF that ends its record.
-pub fn put_rest(
-    out: &mut [u8],
-    o: usize,
-    kind: Kind,
-    line: &[u8],
-    at: usize,
-    once: bool,
-    tables: &[u32],
-) -> usize
+// The last value with the tag `a`, `b` in the accepted line at the offset `at`.
+pub fn find_value(line: &[u8], at: usize, a: u8, b: u8, once: bool, tables: &[u32]) -> Value
     requires { ⌜ Walkable once at (now line) (now tables) ⌝ }
-    requires { ⌜ at + length (now line) ≤ 16777216 ⌝ }
-    requires { ⌜ o + length (othersText kind at (now line)) + 1 ≤ length (now out) ⌝ }
-    ensures next { λ r. ⌜ r ≡ o + length (othersText kind at (now (line .entry)) ++ (10 ∷ [])) ⌝ }
-    ensures wrote { λ _. ⌜ now (out .exit) ≡ over (now (out .entry)) o (othersText kind at (now (line .entry)) ++ (10 ∷ [])) ⌝ }
+    requires { ⌜ isTag a b ≡ true ⌝ }
+    requires { ⌜ at + length (now line) ≤ 4294967295 ⌝ }
+    ensures { λ r. ⌜ r ≡ lastIn at (now (line .entry)) a b ⌝ }
 {
-    let n = put_other_fields(out, o, kind, line, at, once, tables);
-    out[n] = b'\n'; // after the last field
-    n + 1
-}
-
-// How many bytes the other fields of an accepted line have, by its tables.
-pub fn other_fields_len(kind: Kind, line: &[u8], at: usize, tables: &[u32]) -> usize
-    requires { ⌜ Walkable false at (now line) (now tables) ⌝ }
-    requires { ⌜ at + length (now line) ≤ 16777216 ⌝ }
-    ensures { λ r. ⌜ r ≡ length (othersText kind at (now (line .entry))) ⌝ }
-{
-    let mut n: usize = 0;
-    let mut i: usize = 3;
-    while i < line.len() {
-        let end = walk::field_end(line, i);
-        if is_other(kind, line, at, i, false, tables) {
-            let v = walk::kept_value(line, at, i, end, false, tables);
-            n = n + 4 + v.len;
-        }
-        i = end;
+    if once {
+        return only_value(line, at, a, b);
     }
-    n
+    noted_value(line, at, a, b, tables)
 }

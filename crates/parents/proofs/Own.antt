@@ -20,9 +20,9 @@ use Rattle.chains.proofs.Arrays.{front, front-at}
 use Rattle.chains.proofs.Walks.{map-at}
 use Rattle.entries.specs.declared.Place.{Place}
 use Rattle.entries.specs.Entries.{entriesIn}
-use Rattle.gathered.specs.declared.Programs.{Programs}
+use Rattle.programs.specs.declared.Programs.{Programs}
 use Rattle.id_search.specs.Places.{Inside, bytesAt, nowhere, placesOf, idsAt, Placed}
-use Rattle.gathered.specs.Gathered.{Noted, notedIn, arraysOf, gatheredOf}
+use Rattle.programs.specs.Gathered.{Noted, notedIn, arraysOf, gatheredOf}
 use Rattle.parents.specs.Parents.{Somewhere, numberOf, parentOf}
 use Rattle.id_search.specs.Search.{idsOf}
 use Rattle.parents.proofs.Says.{Says, says-ids, says-inside, before-inside, before-parent, text-says}

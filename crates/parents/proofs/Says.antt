@@ -24,7 +24,7 @@ use Rattle.lookup.specs.Lookup.{foundOf, valueIn}
 use Rattle.lookup.proofs.Kept.{record-values, last-value, text-entries}
 use Rattle.lookup.proofs.Answers.{value-fields}
 use Rattle.id_search.specs.Places.{Inside, bytesAt, nowhere}
-use Rattle.gathered.specs.Gathered.{Noted, orNowhere, notedIn}
+use Rattle.programs.specs.Gathered.{Noted, orNowhere, notedIn}
 use Rattle.parents.specs.Parents.{Somewhere, numberOf, orStranger, parentOf}
 use Rattle.id_search.specs.Search.{idsOf, ordinalIn}
 use Rattle.id_search.proofs.Search.{ordinal-ids}

@@ -1,7 +1,7 @@
 // The parents of the programs that are gathered from a catalogue, and the road along them to the leaves.
 use chains::Ordinals;
 use entries::Place;
-use gathered::Programs;
+use programs::Programs;
 use id_search::Named;
 ghost use mathlib.Core.Path.{_≡_};
 ghost use mathlib.Core.Bool.{true};
@@ -12,7 +12,7 @@ ghost use Rattle.format.specs.Catalogue.{catalogue};
 ghost use Rattle.format.specs.Programs.{programs, links};
 ghost use Rattle.accepted.specs.Read.{isAccepted, recordsOf};
 ghost use Rattle.entries.specs.Entries.{entriesIn};
-ghost use Rattle.gathered.specs.Gathered.{notedIn, gatheredOf};
+ghost use Rattle.programs.specs.Gathered.{notedIn, gatheredOf};
 ghost use Rattle.id_search.specs.Places.{idsAt, Placed};
 ghost use Rattle.parents.specs.Parents.{Somewhere, parentOf, parentsOf, ordinalsOf, graphOf};
 
@@ -25,7 +25,7 @@ fn find_parent(text: &[u8], ats: &[u32], lens: &[u32], previous: Place) -> u32
     requires { ⌜ Somewhere (length (now text)) previous ⌝ }
     ensures { λ r. ⌜ r ≡ parentOf (now (text .entry)) (idsAt (now (text .entry)) (now (ats .entry)) (now (lens .entry))) previous ⌝ }
 {
-    if previous.at == gathered::NOWHERE {
+    if previous.at == programs::NOWHERE {
         return chains::NOBODY;
     }
     let start = previous.at as usize;

@@ -1,5 +1,5 @@
 // The whole text: judged line by line, its catalogue written, and a catalogue compared with it.
-use catalogue::Matched;
+use line_entries::Matched;
 use format::LineNo;
 use judging::Judged;
 ghost use mathlib.Core.Path.{_≡_};
@@ -36,7 +36,7 @@ fn put_catalogue(text: &[u8], strict: bool, out: &mut [u8])
     while at < text.len() {
         let cut = text::first_line(&text[at..]);
         let end = at + cut.len;
-        o = catalogue::put_record(out, o, &text[at..end], at, strict);
+        o = line_entries::put_record(out, o, &text[at..end], at, strict);
         at += cut.next;
     }
 }
@@ -51,7 +51,7 @@ fn is_catalogue(text: &[u8], strict: bool, kept: &[u8]) -> bool
     while at < text.len() {
         let cut = text::first_line(&text[at..]);
         let end = at + cut.len;
-        let Matched::Upto(next) = catalogue::same_record(kept, o, &text[at..end], at, strict) else {
+        let Matched::Upto(next) = line_entries::same_record(kept, o, &text[at..end], at, strict) else {
             return false;
         };
         o = next;
@@ -71,7 +71,7 @@ pub fn read(text: &[u8], kept: &mut [u8]) -> Answer
             if kept.len() < size {
                 return Answer::Refused(20, LineNo(0));
             }
-            put_catalogue(text, rules::is_strict(text), kept);
+            put_catalogue(text, repeat_rule::is_strict(text), kept);
             Answer::Count(size)
         }
     }
@@ -87,7 +87,7 @@ pub fn check(text: &[u8], kept: &[u8]) -> Checked
             if size != kept.len() {
                 return Checked::Refused(21, LineNo(0));
             }
-            if is_catalogue(text, rules::is_strict(text), kept) {
+            if is_catalogue(text, repeat_rule::is_strict(text), kept) {
                 return Checked::Fresh;
             }
             Checked::Refused(21, LineNo(0))

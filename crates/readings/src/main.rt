@@ -18,7 +18,7 @@ ghost use Prim.Native.Nat.{_≤_};
 ghost use lib.ListN.{length};
 
 fn print_kept(rest: &[u8]) {
-    if cases::is_untouched(rest) {
+    if stored_cases::is_untouched(rest) {
         io::write_all(STDOUT_FILENO, b" kept");
     } else {
         io::write_all(STDOUT_FILENO, b" spoiled");
@@ -102,23 +102,23 @@ fn answer(text: &[u8], kept: &mut [u8], room: usize)
 
 // One line of the input.
 fn case(line: &[u8], text: &mut [u8], kept: &mut [u8]) {
-    let room = cases::least(cases::number(cases::word(line, 1)), kept.len());
-    let n = cases::decode(cases::word(line, 0), text);
-    cases::fill(kept);
+    let room = stored_cases::least(stored_cases::number(stored_cases::word(line, 1)), kept.len());
+    let n = stored_cases::decode(stored_cases::word(line, 0), text);
+    stored_cases::fill(kept);
     answer(&text[..n], kept, room);
 }
 
 fn cases(input: &[u8], text: &mut [u8], kept: &mut [u8]) {
     let mut at: usize = 0;
     while at < input.len() {
-        let end = cases::until(input, at, b'\n');
+        let end = stored_cases::until(input, at, b'\n');
         case(&input[at..end], text, kept);
         at = end + 1;
     }
 }
 
 fn main() {
-    let mut input = cases::space();
+    let mut input = stored_cases::space();
     let n = io::read_full(0, &mut input);
     let mut text = io::large_buffer();
     let mut kept = io::large_buffer();

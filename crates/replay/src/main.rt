@@ -168,41 +168,41 @@ fn is_ordinals(s: &[u8], list: &[u32], width: usize) -> bool {
 fn bytes() -> [u8; 65536]
     ensures { λ r. ⌜ 65536 ≡ length r ⌝ }
 {
-    [cases::FILLER; 65536]
+    [stored_cases::FILLER; 65536]
 }
 
 // An output of ordinals, as it is before a call.
 fn ordinals() -> [u32; 2048]
     ensures { λ r. ⌜ 2048 ≡ length r ⌝ }
 {
-    [cases::NO_ORDINAL; 2048]
+    [stored_cases::NO_ORDINAL; 2048]
 }
 
 // A number of a line as a byte: 255 for any that is larger.
 fn byte_of(word: &[u8]) -> u8 {
-    cases::least(cases::number(word), 255) as u8
+    stored_cases::least(stored_cases::number(word), 255) as u8
 }
 
 // A number of a line as an ordinal: the largest for any that is larger.
 fn ordinal_of(word: &[u8]) -> u32 {
-    cases::least(cases::number(word), 4294967295) as u32
+    stored_cases::least(stored_cases::number(word), 4294967295) as u32
 }
 
 // Whether the answer at word `at` is this refusal.
 fn is_refusal(line: &[u8], at: usize, n: u8, no: LineNo) -> bool
     requires { ⌜ at < 8 ⌝ }
 {
-    text::same(cases::word(line, at), b"refused")
-        && is_number(cases::word(line, at + 1), n as u64)
-        && is_number(cases::word(line, at + 2), no.0 as u64)
-        && cases::word(line, at + 3).len() == 0
+    text::same(stored_cases::word(line, at), b"refused")
+        && is_number(stored_cases::word(line, at + 1), n as u64)
+        && is_number(stored_cases::word(line, at + 2), no.0 as u64)
+        && stored_cases::word(line, at + 3).len() == 0
 }
 
 // Whether the answer at word `at` is `ok` and `n` words more.
 fn is_ok(line: &[u8], at: usize, n: usize) -> bool
     requires { ⌜ (at < 8) × (n < 4) ⌝ }
 {
-    text::same(cases::word(line, at), b"ok") && cases::word(line, at + n + 1).len() == 0
+    text::same(stored_cases::word(line, at), b"ok") && stored_cases::word(line, at + n + 1).len() == 0
 }
 
 // Whether the first `n` ordinals of an output are these, `width` digits each, and the others as they were.
@@ -210,68 +210,68 @@ fn is_list(word: &[u8], out: &[u32], n: usize, width: usize) -> bool {
     if out.len() < n {
         return false;
     }
-    is_ordinals(word, &out[..n], width) && cases::is_unlisted(&out[n..])
+    is_ordinals(word, &out[..n], width) && stored_cases::is_unlisted(&out[n..])
 }
 
 // Whether the count is the line's.
 fn is_count(line: &[u8], text: &[u8], kept: &[u8]) -> bool {
-    match calls::count(text, kept, byte_of(cases::word(line, 3))) {
+    match calls::count(text, kept, byte_of(stored_cases::word(line, 3))) {
         Answer::Refused(n, no) => is_refusal(line, 4, n, no),
-        Answer::Count(n) => is_ok(line, 4, 1) && is_number(cases::word(line, 5), n as u64),
+        Answer::Count(n) => is_ok(line, 4, 1) && is_number(stored_cases::word(line, 5), n as u64),
     }
 }
 
 // Whether the place of a key is the line's.
 fn is_key(line: &[u8], text: &[u8], kept: &[u8]) -> bool {
-    let kind = byte_of(cases::word(line, 3));
-    match calls::key(text, kept, kind, ordinal_of(cases::word(line, 4))) {
+    let kind = byte_of(stored_cases::word(line, 3));
+    match calls::key(text, kept, kind, ordinal_of(stored_cases::word(line, 4))) {
         KeyAnswer::Refused(n, no) => is_refusal(line, 5, n, no),
         KeyAnswer::At(at, len) => {
             is_ok(line, 5, 2)
-                && is_number(cases::word(line, 6), at as u64)
-                && is_number(cases::word(line, 7), len as u64)
+                && is_number(stored_cases::word(line, 6), at as u64)
+                && is_number(stored_cases::word(line, 7), len as u64)
         }
     }
 }
 
 // Whether an LN is the line's, by its decimal digits.
 fn is_length(line: &[u8], text: &[u8], kept: &[u8]) -> bool {
-    match calls::length(text, kept, ordinal_of(cases::word(line, 3))) {
+    match calls::length(text, kept, ordinal_of(stored_cases::word(line, 3))) {
         LengthAnswer::Refused(n, no) => is_refusal(line, 4, n, no),
-        LengthAnswer::Is(n) => is_ok(line, 4, 1) && is_number(cases::word(line, 5), n),
+        LengthAnswer::Is(n) => is_ok(line, 4, 1) && is_number(stored_cases::word(line, 5), n),
     }
 }
 
 // Whether a field, or the stand-in, is the line's.
 fn is_field(line: &[u8], text: &[u8], kept: &[u8]) -> bool {
     let mut tag = io::buffer();
-    cases::decode(cases::word(line, 5), &mut tag);
+    stored_cases::decode(stored_cases::word(line, 5), &mut tag);
     let mut stand_in = io::buffer();
-    let n = cases::decode(cases::word(line, 6), &mut stand_in);
-    let kind = byte_of(cases::word(line, 3));
-    let ordinal = ordinal_of(cases::word(line, 4));
+    let n = stored_cases::decode(stored_cases::word(line, 6), &mut stand_in);
+    let kind = byte_of(stored_cases::word(line, 3));
+    let ordinal = ordinal_of(stored_cases::word(line, 4));
     let value = calls::field(text, kept, kind, ordinal, tag[0], tag[1], &stand_in[..n]);
-    is_hex(cases::word(line, 7), value) && cases::word(line, 8).len() == 0
+    is_hex(stored_cases::word(line, 7), value) && stored_cases::word(line, 8).len() == 0
 }
 
 // Whether the roots are the line's, in an output of as many elements as it says.
 fn is_roots(line: &[u8], text: &[u8], kept: &[u8], out: &mut [u32]) -> bool {
-    let room = cases::least(cases::number(cases::word(line, 3)), out.len());
+    let room = stored_cases::least(stored_cases::number(stored_cases::word(line, 3)), out.len());
     match calls::roots(text, kept, &mut out[..room]) {
-        Answer::Refused(n, no) => is_refusal(line, 4, n, no) && cases::is_unlisted(out),
-        Answer::Count(n) => is_ok(line, 4, 1) && is_list(cases::word(line, 5), out, n, 4),
+        Answer::Refused(n, no) => is_refusal(line, 4, n, no) && stored_cases::is_unlisted(out),
+        Answer::Count(n) => is_ok(line, 4, 1) && is_list(stored_cases::word(line, 5), out, n, 4),
     }
 }
 
 // Whether the leaves and the hops are the line's, in an output of as many elements as it says.
 fn is_leaves(line: &[u8], text: &[u8], kept: &[u8], out: &mut [u32]) -> bool {
-    let room = cases::least(cases::number(cases::word(line, 3)), out.len());
+    let room = stored_cases::least(stored_cases::number(stored_cases::word(line, 3)), out.len());
     match calls::leaves(text, kept, &mut out[..room]) {
-        LeavesAnswer::Refused(n, no) => is_refusal(line, 4, n, no) && cases::is_unlisted(out),
+        LeavesAnswer::Refused(n, no) => is_refusal(line, 4, n, no) && stored_cases::is_unlisted(out),
         LeavesAnswer::Counted(n, hops) => {
             is_ok(line, 4, 2)
-                && is_list(cases::word(line, 5), out, n, 4)
-                && is_number(cases::word(line, 6), hops as u64)
+                && is_list(stored_cases::word(line, 5), out, n, 4)
+                && is_number(stored_cases::word(line, 6), hops as u64)
         }
     }
 }
@@ -279,13 +279,13 @@ fn is_leaves(line: &[u8], text: &[u8], kept: &[u8], out: &mut [u32]) -> bool {
 // Whether the text with programs added is the line's, in an output of as many bytes as it says.
 fn is_added(line: &[u8], text: &[u8], kept: &[u8], out: &mut [u8]) -> bool {
     let mut prefix = io::buffer();
-    let p = cases::decode(cases::word(line, 4), &mut prefix);
+    let p = stored_cases::decode(stored_cases::word(line, 4), &mut prefix);
     let mut fields = io::buffer();
-    let f = cases::decode(cases::word(line, 5), &mut fields);
-    let room = cases::least(cases::number(cases::word(line, 3)), out.len());
-    match programs::add(text, kept, &prefix[..p], &fields[..f], &mut out[..room]) {
-        Answer::Refused(n, no) => is_refusal(line, 6, n, no) && cases::is_untouched(out),
-        Answer::Count(n) => is_ok(line, 6, 1) && is_text(cases::word(line, 7), out, n),
+    let f = stored_cases::decode(stored_cases::word(line, 5), &mut fields);
+    let room = stored_cases::least(stored_cases::number(stored_cases::word(line, 3)), out.len());
+    match add::add(text, kept, &prefix[..p], &fields[..f], &mut out[..room]) {
+        Answer::Refused(n, no) => is_refusal(line, 6, n, no) && stored_cases::is_untouched(out),
+        Answer::Count(n) => is_ok(line, 6, 1) && is_text(stored_cases::word(line, 7), out, n),
     }
 }
 
@@ -297,21 +297,21 @@ fn is_looks(word: &[u8], looks: u64) -> bool {
 // Whether the ordinals of the names, the index and the slots looked at are the line's, in a work area and an output of as many elements as it says.
 fn is_names(line: &[u8], text: &[u8], kept: &[u8], work: &mut [u32], out: &mut [u32]) -> bool {
     let mut list = io::buffer();
-    let n = cases::decode(cases::word(line, 3), &mut list);
-    let slots = cases::least(cases::number(cases::word(line, 4)), work.len());
-    let room = cases::least(cases::number(cases::word(line, 5)), out.len());
+    let n = stored_cases::decode(stored_cases::word(line, 3), &mut list);
+    let slots = stored_cases::least(stored_cases::number(stored_cases::word(line, 4)), work.len());
+    let room = stored_cases::least(stored_cases::number(stored_cases::word(line, 5)), out.len());
     match names::names(text, kept, &list[..n], &mut work[..slots], &mut out[..room]) {
         NamesAnswer::Refused(n, no) => {
-            is_refusal(line, 6, n, no) && cases::is_unlisted(work) && cases::is_unlisted(out)
+            is_refusal(line, 6, n, no) && stored_cases::is_unlisted(work) && stored_cases::is_unlisted(out)
         }
         NamesAnswer::Counted(n, looks) => {
             is_ok(line, 6, 3)
-                && is_looks(cases::word(line, 9), looks)
-                && is_list(cases::word(line, 7), out, n, 8)
+                && is_looks(stored_cases::word(line, 9), looks)
+                && is_list(stored_cases::word(line, 7), out, n, 8)
                 && is_list(
-                    cases::word(line, 8),
+                    stored_cases::word(line, 8),
                     work,
-                    cases::word(line, 8).len() / 8,
+                    stored_cases::word(line, 8).len() / 8,
                     8,
                 )
         }
@@ -321,8 +321,8 @@ fn is_names(line: &[u8], text: &[u8], kept: &[u8], work: &mut [u32], out: &mut [
 // Whether the program on standard input would write the line's bytes.
 fn is_program(line: &[u8], text: &[u8]) -> bool {
     let mut out = bytes();
-    let n = answer::answer(text, &mut out);
-    is_text(cases::word(line, 2), &out, n) && cases::word(line, 3).len() == 0
+    let n = tidy_answer::answer(text, &mut out);
+    is_text(stored_cases::word(line, 2), &out, n) && stored_cases::word(line, 3).len() == 0
 }
 
 // Puts the catalogue that a word names to the front of `kept` and answers its length: `=` is the text's own.
@@ -330,11 +330,11 @@ fn keep(word: &[u8], text: &[u8], kept: &mut [u8]) -> usize
     ensures { λ r. ⌜ (r ≤ length (now (kept .exit))) × (r ≡ length (take r (now (kept .exit)))) × (length (now (kept .exit)) ≡ length (now (kept .entry))) ⌝ }
 {
     if !text::same(word, b"=") {
-        return cases::decode(word, kept);
+        return stored_cases::decode(word, kept);
     }
     match parser::read(text, kept) {
         Answer::Refused(_, _) => 0,
-        Answer::Count(n) => cases::least(n, kept.len()),
+        Answer::Count(n) => stored_cases::least(n, kept.len()),
     }
 }
 
@@ -354,7 +354,7 @@ fn is_call(line: &[u8], asked: usize, text: &[u8], kept: &[u8], out: &mut [u32])
 // Whether a call over text and catalogue answers as the line says.
 fn is_answer(line: &[u8], asked: usize, text: &[u8]) -> bool {
     let mut kept = io::large_buffer();
-    let n = keep(cases::word(line, 2), text, &mut kept);
+    let n = keep(stored_cases::word(line, 2), text, &mut kept);
     if asked == ADDED {
         let mut out = bytes();
         return is_added(line, text, &kept[..n], &mut out);
@@ -371,15 +371,15 @@ fn is_answer(line: &[u8], asked: usize, text: &[u8]) -> bool {
 fn tidied(text: &[u8], out: &mut [u8]) -> Answer
     ensures { λ _. ⌜ length (now (out .exit)) ≡ length (now (out .entry)) ⌝ }
 {
-    tidying::tidy(text, out)
+    tidy::tidy(text, out)
 }
 
 // Whether the tidy text is the line's, in an output of as many bytes as it says.
 fn is_tidied(line: &[u8], text: &[u8], out: &mut [u8]) -> bool {
-    let room = cases::least(cases::number(cases::word(line, 2)), out.len());
+    let room = stored_cases::least(stored_cases::number(stored_cases::word(line, 2)), out.len());
     match tidied(text, &mut out[..room]) {
-        Answer::Refused(n, no) => is_refusal(line, 3, n, no) && cases::is_untouched(out),
-        Answer::Count(n) => is_ok(line, 3, 1) && is_text(cases::word(line, 4), out, n),
+        Answer::Refused(n, no) => is_refusal(line, 3, n, no) && stored_cases::is_untouched(out),
+        Answer::Count(n) => is_ok(line, 3, 1) && is_text(stored_cases::word(line, 4), out, n),
     }
 }
 
@@ -395,7 +395,7 @@ fn is_written(line: &[u8], asked: usize, text: &[u8]) -> bool {
 // Whether reading refuses a text as the crate does, and writes nothing.
 fn is_read_refused(line: &[u8], text: &[u8], out: &mut [u8]) -> bool {
     match parser::read(text, out) {
-        Answer::Refused(n, no) => is_refusal(line, 1, n, no) && cases::is_untouched(out),
+        Answer::Refused(n, no) => is_refusal(line, 1, n, no) && stored_cases::is_untouched(out),
         Answer::Count(_) => false,
     }
 }
@@ -403,7 +403,7 @@ fn is_read_refused(line: &[u8], text: &[u8], out: &mut [u8]) -> bool {
 // Whether tidying refuses a text as reading does, and writes nothing.
 fn is_tidy_refused(line: &[u8], text: &[u8], out: &mut [u8]) -> bool {
     match tidied(text, out) {
-        Answer::Refused(n, no) => is_refusal(line, 1, n, no) && cases::is_untouched(out),
+        Answer::Refused(n, no) => is_refusal(line, 1, n, no) && stored_cases::is_untouched(out),
         Answer::Count(_) => false,
     }
 }
@@ -413,7 +413,7 @@ fn is_text(word: &[u8], out: &[u8], n: usize) -> bool {
     if out.len() < n {
         return false;
     }
-    is_hex(word, &out[..n]) && cases::is_untouched(&out[n..])
+    is_hex(word, &out[..n]) && stored_cases::is_untouched(&out[n..])
 }
 
 // Whether the tidy text is the crate's.
@@ -428,7 +428,7 @@ fn is_tidy(word: &[u8], text: &[u8], out: &mut [u8]) -> bool {
 fn is_unwritable(word: &[u8], text: &[u8], out: &mut [u8]) -> bool {
     match tidied(text, out) {
         Answer::Refused(n, no) => {
-            n == 24 && is_number(word, no.0 as u64) && cases::is_untouched(out)
+            n == 24 && is_number(word, no.0 as u64) && stored_cases::is_untouched(out)
         }
         Answer::Count(_) => false,
     }
@@ -446,7 +446,7 @@ fn are_roots(word: &[u8], text: &[u8], kept: &[u8], out: &mut [u32]) -> bool {
 fn are_leaves(word: &[u8], text: &[u8], kept: &[u8], out: &mut [u32]) -> bool {
     match calls::leaves(text, kept, out) {
         LeavesAnswer::Refused(n, no) => {
-            text::same(word, b"cycle") && n == 23 && no.0 == 0 && cases::is_unlisted(out)
+            text::same(word, b"cycle") && n == 23 && no.0 == 0 && stored_cases::is_unlisted(out)
         }
         LeavesAnswer::Counted(n, _) => is_list(word, out, n, 4),
     }
@@ -459,10 +459,10 @@ fn is_graph(line: &[u8], text: &[u8], kept: &[u8], n: usize) -> bool {
     }
     let mut first = ordinals();
     let mut second = ordinals();
-    cases::is_untouched(&kept[n..])
-        && are_roots(cases::word(line, 3), text, &kept[..n], &mut first)
-        && are_leaves(cases::word(line, 4), text, &kept[..n], &mut second)
-        && cases::word(line, 5).len() == 0
+    stored_cases::is_untouched(&kept[n..])
+        && are_roots(stored_cases::word(line, 3), text, &kept[..n], &mut first)
+        && are_leaves(stored_cases::word(line, 4), text, &kept[..n], &mut second)
+        && stored_cases::word(line, 5).len() == 0
 }
 
 // Whether a text is read, and its roots and leaves are the line's.
@@ -480,10 +480,10 @@ fn is_sample(line: &[u8], asked: usize, text: &[u8]) -> bool {
     match asked {
         REFUSED => is_read_refused(line, text, &mut kept) && is_tidy_refused(line, text, &mut out),
         ACCEPTED => {
-            is_read(line, text, &mut kept) && is_tidy(cases::word(line, 2), text, &mut out)
+            is_read(line, text, &mut kept) && is_tidy(stored_cases::word(line, 2), text, &mut out)
         }
         UNWRITABLE => {
-            is_read(line, text, &mut kept) && is_unwritable(cases::word(line, 2), text, &mut out)
+            is_read(line, text, &mut kept) && is_unwritable(stored_cases::word(line, 2), text, &mut out)
         }
         _ => false,
     }
@@ -491,7 +491,7 @@ fn is_sample(line: &[u8], asked: usize, text: &[u8]) -> bool {
 
 // What a line asks: its first word is a call, or its second what the crate makes of the text.
 fn asked_by(line: &[u8]) -> usize {
-    let call = cases::word(line, 0);
+    let call = stored_cases::word(line, 0);
     if text::same(call, b"count") {
         return COUNT;
     }
@@ -522,7 +522,7 @@ fn asked_by(line: &[u8]) -> usize {
     if text::same(call, b"tidy") {
         return TIDIED;
     }
-    judged_by(cases::word(line, 1))
+    judged_by(stored_cases::word(line, 1))
 }
 
 // What the crate makes of a text, by its name.
@@ -543,14 +543,14 @@ fn judged_by(word: &[u8]) -> usize {
 fn is_right(line: &[u8], asked: usize) -> bool {
     let mut text = io::large_buffer();
     if asked < PROGRAM {
-        let n = cases::decode(cases::word(line, 1), &mut text);
+        let n = stored_cases::decode(stored_cases::word(line, 1), &mut text);
         return is_answer(line, asked, &text[..n]);
     }
     if asked < REFUSED {
-        let n = cases::decode(cases::word(line, 1), &mut text);
+        let n = stored_cases::decode(stored_cases::word(line, 1), &mut text);
         return is_written(line, asked, &text[..n]);
     }
-    let n = cases::decode(cases::word(line, 0), &mut text);
+    let n = stored_cases::decode(stored_cases::word(line, 0), &mut text);
     is_sample(line, asked, &text[..n])
 }
 
@@ -614,7 +614,7 @@ fn block(input: &[u8], tally: &mut [u32]) -> usize
 {
     let mut at: usize = 0;
     while at < input.len() {
-        let end = cases::until(input, at, b'\n');
+        let end = stored_cases::until(input, at, b'\n');
         if end == input.len() {
             return at;
         }
@@ -631,7 +631,7 @@ fn next_block(fd: i32, at: usize, tally: &mut [u32]) -> usize
     ensures { λ r. ⌜ (r ≤ 131072) × (length (now (tally .exit)) ≡ length (now (tally .entry))) ⌝ }
 {
     libc::lseek(fd, at as i64, libc::SEEK_SET);
-    let mut input = cases::space();
+    let mut input = stored_cases::space();
     let n = io::read_full(fd, &mut input);
     if n == 0 {
         return 0;

@@ -16,7 +16,7 @@ fn run(fd: i32) {
     let mut text = io::large_buffer();
     let mut out = io::large_buffer();
     let n = io::read_full(fd, &mut text);
-    let m = answer::answer(&text[..n], &mut out);
+    let m = tidy_answer::answer(&text[..n], &mut out);
     io::write_all(STDOUT_FILENO, &out[..m]);
 }
 

@@ -79,7 +79,7 @@ fn rows() {
 // One line of the input.
 fn case(hex: &[u8]) {
     let mut value: [u8; 64] = [0; 64];
-    let n = cases::decode(hex, &mut value);
+    let n = stored_cases::decode(hex, &mut value);
     io::print_decimal(STDOUT_FILENO, ask(&value[..n]) as u64);
     io::write_all(STDOUT_FILENO, b"\n");
 }
@@ -87,14 +87,14 @@ fn case(hex: &[u8]) {
 fn cases(input: &[u8]) {
     let mut at: usize = 0;
     while at < input.len() {
-        let end = cases::until(input, at, b'\n');
+        let end = stored_cases::until(input, at, b'\n');
         case(&input[at..end]);
         at = end + 1;
     }
 }
 
 fn main() {
-    let mut input = cases::space();
+    let mut input = stored_cases::space();
     let n = io::read_full(0, &mut input);
     rows();
     cases(&input[..n]);

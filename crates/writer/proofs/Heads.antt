@@ -21,12 +21,12 @@ use Rattle.accepted.proofs.Spelled.{line-accepted}
 use Rattle.accepted.proofs.Stands.{line-stand}
 use Rattle.record.specs.Head.{placeOf, recordHead, headOf}
 use Rattle.record.specs.declared.Head.{Head}
-use Rattle.walk.proofs.Start.{accepted-others}
+use Rattle.other_fields.proofs.Start.{accepted-others}
 use Rattle.heads.specs.Found.{kindBy, isComment, uncounted}
 use Rattle.heads.proofs.Finds.{accepted-byte, by-record}
 use Rattle.writer.specs.Line.{lineText, lineWritable}
 use Rattle.parts.specs.Parts.{prefixText, versionText}
-use Rattle.other_fields.specs.Others.{othersText}
+use Rattle.other_fields_out.specs.Others.{othersText}
 use Rattle.writer.specs.Texts.{Inside, placeText, headerText, sequenceText, mapText}
 use Rattle.writer.specs.Heads.{headText, headWritable, Holds}
 use Rattle.writer.proofs.Sizes.{kindOfHead}

@@ -17,7 +17,7 @@ use Rattle.record.specs.declared.Head.the-variants as head
 use Rattle.record.specs.declared.Head.the-variants.{Refused, ReadGroup, Program, Comment}
 use Rattle.writer.specs.Heads.{headText, Holds, placeLength, headLength}
 use Rattle.parts.specs.Parts.{prefixText, versionText}
-use Rattle.other_fields.specs.Others.{othersText}
+use Rattle.other_fields_out.specs.Others.{othersText}
 use Rattle.writer.specs.Texts.{Inside, placeText, headerText, sequenceText, mapText}
 
 -- the kind of a head's fields

@@ -15,8 +15,8 @@ use Rattle.accepted.specs.Spelled.{Made, Spelled, Accepted}
 use Rattle.accepted.specs.Sound.{kind}
 use Rattle.accepted.proofs.Bools.{never}
 use Rattle.accepted.proofs.Spelled.{line-accepted}
-use Rattle.walk.specs.Run.{fieldsOf, fieldsFrom, AtField}
-use Rattle.walk.proofs.Start.{accepted-fields}
+use Rattle.other_fields.specs.Run.{fieldsOf, fieldsFrom, AtField}
+use Rattle.other_fields.proofs.Start.{accepted-fields}
 use Rattle.heads.specs.Found.{kindBy}
 use Rattle.heads.proofs.Finds.{accepted-byte, by-record}
 use Rattle.neat.specs.Neat.{neat}

@@ -9,7 +9,7 @@ use Rattle.format.specs.declared.Kind.{Kind}
 use Rattle.format.specs.declared.Kind.the-variants.{Header, ReferenceSequence}
 use Rattle.record.specs.declared.Place.{Place}
 use Rattle.parts.specs.Parts.{prefixText, versionText}
-use Rattle.other_fields.specs.Others.{othersText}
+use Rattle.other_fields_out.specs.Others.{othersText}
 
 -- `p` is bytes of the line
 pub record Inside (at : ℕ) (s : List ℕ) (p : Place) : Type 0 where

@@ -12,12 +12,12 @@ ghost use lib.ListN.{length, take, drop, getD};
 ghost use Rattle.format.specs.Records.{line};
 ghost use Rattle.text.specs.Over.{over};
 ghost use Rattle.accepted.specs.Read.{isRead};
-ghost use Rattle.walk.specs.Run.{AtField, fieldsFrom};
-ghost use Rattle.walk.specs.Tables.{Walkable};
+ghost use Rattle.other_fields.specs.Run.{AtField, fieldsFrom};
+ghost use Rattle.other_fields.specs.Tables.{Walkable};
 ghost use Rattle.heads.specs.Found.{kindBy, isComment};
 ghost use Rattle.heads.specs.Keys.{keysIn};
 ghost use Rattle.writer.specs.Line.{lineText, lineWritable, sizeOf};
-ghost use Rattle.other_fields.specs.Others.{othersText};
+ghost use Rattle.other_fields_out.specs.Others.{othersText};
 ghost use Rattle.writer.specs.Heads.{placeLength, headLength, keysLength};
 ghost use Rattle.writer.specs.Texts.{Inside, headerText, sequenceText, mapText};
 
@@ -46,7 +46,7 @@ fn put_header(
     let n = parts::put_prefix(out, o, Kind::Header);
     let n = parts::put_tag(out, n, b'V', b'N');
     let n = parts::put_version(out, n, v);
-    other_fields::put_rest(out, n, Kind::Header, line, at, once, tables)
+    other_fields_out::put_rest(out, n, Kind::Header, line, at, once, tables)
 }
 
 // Writes an SQ: the name that stands in its line, its length, then the other fields.
@@ -73,7 +73,7 @@ fn put_reference_sequence(
     let n = parts::put_field(out, n, b'S', b'N', line, from, len);
     let n = parts::put_tag(out, n, b'L', b'N');
     let n = decimal::write_u64(out, n, ln);
-    other_fields::put_rest(out, n, Kind::ReferenceSequence, line, at, once, tables)
+    other_fields_out::put_rest(out, n, Kind::ReferenceSequence, line, at, once, tables)
 }
 
 // Writes an RG or a PG: the ID that stands in its line, then the other fields.
@@ -98,7 +98,7 @@ fn put_map(
     let len = id.len;
     let n = parts::put_prefix(out, o, kind);
     let n = parts::put_field(out, n, b'I', b'D', line, from, len);
-    other_fields::put_rest(out, n, kind, line, at, once, tables)
+    other_fields_out::put_rest(out, n, kind, line, at, once, tables)
 }
 
 // Writes the record of an accepted line of fields part by part.
@@ -171,7 +171,7 @@ fn put_noted(out: &mut [u8], o: usize, kind: Kind, src: &[u8], at: usize) -> usi
     ensures wrote { λ _. ⌜ now (out .exit) ≡ over (now (out .entry)) o (lineText (line false (record { at = at; bytes = now (src .entry) }))) ⌝ }
 {
     let mut tables = [0u32; 6448];
-    walk::note_tags(src, at, &mut tables);
+    other_fields::note_tags(src, at, &mut tables);
     put_parts(out, o, kind, src, at, false, &tables)
 }
 
@@ -187,7 +187,7 @@ pub fn put_record(out: &mut [u8], o: usize, src: &[u8], at: usize, strict: bool)
     if heads::is_comment(kind) {
         return put_whole(out, o, src);
     }
-    if walk::is_once(src, at, strict) {
+    if other_fields::is_once(src, at, strict) {
         return put_once(out, o, kind, src, at);
     }
     put_noted(out, o, kind, src, at)
@@ -243,7 +243,7 @@ fn is_writable(kind: Kind, src: &[u8], at: usize, once: bool, tables: &[u32]) ->
 {
     match kind {
         Kind::ReferenceSequence => {
-            let name = walk::find_value(src, at, b'S', b'N', once, tables);
+            let name = other_fields::find_value(src, at, b'S', b'N', once, tables);
             let from = name.at - at;
             let len = name.len;
             name::is_name(&src[from..from + len])
@@ -291,12 +291,12 @@ fn noted_size(kind: Kind, src: &[u8], at: usize) -> Size
     ensures { λ r. ⌜ r ≡ sizeOf (line false (record { at = at; bytes = now (src .entry) })) ⌝ }
 {
     let mut tables = [0u32; 6448];
-    walk::note_tags(src, at, &mut tables);
+    other_fields::note_tags(src, at, &mut tables);
     if !is_writable(kind, src, at, false, &tables) {
         return Size::Unwritable;
     }
     let keys = heads::find_keys(kind, src, at, false, &tables);
-    let others = other_fields::other_fields_len(kind, src, at, &tables);
+    let others = other_fields_out::other_fields_len(kind, src, at, &tables);
     Size::Is(parts_len(kind, src, at, keys, others))
 }
 
@@ -310,7 +310,7 @@ pub fn record_size(src: &[u8], at: usize, strict: bool) -> Size
     if heads::is_comment(kind) {
         return Size::Is(src.len() + 1);
     }
-    if walk::is_once(src, at, strict) {
+    if other_fields::is_once(src, at, strict) {
         return once_size(kind, src, at);
     }
     noted_size(kind, src, at)

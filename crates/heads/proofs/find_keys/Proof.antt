@@ -5,8 +5,8 @@ use mathlib.Core.Bool.{true}
 use Rattle.format.specs.Bytes.{between, letter, digit}
 use Rattle.format.specs.Fields.{isTag}
 use Rattle.format.specs.declared.Kind.the-variants.{Header, ReferenceSequence, ReadGroup, Program, Comment}
-use Rattle.walk.specs.Run.{fieldsFrom}
-use Rattle.walk.specs.Next.{nowhere, orValue, lastIn}
+use Rattle.other_fields.specs.Run.{fieldsFrom}
+use Rattle.other_fields.specs.Next.{nowhere, orValue, lastIn}
 use Rattle.heads.specs.Keys.{lastKey, lastNumber, keysFrom, keysIn}
 use borrow.Author.Needs.{needs}
 use Rattle.heads.proofs.find_keys.Statement.{statement}

@@ -11,8 +11,8 @@ use Rattle.format.specs.declared.Kind.the-variants.{Header, ReferenceSequence, 
 use Rattle.accepted.proofs.Bools.{never}
 use Rattle.record.specs.Head.{placeOf, headOf}
 use Rattle.record.specs.declared.Head.the-variants as head
-use Rattle.walk.specs.Run.{fieldsFrom}
-use Rattle.walk.specs.Next.{orValue, nowhere}
+use Rattle.other_fields.specs.Run.{fieldsFrom}
+use Rattle.other_fields.specs.Next.{orValue, nowhere}
 use Rattle.heads.specs.Found.{uncounted}
 use Rattle.heads.specs.Keys.{lastKey, lastNumber, keysFrom, keysIn}
 use Rattle.heads.proofs.Finds.{OfHeader, OfReference, OfMap, Held, held, found-place, value-within, value-bytes, front-digits}

@@ -8,7 +8,7 @@ use Rattle.judging.proofs.judge.Tie as tie
 use Rattle.judging.proofs.judge.Reads as reads
 use Rattle.judging.proofs.judge.Lts as lts
 use Rattle.judging.proofs.judge_lines.Reads as judge-lines-reads
-use Rattle.rules.proofs.is_strict.Reads as is-strict-reads
+use Rattle.repeat_rule.proofs.is_strict.Reads as is-strict-reads
 
 returns : tie.Need-returns
 unfolding judgedOf

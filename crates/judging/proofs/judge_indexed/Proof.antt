@@ -24,10 +24,10 @@ use Rattle.admission.proofs.Few.{others-few}
 use Rattle.key_index.specs.Told.{isMet}
 use Rattle.key_index.specs.Keyed.{Placed}
 use Rattle.key_index.proofs.Keyed.{head-placed, meeting-length}
-use Rattle.catalogue.specs.Line.{recordBytes}
-use Rattle.catalogue.specs.Parts.{sizeOfHead, othersOf, ownEntry}
-use Rattle.catalogue.proofs.Records.{catalogue-length, own-others, size-length}
-use Rattle.catalogue.proofs.Entries.{size-most}
+use Rattle.line_entries.specs.Line.{recordBytes}
+use Rattle.line_entries.specs.Parts.{sizeOfHead, othersOf, ownEntry}
+use Rattle.line_entries.proofs.Records.{catalogue-length, own-others, size-length}
+use Rattle.line_entries.proofs.Entries.{size-most}
 use Rattle.judging.specs.Judged.{judgedOf, programsOf}
 use Rattle.judging.proofs.Blocks.{Blocking, blocking-start, blocking-turn, turn-until, used-known, blocking-on}
 use Rattle.judging.proofs.Judging.{Judging, judging-start, judging-on, judging-end, judging-refused, few-lines, passed-are, next-within, len-within, next-some, len-is, line-stands}
@@ -38,7 +38,7 @@ use Rattle.judging.proofs.judge_indexed.Lts as lts
 use Rattle.judging.proofs.barred.Reads as barred-reads
 use Rattle.judging.proofs.turn.Reads as turn-reads
 use Rattle.key_index.proofs.meet.Reads as meet-reads
-use Rattle.catalogue.proofs.record_size.Reads as record-size-reads
+use Rattle.line_entries.proofs.record_size.Reads as record-size-reads
 use Rattle.judging.proofs.programs_of.Reads as programs-of-reads
 use Rattle.record.proofs.parse_record.Reads as parse-record-reads
 use Rattle.text.proofs.first_line.Reads as first-line-reads

@@ -20,7 +20,7 @@ use Rattle.parser.proofs.check.Reads as reads
 use Rattle.parser.proofs.check.Lts as lts
 use Rattle.parser.proofs.is_catalogue.Reads as is-catalogue-reads
 use Rattle.judging.proofs.judge.Reads as judge-reads
-use Rattle.rules.proofs.is_strict.Reads as is-strict-reads
+use Rattle.repeat_rule.proofs.is_strict.Reads as is-strict-reads
 
 -- the text is accepted, and `n` is its catalogue's length
 accepted : (c : tie.After-size)

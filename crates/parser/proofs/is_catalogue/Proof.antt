@@ -7,9 +7,9 @@ use borrow.Author.Needs.{needs}
 use Rattle.format.specs.Bytes.{same}
 use Rattle.format.specs.Records.{read}
 use Rattle.format.specs.Catalogue.{catalogue}
-use Rattle.catalogue.specs.Line.{recordBytes}
-use Rattle.catalogue.specs.Matched.{matched, Reached}
-use Rattle.catalogue.proofs.Reached.{reached-start, reached-within, reached-on, reached-off, reached-end}
+use Rattle.line_entries.specs.Line.{recordBytes}
+use Rattle.line_entries.specs.Matched.{matched, Reached}
+use Rattle.line_entries.proofs.Reached.{reached-start, reached-within, reached-on, reached-off, reached-end}
 use Rattle.parser.proofs.Walking.{Walking, walking-start, walking-end, Lent, lent}
 use Rattle.parser.proofs.is_catalogue.Statement.{statement}
 use Rattle.parser.proofs.is_catalogue.Tie as tie

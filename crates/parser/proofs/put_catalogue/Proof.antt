@@ -9,8 +9,8 @@ use Rattle.format.specs.Records.{read}
 use Rattle.format.specs.Catalogue.{catalogue}
 use Rattle.text.specs.Over.{over}
 use Rattle.text.proofs.Over.{over-none, over-over}
-use Rattle.catalogue.specs.Line.{recordBytes}
-use Rattle.catalogue.proofs.Records.{catalogue-length, catalogue-more, catalogue-append}
+use Rattle.line_entries.specs.Line.{recordBytes}
+use Rattle.line_entries.proofs.Records.{catalogue-length, catalogue-more, catalogue-append}
 use Rattle.parser.proofs.Walking.{Walking, walking-start, walking-end, Lent, lent}
 use Rattle.parser.proofs.put_catalogue.Statement.{statement}
 use Rattle.parser.proofs.put_catalogue.Tie as tie

@@ -16,7 +16,7 @@ use Rattle.parser.proofs.read.Reads as reads
 use Rattle.parser.proofs.read.Lts as lts
 use Rattle.judging.proofs.judge.Reads as judge-reads
 use Rattle.parser.proofs.put_catalogue.Reads as put-catalogue-reads
-use Rattle.rules.proofs.is_strict.Reads as is-strict-reads
+use Rattle.repeat_rule.proofs.is_strict.Reads as is-strict-reads
 
 -- the text is accepted, and `n` is its catalogue's length
 accepted : (c : tie.After-size)

@@ -19,8 +19,8 @@ use Rattle.format.proofs.Kind
 use Rattle.record.specs.Head.{headOf}
 use Rattle.record.specs.declared.Head.{Head}
 use Rattle.record.specs.declared.Head.the-variants as head
-use Rattle.walk.specs.Run.{fieldsFrom}
-use Rattle.walk.specs.Next.{orValue, nowhere, lastIn}
+use Rattle.other_fields.specs.Run.{fieldsFrom}
+use Rattle.other_fields.specs.Next.{orValue, nowhere, lastIn}
 use Rattle.heads.specs.Found.{isComment, uncounted}
 use Rattle.heads.proofs.Finds.{OfReference, Held, held, found-place, value-within, value-bytes}
 use Rattle.writer.specs.Line.{lineWritable}

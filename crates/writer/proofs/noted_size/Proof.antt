@@ -7,9 +7,9 @@ use lib.ListN.{length, length-replicate}
 use borrow.Author.Needs.{needs}
 use borrow.Author.Tests.{not-true, not-false}
 use Rattle.text.specs.Stands.{Each}
-use Rattle.walk.specs.Run.{AtField, fieldsFrom}
-use Rattle.walk.specs.Tables.{HasTag, Walkable}
-use Rattle.walk.proofs.Start.{blank-tables, noted-walkable}
+use Rattle.other_fields.specs.Run.{AtField, fieldsFrom}
+use Rattle.other_fields.specs.Tables.{HasTag, Walkable}
+use Rattle.other_fields.proofs.Start.{blank-tables, noted-walkable}
 use Rattle.heads.specs.Found.{isComment}
 use Rattle.heads.proofs.Finds.{fielded}
 use Rattle.writer.specs.Line.{sizeOf}

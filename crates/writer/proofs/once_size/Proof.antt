@@ -8,12 +8,12 @@ use lib.ListN.{length, length-append}
 use borrow.Author.Needs.{needs}
 use borrow.Author.Tests.{not-true, not-false}
 use Rattle.format.specs.Records.{line}
-use Rattle.walk.specs.Run.{fieldsFrom}
-use Rattle.walk.proofs.Start.{once-walkable}
+use Rattle.other_fields.specs.Run.{fieldsFrom}
+use Rattle.other_fields.proofs.Start.{once-walkable}
 use Rattle.heads.specs.Keys.{keysIn}
 use Rattle.heads.proofs.Finds.{three}
 use Rattle.writer.specs.Line.{lineText, lineWritable, sizeOf}
-use Rattle.other_fields.specs.Others.{othersText}
+use Rattle.other_fields_out.specs.Others.{othersText}
 use Rattle.writer.specs.Heads.{keysLength}
 use Rattle.writer.specs.declared.Size.the-variants.{Is}
 use Rattle.writer.proofs.Whole.{whole-text}

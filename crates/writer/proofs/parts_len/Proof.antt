@@ -3,12 +3,12 @@ use Prim.Native.Nat.{_+_, _≤_}
 use mathlib.Core.Path.{_≡_, refl, sym, ap, _∙_}
 use native.Mathlib.Omega.{arith}
 use lib.ListN.{length}
-use Rattle.walk.specs.Run.{AtField}
+use Rattle.other_fields.specs.Run.{AtField}
 use Rattle.heads.specs.Found.{isComment}
 use Rattle.heads.proofs.Finds.{fielded}
 use Rattle.writer.specs.Heads.{headLength}
 use Rattle.writer.proofs.Heads.{Told, told}
-use Rattle.other_fields.proofs.Others.{others-short}
+use Rattle.other_fields_out.proofs.Others.{others-short}
 use Rattle.writer.proofs.Sizes.{head-size, place-short}
 use Rattle.writer.proofs.parts_len.Statement.{statement}
 use Rattle.writer.proofs.parts_len.Tie as tie

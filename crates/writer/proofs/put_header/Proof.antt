@@ -4,7 +4,7 @@ use native.Mathlib.Omega.{arith}
 use Rattle.format.specs.Tidy.{fieldText}
 use Rattle.format.specs.declared.Kind.the-variants.{Header}
 use Rattle.parts.specs.Parts.{prefixText, versionText}
-use Rattle.other_fields.specs.Others.{othersText}
+use Rattle.other_fields_out.specs.Others.{othersText}
 use Rattle.writer.specs.Texts.{headerText}
 use Rattle.parts.proofs.Wrote.{wrote-then}
 use Rattle.writer.proofs.Sizes.{header-size}

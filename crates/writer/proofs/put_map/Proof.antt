@@ -3,7 +3,7 @@ use mathlib.Core.List.{[], _∷_, _++_}
 use native.Mathlib.Omega.{arith}
 use Rattle.format.specs.Tidy.{fieldText}
 use Rattle.parts.specs.Parts.{prefixText}
-use Rattle.other_fields.specs.Others.{othersText}
+use Rattle.other_fields_out.specs.Others.{othersText}
 use Rattle.writer.specs.Texts.{placeText, mapText}
 use Rattle.parts.proofs.Wrote.{wrote-then}
 use Rattle.writer.proofs.Sizes.{place-size, map-size}

@@ -6,9 +6,9 @@ use native.Mathlib.Omega.{arith}
 use lib.ListN.{length, length-replicate}
 use borrow.Author.Needs.{needs}
 use Rattle.text.specs.Stands.{Each}
-use Rattle.walk.specs.Run.{AtField, fieldsFrom}
-use Rattle.walk.specs.Tables.{HasTag}
-use Rattle.walk.proofs.Start.{blank-tables, noted-walkable}
+use Rattle.other_fields.specs.Run.{AtField, fieldsFrom}
+use Rattle.other_fields.specs.Tables.{HasTag}
+use Rattle.other_fields.proofs.Start.{blank-tables, noted-walkable}
 use Rattle.heads.specs.Found.{isComment}
 use Rattle.heads.proofs.Finds.{fielded}
 use Rattle.writer.proofs.put_noted.Statement.{statement}

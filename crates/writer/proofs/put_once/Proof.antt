@@ -7,7 +7,7 @@ use native.Mathlib.Omega.{arith}
 use lib.ListN.{length, length-append}
 use borrow.Author.Needs.{needs}
 use Rattle.format.specs.Records.{line}
-use Rattle.walk.proofs.Start.{once-walkable}
+use Rattle.other_fields.proofs.Start.{once-walkable}
 use Rattle.heads.proofs.Finds.{three}
 use Rattle.writer.specs.Line.{lineText}
 use Rattle.parts.proofs.Wrote.{Wrote}

@@ -8,7 +8,7 @@ use Rattle.format.specs.Decimal.{written}
 use Rattle.format.specs.Tidy.{fieldText}
 use Rattle.format.specs.declared.Kind.the-variants.{ReferenceSequence}
 use Rattle.parts.specs.Parts.{prefixText}
-use Rattle.other_fields.specs.Others.{othersText}
+use Rattle.other_fields_out.specs.Others.{othersText}
 use Rattle.writer.specs.Texts.{placeText, sequenceText}
 use Rattle.parts.proofs.Wrote.{wrote-then}
 use Rattle.writer.proofs.Sizes.{place-size, sequence-size}

@@ -1,0 +1,5 @@
+pub mod Sizes
+pub mod Texts
+pub mod Prior
+pub mod On
+pub mod Adding

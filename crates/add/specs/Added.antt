@@ -1,0 +1,57 @@
+-- The tidy text with new programs, and why nothing is added once the leaves are known.
+use Prim.Native.Nat.{ℕ, _+_}
+use mathlib.Core.Bool.{Bool, true, false, not, cond}
+use mathlib.Core.List.{List, _++_}
+use mathlib.Core.Option.{Option, none, some}
+use lib.ListN.{length}
+use lib.Dec.{ltb}
+use Rattle.format.specs.Lines.{Piece}
+use Rattle.format.specs.Fields.{Field}
+use Rattle.format.specs.Records.{Record}
+use Rattle.format.specs.Programs.{Program, programs, links, leaves}
+use Rattle.format.specs.Tidy.{tidy, unwritable}
+use Rattle.format.specs.Adding.{added, used}
+use Rattle.format.specs.Calls.{Answer, then, untangled, writing}
+use Rattle.format.specs.declared.Kind.the-variants.{Comment}
+use Rattle.tidy_text.specs.Kinds.{textOfKind, frontText}
+use Rattle.add_ids.specs.Taken.{known}
+use Rattle.add_input.specs.declared.Given.{Given}
+use Rattle.add_input.specs.declared.Given.the-variants as given
+
+-- the new programs stand behind the old ones, and the comments last
+unfoldable pub withAdded : List Record → List ℕ → List ℕ
+unfolding frontText textOfKind
+withAdded rs new = frontText rs ++ new ++ textOfKind Comment rs
+
+-- is there none?
+unfoldable pub isNone : Option Piece → Bool
+isNone none = true
+isNone (some p) = false
+
+-- the same of where a given PP stands
+unfoldable pub isNothing : Given → Bool
+isNothing given.Nothing = true
+isNothing (given.At at len) = false
+
+-- a given PP that equals no ID
+unfoldable pub stray : List (List ℕ) → Option Piece → Bool
+unfolding known
+stray ids none = false
+stray ids (some p) = not (known (p .bytes) ids)
+
+-- the leaves of the programs that are there
+unfoldable pub leavesOf : List Record → List ℕ
+unfolding leaves links programs
+leavesOf rs = leaves (links (programs rs))
+
+-- 0, or 18, or 19
+unfoldable pub crowded : List Program → List Record → ℕ
+unfolding used programs
+crowded ps new = cond (used ps (programs new)) 18 (cond (ltb 1024 (length ps + length new)) 19 0)
+
+-- what adding comes to where the programs that are there are in order: 18, 19, 24, 1, 20
+unfoldable pub addingOn : List Record → List ℕ → List Field → ℕ → Answer (List ℕ)
+unfolding then untangled crowded added programs writing unwritable tidy
+addingOn rs prefix fs room =
+    then (untangled rs (crowded (programs rs) (added prefix fs (programs rs))))
+    (λ rs. writing room (unwritable 0 rs) (tidy (rs ++ added prefix fs (programs rs))))

@@ -1,0 +1,75 @@
+// The IDs that adding makes: whether a program has one of them already. None is built: each is compared in its parts.
+use format::ProgramNo;
+ghost use mathlib.Core.Path.{_≡_};
+ghost use Rattle.format.specs.Bytes.{same};
+ghost use Rattle.id_search.specs.Places.{idsAt, Placed};
+ghost use Rattle.add_ids.specs.Taken.{joined, known, idIn, standing, taken};
+
+// Whether an ID is the prefix, `-` and another ID: the lengths first, then part by part.
+fn is_joined(id: &[u8], prefix: &[u8], other: &[u8]) -> bool
+    ensures { λ r. ⌜ r ≡ same (joined (now (prefix .entry)) (now (other .entry))) (now (id .entry)) ⌝ }
+{
+    let dash = prefix.len();
+    if id.len() <= dash {
+        return false;
+    }
+    if id.len() - dash - 1 != other.len() {
+        return false;
+    }
+    if id[dash] != b'-' {
+        return false;
+    }
+    if !text::starts(prefix, id) {
+        return false;
+    }
+    let from = dash + 1;
+    let rest = &id[from..];
+    text::same(other, rest)
+}
+
+// The ID of the program with an ordinal, as a part of the text: no bytes where there is none.
+pub fn find_id<'a>(text: &'a [u8], ats: &[u32], lens: &[u32], program: ProgramNo) -> &'a [u8]
+    requires { ⌜ Placed (now text) (now ats) (now lens) ⌝ }
+    ensures value { λ r. ⌜ now r ≡ idIn (idsAt (now (text .entry)) (now (ats .entry)) (now (lens .entry))) (program .0) ⌝ }
+    ensures place { λ r. ⌜ r .ptr ≡ standing (now (ats .entry)) (program .0) (text .entry .ptr) ⌝ }
+{
+    let k = program.0 as usize;
+    if ats.len() <= k {
+        return &text[..0];
+    }
+    let start = ats[k] as usize;
+    let end = start + lens[k] as usize;
+    &text[start..end]
+}
+
+// Whether some program's ID is the prefix, `-` and another ID: the search stops at the first.
+fn is_known(text: &[u8], ats: &[u32], lens: &[u32], prefix: &[u8], other: &[u8]) -> bool
+    requires { ⌜ Placed (now text) (now ats) (now lens) ⌝ }
+    ensures { λ r. ⌜ r ≡ known (joined (now (prefix .entry)) (now (other .entry))) (idsAt (now (text .entry)) (now (ats .entry)) (now (lens .entry))) ⌝ }
+{
+    let mut k: usize = 0;
+    while k < ats.len() {
+        let id = find_id(text, ats, lens, ProgramNo(k as u32));
+        if is_joined(id, prefix, other) {
+            return true;
+        }
+        k += 1;
+    }
+    false
+}
+
+// Whether an ID that is made of the prefix and a leaf's ID is there already.
+pub fn is_taken(text: &[u8], ats: &[u32], lens: &[u32], prefix: &[u8], leaves: &[u32]) -> bool
+    requires { ⌜ Placed (now text) (now ats) (now lens) ⌝ }
+    ensures { λ r. ⌜ r ≡ taken (idsAt (now (text .entry)) (now (ats .entry)) (now (lens .entry))) (now (prefix .entry)) (now (leaves .entry)) ⌝ }
+{
+    let mut i: usize = 0;
+    while i < leaves.len() {
+        let id = find_id(text, ats, lens, ProgramNo(leaves[i]));
+        if is_known(text, ats, lens, prefix, id) {
+            return true;
+        }
+        i += 1;
+    }
+    false
+}

@@ -1,0 +1,16 @@
+-- The lines of the new programs, one after each leaf: the first one's ID alone may be the prefix.
+use Prim.Native.Nat.{ℕ}
+use mathlib.Core.Bool.{Bool, true, false, cond}
+use mathlib.Core.List.{List, [], _∷_, _++_}
+use Rattle.add_ids.specs.Taken.{idIn}
+use Rattle.add_lines.specs.Line.{newLine}
+
+unfoldable pub newLines : List (List ℕ) → Bool → Bool → List ℕ → List ℕ → List ℕ → List ℕ
+unfolding newLine idIn
+newLines ids alone linked prefix fields [] = []
+newLines ids alone linked prefix fields (k ∷ ks) = newLine alone linked prefix fields (idIn ids k) ++ newLines ids false linked prefix fields ks
+
+-- all of them: with no programs there is one, whose ID is the prefix and to which no PP is added
+unfoldable pub addedText : List (List ℕ) → Bool → Bool → Bool → List ℕ → List ℕ → List ℕ → List ℕ
+unfolding newLine newLines
+addedText ids empty alone linked prefix fields ks = cond empty (newLine true false prefix fields []) (newLines ids alone linked prefix fields ks)

@@ -1,0 +1,27 @@
+-- `line_entries::line_entry` meets its contract: the head by the keys is the line's, and its numbers fit.
+use mathlib.Core.Path.{_≡_, sym, ap, subst, _∙_}
+use native.Mathlib.Omega.{arith}
+use Rattle.record.specs.Head.{headOf}
+use Rattle.entries.specs.Entries.{Fits}
+use Rattle.format.specs.Records.{line}
+use Rattle.line_entries.specs.Parts.{ownEntry}
+use Rattle.line_entries.proofs.Told.{own-uncounted, own-fits}
+use Rattle.line_entries.proofs.line_entry.Statement.{statement}
+use Rattle.line_entries.proofs.line_entry.Tie as tie
+use mathlib.Core.Bool.{false}
+
+-- the entry of the head is the line's
+told : (c : tie.After-head-of) → (let a = c .before .before .args in ownEntry (c .head-of .result) ≡ ownEntry (headOf (line false (record { at = a .at; bytes = a .src .now }))))
+told c = ap ownEntry (c .head-of .ensures) ∙ own-uncounted _
+
+head-of-requires : tie.Need-head-of-requires
+head-of-requires c κs = let s = c .before in (s .pre .0, (s .pre .1 .0, (s .pre .1 .1 .0, omega (arith, s .pre .1 .1 .1))))
+
+own-entry-requires : tie.Need-own-entry-requires
+own-entry-requires c κs = let s = c .before .before in subst Fits (sym (told c)) (own-fits (s .args .at) (s .args .src .now) (s .pre .0) (s .pre .1 .1 .1))
+
+returns : tie.Need-returns
+returns c = c .own-entry .ensures ∙ told (c .before)
+
+pub line-entry-spec : {M : Type 1} → statement M
+line-entry-spec = tie.close (tie.spec head-of-requires own-entry-requires returns)

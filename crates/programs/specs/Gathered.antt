@@ -1,0 +1,45 @@
+-- The programs of a catalogue: where the ID and the PP of each stand, as numbers in arrays.
+use mathlib.Core.List.{List, [], _∷_, map}
+use lib.ListN.{length}
+use Rattle.chains.specs.Parents.{inArray}
+use Rattle.entries.specs.declared.Place.{Place}
+use Rattle.entries.specs.declared.Entry.{Entry}
+use Rattle.entries.specs.declared.Entry.the-variants.{End, Header, ReferenceSequence, ReadGroup, Program, Comment, Field}
+use Rattle.lookup.specs.declared.Found.{Found}
+use Rattle.lookup.specs.declared.Found.the-variants.{Nothing, At}
+use Rattle.lookup.specs.Lookup.{valueIn}
+use Rattle.id_search.specs.Places.{nowhere}
+use Rattle.programs.specs.declared.Places.{Places}
+use Rattle.programs.specs.declared.Programs.{Programs}
+
+-- where the ID of a program stands, and its PP
+pub record Noted : Type 0 where
+  pub id : Place
+  pub previous : Place
+
+-- no PP: no place of a text
+unfoldable pub orNowhere : Found → Place
+unfolding nowhere
+orNowhere Nothing = nowhere
+orNowhere (At p) = p
+
+-- each PG entry, in order, with the PP among the field entries behind it
+unfoldable pub notedIn : List Entry → List Noted
+unfolding orNowhere valueIn
+notedIn [] = []
+notedIn (End ∷ es) = notedIn es
+notedIn (Header v ∷ es) = notedIn es
+notedIn (ReferenceSequence p n ∷ es) = notedIn es
+notedIn (ReadGroup p ∷ es) = notedIn es
+notedIn (Program p ∷ es) = record { id = p; previous = orNowhere (valueIn 80 80 es) } ∷ notedIn es
+notedIn (Comment p ∷ es) = notedIn es
+notedIn (Field a b p ∷ es) = notedIn es
+
+-- one of their places in arrays
+unfoldable pub arraysOf : (Noted → Place) → List Noted → Places
+unfolding inArray
+arraysOf f ns = record { at = inArray (map (λ n. f n .at) ns); len = inArray (map (λ n. f n .len) ns) }
+
+unfoldable pub gatheredOf : List Noted → Programs
+unfolding arraysOf
+gatheredOf ns = record { id = arraysOf (λ n. n .id) ns; previous = arraysOf (λ n. n .previous) ns; count = length ns }
