@@ -110,12 +110,14 @@ fn free_slot(slots: &[u32], first: usize) -> usize
     turned(first, n, n)
 }
 
-// A name whose first slot is `first` enters with a value.
-pub fn enter(slots: &mut [u32], first: usize, value: u32)
+// A name whose first slot is `first` enters with a value: the slot that it enters.
+pub fn enter(slots: &mut [u32], first: usize, value: u32) -> usize
     requires { ⌜ first < length (now slots) ⌝ }
     requires { ⌜ length (now slots) ≤ 33554432 ⌝ }
-    ensures { λ _. ⌜ now (slots .exit) ≡ set (now (slots .entry)) (seat first (now (slots .entry))) value ⌝ }
+    ensures at { λ r. ⌜ r ≡ seat first (now (slots .entry)) ⌝ }
+    ensures wrote { λ _. ⌜ now (slots .exit) ≡ set (now (slots .entry)) (seat first (now (slots .entry))) value ⌝ }
 {
     let at = free_slot(slots, first);
     slots[at] = value;
+    at
 }

@@ -77,23 +77,46 @@ fn find_slots(text: &[u8], slots: &[u32], list: &[u8], out: &mut [u32]) -> u64
 }
 
 // Once nothing refuses: each name's ordinal in `out`, the index in `slots`, and the slots that were looked at. While names are looked for
-// the slots tell where names stand, so that a slot's name is found at once, and the ordinals afterwards: each name enters the same slot.
-fn answer(text: &[u8], kept: &[u8], list: &[u8], slots: &mut [u32], out: &mut [u32]) -> u64
+// the slots tell where names stand, so that a slot's name is found at once, and the ordinals afterwards: each of the `m` names of the SQ keeps
+// its slot, and `notes` take which it is.
+fn answer_noting(text: &[u8], kept: &[u8], m: usize, list: &[u8], slots: &mut [u32], out: &mut [u32], notes: &mut [u32]) -> u64
     requires { ⌜ length (now kept) ≤ 4294967294 ⌝ }
     requires { ⌜ length (now list) ≤ 16777216 ⌝ }
-    requires { ⌜ length (namesIn (now text) (entriesIn (now kept))) ≤ 16777216 ⌝ }
-    requires { ⌜ length (now slots) ≡ slotCount (length (namesIn (now text) (entriesIn (now kept)))) ⌝ }
+    requires { ⌜ m ≡ length (namesIn (now text) (entriesIn (now kept))) ⌝ }
+    requires { ⌜ m ≤ 16777216 ⌝ }
+    requires { ⌜ length (now slots) ≡ slotCount m ⌝ }
     requires { ⌜ length (now out) ≡ length (asked (now list)) ⌝ }
     requires { ⌜ Each (Told (now text)) (entriesIn (now kept)) ⌝ }
     ensures slots { λ _. ⌜ now (slots .exit) ≡ index (namesIn (now (text .entry)) (entriesIn (now (kept .entry)))) ⌝ }
     ensures found { λ _. ⌜ now (out .exit) ≡ map (ordinalIn (namesIn (now (text .entry)) (entriesIn (now (kept .entry))))) (asked (now (list .entry))) ⌝ }
     ensures looks { λ r. ⌜ r ≡ summed (looks (namesIn (now (text .entry)) (entriesIn (now (kept .entry))))) (asked (now (list .entry))) ⌝ }
 {
-    sq_index::fill(text, kept, slots, false);
+    sq_index::fill(text, kept, slots, notes, false);
     let looks = find_slots(text, slots, list, out);
-    sq_index::fill(text, kept, slots, true);
+    sq_index::refill(text, kept, m, slots, notes);
     sq_index::to_ordinals(slots, out);
     looks
+}
+
+// The same, with room for notes: little of it is cleared where there are few SQ.
+fn answer(text: &[u8], kept: &[u8], m: usize, list: &[u8], slots: &mut [u32], out: &mut [u32]) -> u64
+    requires { ⌜ length (now kept) ≤ 4294967294 ⌝ }
+    requires { ⌜ length (now list) ≤ 16777216 ⌝ }
+    requires { ⌜ m ≡ length (namesIn (now text) (entriesIn (now kept))) ⌝ }
+    requires { ⌜ m ≤ 16777216 ⌝ }
+    requires { ⌜ length (now slots) ≡ slotCount m ⌝ }
+    requires { ⌜ length (now out) ≡ length (asked (now list)) ⌝ }
+    requires { ⌜ Each (Told (now text)) (entriesIn (now kept)) ⌝ }
+    ensures slots { λ _. ⌜ now (slots .exit) ≡ index (namesIn (now (text .entry)) (entriesIn (now (kept .entry)))) ⌝ }
+    ensures found { λ _. ⌜ now (out .exit) ≡ map (ordinalIn (namesIn (now (text .entry)) (entriesIn (now (kept .entry))))) (asked (now (list .entry))) ⌝ }
+    ensures looks { λ r. ⌜ r ≡ summed (looks (namesIn (now (text .entry)) (entriesIn (now (kept .entry))))) (asked (now (list .entry))) ⌝ }
+{
+    if m <= 512 {
+        let mut notes = [0u32; 512];
+        return answer_noting(text, kept, m, list, slots, out, &mut notes);
+    }
+    let mut notes = [0u32; 65536];
+    answer_noting(text, kept, m, list, slots, out, &mut notes)
 }
 
 // For each name of a list its ordinal among the SQ at the front of `out`, or 4294967295, and the index of the SQ names at the front of
@@ -117,7 +140,8 @@ pub fn names(
                 return NamesAnswer::Refused(1, LineNo(0));
             }
             let room = work.len();
-            let n = name_index::slot_count(sq_index::count(kept) as u32) as usize;
+            let m = sq_index::count(kept);
+            let n = name_index::slot_count(m as u32) as usize;
             if room < n {
                 return NamesAnswer::Refused(20, LineNo(0));
             }
@@ -125,7 +149,7 @@ pub fn names(
             if out.len() < count {
                 return NamesAnswer::Refused(20, LineNo(0));
             }
-            let looks = answer(text, kept, list, &mut work[..n], &mut out[..count]);
+            let looks = answer(text, kept, m, list, &mut work[..n], &mut out[..count]);
             NamesAnswer::Counted(count, looks)
         }
     }

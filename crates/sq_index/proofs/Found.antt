@@ -1,19 +1,21 @@
 -- Slots of a catalogue: filled with places and looked in, then filled with ordinals and read, they answer as the plain search does, and as much is
 -- looked at as the rule says.
 use Prim.Native.Nat.{ℕ, _≤_}
-use mathlib.Core.Path.{_≡_, sym, ap, _∙_}
+use mathlib.Core.Path.{_≡_, sym, ap, ap₂, _∙_}
 use mathlib.Core.Bool.{true, false}
-use mathlib.Core.List.{List, map}
+use mathlib.Core.List.{List, _++_, map}
 use native.Mathlib.Omega.{arith}
-use lib.ListN.{length, replicate, length-map}
+use lib.ListN.{length, take, drop, replicate, length-map}
+use lib.Seq.{sets, sets-eq, length-sets, take-append-seam}
 use Rattle.text.specs.Stands.{Each}
 use Rattle.entries.specs.Entries.{entriesIn}
 use Rattle.name_index.specs.Index.{absent, ordinalIn, slotCount, path, index, tells, looked, looks}
-use Rattle.sq_index.specs.Filled.{namesIn, Told, says, entering, landed, slotOf, looksOf, ordinalAt}
+use Rattle.sq_index.specs.Filled.{namesIn, Told, says, entering, seats, landed, slotOf, looksOf, ordinalAt}
 use Rattle.name_index.proofs.SlotCount.{slots-some, slots-few}
 use Rattle.name_index.proofs.Indexed.{indexed, index-length}
 use Rattle.sq_index.proofs.Recoded.{recode, none-recode, landed-recode, looks-recode, landed-holds}
-use Rattle.sq_index.proofs.Named.{with-ordinals, code, code-tells, filled-codes}
+use Rattle.sq_index.proofs.Named.{names-counted, with-ordinals, code, code-tells, filled-codes, filled-seats}
+use Rattle.sq_index.proofs.Noted.{seats-counted}
 
 -- no slot is the one that says that there is none
 below-absent : (n : ℕ) → n ≤ 33554432 → n ≤ absent
@@ -42,6 +44,18 @@ module _ (t c : List ℕ) where
 
   pub places-length : length places ≡ slotCount (length names)
   places-length = ap length same-places ∙ length-map (index names) (recode (code t c)) ∙ index-length names
+
+  -- noted while the slots were filled with places: the slots that the names enter
+  pub places-noted : (m : ℕ) → m ≡ length names → (notes before : List ℕ) → notes ≡ sets before 0 (seats false t 0 (entriesIn c) empty) → m ≤ length notes
+      → take m notes ≡ seats true t 0 (entriesIn c) empty
+  places-noted m e notes before is room =
+      let ss : List ℕ = seats false t 0 (entriesIn c) empty in
+      let many : m ≡ length ss = e ∙ names-counted t (entriesIn c) ∙ sym (seats-counted t false 0 (entriesIn c) empty) in
+      let all : notes ≡ ss ++ drop (0 + length ss) before = is ∙ sets-eq ss before 0 (omega (arith, many, room, ap length is, length-sets before 0 ss)) in
+      ap₂ take many all
+      ∙ take-append-seam ss (drop (0 + length ss) before)
+      ∙ ap (seats false t 0 (entriesIn c)) (sym (none-recode (code t c) (slotCount (length names))))
+      ∙ filled-seats t c empty
 
   module _ (told : Each (Told t) (entriesIn c)) where
     -- the slot in which a name is found holds the name's ordinal

@@ -4,4 +4,5 @@ pub mod Looking
 pub mod Same
 pub mod Recoded
 pub mod Named
+pub mod Noted
 pub mod Found

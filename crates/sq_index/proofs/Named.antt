@@ -10,6 +10,7 @@ use lib.Seq.{drop-length}
 use lib.Dec.{eqb}
 use borrow.Author.Tests.{eq-eqb}
 use Rattle.format.specs.Bytes.{same}
+use Rattle.format.specs.Slots.{seat}
 use Rattle.text.specs.Stands.{Each}
 use Rattle.text.proofs.Equal.{same-equal}
 use Rattle.key_index.specs.Word.{word}
@@ -17,9 +18,9 @@ use Rattle.entries.specs.declared.Entry.{Entry}
 use Rattle.entries.specs.declared.Entry.the-variants.{End, Header, ReferenceSequence, ReadGroup, Program, Comment, Field}
 use Rattle.entries.specs.Entries.{kindOf, entriesIn, counted}
 use Rattle.lookup.specs.Lookup.{entriesFrom, front}
-use Rattle.name_index.specs.Index.{hashFrom, enter, enterFrom, nameOf, tells}
-use Rattle.sq_index.specs.Filled.{nameIn, namesIn, startIn, Told, markOf, says, valueOf, entering}
-use Rattle.sq_index.proofs.Recoded.{recode, enter-recode}
+use Rattle.name_index.specs.Index.{hashFrom, first, enter, enterFrom, nameOf, tells}
+use Rattle.sq_index.specs.Filled.{nameIn, namesIn, startIn, Told, markOf, says, valueOf, entering, seats}
+use Rattle.sq_index.proofs.Recoded.{recode, enter-recode, place-recode}
 
 pub mark-lt : (h : ℕ) → markOf h < 128
 unfolding markOf
@@ -88,6 +89,27 @@ module _ (t : List ℕ) where
           ap (λ v. entering false t (k + 1) es (enter (suc v) (nameIn t e) (map (recode f) slots))) (sym (here f k e es h q))
           ∙ ap (entering false t (k + 1) es) (enter-recode f k (nameIn t e) slots)
           ∙ ih (behind f k e es h q)
+      go false q ih jh = jh (beside f k e es h q)
+
+  -- names enter the same slots
+  pub seats-codes : (f : ℕ → ℕ) (k : ℕ) (es : List Entry) (slots : List ℕ) → Codes f k es → seats false t k es (map (recode f) slots) ≡ seats true t k es slots
+  unfolding seats valueOf codeOf
+  seats-codes f k [] slots h = refl
+  seats-codes f k (e ∷ es) slots h =
+      go (eqb (kindOf e) 2) refl (λ g. seats-codes f (k + 1) es (enter (suc k) (nameIn t e) slots) g) (λ g. seats-codes f k es slots g)
+    where
+      go : (b : Bool) → eqb (kindOf e) 2 ≡ b
+          → (Codes f (k + 1) es → seats false t (k + 1) es (map (recode f) (enter (suc k) (nameIn t e) slots)) ≡ seats true t (k + 1) es (enter (suc k) (nameIn t e) slots))
+          → (Codes f k es → seats false t k es (map (recode f) slots) ≡ seats true t k es slots)
+          → cond b
+          (seat (first (length (map (recode f) slots)) (nameIn t e)) (map (recode f) slots) ∷ seats false t (k + 1) es (enter (suc (codeOf e)) (nameIn t e) (map (recode f) slots)))
+          (seats false t k es (map (recode f) slots))
+          ≡ cond b (seat (first (length slots) (nameIn t e)) slots ∷ seats true t (k + 1) es (enter (suc k) (nameIn t e) slots)) (seats true t k es slots)
+      go true q ih jh =
+          ap₂ (λ s r. s ∷ r) (place-recode f (nameIn t e) slots)
+          (ap (λ v. seats false t (k + 1) es (enter (suc v) (nameIn t e) (map (recode f) slots))) (sym (here f k e es h q))
+          ∙ ap (seats false t (k + 1) es) (enter-recode f k (nameIn t e) slots)
+          ∙ ih (behind f k e es h q))
       go false q ih jh = jh (beside f k e es h q)
 
   -- ---- the names that the places stand for
@@ -170,3 +192,7 @@ module _ (t c : List ℕ) where
   pub filled-codes : (slots : List ℕ) → entering false t 0 (entriesIn c) (map (recode (code t c)) slots) ≡ map (recode (code t c)) (enterFrom 0 (namesIn t (entriesIn c)) slots)
   unfolding code
   filled-codes slots = with-codes t (code t c) 0 (entriesIn c) slots (λ r. let z : 0 + r ≡ r = omega arith in ap (code t c) z)
+
+  pub filled-seats : (slots : List ℕ) → seats false t 0 (entriesIn c) (map (recode (code t c)) slots) ≡ seats true t 0 (entriesIn c) slots
+  unfolding code
+  filled-seats slots = seats-codes t (code t c) 0 (entriesIn c) slots (λ r. let z : 0 + r ≡ r = omega arith in ap (code t c) z)

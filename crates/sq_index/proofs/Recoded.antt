@@ -58,6 +58,11 @@ module _ (f : ℕ → ℕ) where
       ap (λ m. set (map (recode f) slots) (seat (first m x) (map (recode f) slots)) (suc (f k))) (length-map slots (recode f))
       ∙ ap (λ i. set (map (recode f) slots) i (suc (f k))) (seat-recode at slots) ∙ map-set (recode f) slots (seat at slots) (suc k)
 
+  -- at the same slot
+  pub place-recode : (x slots : List ℕ) → seat (first (length (map (recode f) slots)) x) (map (recode f) slots) ≡ seat (first (length slots) x) slots
+  place-recode x slots =
+      ap (λ m. seat (first m x) (map (recode f) slots)) (length-map slots (recode f)) ∙ seat-recode (first (length slots) x) slots
+
   pub none-recode : (n : ℕ) → map (recode f) (replicate n 0) ≡ replicate n 0
   unfolding recode
   none-recode zero = refl

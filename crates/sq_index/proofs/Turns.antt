@@ -13,8 +13,9 @@ use Rattle.entries.specs.Entries.{kindOf, kindSize, sizeOf, bodied, entryOf, en
 use Rattle.entries.proofs.Walk.{turn-end, turn-on, turn-within}
 use Rattle.lookup.specs.Lookup.{entriesFrom, front}
 use Rattle.lookup.proofs.Walks.{front-entry, from-entries}
-use Rattle.name_index.specs.Index.{hashFrom, enter}
-use Rattle.sq_index.specs.Filled.{nameIn, startIn, valueOf, entering}
+use Rattle.format.specs.Slots.{seat}
+use Rattle.name_index.specs.Index.{hashFrom, first, enter}
+use Rattle.sq_index.specs.Filled.{nameIn, startIn, valueOf, entering, seats}
 
 -- ---- where the next SQ entry stands
 
@@ -144,3 +145,33 @@ module _ (c : List ℕ) (at r : ℕ) (is : r ≡ next c at) (e : Entry) (found :
         let es : List Entry = entriesIn (drop (r + 17) c) in
         sym (entering-from (entriesIn (drop at c))) ∙ ap (λ es. entering b t k es slots) (one-more q)
         ∙ ap (λ w. cond w (entering b t (k + 1) es (enter (valueOf b k (hashFrom 0 (nameIn t e)) (startIn t e)) (nameIn t e) slots)) (entering b t k es slots)) (eq-eqb (kindOf e) 2 q)
+
+    -- ---- the slots that are entered
+
+    seats-from : (es : List Entry) → seats b t k (entriesFrom 2 0 es) slots ≡ seats b t k es slots
+    unfolding seats entriesFrom
+    seats-from [] = refl
+    seats-from (x ∷ es) = go (eqb (kindOf x) 2) refl (seats-from es)
+      where
+        on : List ℕ
+        on =
+            seat (first (length slots) (nameIn t x)) slots
+            ∷ seats b t (k + 1) es (enter (valueOf b k (hashFrom 0 (nameIn t x)) (startIn t x)) (nameIn t x) slots)
+
+        go : (w : Bool) → eqb (kindOf x) 2 ≡ w → seats b t k (entriesFrom 2 0 es) slots ≡ seats b t k es slots
+            → seats b t k (cond w (x ∷ es) (entriesFrom 2 0 es)) slots ≡ cond w on (seats b t k es slots)
+        go true q ih = ap (λ w. cond w on (seats b t k es slots)) q
+        go false q ih = ih
+
+    pub seated-all : (kindOf e ≡ 2 → ⊥) → seats b t k (entriesIn (drop at c)) slots ≡ []
+    unfolding seats
+    seated-all q = sym (seats-from (entriesIn (drop at c))) ∙ ap (λ es. seats b t k es slots) (no-more q)
+
+    pub seated-on : kindOf e ≡ 2 → seats b t k (entriesIn (drop at c)) slots
+        ≡ seat (first (length slots) (nameIn t e)) slots
+        ∷ seats b t (k + 1) (entriesIn (drop (r + 17) c)) (enter (valueOf b k (hashFrom 0 (nameIn t e)) (startIn t e)) (nameIn t e) slots)
+    unfolding seats
+    seated-on q =
+        let es : List Entry = entriesIn (drop (r + 17) c) in
+        let on : List ℕ = seat (first (length slots) (nameIn t e)) slots ∷ seats b t (k + 1) es (enter (valueOf b k (hashFrom 0 (nameIn t e)) (startIn t e)) (nameIn t e) slots) in
+        sym (seats-from (entriesIn (drop at c))) ∙ ap (λ es. seats b t k es slots) (one-more q) ∙ ap (λ w. cond w on (seats b t k es slots)) (eq-eqb (kindOf e) 2 q)

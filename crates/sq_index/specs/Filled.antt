@@ -4,9 +4,10 @@ use Prim.Native.Nat.{ℕ, zero, suc, _+_, _-_, _*_, _/_, _%_, _<_}
 use mathlib.Core.Path.{_≡_}
 use mathlib.Core.Bool.{Bool, cond, _&&_}
 use mathlib.Core.List.{List, [], _∷_}
-use lib.ListN.{length, getD, take, drop}
+use lib.ListN.{length, getD, take, drop, set}
 use lib.Dec.{eqb}
 use Rattle.format.specs.Bytes.{same}
+use Rattle.format.specs.Slots.{seat}
 use Rattle.entries.specs.declared.Entry.{Entry}
 use Rattle.entries.specs.declared.Entry.the-variants.{End, Header, ReferenceSequence, ReadGroup, Program, Comment, Field}
 use Rattle.entries.specs.Entries.{kindOf}
@@ -79,6 +80,20 @@ entering ordinals t k (e ∷ es) slots =
     cond (eqb (kindOf e) 2)
     (entering ordinals t (k + 1) es (enter (valueOf ordinals k (hashFrom 0 (nameIn t e)) (startIn t e)) (nameIn t e) slots))
     (entering ordinals t k es slots)
+
+-- the slots that they enter, in order
+unfoldable pub seats : Bool → List ℕ → ℕ → List Entry → List ℕ → List ℕ
+unfolding kindOf nameIn startIn valueOf hashFrom first seat enter
+seats ordinals t k [] slots = []
+seats ordinals t k (e ∷ es) slots =
+    cond (eqb (kindOf e) 2)
+    (seat (first (length slots) (nameIn t e)) slots ∷ seats ordinals t (k + 1) es (enter (valueOf ordinals k (hashFrom 0 (nameIn t e)) (startIn t e)) (nameIn t e) slots))
+    (seats ordinals t k es slots)
+
+-- ordinals plus one at the slots `ss`: the first of them has the ordinal `k`
+unfoldable pub numbered : ℕ → List ℕ → List ℕ → List ℕ
+numbered k [] slots = slots
+numbered k (s ∷ ss) slots = numbered (k + 1) ss (set slots s (suc k))
 
 -- ---- looking
 

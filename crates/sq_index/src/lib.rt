@@ -3,16 +3,18 @@
 use entries::Entry;
 use entries::Place;
 ghost use mathlib.Core.Path.{_≡_};
-ghost use mathlib.Core.Bool.{_&&_};
+ghost use mathlib.Core.Bool.{true, _&&_};
 ghost use mathlib.Core.List.{map};
 ghost use Prim.Native.Nat.{ℕ, _≤_, _<_, _+_, _-_, _/_, _%_, _^_};
 ghost use lib.Dec.{eqb};
 ghost use lib.ListN.{length, take, drop, replicate};
+ghost use lib.Seq.{sets};
 ghost use Rattle.format.specs.Bytes.{same, none?};
 ghost use Rattle.key_index.specs.Word.{word};
 ghost use Rattle.entries.specs.Entries.{entriesIn, entriesBefore, sizes, counted};
-ghost use Rattle.name_index.specs.Index.{hashFrom, enter};
-ghost use Rattle.sq_index.specs.Filled.{markOf, valueOf, entering, slotOf, looksOf, ordinalAt};
+ghost use Rattle.format.specs.Slots.{seat};
+ghost use Rattle.name_index.specs.Index.{hashFrom, first, enter};
+ghost use Rattle.sq_index.specs.Filled.{markOf, valueOf, entering, seats, numbered, slotOf, looksOf, ordinalAt};
 
 // What is answered for a name that no SQ has.
 pub const ABSENT: u32 = 4294967295;
@@ -105,25 +107,28 @@ fn value(ordinals: bool, k: usize, number: u32, at: u32) -> u32
     at * 128 + mark(number) + 1
 }
 
-// The name at a place enters.
-fn put_name(text: &[u8], p: Place, k: usize, slots: &mut [u32], ordinals: bool)
+// The name at a place enters: the slot that it enters.
+fn put_name(text: &[u8], p: Place, k: usize, slots: &mut [u32], ordinals: bool) -> usize
     requires { ⌜ k ≤ 4294967294 ⌝ }
     requires { ⌜ length (now slots) ≤ 33554432 ⌝ }
     requires { ⌜ ((e : ℕ) × (length (now slots) ≡ 2 ^ e)) ⌝ }
-    ensures { λ _. ⌜ now (slots .exit) ≡ enter (valueOf ordinals k (hashFrom 0 (take (p .len) (drop (p .at) (now (text .entry))))) (p .at % 16777216)) (take (p .len) (drop (p .at) (now (text .entry)))) (now (slots .entry)) ⌝ }
+    ensures at { λ r. ⌜ r ≡ seat (first (length (now (slots .entry))) (take (p .len) (drop (p .at) (now (text .entry))))) (now (slots .entry)) ⌝ }
+    ensures wrote { λ _. ⌜ now (slots .exit) ≡ enter (valueOf ordinals k (hashFrom 0 (take (p .len) (drop (p .at) (now (text .entry))))) (p .at % 16777216)) (take (p .len) (drop (p .at) (now (text .entry)))) (now (slots .entry)) ⌝ }
 {
     let number = name_index::hash(bytes_at(text, p));
     let first = name_index::first_slot(number, slots.len());
     let v = value(ordinals, k, number, p.at % 16777216);
-    name_index::enter(slots, first, v);
+    name_index::enter(slots, first, v)
 }
 
-// The names of the SQ entries enter in order, each with its ordinal plus one, or with its mark and offset.
-fn put_names(text: &[u8], catalogue: &[u8], slots: &mut [u32], ordinals: bool)
+// The names of the SQ entries enter in order, each with its ordinal plus one, or with its mark and offset. The slot of each is noted as long
+// as there is room for notes.
+fn put_names(text: &[u8], catalogue: &[u8], slots: &mut [u32], notes: &mut [u32], ordinals: bool)
     requires { ⌜ length (now slots) ≤ 33554432 ⌝ }
     requires { ⌜ ((e : ℕ) × (length (now slots) ≡ 2 ^ e)) ⌝ }
     requires { ⌜ length (now catalogue) ≤ 4294967294 ⌝ }
-    ensures { λ _. ⌜ now (slots .exit) ≡ entering ordinals (now (text .entry)) 0 (entriesIn (now (catalogue .entry))) (now (slots .entry)) ⌝ }
+    ensures wrote { λ _. ⌜ now (slots .exit) ≡ entering ordinals (now (text .entry)) 0 (entriesIn (now (catalogue .entry))) (now (slots .entry)) ⌝ }
+    ensures noted { λ _. ⌜ now (notes .exit) ≡ sets (now (notes .entry)) 0 (seats ordinals (now (text .entry)) 0 (entriesIn (now (catalogue .entry))) (now (slots .entry))) ⌝ }
 {
     let mut at: usize = 0;
     let mut k: usize = 0;
@@ -132,7 +137,10 @@ fn put_names(text: &[u8], catalogue: &[u8], slots: &mut [u32], ordinals: bool)
         let e = entries::entry_at(catalogue, at);
         match e {
             Entry::ReferenceSequence(p, _) => {
-                put_name(text, p, k, slots, ordinals);
+                let slot = put_name(text, p, k, slots, ordinals);
+                if k < notes.len() {
+                    notes[k] = slot as u32;
+                }
                 k += 1;
                 at += 17;
             }
@@ -142,14 +150,47 @@ fn put_names(text: &[u8], catalogue: &[u8], slots: &mut [u32], ordinals: bool)
 }
 
 // Empties the slots, and then the names of the SQ entries enter.
-pub fn fill(text: &[u8], catalogue: &[u8], slots: &mut [u32], ordinals: bool)
+pub fn fill(text: &[u8], catalogue: &[u8], slots: &mut [u32], notes: &mut [u32], ordinals: bool)
     requires { ⌜ length (now slots) ≤ 33554432 ⌝ }
     requires { ⌜ ((e : ℕ) × (length (now slots) ≡ 2 ^ e)) ⌝ }
     requires { ⌜ length (now catalogue) ≤ 4294967294 ⌝ }
-    ensures { λ _. ⌜ now (slots .exit) ≡ entering ordinals (now (text .entry)) 0 (entriesIn (now (catalogue .entry))) (replicate (length (now (slots .entry))) 0) ⌝ }
+    ensures wrote { λ _. ⌜ now (slots .exit) ≡ entering ordinals (now (text .entry)) 0 (entriesIn (now (catalogue .entry))) (replicate (length (now (slots .entry))) 0) ⌝ }
+    ensures noted { λ _. ⌜ now (notes .exit) ≡ sets (now (notes .entry)) 0 (seats ordinals (now (text .entry)) 0 (entriesIn (now (catalogue .entry))) (replicate (length (now (slots .entry))) 0)) ⌝ }
 {
     key_index::clear(slots);
-    put_names(text, catalogue, slots, ordinals);
+    put_names(text, catalogue, slots, notes, ordinals);
+}
+
+// Puts ordinals plus one at the slots that are noted, in order.
+fn put_ordinals(notes: &[u32], slots: &mut [u32])
+    requires { ⌜ length (now notes) ≤ 4294967294 ⌝ }
+    ensures { λ _. ⌜ now (slots .exit) ≡ numbered 0 (now (notes .entry)) (now (slots .entry)) ⌝ }
+{
+    let mut k: usize = 0;
+    while k < notes.len() {
+        let at = notes[k] as usize;
+        if at < slots.len() {
+            slots[at] = (k + 1) as u32;
+        }
+        k += 1;
+    }
+}
+
+// The slots anew, with ordinals: by the slots that the first `m` names entered, where all `m` are noted, and else by the names.
+pub fn refill(text: &[u8], catalogue: &[u8], m: usize, slots: &mut [u32], notes: &mut [u32])
+    requires { ⌜ length (now slots) ≤ 33554432 ⌝ }
+    requires { ⌜ ((e : ℕ) × (length (now slots) ≡ 2 ^ e)) ⌝ }
+    requires { ⌜ length (now catalogue) ≤ 4294967294 ⌝ }
+    requires { ⌜ m ≤ 4294967294 ⌝ }
+    requires { ⌜ (m ≤ length (now notes) → take m (now notes) ≡ seats true (now text) 0 (entriesIn (now catalogue)) (replicate (length (now slots)) 0)) ⌝ }
+    ensures { λ _. ⌜ now (slots .exit) ≡ entering true (now (text .entry)) 0 (entriesIn (now (catalogue .entry))) (replicate (length (now (slots .entry))) 0) ⌝ }
+{
+    if notes.len() < m {
+        fill(text, catalogue, slots, notes, true);
+        return;
+    }
+    key_index::clear(slots);
+    put_ordinals(&notes[..m], slots);
 }
 
 // Whether no name goes on at `at`: a byte below 32, or the end of the text.

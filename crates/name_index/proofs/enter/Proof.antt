@@ -1,4 +1,4 @@
--- `name_index::enter` meets its contract: the slot that is free holds the value.
+-- `name_index::enter` meets its contract: the slot that is free holds the value, and is told.
 use Prim.Native.Nat.{_<_}
 use mathlib.Core.Path.{ap}
 use native.Mathlib.Omega.{arith}
@@ -27,7 +27,7 @@ same-length : tie.Need-same-length
 same-length c = search needs
 
 returns : tie.Need-returns
-returns c = let a = c .before .before .before .args in ap (λ i. set (a .slots .now) i (a .value)) (c .free-slot .ensures)
+returns c = let a = c .before .before .before .args in (c .free-slot .ensures, ap (λ i. set (a .slots .now) i (a .value)) (c .free-slot .ensures))
 
 pub enter-spec : {M : Type 1} → statement M
 enter-spec =

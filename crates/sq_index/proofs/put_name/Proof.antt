@@ -56,9 +56,11 @@ returns c =
     let v = e .before .before in
     let f = v .before .before in
     let s = start f in
-    let a = s .args in
-    e .enter .ensures
-    ∙ ap₂ (λ i v. set (a .slots .now) (seat i (a .slots .now)) v) (begins f) (v .value .ensures ∙ ap (λ h. valueOf (a .ordinals) (a .k) h (a .p .at % 16777216)) (number (f .before)))
+    let a = s .args in (
+      e .enter .ensures .0 ∙ ap (λ i. seat i (a .slots .now)) (begins f),
+      e .enter .ensures .1
+          ∙ ap₂ (λ i v. set (a .slots .now) (seat i (a .slots .now)) v) (begins f) (v .value .ensures ∙ ap (λ h. valueOf (a .ordinals) (a .k) h (a .p .at % 16777216)) (number (f .before))),
+    )
 
 pub put-name-spec : {M : Type 1} → statement M
 put-name-spec =

@@ -1,32 +1,40 @@
 -- `sq_index::put_names` meets its contract: what is filled from the entries that are left is what is filled from all.
-use Prim.Native.Nat.{_+_, _-_, _≤_}
+use Prim.Native.Nat.{ℕ, _+_, _-_, _≤_, _<_}
 use mathlib.Core.Path.{_≡_, refl, sym, ap, _∙_}
+use mathlib.Core.Logic.{⊎-elim}
 use mathlib.Core.List.{[], _∷_}
 use native.Mathlib.Omega.{arith}
 use borrow.Author.Needs.{needs}
-use lib.ListN.{length, drop}
+use lib.ListN.{length, take, drop, set, length-set}
+use lib.Seq.{sets, set-out}
 use denote.Enum.Declared.{tagOf}
 use types.Run.{OneOf, miss}
 use Rattle.entries.proofs.Entry.{the-type}
 use Rattle.entries.specs.declared.Entry.{Entry}
 use Rattle.entries.specs.declared.Entry.the-variants.{End, Header, ReferenceSequence, ReadGroup, Program, Comment, Field}
 use Rattle.entries.specs.Entries.{kindOf, entryOf, entriesIn}
+use Rattle.format.specs.Slots.{seat}
+use Rattle.name_index.specs.Index.{first}
+use Rattle.name_index.proofs.SlotCount.{power-some}
+use Rattle.name_index.proofs.Path.{seat-lt}
 use Rattle.name_index.proofs.Indexed.{enter-length}
-use Rattle.sq_index.specs.Filled.{nameIn, startIn, entering}
-use Rattle.sq_index.proofs.Turns.{sq-within, entered, entered-all}
+use Rattle.sq_index.specs.Filled.{nameIn, startIn, entering, seats}
+use Rattle.sq_index.proofs.Turns.{sq-within, entered, entered-all, seated-all, seated-on}
+use Rattle.sq_index.proofs.Noted.{note-on}
 use Rattle.sq_index.proofs.put_names.Statement.{statement}
 use Rattle.sq_index.proofs.put_names.Tie as tie
 
 abbrev Inv-loop : tie.InvT-loop
-Inv-loop text catalogue slots₀ ordinals at₀ k₀ slots at k =
-    (at ≤ length catalogue) × (k ≤ at) × (length slots ≡ length slots₀)
+Inv-loop text catalogue slots₀ notes₀ ordinals at₀ k₀ slots notes at k =
+    (at ≤ length catalogue) × (k ≤ at) × (length slots ≡ length slots₀) × (length notes ≡ length notes₀)
     × (entering ordinals text 0 (entriesIn catalogue) slots₀ ≡ entering ordinals text k (entriesIn (drop at catalogue)) slots)
+    × (sets notes₀ 0 (seats ordinals text 0 (entriesIn catalogue) slots₀) ≡ sets notes k (seats ordinals text k (entriesIn (drop at catalogue)) slots))
 
 abbrev μ-loop : tie.MeasureT-loop
-μ-loop text catalogue slots₀ ordinals at₀ k₀ slots at k = length catalogue - at
+μ-loop text catalogue slots₀ notes₀ ordinals at₀ k₀ slots notes at k = length catalogue - at
 
 loop-holds : tie.Need-loop-holds Inv-loop μ-loop
-loop-holds c = (omega arith, omega arith, refl, refl)
+loop-holds c = (omega arith, omega arith, refl, refl, refl, refl)
 
 next-sq-requires : tie.Need-next-sq-requires Inv-loop μ-loop
 next-sq-requires c κs = omega arith
@@ -43,7 +51,7 @@ abbrev loop : tie.After-e Inv-loop μ-loop → tie.At-loop Inv-loop μ-loop
 loop c = c .before .before .before .before
 
 abbrev start : tie.At-loop Inv-loop μ-loop → tie.Start Inv-loop μ-loop
-start l = l .before .before .before .before
+start l = l .before .before .before .before .before
 
 -- what it is
 abbrev entry : tie.After-e Inv-loop μ-loop → Entry
@@ -68,8 +76,31 @@ put-name-requires c κs =
     let p = start l .pre in
     (omega (arith, l .loop .inv .0, l .loop .inv .1, p .1 .1), (omega (arith, l .loop .inv .2, p .0), (p .1 .0 .0, l .loop .inv .2 ∙ p .1 .0 .1)))
 
-abbrev sq : tie.After-slice-known2 Inv-loop μ-loop → tie.After-e Inv-loop μ-loop
-sq c = c .before .before .before .before .before
+-- the slot that its name enters
+abbrev place : tie.After-e Inv-loop μ-loop → ℕ
+place c =
+    let slots = loop c .loop .slots in
+    let p = c .e .given .0 .0 in
+    seat (first (length slots) (take (p .len) (drop (p .at) (start (loop c) .args .text .now)))) slots
+
+-- the entry of a turn in which it entered
+abbrev sq : tie.Joined1 Inv-loop μ-loop → tie.After-e Inv-loop μ-loop
+sq c = c .before .before .before .before .before .before
+
+cast-notes : tie.Need-cast-notes Inv-loop μ-loop
+cast-notes c =
+    let e = c .before .before .before .before .before .before in
+    let l = loop e in
+    let p = start l .pre in
+    let slots = l .loop .slots in
+    let inside : place e < length slots = seat-lt _ slots (power-some (length slots) (p .1 .0 .0) (l .loop .inv .2 ∙ p .1 .0 .1)) in
+    omega (arith, c .before .before .before .put-name .ensures .0, inside, l .loop .inv .2, p .0)
+
+mul-notes : tie.Need-mul-notes Inv-loop μ-loop
+mul-notes c = let l = loop (c .before .before .before .before .before .before) in omega (arith, l .loop .inv .0, l .loop .inv .1, start l .pre .1 .1)
+
+slice-write-notes : tie.Need-slice-write-notes Inv-loop μ-loop
+slice-write-notes c = c .if1 .taken
 
 add-k : tie.Need-add-k Inv-loop μ-loop
 add-k c = let l = loop (sq c) in omega (arith, l .loop .inv .0, l .loop .inv .1, start l .pre .1 .1)
@@ -87,17 +118,30 @@ loop-again c =
     let n = e .before .before .before in
     let l = loop e in
     let a = start l .args in
-    let is = c .before .before .put-name .ensures in (
+    let slot = c .before .before .before .put-name in
+    let is = slot .ensures .1 in
+    let rest = entriesIn (drop (n .next-sq .result + 17) (a .catalogue .now)) in
+    let noted : c .if1 .notes ≡ set (l .loop .notes) (l .loop .k) (slot .result) =
+    ⊎-elim (λ w. w .1) (λ w. w .1 ∙ sym (set-out (l .loop .notes) (l .loop .k) (slot .result) (w .0 .left))) (c .if1 .came) in (
       within e,
       omega (arith, l .loop .inv .1, n .next-sq .ensures),
       ap length is ∙ enter-length _ _ _ ∙ l .loop .inv .2,
-      l .loop .inv .3
+      ap length noted ∙ length-set (l .loop .notes) (l .loop .k) (slot .result) ∙ l .loop .inv .3,
+      l .loop .inv .4
           ∙ entered (a .catalogue .now) (l .loop .at) (n .next-sq .result) (n .next-sq .ensures) (entry e) (found e) (a .ordinals) (a .text .now) (l .loop .k) (l .loop .slots) (is-sq e)
-          ∙ ap (entering (a .ordinals) (a .text .now) (l .loop .k + 1) (entriesIn (drop (n .next-sq .result + 17) (a .catalogue .now)))) (sym is),
+          ∙ ap (entering (a .ordinals) (a .text .now) (l .loop .k + 1) rest) (sym is),
+      l .loop .inv .5
+          ∙ note-on (l .loop .notes) (c .if1 .notes) (l .loop .k) (slot .result)
+          (seated-on (a .catalogue .now) (l .loop .at) (n .next-sq .result) (n .next-sq .ensures) (entry e) (found e) (a .ordinals) (a .text .now) (l .loop .k) (l .loop .slots) (is-sq e)
+          ∙ ap (λ after. place e ∷ seats (a .ordinals) (a .text .now) (l .loop .k + 1) rest after) (sym is))
+          (slot .ensures .0) noted,
     )
 
 same-length : tie.Need-same-length Inv-loop μ-loop
 same-length c = c .before .before .before .loop .inv .2
+
+same-length-2 : tie.Need-same-length-2 Inv-loop μ-loop
+same-length-2 c = c .before .before .before .loop .inv .3
 
 -- ---- no SQ entry
 
@@ -117,10 +161,15 @@ returns c =
     let n = e .before in
     let l = n .before in
     let a = start l .args in
-    sym
-    (l .loop .inv .3
-    ∙ entered-all (a .catalogue .now) (l .loop .at) (n .next-sq .result) (n .next-sq .ensures) (e .entry-at .result) (e .entry-at .ensures) (a .ordinals) (a .text .now) (l .loop .k) (l .loop .slots)
-    (not-sq (e .entry-at .result) (c .match .keys2)))
+    let none = not-sq (e .entry-at .result) (c .match .keys2) in (
+      sym
+          (l .loop .inv .4
+          ∙ entered-all (a .catalogue .now) (l .loop .at) (n .next-sq .result) (n .next-sq .ensures) (e .entry-at .result) (e .entry-at .ensures) (a .ordinals) (a .text .now) (l .loop .k) (l .loop .slots) none),
+      sym
+          (l .loop .inv .5
+          ∙ ap (sets (l .loop .notes) (l .loop .k))
+          (seated-all (a .catalogue .now) (l .loop .at) (n .next-sq .result) (n .next-sq .ensures) (e .entry-at .result) (e .entry-at .ensures) (a .ordinals) (a .text .now) (l .loop .k) (l .loop .slots) none)),
+    )
 
 pub put-names-spec : {M : Type 1} → statement M
 put-names-spec =
@@ -133,9 +182,13 @@ put-names-spec =
     entry-at-requires
     enum-known-e
     put-name-requires
+    cast-notes
+    mul-notes
+    slice-write-notes
     add-k
     add-at
     loop-less
     loop-again
     same-length
+    same-length-2
     returns)

@@ -1,4 +1,4 @@
--- `names::answer` meets its contract: the slots are filled with places, looked in, filled with ordinals and read.
+-- `names::answer_noting` meets its contract: the slots are filled with places, looked in, filled with ordinals and read.
 use Prim.Native.Nat.{ℕ, suc, _^_, _≤_}
 use mathlib.Core.Path.{_≡_, _∙_}
 use native.Mathlib.Omega.{arith}
@@ -10,8 +10,8 @@ use Rattle.name_index.proofs.SlotCount.{slots-power, slots-few}
 use Rattle.names.specs.Batch.{asked}
 use Rattle.names.proofs.Answered.{long₁, looks-told, index-told, found-told}
 use borrow.Author.Needs.{needs}
-use Rattle.names.proofs.answer.Statement.{statement}
-use Rattle.names.proofs.answer.Tie as tie
+use Rattle.names.proofs.answer_noting.Statement.{statement}
+use Rattle.names.proofs.answer_noting.Tie as tie
 
 -- so many slots
 sized : (s : tie.Start) (n : ℕ) → n ≡ slotCount (length (namesIn (s .args .text .now) (entriesIn (s .args .kept .now)))) → (n ≤ 33554432) × ((e : ℕ) × (n ≡ 2 ^ e))
@@ -63,8 +63,8 @@ returns c =
       ),
     )
 
-pub answer-spec : {M : Type 1} → statement M
-answer-spec =
+pub answer-noting-spec : {M : Type 1} → statement M
+answer-noting-spec =
     tie.close
     (tie.spec
     fill-requires
