@@ -1,6 +1,6 @@
 -- Slots of a catalogue: filled with places and looked in, then filled with ordinals and read, they answer as the plain search does, and as much is
 -- looked at as the rule says.
-use Prim.Native.Nat.{ℕ, _≤_}
+use Prim.Native.Nat.{ℕ, _+_, _≤_}
 use mathlib.Core.Path.{_≡_, sym, ap, ap₂, _∙_}
 use mathlib.Core.Bool.{true, false}
 use mathlib.Core.List.{List, _++_, map}
