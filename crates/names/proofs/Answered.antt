@@ -4,13 +4,14 @@ use mathlib.Core.Path.{_≡_, refl, sym, ap, ap₂, _∙_}
 use mathlib.Core.Bool.{true, false}
 use mathlib.Core.List.{List, [], _∷_, _++_, map, append-nil}
 use native.Mathlib.Omega.{arith}
-use lib.ListN.{length, replicate, length-map, drop-of-length-le}
+use lib.ListN.{length, take, replicate, length-map, drop-of-length-le}
+use lib.Seq.{sets}
 use Rattle.text.specs.Over.{over}
 use Rattle.text.specs.Stands.{Each}
 use Rattle.entries.specs.Entries.{entriesIn}
 use Rattle.name_index.specs.Index.{ordinalIn, slotCount, index, looks}
-use Rattle.sq_index.specs.Filled.{namesIn, Told, entering, slotOf, looksOf, ordinalAt}
-use Rattle.sq_index.proofs.Found.{filled-index, places-length, found-ordinal, found-looks}
+use Rattle.sq_index.specs.Filled.{namesIn, Told, entering, seats, slotOf, looksOf, ordinalAt}
+use Rattle.sq_index.proofs.Found.{filled-index, places-length, places-noted, found-ordinal, found-looks}
 use Rattle.names.specs.Batch.{asked, summed}
 
 -- written over a list of the same length
@@ -37,6 +38,13 @@ module _ (t c slots₀ slots₁ : List ℕ) (size : length slots₀ ≡ slotCoun
 
   pub long₁ : length slots₁ ≡ slotCount (length names)
   long₁ = ap length by-places ∙ places-length t c
+
+  -- the notes that were taken beside tell where ordinals go
+  pub notes-told : (m : ℕ) → m ≡ length names → (notes₀ notes₁ : List ℕ) → notes₁ ≡ sets notes₀ 0 (seats false t 0 (entriesIn c) (replicate (length slots₀) 0))
+      → m ≤ length notes₁ → take m notes₁ ≡ seats true t 0 (entriesIn c) (replicate (length slots₁) 0)
+  notes-told m e notes₀ notes₁ is room =
+      places-noted t c m e notes₁ notes₀ (is ∙ ap (λ n. sets notes₀ 0 (seats false t 0 (entriesIn c) (replicate n 0))) size) room
+      ∙ ap (λ n. seats true t 0 (entriesIn c) (replicate n 0)) (sym long₁)
 
   pub looks-told : Each (Told t) (entriesIn c) → (ys : List (List ℕ)) → summed (looksOf t slots₁) ys ≡ summed (looks names) ys
   looks-told told ys =

@@ -82,10 +82,10 @@ fn find_slots(text: &[u8], slots: &[u32], list: &[u8], out: &mut [u32]) -> u64
 fn answer_noting(text: &[u8], kept: &[u8], m: usize, list: &[u8], slots: &mut [u32], out: &mut [u32], notes: &mut [u32]) -> u64
     requires { ⌜ length (now kept) ≤ 4294967294 ⌝ }
     requires { ⌜ length (now list) ≤ 16777216 ⌝ }
-    requires { ⌜ m ≡ length (namesIn (now text) (entriesIn (now kept))) ⌝ }
-    requires { ⌜ m ≤ 16777216 ⌝ }
-    requires { ⌜ length (now slots) ≡ slotCount m ⌝ }
+    requires { ⌜ length (namesIn (now text) (entriesIn (now kept))) ≤ 16777216 ⌝ }
+    requires { ⌜ length (now slots) ≡ slotCount (length (namesIn (now text) (entriesIn (now kept)))) ⌝ }
     requires { ⌜ length (now out) ≡ length (asked (now list)) ⌝ }
+    requires { ⌜ m ≡ length (namesIn (now text) (entriesIn (now kept))) ⌝ }
     requires { ⌜ Each (Told (now text)) (entriesIn (now kept)) ⌝ }
     ensures slots { λ _. ⌜ now (slots .exit) ≡ index (namesIn (now (text .entry)) (entriesIn (now (kept .entry)))) ⌝ }
     ensures found { λ _. ⌜ now (out .exit) ≡ map (ordinalIn (namesIn (now (text .entry)) (entriesIn (now (kept .entry))))) (asked (now (list .entry))) ⌝ }
@@ -102,10 +102,10 @@ fn answer_noting(text: &[u8], kept: &[u8], m: usize, list: &[u8], slots: &mut [u
 fn answer(text: &[u8], kept: &[u8], m: usize, list: &[u8], slots: &mut [u32], out: &mut [u32]) -> u64
     requires { ⌜ length (now kept) ≤ 4294967294 ⌝ }
     requires { ⌜ length (now list) ≤ 16777216 ⌝ }
-    requires { ⌜ m ≡ length (namesIn (now text) (entriesIn (now kept))) ⌝ }
-    requires { ⌜ m ≤ 16777216 ⌝ }
-    requires { ⌜ length (now slots) ≡ slotCount m ⌝ }
+    requires { ⌜ length (namesIn (now text) (entriesIn (now kept))) ≤ 16777216 ⌝ }
+    requires { ⌜ length (now slots) ≡ slotCount (length (namesIn (now text) (entriesIn (now kept)))) ⌝ }
     requires { ⌜ length (now out) ≡ length (asked (now list)) ⌝ }
+    requires { ⌜ m ≡ length (namesIn (now text) (entriesIn (now kept))) ⌝ }
     requires { ⌜ Each (Told (now text)) (entriesIn (now kept)) ⌝ }
     ensures slots { λ _. ⌜ now (slots .exit) ≡ index (namesIn (now (text .entry)) (entriesIn (now (kept .entry)))) ⌝ }
     ensures found { λ _. ⌜ now (out .exit) ≡ map (ordinalIn (namesIn (now (text .entry)) (entriesIn (now (kept .entry))))) (asked (now (list .entry))) ⌝ }

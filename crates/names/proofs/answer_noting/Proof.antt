@@ -8,7 +8,7 @@ use Rattle.entries.specs.Entries.{entriesIn}
 use Rattle.sq_index.specs.Filled.{namesIn}
 use Rattle.name_index.proofs.SlotCount.{slots-power, slots-few}
 use Rattle.names.specs.Batch.{asked}
-use Rattle.names.proofs.Answered.{long₁, looks-told, index-told, found-told}
+use Rattle.names.proofs.Answered.{long₁, notes-told, looks-told, index-told, found-told}
 use borrow.Author.Needs.{needs}
 use Rattle.names.proofs.answer_noting.Statement.{statement}
 use Rattle.names.proofs.answer_noting.Tie as tie
@@ -20,19 +20,39 @@ sized s n e =
     (omega (arith, e, slots-few m (s .pre .1 .1 .0)), (suc (slots-power m .0), e ∙ slots-power m .1))
 
 -- after the first filling
-refilled : (c : tie.After-fill) → let s = c .before .before .before .before .before .before .before in length (c .fill .last .1 .1 .0) ≡ slotCount (length (namesIn (s .args .text .now) (entriesIn (s .args .kept .now))))
-refilled c =
-    let s = c .before .before .before .before .before .before .before in
-    long₁ (s .args .text .now) (s .args .kept .now) (s .args .slots .now) (c .fill .last .1 .1 .0) (s .pre .1 .1 .1 .0) (c .fill .ensures)
+abbrev start : tie.After-fill → tie.Start
+start f = f .before .before .before .before .before .before .before .before .before
+
+refilled : (f : tie.After-fill) → length (f .fill .last .1 .1 .0) ≡ slotCount (length (namesIn (start f .args .text .now) (entriesIn (start f .args .kept .now))))
+refilled f =
+    let s = start f in
+    long₁ (s .args .text .now) (s .args .kept .now) (s .args .slots .now) (f .fill .last .1 .1 .0) (s .pre .1 .1 .1 .0) (f .fill .ensures .0)
 
 fill-requires : tie.Need-fill-requires
-fill-requires c κs = let s = c .before .before .before .before .before .before in let z = sized s (length (s .args .slots .now)) (s .pre .1 .1 .1 .0) in (z .0, (z .1, s .pre .0))
+fill-requires c κs = let s = c .before .before .before .before .before .before .before .before in let z = sized s (length (s .args .slots .now)) (s .pre .1 .1 .1 .0) in (z .0, (z .1, s .pre .0))
 
 find-slots-requires : tie.Need-find-slots-requires
-find-slots-requires c κs = let f = c .before .before .before .before in let s = f .before .before .before .before .before .before .before in let z = sized s (length (f .fill .last .1 .1 .0)) (refilled f) in (z .0, (z .1, (s .pre .1 .0, omega (arith, s .pre .1 .1 .1 .1 .0))))
+find-slots-requires c κs = let f = c .before .before .before .before .before .before in let s = start f in let z = sized s (length (f .fill .last .1 .1 .0)) (refilled f) in (z .0, (z .1, (s .pre .1 .0, omega (arith, s .pre .1 .1 .1 .1 .0))))
 
-fill-requires-2 : tie.Need-fill-requires-2
-fill-requires-2 c κs = let f = c .before .before .before .before .before .before .before .before in let s = f .before .before .before .before .before .before .before in let z = sized s (length (f .fill .last .1 .1 .0)) (refilled f) in (z .0, (z .1, s .pre .0))
+refill-requires : tie.Need-refill-requires
+refill-requires c κs =
+    let f = c .before .before .before .before .before .before .before .before .before .before .before in
+    let s = start f in
+    let a = s .args in
+    let z = sized s (length (f .fill .last .1 .1 .0)) (refilled f) in
+    let m = s .pre .1 .1 .1 .1 .1 .0 in (
+      z .0,
+      (
+        z .1,
+        (
+          s .pre .0,
+          (
+            omega (arith, m, s .pre .1 .1 .0),
+            notes-told (a .text .now) (a .kept .now) (a .slots .now) (f .fill .last .1 .1 .0) (s .pre .1 .1 .1 .0) (f .fill .ensures .0) (a .m) m (a .notes .now) (f .fill .last .1 .1 .1 .0) (f .fill .ensures .1),
+          ),
+        ),
+      ),
+    )
 
 to-ordinals-requires : tie.Need-to-ordinals-requires
 to-ordinals-requires c κs = search needs
@@ -43,23 +63,27 @@ same-length c = search needs
 same-length-2 : tie.Need-same-length-2
 same-length-2 c = search needs
 
+same-length-3 : tie.Need-same-length-3
+same-length-3 c = search needs
+
 returns : tie.Need-returns
 returns c =
     let o = c .before .before in
-    let g = c .before .before .before .before .before .before .before in
-    let l = c .before .before .before .before .before .before .before .before .before .before .before in
-    let f = c .before .before .before .before .before .before .before .before .before .before .before .before .before .before .before .before in
-    let s = f .before .before .before .before .before .before .before in
+    let g = c .before .before .before .before .before .before .before .before .before in
+    let l = g .before .before .before .before .before in
+    let f = l .before .before .before .before .before .before .before in
+    let s = start f in
     let a = s .args in
     let t = a .text .now in
     let k = a .kept .now in
     let slots₁ = f .fill .last .1 .1 .0 in
-    let slots₂ = g .fill2 .last .1 .1 .0 in (
-      index-told t k (a .slots .now) slots₁ (s .pre .1 .1 .1 .0) (f .fill .ensures) slots₂ (g .fill2 .ensures),
+    let slots₂ = g .refill .last .1 .1 .1 .0 in
+    let told = s .pre .1 .1 .1 .1 .1 .1 in (
+      index-told t k (a .slots .now) slots₁ (s .pre .1 .1 .1 .0) (f .fill .ensures .0) slots₂ (g .refill .ensures),
       (
-        found-told t k (a .slots .now) slots₁ (s .pre .1 .1 .1 .0) (f .fill .ensures) slots₂ (g .fill2 .ensures) (s .pre .1 .1 .1 .1 .1) (s .pre .1 .1 .0) (a .list .now) (a .out .now)
+        found-told t k (a .slots .now) slots₁ (s .pre .1 .1 .1 .0) (f .fill .ensures .0) slots₂ (g .refill .ensures) told (s .pre .1 .1 .0) (a .list .now) (a .out .now)
             (l .find-slots .last .1 .1 .1 .0) (o .to-ordinals .last .1 .0) (s .pre .1 .1 .1 .1 .0) (l .find-slots .ensures .0) (o .to-ordinals .ensures),
-        l .find-slots .ensures .1 ∙ looks-told t k (a .slots .now) slots₁ (s .pre .1 .1 .1 .0) (f .fill .ensures) (s .pre .1 .1 .1 .1 .1) (asked (a .list .now)),
+        l .find-slots .ensures .1 ∙ looks-told t k (a .slots .now) slots₁ (s .pre .1 .1 .1 .0) (f .fill .ensures .0) told (asked (a .list .now)),
       ),
     )
 
@@ -69,8 +93,9 @@ answer-noting-spec =
     (tie.spec
     fill-requires
     find-slots-requires
-    fill-requires-2
+    refill-requires
     to-ordinals-requires
     same-length
     same-length-2
+    same-length-3
     returns)

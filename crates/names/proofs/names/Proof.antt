@@ -120,7 +120,7 @@ answer-requires c κs =
           few (a .text .now) (a .kept .now) (own e),
           (
             length-take-le (n .slot-count .result) (a .work .now) (k .before .if2 .left) ∙ slots n,
-            (length-take-le (k .count-names .result) (a .out .now) (c .before .before .if3 .left) ∙ k .count-names .ensures, told (a .text .now) (a .kept .now) (own e)),
+            (length-take-le (k .count-names .result) (a .out .now) (c .before .before .if3 .left) ∙ k .count-names .ensures, (number (n .before), told (a .text .now) (a .kept .now) (own e))),
           ),
         ),
       ),
@@ -157,7 +157,7 @@ returns-5 c =
     told-answer (batch s) (a .work .now) (a .out .now) found (index xs) (summed (looks xs) (asked (a .list .now)))
     (batch-all (a .text .now) (a .kept .now) (own e) (a .list .now) (length (a .work .now)) (length (a .out .now)) (o .if1 .left) (omega (arith, slots n, k .before .if2 .left)) (omega (arith, k .count-names .ensures, c .before .before .before .before .before .before .before .if3 .left)))
     (k .count-names .result) count (w .answer .result) (w .answer .ensures .1 .1)
-    (w .answer .last .1 .1 .1 .0 ++ drop (n .slot-count .result) (a .work .now)) (w .answer .last .1 .1 .1 .1 .0 ++ drop (k .count-names .result) (a .out .now))
+    (w .answer .last .1 .1 .1 .1 .0 ++ drop (n .slot-count .result) (a .work .now)) (w .answer .last .1 .1 .1 .1 .1 .0 ++ drop (k .count-names .result) (a .out .now))
     (ap₂ (λ l m. l ++ drop m (a .work .now)) (w .answer .ensures .0) many) (ap₂ (λ l m. l ++ drop m (a .out .now)) (w .answer .ensures .1 .0) count)
 
 pub names-spec : {M : Type 1} → statement M
