@@ -73,3 +73,23 @@ module _ (x t : List ℕ) (i at : ℕ) (l : i < length x) (m : at < length t) wh
       go : (b : Bool) → ltb (getD t at 0) 32 ≡ b → same (drop i x) (word (drop at t)) ≡ false
       go true e = low-differs (ltb-true (getD t at 0) 32 e)
       go false e = other (ltb-false (getD t at 0) 32 e) q
+
+  -- a byte of both, and what is behind it
+  pub byte-decides : same (drop i x) (word (drop at t)) ≡ (cond (ltb (getD t at 0) 32) false (eqb (getD x i 0) (getD t at 0)) && same (drop (i + 1) x) (word (drop (at + 1) t)))
+  byte-decides = go (ltb (getD t at 0) 32) refl
+    where
+      go : (b : Bool) → ltb (getD t at 0) 32 ≡ b → same (drop i x) (word (drop at t)) ≡ (cond b false (eqb (getD x i 0) (getD t at 0)) && same (drop (i + 1) x) (word (drop (at + 1) t)))
+      go true e = low-differs (ltb-true (getD t at 0) 32 e)
+      go false e = opened (ltb-false (getD t at 0) 32 e)
+
+-- ---- bytes one after another: `all` says whether they go on so far, and `b` whether one more does
+
+pub one-differs : (all b r : Bool) → b ≡ false → (all && (b && r)) ≡ false
+one-differs all b r e = ap (λ b. all && (b && r)) e ∙ none all
+  where
+    none : (a : Bool) → (a && false) ≡ false
+    none true = refl
+    none false = refl
+
+pub one-more : (all b r : Bool) → b ≡ true → (all && (b && r)) ≡ (all && r)
+one-more all b r e = ap (λ b. all && (b && r)) e

@@ -3,10 +3,10 @@
 use entries::Entry;
 use entries::Place;
 ghost use mathlib.Core.Path.{_≡_};
-ghost use mathlib.Core.Bool.{true, _&&_};
+ghost use mathlib.Core.Bool.{true, false, cond, _&&_};
 ghost use mathlib.Core.List.{map};
 ghost use Prim.Native.Nat.{ℕ, _≤_, _<_, _+_, _-_, _/_, _%_, _^_};
-ghost use lib.Dec.{eqb};
+ghost use lib.Dec.{eqb, ltb};
 ghost use lib.ListN.{length, take, drop, replicate};
 ghost use lib.Seq.{sets};
 ghost use Rattle.format.specs.Bytes.{same, none?};
@@ -203,7 +203,50 @@ fn ends(text: &[u8], at: usize) -> bool
     text[at] < 32
 }
 
-// Whether the name at `at` is `name`: first whether it ends there, and then byte by byte.
+// Whether a name goes on with the byte `b` where the text has `a`: no name goes on with a byte below 32.
+fn goes_on(a: u8, b: u8) -> bool
+    ensures { λ r. ⌜ r ≡ cond (ltb a 32) false (eqb b a) ⌝ }
+{
+    if a < 32 {
+        return false;
+    }
+    b == a
+}
+
+// Whether the eight bytes at `i` of a name are those at `at` of the text, and none of them ends a name there: all are looked at, with no way
+// out, so that a processor can take them at once.
+fn is_same_block(text: &[u8], at: usize, name: &[u8], i: usize) -> bool
+    requires { ⌜ at + 8 ≤ length (now text) ⌝ }
+    requires { ⌜ i + 8 ≤ length (now name) ⌝ }
+    ensures { λ r. ⌜ same (drop i (now (name .entry))) (word (drop at (now (text .entry)))) ≡ (r && same (drop (i + 8) (now (name .entry))) (word (drop (at + 8) (now (text .entry))))) ⌝ }
+{
+    let mut all = true;
+    let mut j: usize = 0;
+    while j < 8 {
+        if !goes_on(text[at + j], name[i + j]) {
+            all = false;
+        }
+        j += 1;
+    }
+    all
+}
+
+// How many bytes of a name stand in whole blocks of eight that are equal, from the front: what is behind them decides.
+fn pass_same(text: &[u8], at: usize, name: &[u8]) -> usize
+    requires { ⌜ at + length (now name) ≤ length (now text) ⌝ }
+    ensures { λ r. ⌜ (r ≤ length (now (name .entry))) × (same (now (name .entry)) (word (drop at (now (text .entry)))) ≡ same (drop r (now (name .entry))) (word (drop (at + r) (now (text .entry))))) ⌝ }
+{
+    let mut i: usize = 0;
+    while 8 <= name.len() - i {
+        if !is_same_block(text, at + i, name, i) {
+            return i;
+        }
+        i += 8;
+    }
+    i
+}
+
+// Whether the name at `at` is `name`: first whether it ends there, then block by block, and then byte by byte.
 fn is_at(text: &[u8], at: usize, name: &[u8]) -> bool
     requires { ⌜ at + length (now name) ≤ 67108864 ⌝ }
     ensures { λ r. ⌜ r ≡ same (now (name .entry)) (word (drop at (now (text .entry)))) ⌝ }
@@ -215,7 +258,7 @@ fn is_at(text: &[u8], at: usize, name: &[u8]) -> bool
     if !ends(text, end) {
         return false; // a name that goes on
     }
-    let mut i: usize = 0;
+    let mut i = pass_same(text, at, name);
     while i < name.len() {
         let b = name[i];
         if text[at + i] != b {

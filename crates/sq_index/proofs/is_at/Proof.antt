@@ -31,11 +31,11 @@ ends-requires c κs = search needs
 returns-2 : tie.Need-returns-2 Inv-loop μ-loop
 returns-2 c = let e = c .before in let a = e .before .before .before .before .args in longer-differs (a .name .now) (a .text .now) (a .at) (sym (e .ends .ensures) ∙ not-true (e .ends .result) (c .if2 .taken))
 
+pass-same-requires : tie.Need-pass-same-requires Inv-loop μ-loop
+pass-same-requires c κs = omega (arith, c .before .before .if1 .left)
+
 loop-holds : tie.Need-loop-holds Inv-loop μ-loop
-loop-holds c =
-    let a = c .before .before .before .before .before .args in
-    let z : a .at ≡ a .at + 0 = omega arith in
-    (omega arith, ap (λ m. same (a .name .now) (word (drop m (a .text .now)))) z)
+loop-holds c = c .pass-same .ensures
 
 shared-slice-read-b : tie.Need-shared-slice-read-b Inv-loop μ-loop
 shared-slice-read-b c = omega arith
@@ -43,11 +43,11 @@ shared-slice-read-b c = omega arith
 -- ---- in a turn
 
 abbrev start : tie.At-loop Inv-loop μ-loop → tie.Start Inv-loop μ-loop
-start l = l .before .before .before .before .before .before
+start l = l .before .before .before .before .before .before .before
 
 -- the text has this byte
 within : (c : tie.In-loop Inv-loop μ-loop) → start (c .before) .args .at + c .before .loop .i < length (start (c .before) .args .text .now)
-within c = omega (arith, c .loop-test .taken, c .before .before .before .before .if1 .left)
+within c = omega (arith, c .loop-test .taken, c .before .before .before .before .before .if1 .left)
 
 add-if3 : tie.Need-add-if3 Inv-loop μ-loop
 add-if3 c = omega (arith, within (c .before))
@@ -93,12 +93,13 @@ loop-again c =
 returns-5 : tie.Need-returns-5 Inv-loop μ-loop
 returns-5 c =
     let l = c .before in
-    let e = l .before .before in
+    let o = l .before .before in
+    let e = o .before in
     let a = start l .args in
     let z : a .at + l .loop .i ≡ a .at + length (a .name .now) = omega (arith, l .loop .inv .0, c .loop-test .left) in
     sym
     (l .loop .inv .1 ∙ same-none (a .name .now) (word (drop (a .at + l .loop .i) (a .text .now))) (l .loop .i) (c .loop-test .left)
-    ∙ ap (λ m. none? (word (drop m (a .text .now)))) z ∙ sym (e .ends .ensures) ∙ not-false (e .ends .result) (l .before .if2 .left))
+    ∙ ap (λ m. none? (word (drop m (a .text .now)))) z ∙ sym (e .ends .ensures) ∙ not-false (e .ends .result) (o .if2 .left))
 
 pub is-at-spec : {M : Type 1} → statement M
 is-at-spec =
@@ -110,6 +111,7 @@ is-at-spec =
     returns
     ends-requires
     returns-2
+    pass-same-requires
     loop-holds
     shared-slice-read-b
     add-if3
