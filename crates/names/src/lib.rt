@@ -3,8 +3,8 @@ use format::LineNo;
 use parser::Checked;
 ghost use mathlib.Core.Path.{_≡_};
 ghost use mathlib.Core.List.{map};
-ghost use Prim.Native.Nat.{ℕ, _≤_, _^_};
-ghost use lib.ListN.{length};
+ghost use Prim.Native.Nat.{ℕ, _≤_, _+_, _^_};
+ghost use lib.ListN.{length, drop};
 ghost use Rattle.text.specs.Over.{over};
 ghost use Rattle.text.specs.Stands.{Each};
 ghost use Rattle.entries.specs.Entries.{entriesIn};
@@ -21,12 +21,29 @@ pub enum NamesAnswer {
     Counted(usize, u64),
 }
 
-// How many LFs a list has: in 32 bits, so that a processor can take more bytes at once.
-fn count_ends(list: &[u8]) -> u32
-    requires { ⌜ length (now list) ≤ 16777216 ⌝ }
-    ensures { λ r. ⌜ r ≡ ends (now (list .entry)) ⌝ }
+// How many LFs are among the 128 bytes from `at` on: in eight bits, so that a processor can take many bytes at once.
+fn count_block(list: &[u8], at: usize) -> u8
+    requires { ⌜ at + 128 ≤ length (now list) ⌝ }
+    ensures { λ r. ⌜ (r ≤ 128) × (ends (drop at (now (list .entry))) ≡ r + ends (drop (at + 128) (now (list .entry)))) ⌝ }
 {
     let mut i: usize = 0;
+    let mut n: u8 = 0;
+    while i < 128 {
+        if list[at + i] == b'\n' {
+            n += 1;
+        }
+        i += 1;
+    }
+    n
+}
+
+// How many LFs a list has from `from` on.
+fn count_rest(list: &[u8], from: usize) -> u32
+    requires { ⌜ length (now list) ≤ 16777216 ⌝ }
+    requires { ⌜ from ≤ length (now list) ⌝ }
+    ensures { λ r. ⌜ (r ≤ length (now (list .entry))) × (r ≡ ends (drop from (now (list .entry)))) ⌝ }
+{
+    let mut i = from;
     let mut n: u32 = 0;
     while i < list.len() {
         if list[i] == b'\n' {
@@ -35,6 +52,20 @@ fn count_ends(list: &[u8]) -> u32
         i += 1;
     }
     n
+}
+
+// How many LFs a list has: whole blocks first.
+fn count_ends(list: &[u8]) -> u32
+    requires { ⌜ length (now list) ≤ 16777216 ⌝ }
+    ensures { λ r. ⌜ r ≡ ends (now (list .entry)) ⌝ }
+{
+    let mut at: usize = 0;
+    let mut n: u32 = 0;
+    while 128 <= list.len() - at {
+        n += count_block(list, at) as u32;
+        at += 128;
+    }
+    n + count_rest(list, at)
 }
 
 // How many names a list has: each LF ends one, and bytes after the last LF are one name more.
