@@ -110,7 +110,15 @@ fn find_slots(text: &[u8], slots: &[u32], list: &[u8], out: &mut [u32]) -> u64
 // Once nothing refuses: each name's ordinal in `out`, the index in `slots`, and the slots that were looked at. While names are looked for
 // the slots tell where names stand, so that a slot's name is found at once, and the ordinals afterwards: each of the `m` names of the SQ keeps
 // its slot, and `notes` take which it is.
-fn answer_noting(text: &[u8], kept: &[u8], m: usize, list: &[u8], slots: &mut [u32], out: &mut [u32], notes: &mut [u32]) -> u64
+fn answer_noting(
+    text: &[u8],
+    kept: &[u8],
+    m: usize,
+    list: &[u8],
+    slots: &mut [u32],
+    out: &mut [u32],
+    notes: &mut [u32],
+) -> u64
     requires { ⌜ length (now kept) ≤ 4294967294 ⌝ }
     requires { ⌜ length (now list) ≤ 16777216 ⌝ }
     requires { ⌜ length (namesIn (now text) (entriesIn (now kept))) ≤ 16777216 ⌝ }
@@ -130,7 +138,14 @@ fn answer_noting(text: &[u8], kept: &[u8], m: usize, list: &[u8], slots: &mut [u
 }
 
 // The same, with room for notes: little of it is cleared where there are few SQ.
-fn answer(text: &[u8], kept: &[u8], m: usize, list: &[u8], slots: &mut [u32], out: &mut [u32]) -> u64
+fn answer(
+    text: &[u8],
+    kept: &[u8],
+    m: usize,
+    list: &[u8],
+    slots: &mut [u32],
+    out: &mut [u32],
+) -> u64
     requires { ⌜ length (now kept) ≤ 4294967294 ⌝ }
     requires { ⌜ length (now list) ≤ 16777216 ⌝ }
     requires { ⌜ length (namesIn (now text) (entriesIn (now kept))) ≤ 16777216 ⌝ }
