@@ -71,7 +71,7 @@ module _ (strict : Bool) (at : ℕ) (line : List ℕ) (i : ℕ) (h : AtField str
   rest-at = own .here .rest ∙ ap (λ n. own .field ∷ fieldsFrom at line n) (sym ends)
 
   pub spread-at : (seen : List Bool) (n : ℕ) → n ≡ tagNumber (getD line (i + 1) 0) (getD line (i + 2) 0)
-      → spread seen (fieldsFrom at line i) ≡ cond (getD seen (n % 1024) false) false (spread (set seen (n % 1024) true) (fieldsFrom at line end))
+      → spread seen (fieldsFrom at line i) ≡ cond (getD seen (n % 112) false) false (spread (set seen (n % 112) true) (fieldsFrom at line end))
   unfolding spread
   spread-at seen n e = ap (spread seen) rest-at ∙ rw (e ∙ number-at) refl
 

@@ -17,10 +17,10 @@ use Rattle.other_fields.specs.Tables.{numberOf, spread}
 
 -- the mark that a field takes
 abbrev slot : Field → ℕ
-slot f = numberOf f % 1024
+slot f = numberOf f % 112
 
-pub slot-below : (n : ℕ) → n % 1024 < 1024
-slot-below n = mod-lt n {m = 1024} (omega arith)
+pub slot-below : (n : ℕ) → n % 112 < 112
+slot-below n = mod-lt n {m = 112} (omega arith)
 
 -- a tag has one number
 pub same-number : (a b : ℕ) (g : Field) → tagged a b g ≡ true → numberOf g ≡ tagNumber a b
@@ -41,10 +41,10 @@ apart f seen (g ∷ gs) m h = go (getD seen (slot g) false) refl h (tagged (f .t
         → ((slot f ≡ slot g → ⊥) → spread (set seen (slot g) true) gs ≡ true → any (tagged (f .tag₀) (f .tag₁)) gs ≡ false)
         → u || any (tagged (f .tag₀) (f .tag₁)) gs ≡ false
     go true e h u d ih = absurd (never (cc))
-    go false e h true d ih = absurd (never (let q = same-number (f .tag₀) (f .tag₁) g d in let z : true ≡ false = sym m ∙ ap (λ n. getD seen (n % 1024) false) (sym q) ∙ e in cc))
+    go false e h true d ih = absurd (never (let q = same-number (f .tag₀) (f .tag₁) g d in let z : true ≡ false = sym m ∙ ap (λ n. getD seen (n % 112) false) (sym q) ∙ e in cc))
     go false e h false d ih = ih (λ q. never (let z : true ≡ false = sym m ∙ ap (λ n. getD seen n false) q ∙ e in cc)) h
 
-pub spread-once : (seen : List Bool) (gs : List Field) → length seen ≡ 1024 → spread seen gs ≡ true → repeats gs ≡ false
+pub spread-once : (seen : List Bool) (gs : List Field) → length seen ≡ 112 → spread seen gs ≡ true → repeats gs ≡ false
 unfolding spread repeats
 spread-once seen [] l h = refl
 spread-once seen (f ∷ fs) l h = go (getD seen (slot f) false) h (spread-once (set seen (slot f) true) fs (length-set seen (slot f) true ∙ l))

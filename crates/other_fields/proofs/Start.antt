@@ -161,7 +161,7 @@ module _ (strict : Bool) (at : ℕ) (s : List ℕ) (r : Record) (a : Spelled str
 -- ---- what a walk is lent
 
 -- no tag stands twice: it is forbidden, or the marks tell
-pub once-start : (strict : Bool) (at : ℕ) (s : List ℕ) → AtField strict at s 3 → strict || spread (replicate 1024 false) (fieldsFrom at s 3) ≡ true → AtField true at s 3
+pub once-start : (strict : Bool) (at : ℕ) (s : List ℕ) → AtField strict at s 3 → strict || spread (replicate 112 false) (fieldsFrom at s 3) ≡ true → AtField true at s 3
 unfolding fieldsOf
 once-start strict at s h t = record {
   from = h .from;
@@ -169,9 +169,9 @@ once-start strict at s h t = record {
   done = h .done;
   rest = h .rest;
   once =
-      or-split strict (spread (replicate 1024 false) (fieldsFrom at s 3)) t
+      or-split strict (spread (replicate 112 false) (fieldsFrom at s 3)) t
       (λ k. ap (λ b. b && repeats (fieldsFrom at s 3)) (sym k) ∙ h .once)
-      (spread-once (replicate 1024 false) (fieldsFrom at s 3) (length-replicate 1024 false));
+      (spread-once (replicate 112 false) (fieldsFrom at s 3) (length-replicate 112 false));
 }
 
 pub once-walkable : (at : ℕ) (s t : List ℕ) → AtField true at s 3 → Walkable true at s t

@@ -22,11 +22,11 @@ HasTag f = isTag (f .tag₀) (f .tag₁) ≡ true
 
 -- ---- marks
 
--- do all fields take different places of 1,024, none of them marked before?
+-- do all fields take different places of 112, none of them marked before?
 unfoldable pub spread : List Bool → List Field → Bool
 unfolding numberOf
 spread seen [] = true
-spread seen (f ∷ fs) = cond (getD seen (numberOf f % 1024) false) false (spread (set seen (numberOf f % 1024) true) fs)
+spread seen (f ∷ fs) = cond (getD seen (numberOf f % 112) false) false (spread (set seen (numberOf f % 112) true) fs)
 
 -- ---- two tables in one list: 3,224 first places, then 3,224 last ones, 0 for a tag that was not met
 

@@ -36,17 +36,18 @@ pub fn value_at(at: usize, i: usize, end: usize) -> Value
     }
 }
 
-// Whether the tags of the accepted line at the offset `at` take different marks of 1,024: then none stands twice.
+// Whether the tags of the accepted line at the offset `at` take different marks of 112: then none stands twice. So few are soon cleared, and no
+// two tags that the SAM specification has for one kind share a mark.
 fn is_spread(line: &[u8], at: usize) -> bool
     requires { ⌜ AtField false at (now line) 3 ⌝ }
     requires { ⌜ at + length (now line) ≤ 4294967295 ⌝ }
-    ensures { λ r. ⌜ r ≡ spread (replicate 1024 false) (fieldsFrom at (now (line .entry)) 3) ⌝ }
+    ensures { λ r. ⌜ r ≡ spread (replicate 112 false) (fieldsFrom at (now (line .entry)) 3) ⌝ }
 {
-    let mut seen = [false; 1024];
+    let mut seen = [false; 112];
     let mut i: usize = 3;
     while i < line.len() {
         let end = field_end(line, i);
-        let n = tag_number::tag_number(line[i + 1], line[i + 2]) % 1024;
+        let n = tag_number::tag_number(line[i + 1], line[i + 2]) % 112;
         if seen[n] {
             return false;
         }
@@ -60,7 +61,7 @@ fn is_spread(line: &[u8], at: usize) -> bool
 pub fn is_once(line: &[u8], at: usize, strict: bool) -> bool
     requires { ⌜ AtField strict at (now line) 3 ⌝ }
     requires { ⌜ at + length (now line) ≤ 4294967295 ⌝ }
-    ensures { λ r. ⌜ r ≡ strict || spread (replicate 1024 false) (fieldsFrom at (now (line .entry)) 3) ⌝ }
+    ensures { λ r. ⌜ r ≡ strict || spread (replicate 112 false) (fieldsFrom at (now (line .entry)) 3) ⌝ }
 {
     if strict {
         return true;

@@ -18,7 +18,7 @@ is-spread-requires c κs = search needs
 returns-2 : tie.Need-returns-2
 returns-2 c =
     let a = c .before .before .before .args in
-    c .is-spread .ensures ∙ sym (ap (λ t. t || spread (replicate 1024 false) (fieldsFrom (a .at) (a .line .now) 3)) (c .before .if1 .left))
+    c .is-spread .ensures ∙ sym (ap (λ t. t || spread (replicate 112 false) (fieldsFrom (a .at) (a .line .now) 3)) (c .before .if1 .left))
 
 pub is-once-spec : {M : Type 1} → statement M
 is-once-spec = tie.close (tie.spec returns is-spread-requires returns-2)

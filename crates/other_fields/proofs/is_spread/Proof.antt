@@ -21,8 +21,8 @@ none-left seen fs e = rw e refl
 abbrev Inv-loop : tie.InvT-loop
 Inv-loop line at seen₀ i₀ seen i =
     AtField false at line i
-    × (length seen ≡ 1024)
-    × (spread seen (fieldsFrom at line i) ≡ spread (replicate 1024 false) (fieldsFrom at line 3))
+    × (length seen ≡ 112)
+    × (spread seen (fieldsFrom at line i) ≡ spread (replicate 112 false) (fieldsFrom at line 3))
 
 abbrev μ-loop : tie.MeasureT-loop
 μ-loop line at seen₀ i₀ seen i = length line - i
@@ -36,7 +36,7 @@ reach c =
 
 -- what is told with it
 told : (c : tie.After-tag-number Inv-loop μ-loop)
-    → (let f = c .before .before .before in let l = f .before .before in let a = l .before .before .args in let n = c .tag-number .result % 1024 in
+    → (let f = c .before .before .before in let l = f .before .before in let a = l .before .before .args in let n = c .tag-number .result % 112 in
     spread (l .loop .seen) (fieldsFrom (a .at) (a .line .now) (l .loop .i)) ≡ cond (lib.ListN.getD (l .loop .seen) n false) false (spread (set (l .loop .seen) n true) (fieldsFrom (a .at) (a .line .now) (f .field-end .result))))
 told c =
     let f = c .before .before .before in
@@ -45,7 +45,7 @@ told c =
     spread-at false (a .at) (a .line .now) (l .loop .i) (l .loop .inv .0) (omega arith) (f .field-end .result) (f .field-end .ensures) (l .loop .seen) (c .tag-number .result) (c .tag-number .ensures)
 
 loop-holds : tie.Need-loop-holds Inv-loop μ-loop
-loop-holds c = (c .before .pre .0, length-replicate 1024 false, refl)
+loop-holds c = (c .before .pre .0, length-replicate 112 false, refl)
 
 field-end-requires : tie.Need-field-end-requires Inv-loop μ-loop
 field-end-requires c κs = omega arith
@@ -86,7 +86,7 @@ loop-again c =
     let l = f .before .before in
     let a = l .before .before .args in (
       next-at false (a .at) (a .line .now) (l .loop .i) (l .loop .inv .0) (omega arith) (f .field-end .result) (f .field-end .ensures),
-      length-set (l .loop .seen) (n .tag-number .result % 1024) true ∙ l .loop .inv .1,
+      length-set (l .loop .seen) (n .tag-number .result % 112) true ∙ l .loop .inv .1,
       sym (told n ∙ rw (c .if1 .left) refl) ∙ l .loop .inv .2,
     )
 
