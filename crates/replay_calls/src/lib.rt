@@ -2,7 +2,7 @@
 // answers says (`replay` has the lines' form).
 use calls::KeyAnswer;
 use calls::LengthAnswer;
-use parser::Answer;
+use parser::CountAnswer;
 ghost use mathlib.Core.Path.{_≡_};
 ghost use Prim.Native.Nat.{_≤_};
 ghost use lib.ListN.{length, take};
@@ -15,8 +15,8 @@ pub fn keep(word: &[u8], text: &[u8], kept: &mut [u8]) -> usize
         return stored_cases::decode(word, kept);
     }
     match parser::read(text, kept) {
-        Answer::Refused(_, _) => 0,
-        Answer::Count(n) => stored_cases::least(n, kept.len()),
+        CountAnswer::Refused(_, _) => 0,
+        CountAnswer::Count(n) => stored_cases::least(n, kept.len()),
     }
 }
 
@@ -27,8 +27,8 @@ pub fn is_count(line: &[u8], text: &[u8], kept: &[u8]) -> bool {
         kept,
         stored_answers::byte_of(stored_cases::word(line, 3)),
     ) {
-        Answer::Refused(n, no) => stored_answers::is_refusal(line, 4, n, no),
-        Answer::Count(n) => stored_answers::is_ok(line, 4, 1)
+        CountAnswer::Refused(n, no) => stored_answers::is_refusal(line, 4, n, no),
+        CountAnswer::Count(n) => stored_answers::is_ok(line, 4, 1)
             && stored_answers::is_number(stored_cases::word(line, 5), n as u64),
     }
 }

@@ -1,14 +1,14 @@
 // Reading, and the calls over program graphs: whether each answers as a line of stored answers says (`replay` has the lines' form).
 use calls::LeavesAnswer;
-use parser::Answer;
+use parser::CountAnswer;
 
 // Whether the roots are the line's, in an output of as many elements as it says.
 pub fn is_roots(line: &[u8], text: &[u8], kept: &[u8], out: &mut [u32]) -> bool {
     let room = stored_answers::ordinal_room(stored_cases::word(line, 3), out);
     match calls::roots(text, kept, &mut out[..room]) {
-        Answer::Refused(n, no) => stored_answers::is_refusal(line, 4, n, no)
+        CountAnswer::Refused(n, no) => stored_answers::is_refusal(line, 4, n, no)
             && stored_cases::is_unlisted(out),
-        Answer::Count(n) => stored_answers::is_ok(line, 4, 1)
+        CountAnswer::Count(n) => stored_answers::is_ok(line, 4, 1)
             && stored_answers::is_list(stored_cases::word(line, 5), out, n, 4),
     }
 }
@@ -30,8 +30,8 @@ pub fn is_leaves(line: &[u8], text: &[u8], kept: &[u8], out: &mut [u32]) -> bool
 // Whether the roots are the crate's.
 fn are_roots(word: &[u8], text: &[u8], kept: &[u8], out: &mut [u32]) -> bool {
     match calls::roots(text, kept, out) {
-        Answer::Refused(_, _) => false,
-        Answer::Count(n) => stored_answers::is_list(word, out, n, 4),
+        CountAnswer::Refused(_, _) => false,
+        CountAnswer::Count(n) => stored_answers::is_list(word, out, n, 4),
     }
 }
 
@@ -61,16 +61,16 @@ fn is_graph(line: &[u8], text: &[u8], kept: &[u8], n: usize) -> bool {
 // Whether a text is read, and its roots and leaves are the line's.
 pub fn is_read(line: &[u8], text: &[u8], kept: &mut [u8]) -> bool {
     match parser::read(text, kept) {
-        Answer::Refused(_, _) => false,
-        Answer::Count(n) => is_graph(line, text, kept, n),
+        CountAnswer::Refused(_, _) => false,
+        CountAnswer::Count(n) => is_graph(line, text, kept, n),
     }
 }
 
 // Whether reading refuses a text as the crate does, and writes nothing.
 pub fn is_read_refused(line: &[u8], text: &[u8], out: &mut [u8]) -> bool {
     match parser::read(text, out) {
-        Answer::Refused(n, no) => stored_answers::is_refusal(line, 1, n, no)
+        CountAnswer::Refused(n, no) => stored_answers::is_refusal(line, 1, n, no)
             && stored_cases::is_untouched(out),
-        Answer::Count(_) => false,
+        CountAnswer::Count(_) => false,
     }
 }

@@ -9,7 +9,7 @@ use lib.Seq.{sets}
 use lib.Dec.{eqb}
 use Rattle.format.specs.Slots.{seat}
 use Rattle.entries.specs.declared.Entry.{Entry}
-use Rattle.entries.specs.Entries.{kindOf, counted}
+use Rattle.entries.specs.Entries.{kindByte, counted}
 use Rattle.name_index.specs.Index.{hashFrom, first, enter}
 use Rattle.name_index.proofs.Passing.{opened}
 use Rattle.sq_index.specs.Filled.{nameIn, startIn, valueOf, entering, seats, numbered}
@@ -36,7 +36,7 @@ module _ (t : List ℕ) where
   pub numbered-seats : (k : ℕ) (es : List Entry) (slots : List ℕ) → numbered k (seats true t k es slots) slots ≡ entering true t k es slots
   unfolding numbered seats entering enter valueOf
   numbered-seats k [] slots = refl
-  numbered-seats k (e ∷ es) slots = go (eqb (kindOf e) 2) (numbered-seats (k + 1) es (enter (suc k) (nameIn t e) slots)) (numbered-seats k es slots)
+  numbered-seats k (e ∷ es) slots = go (eqb (kindByte e) 2) (numbered-seats (k + 1) es (enter (suc k) (nameIn t e) slots)) (numbered-seats k es slots)
     where
       at : ℕ
       at = seat (first (length slots) (nameIn t e)) slots
@@ -53,7 +53,7 @@ module _ (t : List ℕ) where
   unfolding seats counted
   seats-counted b k [] slots = refl
   seats-counted b k (e ∷ es) slots =
-      go (eqb (kindOf e) 2) (seats-counted b (k + 1) es (enter (valueOf b k (hashFrom 0 (nameIn t e)) (startIn t e)) (nameIn t e) slots)) (seats-counted b k es slots)
+      go (eqb (kindByte e) 2) (seats-counted b (k + 1) es (enter (valueOf b k (hashFrom 0 (nameIn t e)) (startIn t e)) (nameIn t e) slots)) (seats-counted b k es slots)
     where
       on : List ℕ
       on = seats b t (k + 1) es (enter (valueOf b k (hashFrom 0 (nameIn t e)) (startIn t e)) (nameIn t e) slots)

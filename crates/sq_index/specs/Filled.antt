@@ -10,7 +10,7 @@ use Rattle.format.specs.Bytes.{same}
 use Rattle.format.specs.Slots.{seat}
 use Rattle.entries.specs.declared.Entry.{Entry}
 use Rattle.entries.specs.declared.Entry.the-variants.{End, Header, ReferenceSequence, ReadGroup, Program, Comment, Field}
-use Rattle.entries.specs.Entries.{kindOf}
+use Rattle.entries.specs.Entries.{kindByte}
 use Rattle.key_index.specs.Word.{word}
 use Rattle.name_index.specs.Index.{absent, hashFrom, first, path, enter, ordinalOf, looked}
 
@@ -28,9 +28,9 @@ nameIn t (Field a b p) = []
 
 -- the names that the SQ entries say, in order
 unfoldable pub namesIn : List ℕ → List Entry → List (List ℕ)
-unfolding kindOf nameIn
+unfolding kindByte nameIn
 namesIn t [] = []
-namesIn t (e ∷ es) = cond (eqb (kindOf e) 2) (nameIn t e ∷ namesIn t es) (namesIn t es)
+namesIn t (e ∷ es) = cond (eqb (kindByte e) 2) (nameIn t e ∷ namesIn t es) (namesIn t es)
 
 -- where that name starts: behind the text where there is none
 unfoldable pub startIn : List ℕ → Entry → ℕ
@@ -74,19 +74,19 @@ says t x v = eqb (markOf (hashFrom 0 x)) ((v - 1) % 128) && same x (word (drop (
 
 -- the names of the SQ entries enter in order: the first SQ has the ordinal `k`
 unfoldable pub entering : Bool → List ℕ → ℕ → List Entry → List ℕ → List ℕ
-unfolding kindOf nameIn startIn valueOf hashFrom enter
+unfolding kindByte nameIn startIn valueOf hashFrom enter
 entering ordinals t k [] slots = slots
 entering ordinals t k (e ∷ es) slots =
-    cond (eqb (kindOf e) 2)
+    cond (eqb (kindByte e) 2)
     (entering ordinals t (k + 1) es (enter (valueOf ordinals k (hashFrom 0 (nameIn t e)) (startIn t e)) (nameIn t e) slots))
     (entering ordinals t k es slots)
 
 -- the slots that they enter, in order
 unfoldable pub seats : Bool → List ℕ → ℕ → List Entry → List ℕ → List ℕ
-unfolding kindOf nameIn startIn valueOf hashFrom first seat enter
+unfolding kindByte nameIn startIn valueOf hashFrom first seat enter
 seats ordinals t k [] slots = []
 seats ordinals t k (e ∷ es) slots =
-    cond (eqb (kindOf e) 2)
+    cond (eqb (kindByte e) 2)
     (seat (first (length slots) (nameIn t e)) slots ∷ seats ordinals t (k + 1) es (enter (valueOf ordinals k (hashFrom 0 (nameIn t e)) (startIn t e)) (nameIn t e) slots))
     (seats ordinals t k es slots)
 
