@@ -8,10 +8,10 @@ use lib.ListN.{length, take, getD}
 use lib.Dec.{eqb, leb}
 use Rattle.format.specs.Bytes.{any, none?}
 use Rattle.format.specs.Lines.{Piece}
-use Rattle.format.specs.Records.{Record, code, Line, refused, read, line}
-use Rattle.format.specs.Reading.{accept, clash, ofKind, barred, unless, following, admitted, taken, readFrom}
+use Rattle.format.specs.Records.{Record, code, Line, refusedLine, read, line}
+use Rattle.format.specs.Reading.{accept, clash, ofKind, barred, unless, following, admitted, readOn, readFrom}
 use Rattle.accepted.specs.Pieces.{Pairs}
-use Rattle.accepted.specs.Admits.{Admits, Unbarred, Clear}
+use Rattle.accepted.specs.Admits.{Admits, Unbarred, MayFollow}
 use Rattle.accepted.proofs.Bools.{never}
 
 -- ---- one line
@@ -26,16 +26,16 @@ admitted-read strict before p r e = go (line strict p) refl e
     inner q (suc n) h g e = absurd (never (cc))
 
     go : (l : Line) → line strict p ≡ l → following before l ≡ read r → (line strict p ≡ read r) × (barred before r ≡ 0)
-    go (refused n) h e = absurd (never (cc))
+    go (refusedLine n) h e = absurd (never (cc))
     go (read q) h e = inner q (barred before q) h refl e
 
-pub barred-clear : (before : List Record) (r : Record) → barred before r ≡ 0 → Clear before r
+pub barred-clear : (before : List Record) (r : Record) → barred before r ≡ 0 → MayFollow before r
 unfolding barred
 barred-clear before r e =
     go (eqb (code r) 1 && not (none? before)) (any (clash r) before) (eqb (code r) 4 && leb 1024 (length (ofKind 4 before))) refl refl refl e
   where
     go : (t u v : Bool) → eqb (code r) 1 && not (none? before) ≡ t → any (clash r) before ≡ u → eqb (code r) 4 && leb 1024 (length (ofKind 4 before)) ≡ v
-        → cond {A = ℕ} t 17 (cond u 18 (cond v 19 0)) ≡ 0 → Clear before r
+        → cond {A = ℕ} t 17 (cond u 18 (cond v 19 0)) ≡ 0 → MayFollow before r
     go true u v a b c e = absurd (omega arith)
     go false true v a b c e = absurd (omega arith)
     go false false true a b c e = absurd (omega arith)
@@ -51,14 +51,14 @@ pub record Rest (strict : Bool) (before : List Record) (ps : List Piece) (all : 
 
 pub read-rest : (strict : Bool) (l : ℕ) (before : List Record) (ps : List Piece) (all : List Record)
     → readFrom strict l before ps ≡ accept all → Rest strict before ps all
-unfolding readFrom taken Admits
+unfolding readFrom readOn Admits
 read-rest strict l before [] all e = record { rest = []; joined = (let q : before ≡ all = cc in sym q ∙ sym (append-nil before)); admits = tt }
 read-rest strict l before (p ∷ ps) all e = go (admitted strict before p) refl (λ r. read-rest strict (l + 1) (before ++ (r ∷ [])) ps all) e
   where
     go : (i : Line) → admitted strict before p ≡ i
         → ((r : Record) → readFrom strict (l + 1) (before ++ (r ∷ [])) ps ≡ accept all → Rest strict (before ++ (r ∷ [])) ps all)
-        → taken l (λ r. readFrom strict (l + 1) (before ++ (r ∷ [])) ps) i ≡ accept all → Rest strict before (p ∷ ps) all
-    go (refused n) h ih e = absurd (never (cc))
+        → readOn l (λ r. readFrom strict (l + 1) (before ++ (r ∷ [])) ps) i ≡ accept all → Rest strict before (p ∷ ps) all
+    go (refusedLine n) h ih e = absurd (never (cc))
     go (read r) h ih e =
         let x : Rest strict (before ++ (r ∷ [])) ps all = ih r e in
         record { rest = r ∷ x .rest; joined = x .joined ∙ append-assoc before (r ∷ []) (x .rest); admits = (h, x .admits) }
@@ -66,12 +66,12 @@ read-rest strict l before (p ∷ ps) all e = go (admitted strict before p) refl 
 -- and the other way round
 pub admits-read : (strict : Bool) (l : ℕ) (before : List Record) (ps : List Piece) (rs : List Record)
     → Admits strict before ps rs → readFrom strict l before ps ≡ accept (before ++ rs)
-unfolding readFrom taken Admits
+unfolding readFrom readOn Admits
 admits-read strict l before [] [] h = ap accept (sym (append-nil before))
 admits-read strict l before [] (r ∷ rs) h = absurd h
 admits-read strict l before (p ∷ ps) [] h = absurd h
 admits-read strict l before (p ∷ ps) (r ∷ rs) h =
-    ap (taken l (λ r. readFrom strict (l + 1) (before ++ (r ∷ [])) ps)) (h .0)
+    ap (readOn l (λ r. readFrom strict (l + 1) (before ++ (r ∷ [])) ps)) (h .0)
     ∙ admits-read strict (l + 1) (before ++ (r ∷ [])) ps rs (h .1)
     ∙ ap accept (append-assoc before (r ∷ []) rs)
 

@@ -14,7 +14,7 @@ use Rattle.format.specs.Records.{Record, code, key}
 use Rattle.format.specs.Reading.{clash, sameKeys, ofKind}
 use Rattle.text.specs.Stands.{Each}
 use Rattle.text.proofs.Stands.{each-map}
-use Rattle.accepted.specs.Admits.{Unbarred, Apart, Clear}
+use Rattle.accepted.specs.Admits.{Unbarred, KeysDiffer, MayFollow}
 use Rattle.accepted.proofs.Bools.{or-left, or-right, eqb-sym, any-snoc}
 use Rattle.accepted.proofs.OfKind.{ofKind-append}
 use Rattle.accepted.proofs.Admits.{barred-clear}
@@ -54,8 +54,8 @@ unbarred-before before (r ∷ rs) h = (
       (λ q g. or-left (any (clash q) before) (clash q r) (sym (any-snoc (clash q) before r) ∙ g)) rs (unbarred-before (before ++ (r ∷ [])) rs (h .1)),
 )
 
-pub unbarred-apart : (before rs : List Record) → Unbarred before rs → Apart rs
-unfolding Unbarred Apart
+pub unbarred-apart : (before rs : List Record) → Unbarred before rs → KeysDiffer rs
+unfolding Unbarred KeysDiffer
 unbarred-apart before [] h = tt
 unbarred-apart before (r ∷ rs) h = (
   any-each (clash r) rs (
@@ -72,8 +72,8 @@ any-at p (y ∷ xs) zero x h l = or-left (p y) (any p xs) h
 any-at p (y ∷ xs) (suc i) x h l = any-at p xs i x (or-right (p y) (any p xs) h) (omega arith)
 
 -- by their places
-pub apart-at : (rs : List Record) (i j : ℕ) (r : Record) → Apart rs → i < j → j < length rs → clash (getD rs i r) (getD rs j r) ≡ false
-unfolding Apart
+pub apart-at : (rs : List Record) (i j : ℕ) (r : Record) → KeysDiffer rs → i < j → j < length rs → clash (getD rs i r) (getD rs j r) ≡ false
+unfolding KeysDiffer
 apart-at [] i j r h m l = absurd (omega arith)
 apart-at (q ∷ rs) i zero r h m l = absurd (omega arith)
 apart-at (q ∷ rs) zero (suc j) r h m l = any-at (clash q) rs j r (h .0) (omega arith)
@@ -81,7 +81,7 @@ apart-at (q ∷ rs) (suc i) (suc j) r h m l = apart-at rs i j r (h .1) (omega ar
 
 -- ---- programs
 
-clear-programs : (before : List Record) (r : Record) → Clear before r → length (ofKind 4 before) ≤ 1024 → length (ofKind 4 (before ++ (r ∷ []))) ≤ 1024
+clear-programs : (before : List Record) (r : Record) → MayFollow before r → length (ofKind 4 before) ≤ 1024 → length (ofKind 4 (before ++ (r ∷ []))) ≤ 1024
 unfolding ofKind
 clear-programs before r c h =
     rw (ofKind-append 4 before (r ∷ []), length-append (ofKind 4 before) (ofKind 4 (r ∷ []))) (go (eqb (code r) 4) (c .room))

@@ -19,7 +19,7 @@ use Rattle.utf8.specs.Shown.{shown}
 use Rattle.utf8.proofs.Shown.{shown-byte, whole-shown}
 use Rattle.accepted.specs.Clean.{clean}
 use Rattle.accepted.specs.Spelled as sp
-use Rattle.accepted.specs.Spelled.{Good, kind₀, kind₁, Accepted}
+use Rattle.accepted.specs.Spelled.{Good, kind₀, kind₁, AcceptedLine}
 use Rattle.accepted.proofs.Bools.{never, and-left, and-right, or-true, or-split}
 use Rattle.accepted.proofs.Pairs.{pairs-left}
 use Rattle.accepted.proofs.Spelled.{prefixed-accepted}
@@ -114,7 +114,7 @@ kind-clean ReadGroup = (refl, refl)
 kind-clean Program = (refl, refl)
 kind-clean Comment = (refl, refl)
 
-pub accepted-clean : (strict : Bool) (at : ℕ) (s : List ℕ) (r : Record) → Accepted strict at s r → (code r ≡ 5 → ⊥) → all clean s ≡ true
+pub accepted-clean : (strict : Bool) (at : ℕ) (s : List ℕ) (r : Record) → AcceptedLine strict at s r → (code r ≡ 5 → ⊥) → all clean s ≡ true
 unfolding code all
 accepted-clean strict at s r (sp.of-remark t) n = absurd (n refl)
 accepted-clean strict at s r (sp.of-fields a) n =

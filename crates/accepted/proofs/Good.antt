@@ -9,12 +9,12 @@ use lib.Dec.{eqb, ltb, leb}
 use borrow.Author.Tests.{eqb-true, eqb-false, ltb-true, leb-true, le-leb}
 use Rattle.format.specs.Bytes.{digit, printable, all, none?}
 use Rattle.format.specs.Decimal.{worth, span, digits}
-use Rattle.format.specs.Fields.{Field, bad, good, goodThen, tagged, isValue, isWide, allows, isTag, plain, spelled, versionField, lengthField, valueField, field}
+use Rattle.format.specs.Fields.{Field, refusedPiece, good, goodThen, tagged, isValue, isWide, allows, isTag, plain, spelled, versionField, lengthField, valueField, field}
 use Rattle.format.specs.Version.{version}
 use Rattle.format.specs.declared.Version.{Version}
 use Rattle.format.specs.declared.Kind.{Kind}
 use Rattle.format.specs.declared.Kind.the-variants.{Header, ReferenceSequence, ReadGroup, Program, Comment}
-use Rattle.accepted.specs.Spelled.{Sized, Good}
+use Rattle.accepted.specs.Spelled.{LengthInRange, Good}
 use Rattle.accepted.proofs.Bools.{never, and-left, and-right}
 
 -- ---- digits
@@ -56,37 +56,37 @@ span-join (b ∷ s) = go (digit b) (span-join s)
 record Kept (k : Kind) (a b at : ℕ) (v : List ℕ) (f : Field) : Type 0 where
   same : f ≡ record { tag₀ = a; tag₁ = b; value = record { at = at; bytes = v } }
   value : allows k a b v ≡ true
-  sized : Sized k f
+  sized : LengthInRange k f
 
 -- the field itself
 abbrev own : ℕ → ℕ → ℕ → List ℕ → Field
 own a b at v = record { tag₀ = a; tag₁ = b; value = record { at = at; bytes = v } }
 
-plain-kept : (k : Kind) (a b at : ℕ) (v : List ℕ) (f : Field) → Sized k (own a b at v) → plain k a b at v ≡ good f → Kept k a b at v f
+plain-kept : (k : Kind) (a b at : ℕ) (v : List ℕ) (f : Field) → LengthInRange k (own a b at v) → plain k a b at v ≡ good f → Kept k a b at v f
 unfolding plain
 plain-kept k a b at v f z e = go (allows k a b v) refl e
   where
-    go : (t : Bool) → allows k a b v ≡ t → cond t (good (own a b at v)) (bad 10) ≡ good f → Kept k a b at v f
+    go : (t : Bool) → allows k a b v ≡ t → cond t (good (own a b at v)) (refusedPiece 10) ≡ good f → Kept k a b at v f
     go true h e =
         let q : f ≡ own a b at v = cc in
         record { same = q; value = h; sized = rw q z }
     go false h e = absurd (never (cc))
 
 version-kept : (at : ℕ) (v : List ℕ) (f : Field) → versionField at v ≡ good f → Kept Header 86 78 at v f
-unfolding versionField spelled Sized
+unfolding versionField spelled LengthInRange
 version-kept at v f e = go (isValue v) e
   where
     inner : (o : Option Version) → spelled o (plain Header 86 78 at v) ≡ good f → Kept Header 86 78 at v f
     inner none e = absurd (never (cc))
     inner (some w) e = plain-kept Header 86 78 at v f tt e
 
-    go : (t : Bool) → cond t (spelled (version v) (plain Header 86 78 at v)) (bad 10) ≡ good f → Kept Header 86 78 at v f
+    go : (t : Bool) → cond t (spelled (version v) (plain Header 86 78 at v)) (refusedPiece 10) ≡ good f → Kept Header 86 78 at v f
     go true e = inner (version v) e
     go false e = absurd (never (cc))
 
 -- digits, and nothing after them
 length-kept : (at : ℕ) (ds rest : List ℕ) (f : Field) → all digit ds ≡ true → lengthField at (ds, rest) ≡ good f → Kept ReferenceSequence 76 78 at (ds ++ rest) f
-unfolding lengthField none? isValue allows isWide Sized digits
+unfolding lengthField none? isValue allows isWide LengthInRange digits
 length-kept at [] rest f p e = absurd (never (cc))
 length-kept at (d ∷ ds) rest f p e = go (ltb n (2 ^ 64)) (eqb n 0) (ltb n (2 ^ 31)) rest refl refl e
   where
@@ -94,7 +94,7 @@ length-kept at (d ∷ ds) rest f p e = go (ltb n (2 ^ 64)) (eqb n 0) (ltb n (2 ^
     n = worth (d ∷ ds)
 
     go : (t u v : Bool) (rest : List ℕ) → ltb n (2 ^ 31) ≡ v → eqb n 0 ≡ u
-        → cond (not t) (bad 12) (cond u (bad 13) (cond (not v) (bad 27) (cond (none? rest) (good (own 76 78 at (d ∷ ds))) (goodThen (own 76 78 at (d ∷ ds)) 6))))
+        → cond (not t) (refusedPiece 12) (cond u (refusedPiece 13) (cond (not v) (refusedPiece 27) (cond (none? rest) (good (own 76 78 at (d ∷ ds))) (goodThen (own 76 78 at (d ∷ ds)) 6))))
         ≡ good f
         → Kept ReferenceSequence 76 78 at (d ∷ ds ++ rest) f
     go false u v r h k e = absurd (never (cc))
@@ -112,7 +112,7 @@ length-kept at (d ∷ ds) rest f p e = go (ltb n (2 ^ 64)) (eqb n 0) (ltb n (2 ^
         one-up (suc m) z = omega arith
 
 value-kept : (k : Kind) (a b at : ℕ) (v : List ℕ) (f : Field) → valueField k a b at v ≡ good f → Kept k a b at v f
-unfolding valueField Sized tagged
+unfolding valueField LengthInRange tagged
 value-kept Header a b at v f e = go (eqb a 86 && eqb b 78) refl e
   where
     go : (t : Bool) → eqb a 86 && eqb b 78 ≡ t → cond t (versionField at v) (plain Header a b at v) ≡ good f → Kept Header a b at v f
@@ -137,12 +137,12 @@ good-field k at [] f e = absurd (never (cc))
 good-field k at (a ∷ []) f e = absurd (never (cc))
 good-field k at (a ∷ b ∷ []) f e = go (isTag a b) e
   where
-    go : (t : Bool) → cond t (bad 9) (bad 8) ≡ good f → Good k at (a ∷ b ∷ []) f
+    go : (t : Bool) → cond t (refusedPiece 9) (refusedPiece 8) ≡ good f → Good k at (a ∷ b ∷ []) f
     go true e = absurd (never (cc))
     go false e = absurd (never (cc))
 good-field k at (a ∷ b ∷ c ∷ v) f e = go (isTag a b) (eqb c 58) refl refl e
   where
-    go : (t u : Bool) → isTag a b ≡ t → eqb c 58 ≡ u → cond t (cond u (valueField k a b (at + 3) v) (bad 9)) (bad 8) ≡ good f → Good k at (a ∷ b ∷ c ∷ v) f
+    go : (t u : Bool) → isTag a b ≡ t → eqb c 58 ≡ u → cond t (cond u (valueField k a b (at + 3) v) (refusedPiece 9)) (refusedPiece 8) ≡ good f → Good k at (a ∷ b ∷ c ∷ v) f
     go false u h g e = absurd (never (cc))
     go true false h g e = absurd (never (cc))
     go true true h g e =

@@ -8,7 +8,7 @@ use Rattle.format.specs.Bytes.{any}
 use Rattle.format.specs.Records.{Record, code}
 use Rattle.format.specs.Reading.{clash, ofKind}
 use Rattle.text.specs.Stands.{Each}
-use Rattle.accepted.specs.Admits.{Apart}
+use Rattle.accepted.specs.Admits.{KeysDiffer}
 use Rattle.accepted.proofs.Bools.{or-left, or-right}
 
 pub ofKind-append : (k : ℕ) (rs qs : List Record) → ofKind k (rs ++ qs) ≡ ofKind k rs ++ ofKind k qs
@@ -55,11 +55,11 @@ any-ofKind p k (r ∷ rs) h = go (eqb (code r) k) (any-ofKind p k rs (or-right (
     go true ih = rw (or-left (p r) (any p rs) h, ih) refl
     go false ih = ih
 
-pub apart-ofKind : (k : ℕ) (rs : List Record) → Apart rs → Apart (ofKind k rs)
-unfolding ofKind Apart
+pub apart-ofKind : (k : ℕ) (rs : List Record) → KeysDiffer rs → KeysDiffer (ofKind k rs)
+unfolding ofKind KeysDiffer
 apart-ofKind k [] h = tt
 apart-ofKind k (r ∷ rs) h = go (eqb (code r) k) (apart-ofKind k rs (h .1))
   where
-    go : (t : Bool) → Apart (ofKind k rs) → Apart (cond t (r ∷ ofKind k rs) (ofKind k rs))
+    go : (t : Bool) → KeysDiffer (ofKind k rs) → KeysDiffer (cond t (r ∷ ofKind k rs) (ofKind k rs))
     go true ih = (any-ofKind (clash r) k rs (h .0), ih)
     go false ih = ih

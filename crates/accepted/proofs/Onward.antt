@@ -7,7 +7,7 @@ use native.Mathlib.Omega.{arith}
 use lib.ListN.{length, take, drop, length-drop}
 use Rattle.format.specs.Lines.{linesFrom}
 use Rattle.format.specs.Records.{Record}
-use Rattle.format.specs.Reading.{accept, admitted, taken, readFrom}
+use Rattle.format.specs.Reading.{accept, admitted, readOn, readFrom}
 use Rattle.text.specs.First.{firstLine}
 use Rattle.text.proofs.Lines.{lines-none}
 use Rattle.text.proofs.First.{first-some, first-within, lines-first}
@@ -19,7 +19,7 @@ read-none strict l before at = rw (lines-none at) refl
 
 pub read-first : (strict : Bool) (l : ℕ) (before : List Record) (at : ℕ) (s : List ℕ) → 0 < length s
     → readFrom strict l before (linesFrom at s)
-    ≡ taken l (λ r. readFrom strict (l + 1) (before ++ (r ∷ [])) (linesFrom (at + firstLine s .next) (drop (firstLine s .next) s)))
+    ≡ readOn l (λ r. readFrom strict (l + 1) (before ++ (r ∷ [])) (linesFrom (at + firstLine s .next) (drop (firstLine s .next) s)))
     (admitted strict before (record { at = at; bytes = take (firstLine s .len) s }))
 unfolding readFrom
 read-first strict l before at s h = ap (readFrom strict l before) (lines-first at s h)

@@ -16,9 +16,9 @@ use Rattle.format.specs.declared.Kind.{Kind}
 use Rattle.format.specs.declared.Kind.the-variants.{Header, ReferenceSequence, ReadGroup, Program}
 use Rattle.text.specs.Stands.{Each}
 use Rattle.text.proofs.Stands.{each-map}
-use Rattle.accepted.specs.Sound.{isKey, kind, Fits, Named, Other, Sound}
+use Rattle.accepted.specs.Sound.{isKey, kind, FitsRecord, KeyIsValue, Other, Sound}
 use Rattle.accepted.specs.Spelled as sp
-use Rattle.accepted.specs.Spelled.{Sized, Good, Made, Spelled, Accepted}
+use Rattle.accepted.specs.Spelled.{LengthInRange, Good, Made, Spelled, AcceptedLine}
 use Rattle.accepted.proofs.Bools.{never, and-left, and-right}
 use Rattle.accepted.proofs.Pairs.{each-all, each-both, pairs-right}
 use Rattle.accepted.proofs.Fields.{Of, lastOf-of, each-without, each-settled, without-none, repeats-settled}
@@ -55,7 +55,7 @@ version-below s v e = go (sides 46 s) e
 record Meant (k : Kind) (f : Field) : Type 0 where
   tag : isTag (f .tag₀) (f .tag₁) ≡ true
   value : allows k (f .tag₀) (f .tag₁) (f .value .bytes) ≡ true
-  sized : Sized k f
+  sized : LengthInRange k f
 
 fields-meant : (strict : Bool) (at : ℕ) (s : List ℕ) (r : Record) (a : Spelled strict at s r) → Each (Meant (a .kind)) (a .fields)
 fields-meant strict at s r a =
@@ -104,7 +104,7 @@ two-out fs h =
 -- ---- the record
 
 last-sized : (fs : List Field) (n : Piece) → Each (Meant ReferenceSequence) fs → lastOf 76 78 fs ≡ some n → (1 ≤ worth (n .bytes)) × (worth (n .bytes) < 2 ^ 31)
-unfolding Sized
+unfolding LengthInRange
 last-sized fs n h e =
     let o : Of (Meant ReferenceSequence) 76 78 n = lastOf-of (Meant ReferenceSequence) 76 78 fs n h e in
     let z = o .holds .sized (o .tag) in
@@ -118,7 +118,7 @@ made-kind fs k r (sp.of-group p e) = refl
 made-kind fs k r (sp.of-program p e) = refl
 
 made-sound : (fs : List Field) (k : Kind) (r : Record) → Each (Meant k) fs → Made fs k r → Sound r
-unfolding Fits Named key others kind isKey tagged isWide
+unfolding FitsRecord KeyIsValue key others kind isKey tagged isWide
 made-sound fs k r h (sp.of-header p v e g) = record {
   fits = version-below (p .bytes) v g;
   named = tt;
@@ -144,8 +144,8 @@ made-sound fs k r h (sp.of-program p e) = record {
   once = repeats-settled (without 73 68 fs);
 }
 
-pub accepted-sound : (strict : Bool) (at : ℕ) (s : List ℕ) (r : Record) → Accepted strict at s r → Sound r
-unfolding Fits Named key others kind repeats Each
+pub accepted-sound : (strict : Bool) (at : ℕ) (s : List ℕ) (r : Record) → AcceptedLine strict at s r → Sound r
+unfolding FitsRecord KeyIsValue key others kind repeats Each
 accepted-sound strict at s r (sp.of-remark t) = record { fits = tt; named = tt; other = tt; once = refl }
 accepted-sound strict at s r (sp.of-fields a) = made-sound (a .fields) (a .kind) r (fields-meant strict at s r a) (a .made)
 

@@ -10,27 +10,27 @@ use borrow.Author.Tests.{eqb-true}
 use Rattle.format.specs.Bytes.{any, none?}
 use Rattle.format.specs.Decimal.{worth, span}
 use Rattle.format.specs.Lines.{Piece, cut, placed}
-use Rattle.format.specs.Fields.{Field, Judged, bad, good, goodThen, isValue, allows, isTag, plain, spelled, versionField, lengthField, valueField, field, Scan, onward, scan, repeats, lastOf, settled, without}
-use Rattle.format.specs.Records.{Record, header, reference, group, program, comment, refused, read, announcing, versioned, measured, keyed, made, stopped, judged, fielded, remark, body, kindOf, bodied, kinded, prefixed, breaks, line}
+use Rattle.format.specs.Fields.{Field, JudgedPiece, refusedPiece, good, goodThen, isValue, allows, isTag, plain, spelled, versionField, lengthField, valueField, field, Scan, onward, scan, repeats, lastOf, settled, without}
+use Rattle.format.specs.Records.{Record, header, reference, group, program, comment, refusedLine, read, announcing, versioned, measured, keyed, made, stopped, judged, fielded, remark, body, kindOf, bodied, kinded, prefixed, breaks, line}
 use Rattle.format.specs.Version.{version}
 use Rattle.format.specs.declared.Version.{Version}
 use Rattle.format.specs.declared.Kind.{Kind}
 use Rattle.format.specs.declared.Kind.the-variants.{Header, ReferenceSequence, ReadGroup, Program, Comment}
 use Rattle.accepted.specs.Pieces.{Pairs}
 use Rattle.accepted.specs.Spelled as sp
-use Rattle.accepted.specs.Spelled.{Good, Made, kind₀, kind₁, Spelled, Accepted}
+use Rattle.accepted.specs.Spelled.{Good, Made, kind₀, kind₁, Spelled, AcceptedLine}
 use Rattle.accepted.proofs.Bools.{never, and-left, and-right}
 use Rattle.accepted.proofs.Good.{good-field}
 
 -- ---- a refusal is never 0
 
-data Stops : Judged → Type 0 where
-  at-bad : (n : ℕ) → Stops (bad (suc n))
+data Stops : JudgedPiece → Type 0 where
+  at-bad : (n : ℕ) → Stops (refusedPiece (suc n))
   at-good : (f : Field) → Stops (good f)
   at-then : (f : Field) (n : ℕ) → Stops (goodThen f (suc n))
 
 -- either way
-either : (t : Bool) {i j : Judged} → Stops i → Stops j → Stops (cond t i j)
+either : (t : Bool) {i j : JudgedPiece} → Stops i → Stops j → Stops (cond t i j)
 either true h k = h
 either false h k = k
 
@@ -76,7 +76,7 @@ unfolding scan onward Pairs
 scan-good k [] h = tt
 scan-good k (p ∷ ps) h = go (field-stops k (p .at) (p .bytes)) refl (scan-good k ps) h
   where
-    go : {j : Judged} → Stops j → field k (p .at) (p .bytes) ≡ j → (scan k ps .stop ≡ 0 → Pairs (λ p f. Good k (p .at) (p .bytes) f) ps (scan k ps .fields))
+    go : {j : JudgedPiece} → Stops j → field k (p .at) (p .bytes) ≡ j → (scan k ps .stop ≡ 0 → Pairs (λ p f. Good k (p .at) (p .bytes) f) ps (scan k ps .fields))
         → onward j (scan k ps) .stop ≡ 0 → Pairs (λ p f. Good k (p .at) (p .bytes) f) (p ∷ ps) (onward j (scan k ps) .fields)
     go (at-bad n) e ih h = absurd (omega arith)
     go (at-good f) e ih h = (good-field k (p .at) (p .bytes) f e, ih h)
@@ -167,7 +167,7 @@ module _ (strict : Bool) (at : ℕ) (r : Record) where
       fs : List Field
       fs = sc .fields
 
-      go : (t : Bool) (n : ℕ) → strict && repeats fs ≡ t → sc .stop ≡ n → cond t (refused 14) (stopped k fs n) ≡ read r → Spelled strict at (64 ∷ kind₀ k ∷ kind₁ k ∷ 9 ∷ s) r
+      go : (t : Bool) (n : ℕ) → strict && repeats fs ≡ t → sc .stop ≡ n → cond t (refusedLine 14) (stopped k fs n) ≡ read r → Spelled strict at (64 ∷ kind₀ k ∷ kind₁ k ∷ 9 ∷ s) r
       go true n h j e = absurd (never (cc))
       go false (suc n) h j e = absurd (never (cc))
       go false zero h j e = record {
@@ -180,30 +180,30 @@ module _ (strict : Bool) (at : ℕ) (r : Record) where
         made = made-made k fs r e;
       }
 
-  fielded-spelled : (k : Kind) (s : List ℕ) → fielded strict k (at + 3) s ≡ read r → Accepted strict at (64 ∷ kind₀ k ∷ kind₁ k ∷ s) r
+  fielded-spelled : (k : Kind) (s : List ℕ) → fielded strict k (at + 3) s ≡ read r → AcceptedLine strict at (64 ∷ kind₀ k ∷ kind₁ k ∷ s) r
   unfolding fielded
   fielded-spelled k [] e = absurd (never (cc))
   fielded-spelled k (c ∷ s) e = go (eqb c 9) refl e
     where
-      go : (t : Bool) → eqb c 9 ≡ t → cond t (judged strict k (scan k (placed (at + 3 + 1) (cut 9 s)))) (refused 6) ≡ read r → Accepted strict at (64 ∷ kind₀ k ∷ kind₁ k ∷ c ∷ s) r
+      go : (t : Bool) → eqb c 9 ≡ t → cond t (judged strict k (scan k (placed (at + 3 + 1) (cut 9 s)))) (refusedLine 6) ≡ read r → AcceptedLine strict at (64 ∷ kind₀ k ∷ kind₁ k ∷ c ∷ s) r
       go true h e =
           let q : at + 3 + 1 ≡ at + 4 = omega arith in
           rw (eqb-true c 9 h) (sp.of-fields (judged-spelled k s (rw q at e)))
       go false h e = absurd (never (cc))
 
-  remark-accepted : (s : List ℕ) → remark (at + 3) s ≡ read r → Accepted strict at (64 ∷ 67 ∷ 79 ∷ s) r
+  remark-accepted : (s : List ℕ) → remark (at + 3) s ≡ read r → AcceptedLine strict at (64 ∷ 67 ∷ 79 ∷ s) r
   unfolding remark
   remark-accepted [] e = absurd (never (cc))
   remark-accepted (c ∷ s) e = go (eqb c 9) refl e
     where
-      go : (t : Bool) → eqb c 9 ≡ t → cond t (read (comment (record { at = at + 3 + 1; bytes = s }))) (refused 6) ≡ read r → Accepted strict at (64 ∷ 67 ∷ 79 ∷ c ∷ s) r
+      go : (t : Bool) → eqb c 9 ≡ t → cond t (read (comment (record { at = at + 3 + 1; bytes = s }))) (refusedLine 6) ≡ read r → AcceptedLine strict at (64 ∷ 67 ∷ 79 ∷ c ∷ s) r
       go true h e =
           let p : at + 3 + 1 ≡ at + 4 = omega arith in
           let q : comment (record { at = at + 4; bytes = s }) ≡ r = cc in
-          rw (eqb-true c 9 h) (subst (Accepted strict at (64 ∷ 67 ∷ 79 ∷ 9 ∷ s)) q (sp.of-remark s))
+          rw (eqb-true c 9 h) (subst (AcceptedLine strict at (64 ∷ 67 ∷ 79 ∷ 9 ∷ s)) q (sp.of-remark s))
       go false h e = absurd (never (cc))
 
-  body-accepted : (k : Kind) (s : List ℕ) → body strict k (at + 3) s ≡ read r → Accepted strict at (64 ∷ kind₀ k ∷ kind₁ k ∷ s) r
+  body-accepted : (k : Kind) (s : List ℕ) → body strict k (at + 3) s ≡ read r → AcceptedLine strict at (64 ∷ kind₀ k ∷ kind₁ k ∷ s) r
   unfolding body kind₀ kind₁
   body-accepted Header s e = fielded-spelled Header s e
   body-accepted ReferenceSequence s e = fielded-spelled ReferenceSequence s e
@@ -211,17 +211,17 @@ module _ (strict : Bool) (at : ℕ) (r : Record) where
   body-accepted Program s e = fielded-spelled Program s e
   body-accepted Comment s e = remark-accepted s e
 
-  bodied-accepted : (a b : ℕ) (s : List ℕ) (o : Option Kind) → kindOf a b ≡ o → bodied strict (at + 3) s o ≡ read r → Accepted strict at (64 ∷ a ∷ b ∷ s) r
+  bodied-accepted : (a b : ℕ) (s : List ℕ) (o : Option Kind) → kindOf a b ≡ o → bodied strict (at + 3) s o ≡ read r → AcceptedLine strict at (64 ∷ a ∷ b ∷ s) r
   unfolding bodied
   bodied-accepted a b s none g e = absurd (never (cc))
   bodied-accepted a b s (some k) g e = let h = kind-bytes a b k g in rw (h .0, h .1) (body-accepted k s e)
 
-  pub prefixed-accepted : (s : List ℕ) → prefixed strict at s ≡ read r → Accepted strict at s r
+  pub prefixed-accepted : (s : List ℕ) → prefixed strict at s ≡ read r → AcceptedLine strict at s r
   unfolding prefixed kinded
   prefixed-accepted [] e = absurd (never (cc))
   prefixed-accepted (c ∷ s) e = go (eqb c 64) s refl e
     where
-      go : (t : Bool) (s : List ℕ) → eqb c 64 ≡ t → cond t (kinded strict (at + 1) s) (refused 3) ≡ read r → Accepted strict at (c ∷ s) r
+      go : (t : Bool) (s : List ℕ) → eqb c 64 ≡ t → cond t (kinded strict (at + 1) s) (refusedLine 3) ≡ read r → AcceptedLine strict at (c ∷ s) r
       go false s h e = absurd (never (cc))
       go true [] h e = absurd (never (cc))
       go true (a ∷ []) h e = absurd (never (cc))
@@ -233,10 +233,10 @@ pub line-prefixed : (strict : Bool) (p : Piece) (r : Record) → line strict p �
 unfolding line
 line-prefixed strict p r e = go (any breaks (p .bytes)) refl e
   where
-    go : (t : Bool) → any breaks (p .bytes) ≡ t → cond t (refused 2) (prefixed strict (p .at) (p .bytes)) ≡ read r
+    go : (t : Bool) → any breaks (p .bytes) ≡ t → cond t (refusedLine 2) (prefixed strict (p .at) (p .bytes)) ≡ read r
         → (any breaks (p .bytes) ≡ false) × (prefixed strict (p .at) (p .bytes) ≡ read r)
     go true h e = absurd (never (cc))
     go false h e = (h, e)
 
-pub line-accepted : (strict : Bool) (p : Piece) (r : Record) → line strict p ≡ read r → Accepted strict (p .at) (p .bytes) r
+pub line-accepted : (strict : Bool) (p : Piece) (r : Record) → line strict p ≡ read r → AcceptedLine strict (p .at) (p .bytes) r
 line-accepted strict p r e = prefixed-accepted strict (p .at) r (p .bytes) (line-prefixed strict p r e .1)

@@ -15,7 +15,7 @@ use Rattle.text.specs.Stands.{Stands, Each}
 use Rattle.text.proofs.Stands.{stands-front, stands-onward, pieces-stand}
 use Rattle.accepted.specs.Pieces.{values, pieces}
 use Rattle.accepted.specs.Spelled as sp
-use Rattle.accepted.specs.Spelled.{Good, Made, kind₀, kind₁, Spelled, Accepted}
+use Rattle.accepted.specs.Spelled.{Good, Made, kind₀, kind₁, Spelled, AcceptedLine}
 use Rattle.accepted.proofs.Pairs.{pairs-right}
 use Rattle.accepted.proofs.Fields.{Of, lastOf-of, each-without, each-settled, each-values}
 use Rattle.accepted.proofs.Spelled.{line-accepted}
@@ -85,7 +85,7 @@ fields-stand strict at s r a = rw (a .spells) (
     one : (p : Piece) (f : Field) → Stands (a .rest) (at + 4) p → Good k (p .at) (p .bytes) f → Stands whole at (f .value)
     one p f h g = stands-onward whole at 4 (omega arith) (f .value) (stands-within (a .rest) (at + 4) p (f .value) h (value-stands k (p .at) (p .bytes) f g))
 
-pub accepted-stand : (strict : Bool) (at : ℕ) (s : List ℕ) (r : Record) → Accepted strict at s r → Each (Stands s at) (pieces r)
+pub accepted-stand : (strict : Bool) (at : ℕ) (s : List ℕ) (r : Record) → AcceptedLine strict at s r → Each (Stands s at) (pieces r)
 unfolding pieces Each
 accepted-stand strict at s r (sp.of-remark t) = (stands-onward s at 4 (omega arith) (record { at = at + 4; bytes = t }) (stands-whole t (at + 4)), tt)
 accepted-stand strict at s r (sp.of-fields a) = made-stand s at (a .fields) (a .kind) r (fields-stand strict at s r a) (a .made)

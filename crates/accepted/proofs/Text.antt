@@ -9,12 +9,12 @@ use lib.Dec.{eqb, ltb}
 use borrow.Author.Tests.{ltb-false}
 use Rattle.format.specs.Lines.{Piece, lines}
 use Rattle.format.specs.Records.{Record, code, read, line}
-use Rattle.format.specs.Reading.{accept, refuse, admitted, readFrom, longest, readText, ofKind}
+use Rattle.format.specs.Reading.{accept, refusedText, admitted, readFrom, longest, readText, ofKind}
 use Rattle.text.specs.Stands.{Stands, Each}
 use Rattle.text.proofs.Stands.{each-map, lines-stand}
 use Rattle.accepted.specs.Pieces.{pieces, Pairs}
 use Rattle.accepted.specs.Sound.{Sound}
-use Rattle.accepted.specs.Admits.{strictly, Admits, Unbarred, Apart}
+use Rattle.accepted.specs.Admits.{strictly, Admits, Unbarred, KeysDiffer}
 use Rattle.accepted.proofs.Bools.{never}
 use Rattle.accepted.proofs.Pairs.{each-all, pairs-right, pairs-length}
 use Rattle.accepted.proofs.Stands.{stands-within, line-stand}
@@ -30,7 +30,7 @@ module _ (t : List ℕ) (rs : List Record) (h : readText t ≡ accept rs) where
   unfolding readText longest strictly
   opened = go (ltb 16777216 (length t)) refl h
     where
-      go : (b : Bool) → ltb 16777216 (length t) ≡ b → cond b (refuse 1 0) (readFrom (strictly t) 0 [] (lines t)) ≡ accept rs
+      go : (b : Bool) → ltb 16777216 (length t) ≡ b → cond b (refusedText 1 0) (readFrom (strictly t) 0 [] (lines t)) ≡ accept rs
           → (length t ≤ 16777216) × (readFrom (strictly t) 0 [] (lines t) ≡ accept rs)
       go true e g = absurd (never (cc))
       go false e g = (ltb-false 16777216 (length t) e, g)
@@ -83,7 +83,7 @@ module _ (t : List ℕ) (rs : List Record) (h : readText t ≡ accept rs) where
   text-unbarred = admits-unbarred (strictly t) [] (lines t) rs text-admits
 
   -- keys of one kind differ
-  pub text-apart : Apart rs
+  pub text-apart : KeysDiffer rs
   text-apart = unbarred-apart [] rs text-unbarred
 
   pub text-programs : length (ofKind 4 rs) ≤ 1024

@@ -30,13 +30,13 @@ Unbarred before [] = Unit
 Unbarred before (r ∷ rs) = (barred before r ≡ 0) × Unbarred (before ++ (r ∷ [])) rs
 
 -- no two of one kind have one key
-unfoldable pub Apart : List Record → Type 0
+unfoldable pub KeysDiffer : List Record → Type 0
 unfolding any clash
-Apart [] = Unit
-Apart (r ∷ rs) = (any (clash r) rs ≡ false) × Apart rs
+KeysDiffer [] = Unit
+KeysDiffer (r ∷ rs) = (any (clash r) rs ≡ false) × KeysDiffer rs
 
 -- `r` may follow `before`: no HD after a record, no key twice, no 1,025th program
-pub record Clear (before : List Record) (r : Record) : Type 0 where
+pub record MayFollow (before : List Record) (r : Record) : Type 0 where
   pub leading : eqb (code r) 1 && not (none? before) ≡ false
   pub apart : any (clash r) before ≡ false
   pub room : eqb (code r) 4 && leb 1024 (length (ofKind 4 before)) ≡ false

@@ -2,21 +2,21 @@
 use Prim.Native.Nat.{ℕ}
 use mathlib.Core.Bool.{Bool, true, false}
 use mathlib.Core.List.{List, []}
-use Rattle.format.specs.Records.{Record, Line, refused, read}
-use Rattle.format.specs.Reading.{Reading, refuse, accept, readText}
+use Rattle.format.specs.Records.{Record, Line, refusedLine, read}
+use Rattle.format.specs.Reading.{Reading, refusedText, accept, readText}
 
 -- is the line accepted?
 unfoldable pub isRead : Line → Bool
-isRead (refused n) = false
+isRead (refusedLine n) = false
 isRead (read r) = true
 
 -- is the text?
 unfoldable pub isAccepted : Reading → Bool
-isAccepted (refuse n l) = false
+isAccepted (refusedText n l) = false
 isAccepted (accept rs) = true
 
 unfoldable pub kept : Reading → List Record
-kept (refuse n l) = []
+kept (refusedText n l) = []
 kept (accept rs) = rs
 
 -- the records that reading gives

@@ -27,18 +27,18 @@ kind (program p fs) = Program
 kind (comment p) = Comment
 
 -- a version's two numbers, and a length
-unfoldable pub Fits : Record → Type 0
-Fits (header v fs) = (v .major < 2 ^ 32) × (v .minor < 2 ^ 32)
-Fits (reference p n fs) = (1 ≤ n) × (n < 2 ^ 31)
-Fits (group p fs) = Unit
-Fits (program p fs) = Unit
-Fits (comment p) = Unit
+unfoldable pub FitsRecord : Record → Type 0
+FitsRecord (header v fs) = (v .major < 2 ^ 32) × (v .minor < 2 ^ 32)
+FitsRecord (reference p n fs) = (1 ≤ n) × (n < 2 ^ 31)
+FitsRecord (group p fs) = Unit
+FitsRecord (program p fs) = Unit
+FitsRecord (comment p) = Unit
 
 -- a key, where there is one, is a value
-unfoldable pub Named : Option Piece → Type 0
+unfoldable pub KeyIsValue : Option Piece → Type 0
 unfolding isValue
-Named none = Unit
-Named (some p) = isValue (p .bytes) ≡ true
+KeyIsValue none = Unit
+KeyIsValue (some p) = isValue (p .bytes) ≡ true
 
 -- a field beside the keys of a record of kind `k`
 pub record Other (k : Kind) (f : Field) : Type 0 where
@@ -47,7 +47,7 @@ pub record Other (k : Kind) (f : Field) : Type 0 where
   pub value : allows k (f .tag₀) (f .tag₁) (f .value .bytes) ≡ true
 
 pub record Sound (r : Record) : Type 0 where
-  pub fits : Fits r
-  pub named : Named (key r)
+  pub fits : FitsRecord r
+  pub named : KeyIsValue (key r)
   pub other : Each (Other (kind r)) (others r)
   pub once : repeats (others r) ≡ false

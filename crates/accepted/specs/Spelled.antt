@@ -15,13 +15,13 @@ use Rattle.format.specs.declared.Kind.the-variants.{Header, ReferenceSequence, 
 use Rattle.accepted.specs.Pieces.{Pairs}
 
 -- LN of SQ is a number from 1 to 2 ^ 31 - 1, all digits
-unfoldable pub Sized : Kind → Field → Type 0
+unfoldable pub LengthInRange : Kind → Field → Type 0
 unfolding tagged worth digits
-Sized Header f = Unit
-Sized ReferenceSequence f = tagged 76 78 f ≡ true → (1 ≤ worth (f .value .bytes)) × (worth (f .value .bytes) < 2 ^ 31) × (digits (f .value .bytes) ≡ true)
-Sized ReadGroup f = Unit
-Sized Program f = Unit
-Sized Comment f = Unit
+LengthInRange Header f = Unit
+LengthInRange ReferenceSequence f = tagged 76 78 f ≡ true → (1 ≤ worth (f .value .bytes)) × (worth (f .value .bytes) < 2 ^ 31) × (digits (f .value .bytes) ≡ true)
+LengthInRange ReadGroup f = Unit
+LengthInRange Program f = Unit
+LengthInRange Comment f = Unit
 
 -- the piece `s` at the offset `at` is the field `f`: its tag, a colon, its value
 pub record Good (k : Kind) (at : ℕ) (s : List ℕ) (f : Field) : Type 0 where
@@ -29,7 +29,7 @@ pub record Good (k : Kind) (at : ℕ) (s : List ℕ) (f : Field) : Type 0 where
   pub spells : s ≡ f .tag₀ ∷ f .tag₁ ∷ 58 ∷ f .value .bytes
   pub tag : isTag (f .tag₀) (f .tag₁) ≡ true
   pub value : allows k (f .tag₀) (f .tag₁) (f .value .bytes) ≡ true
-  pub sized : Sized k f
+  pub sized : LengthInRange k f
 
 -- the record that the fields `fs` of a line of kind `k` make
 pub data Made (fs : List Field) : Kind → Record → Type 0 where
@@ -65,6 +65,6 @@ pub record Spelled (strict : Bool) (at : ℕ) (s : List ℕ) (r : Record) : Type
   pub made : Made fields kind r
 
 -- an accepted line is a comment, or fields
-pub data Accepted (strict : Bool) (at : ℕ) : List ℕ → Record → Type 0 where
-  of-remark : (s : List ℕ) → Accepted strict at (64 ∷ 67 ∷ 79 ∷ 9 ∷ s) (comment (record { at = at + 4; bytes = s }))
-  of-fields : {s : List ℕ} {r : Record} → Spelled strict at s r → Accepted strict at s r
+pub data AcceptedLine (strict : Bool) (at : ℕ) : List ℕ → Record → Type 0 where
+  of-remark : (s : List ℕ) → AcceptedLine strict at (64 ∷ 67 ∷ 79 ∷ 9 ∷ s) (comment (record { at = at + 4; bytes = s }))
+  of-fields : {s : List ℕ} {r : Record} → Spelled strict at s r → AcceptedLine strict at s r

@@ -11,17 +11,17 @@ use Rattle.format.specs.Records.{Record}
 use Rattle.format.specs.Programs.{Program, programs, link, links, found, isDangling, ordinalFrom, loopsFrom, tangled}
 use Rattle.format.specs.Tidy.{tidy, unwritable}
 use Rattle.format.specs.Adding.{given, misformed, isKnown, added, unaddable}
-use Rattle.format.specs.Calls.{no, then, fresh, untangled, writing, adding}
+use Rattle.format.specs.Calls.{refused, then, fresh, untangled, writing, adding}
 use Rattle.accepted.specs.Read.{recordsOf}
 use Rattle.id_search.specs.Search.{idsOf}
 use Rattle.id_search.proofs.Search.{ordinal-ids}
 use Rattle.parents.proofs.Road.{none-dangles}
 use Rattle.calls.proofs.Fresh.{Current, goes-on, stops}
-use Rattle.add_ids.specs.Taken.{known}
+use Rattle.add_ids.specs.Taken.{isAmong}
 use Rattle.add.specs.Added.{stray, crowded, addingOn}
 
 -- a refusal of the check
-pub add-refused : (t c prefix fields : List ℕ) (room n l : ℕ) → fresh t c ≡ no n l → adding t c prefix fields room ≡ no n l
+pub add-refused : (t c prefix fields : List ℕ) (room n l : ℕ) → fresh t c ≡ refused n l → adding t c prefix fields room ≡ refused n l
 unfolding adding
 add-refused t c prefix fields room n l e =
     stops t c (λ rs. then (untangled rs (unaddable rs prefix (given fields))) (λ rs. writing room (unwritable 0 rs) (tidy (rs ++ added prefix (given fields .fields) (programs rs))))) n l e
@@ -37,8 +37,8 @@ unfolding stray link isDangling
 stray-is ps none = refl
 stray-is ps (some p) = go
   where
-    go : not (known (p .bytes) (idsOf ps)) ≡ isDangling (found (ordinalFrom 0 (p .bytes) ps))
-    go = unfold known in (ap (λ o. not (isKnown o)) (ordinal-ids (p .bytes) 0 ps) ∙ sym (found-known (ordinalFrom 0 (p .bytes) ps)))
+    go : not (isAmong (p .bytes) (idsOf ps)) ≡ isDangling (found (ordinalFrom 0 (p .bytes) ps))
+    go = unfold isAmong in (ap (λ o. not (isKnown o)) (ordinal-ids (p .bytes) 0 ps) ∙ sym (found-known (ordinalFrom 0 (p .bytes) ps)))
 
 module _ (t c : List ℕ) (k : Current t c) where
   abbrev rs : List Record
@@ -61,12 +61,12 @@ module _ (t c : List ℕ) (k : Current t c) where
         goes-on t c (λ rs. then (untangled rs (unaddable rs prefix (given fields))) (λ rs. writing room (unwritable 0 rs) (tidy (rs ++ added prefix fs (programs rs))))) k
         ∙ ap (λ n. then (untangled rs n) (λ rs. writing room (unwritable 0 rs) (tidy (rs ++ added prefix fs (programs rs))))) e
 
-    pub add-misformed : misformed prefix (given fields) ≡ true → adding t c prefix fields room ≡ no 26 0
+    pub add-misformed : misformed prefix (given fields) ≡ true → adding t c prefix fields room ≡ refused 26 0
     unfolding unaddable then untangled
     add-misformed e = adding-is 26 (rw e refl)
 
     module _ (formed : misformed prefix (given fields) ≡ false) where
-      pub add-stray : stray (idsOf ps) prior ≡ true → adding t c prefix fields room ≡ no 22 0
+      pub add-stray : stray (idsOf ps) prior ≡ true → adding t c prefix fields room ≡ refused 22 0
       unfolding unaddable then untangled any
       add-stray e = adding-is 22 (rw (formed, sym (stray-is ps prior) ∙ e) refl)
 
@@ -78,7 +78,7 @@ module _ (t c : List ℕ) (k : Current t c) where
         tangled-first false false q r z = absurd (z (rw (q, r) refl))
 
         -- 22 or 23
-        pub add-tangled : (n : ℕ) → n ≡ tangled (links ps) → (n ≡ 0 → ⊥) → adding t c prefix fields room ≡ no n 0
+        pub add-tangled : (n : ℕ) → n ≡ tangled (links ps) → (n ≡ 0 → ⊥) → adding t c prefix fields room ≡ refused n 0
         unfolding then untangled
         add-tangled zero e z = absurd (z refl)
         add-tangled (suc n) e z = adding-is (suc n) (tangled-first (any isDangling (links ps)) (loopsFrom (links ps) 0 (links ps)) refl refl (λ q. z (e ∙ q)) ∙ sym e)

@@ -14,10 +14,10 @@ use Rattle.format.specs.Reading.{accept, readText}
 use Rattle.format.specs.Programs.{Program, programs, links, leaves, ordinalFrom}
 use Rattle.format.specs.Tidy.{tidy, unwritable, fieldsText}
 use Rattle.format.specs.Adding.{isKnown, added, used}
-use Rattle.format.specs.Calls.{no, then, untangled, writing}
+use Rattle.format.specs.Calls.{refused, then, untangled, writing}
 use Rattle.id_search.specs.Search.{idsOf}
 use Rattle.id_search.proofs.Search.{ordinal-ids}
-use Rattle.add_ids.specs.Taken.{known, taken}
+use Rattle.add_ids.specs.Taken.{isAmong, taken}
 use Rattle.add_ids.proofs.Used.{used-added, added-count}
 use Rattle.add_lines.specs.Lines.{addedText}
 use Rattle.add.specs.Added.{withAdded, isNone, crowded, addingOn}
@@ -44,8 +44,8 @@ module _ (t : List ℕ) (rs : List Record) (reads : readText t ≡ accept rs) (p
   ps = programs rs
 
   -- is the prefix free?
-  pub free-is : not (known prefix (idsOf ps)) ≡ not (isKnown (ordinalFrom 0 prefix ps))
-  unfolding known
+  pub free-is : not (isAmong prefix (idsOf ps)) ≡ not (isKnown (ordinalFrom 0 prefix ps))
+  unfolding isAmong
   free-is = ap (λ o. not (isKnown o)) (ordinal-ids prefix 0 ps)
 
   -- is an ID used already?
@@ -58,12 +58,12 @@ module _ (t : List ℕ) (rs : List Record) (reads : readText t ≡ accept rs) (p
   count-is = ap (λ b. cond b 1 (length (leaves (links ps)))) (sym (none-count ps)) ∙ sym (added-count prefix fs ps)
 
 module _ (rs : List Record) (prefix : List ℕ) (fs : List Field) (room : ℕ) where
-  pub on-used : used (programs rs) (programs (added prefix fs (programs rs))) ≡ true → addingOn rs prefix fs room ≡ no 18 0
+  pub on-used : used (programs rs) (programs (added prefix fs (programs rs))) ≡ true → addingOn rs prefix fs room ≡ refused 18 0
   unfolding addingOn crowded then untangled
   on-used e = rw e refl
 
   module _ (e : used (programs rs) (programs (added prefix fs (programs rs))) ≡ false) where
-    pub on-many : 1024 < length (programs rs) + length (added prefix fs (programs rs)) → addingOn rs prefix fs room ≡ no 19 0
+    pub on-many : 1024 < length (programs rs) + length (added prefix fs (programs rs)) → addingOn rs prefix fs room ≡ refused 19 0
     unfolding addingOn crowded then untangled
     on-many h = rw (e, lt-ltb 1024 (length (programs rs) + length (added prefix fs (programs rs))) h) refl
 

@@ -12,8 +12,8 @@ use Rattle.format.specs.Adding.{given, isKnown}
 use Rattle.format.specs.declared.ProgramNo.{ProgramNo}
 use Rattle.id_search.specs.declared.Named.{Named}
 use Rattle.id_search.specs.declared.Named.the-variants.{Nobody, Is}
-use Rattle.id_search.specs.Search.{ordinalIn, namedOf}
-use Rattle.add_ids.specs.Taken.{known}
+use Rattle.id_search.specs.Search.{idOrdinalFrom, namedOf}
+use Rattle.add_ids.specs.Taken.{isAmong}
 use Rattle.add_input.specs.declared.Given.{Given}
 use Rattle.add_input.specs.declared.Given.the-variants.{Nothing, At}
 use Rattle.add_input.specs.Given.{givenOf}
@@ -32,13 +32,13 @@ known-named none = refl
 known-named (some k) = refl
 
 module _ (id : List ℕ) (ids : List (List ℕ)) where
-  pub free-nobody : namedOf (ordinalIn id 0 ids) ≡ Nobody → true ≡ not (known id ids)
-  unfolding known named-known
-  free-nobody e = ap not (sym (ap named-known e) ∙ known-named (ordinalIn id 0 ids))
+  pub free-nobody : namedOf (idOrdinalFrom id 0 ids) ≡ Nobody → true ≡ not (isAmong id ids)
+  unfolding isAmong named-known
+  free-nobody e = ap not (sym (ap named-known e) ∙ known-named (idOrdinalFrom id 0 ids))
 
-  pub free-somebody : (k : ProgramNo) → namedOf (ordinalIn id 0 ids) ≡ Is k → false ≡ not (known id ids)
-  unfolding known named-known
-  free-somebody k e = ap not (sym (ap named-known e) ∙ known-named (ordinalIn id 0 ids))
+  pub free-somebody : (k : ProgramNo) → namedOf (idOrdinalFrom id 0 ids) ≡ Is k → false ≡ not (isAmong id ids)
+  unfolding isAmong named-known
+  free-somebody k e = ap not (sym (ap named-known e) ∙ known-named (idOrdinalFrom id 0 ids))
 
 -- ---- the given PP
 
@@ -59,7 +59,7 @@ some-at : (p : Piece) (a n : ℕ) → givenOf (some p) ≡ At a n → (p .at ≡
 unfolding givenOf at len
 some-at p a n e = (ap at e, ap len e)
 
-some-stray : (ids : List (List ℕ)) (p : Piece) → not (known (p .bytes) ids) ≡ stray ids (some p)
+some-stray : (ids : List (List ℕ)) (p : Piece) → not (isAmong (p .bytes) ids) ≡ stray ids (some p)
 unfolding stray
 some-stray ids p = refl
 
@@ -76,15 +76,15 @@ module _ (ids : List (List ℕ)) (fields : List ℕ) where
 
   -- where it stands, its bytes are those of the fields
   pub stray-at : (a n : ℕ) → givenOf prior ≡ At a n
-      → (a + n ≤ length fields) × (not (known (take (a + n - a) (drop a fields)) ids) ≡ stray ids prior)
+      → (a + n ≤ length fields) × (not (isAmong (take (a + n - a) (drop a fields)) ids) ≡ stray ids prior)
   stray-at a n e = go prior refl e
     where
-      go : (o : Option Piece) → prior ≡ o → givenOf o ≡ At a n → (a + n ≤ length fields) × (not (known (take (a + n - a) (drop a fields)) ids) ≡ stray ids o)
+      go : (o : Option Piece) → prior ≡ o → givenOf o ≡ At a n → (a + n ≤ length fields) × (not (isAmong (take (a + n - a) (drop a fields)) ids) ≡ stray ids o)
       go none q f = absurd (false≢true (unfold givenOf isNothing in sym (ap isNothing f)))
       go (some p) q f =
           let h = previous-stands fields p q in
           let x = some-at p a n f in
           let z : a + n - a ≡ length (p .bytes) = omega (arith, x .1) in (
             omega (arith, h .0, x),
-            ap (λ b. not (known b ids)) (ap (λ m. take m (drop a fields)) z ∙ ap (λ m. take (length (p .bytes)) (drop m fields)) (sym (x .0)) ∙ sym (h .1)) ∙ some-stray ids p,
+            ap (λ b. not (isAmong b ids)) (ap (λ m. take m (drop a fields)) z ∙ ap (λ m. take (length (p .bytes)) (drop m fields)) (sym (x .0)) ∙ sym (h .1)) ∙ some-stray ids p,
           )

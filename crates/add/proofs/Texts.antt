@@ -13,12 +13,12 @@ use Rattle.format.specs.Records.{Record, program, code}
 use Rattle.format.specs.Reading.{ofKind}
 use Rattle.format.specs.Programs.{Program, links, leaves, ordinalFrom}
 use Rattle.format.specs.Tidy.{tidy, text, recordText, fieldText, fieldsText}
-use Rattle.format.specs.Adding.{nobody, unplaced, orElse, chained, isKnown, after, added}
+use Rattle.format.specs.Adding.{noProgram, unplaced, orElse, chained, isKnown, afterLeaves, added}
 use Rattle.format.specs.declared.Kind.{Kind}
 use Rattle.format.specs.declared.Kind.the-variants as kind
 use Rattle.text.specs.Stands.{Each}
 use Rattle.parts.specs.Parts.{prefixText}
-use Rattle.per_kind.specs.Numbers.{numberOf}
+use Rattle.per_kind.specs.Numbers.{kindNumber}
 use Rattle.tidy_text.specs.Kinds.{textOfKind, frontText}
 use Rattle.tidy_text.proofs.Total.{tidy-kinds, text-append}
 use Rattle.id_search.specs.Search.{idsOf}
@@ -69,18 +69,18 @@ module _ (ps : List Program) (prefix fields : List ℕ) (fs : List Field) (e : f
   abbrev linked : Bool
   linked = isNone (lastOf 80 80 fs)
 
-  ids-named : (k : ℕ) → idIn ids k ≡ getD ps k nobody .id
-  unfolding idIn nobody
-  ids-named k = List·getD-map (λ p. p .id) ps k nobody
+  ids-named : (k : ℕ) → idIn ids k ≡ getD ps k noProgram .id
+  unfolding idIn noProgram
+  ids-named k = List·getD-map (λ p. p .id) ps k noProgram
 
   leaf-line : (free : Bool) (k : ℕ)
-      → recordText (program (unplaced (cond free prefix (prefix ++ (45 ∷ getD ps k nobody .id)))) (chained (getD ps k nobody .id) fs)) ≡ newLine free linked prefix fields (idIn ids k)
+      → recordText (program (unplaced (cond free prefix (prefix ++ (45 ∷ getD ps k noProgram .id)))) (chained (getD ps k noProgram .id) fs)) ≡ newLine free linked prefix fields (idIn ids k)
   leaf-line free k =
-      line-text free prefix (getD ps k nobody .id) fields (chained (getD ps k nobody .id) fs) linked (chained-text fs fields (getD ps k nobody .id) e)
+      line-text free prefix (getD ps k noProgram .id) fields (chained (getD ps k noProgram .id) fs) linked (chained-text fs fields (getD ps k noProgram .id) e)
       ∙ ap (newLine free linked prefix fields) (sym (ids-named k))
 
-  after-text : (free : Bool) (ks : List ℕ) → text (after free prefix fs ps ks) ≡ newLines ids free linked prefix fields ks
-  unfolding text after newLines
+  after-text : (free : Bool) (ks : List ℕ) → text (afterLeaves free prefix fs ps ks) ≡ newLines ids free linked prefix fields ks
+  unfolding text afterLeaves newLines
   after-text free [] = refl
   after-text free (k ∷ ks) = ap₂ (λ x y. x ++ y) (leaf-line free k) (after-text false ks)
 
@@ -95,7 +95,7 @@ module _ (ps : List Program) (prefix fields : List ℕ) (fs : List Field) (e : f
       go : (qs : List Program) → ps ≡ qs
           → text (added prefix fs qs) ≡ addedText ids (none? qs) (not (isKnown (ordinalFrom 0 prefix qs))) linked prefix fields (leaves (links qs))
       go [] q = unfold added addedText none? in one-text
-      go (p ∷ qs) q = unfold added addedText none? in (ap (λ x. text (after (not (isKnown (ordinalFrom 0 prefix x))) prefix fs x (leaves (links x)))) (sym q) ∙ after-text (not (isKnown (ordinalFrom 0 prefix ps))) (leaves (links ps)) ∙ ap (λ x. newLines ids (not (isKnown (ordinalFrom 0 prefix x))) linked prefix fields (leaves (links x))) q)
+      go (p ∷ qs) q = unfold added addedText none? in (ap (λ x. text (afterLeaves (not (isKnown (ordinalFrom 0 prefix x))) prefix fs x (leaves (links x)))) (sym q) ∙ after-text (not (isKnown (ordinalFrom 0 prefix ps))) (leaves (links ps)) ∙ ap (λ x. newLines ids (not (isKnown (ordinalFrom 0 prefix x))) linked prefix fields (leaves (links x))) q)
 
 -- ---- behind the old ones
 
@@ -103,8 +103,8 @@ module _ (ps : List Program) (prefix fields : List ℕ) (fs : List Field) (e : f
 abbrev Programs : List Record → Type 0
 Programs rs = Each (λ r. code r ≡ 4) rs
 
-after-programs : (free : Bool) (prefix : List ℕ) (fs : List Field) (ps : List Program) (ks : List ℕ) → Programs (after free prefix fs ps ks)
-unfolding after Each code
+after-programs : (free : Bool) (prefix : List ℕ) (fs : List Field) (ps : List Program) (ks : List ℕ) → Programs (afterLeaves free prefix fs ps ks)
+unfolding afterLeaves Each code
 after-programs free prefix fs ps [] = tt
 after-programs free prefix fs ps (k ∷ ks) = (refl, after-programs false prefix fs ps ks)
 
@@ -137,23 +137,23 @@ kind-programs k (q ∷ qs) h = ap (λ c. cond (eqb c k) (q ∷ ofKind k qs) (ofK
     go false ih = ih
 
 module _ (rs qs : List Record) (h : Programs qs) where
-  same-kind : (k : Kind) → eqb 4 (numberOf k) ≡ false → textOfKind k (rs ++ qs) ≡ textOfKind k rs
+  same-kind : (k : Kind) → eqb 4 (kindNumber k) ≡ false → textOfKind k (rs ++ qs) ≡ textOfKind k rs
   unfolding textOfKind
   same-kind k e =
-      ap text (kind-append (numberOf k) rs qs ∙ ap (λ l. ofKind (numberOf k) rs ++ l) (kind-programs (numberOf k) qs h ∙ ap (λ b. cond b qs []) e) ∙ append-nil (ofKind (numberOf k) rs))
+      ap text (kind-append (kindNumber k) rs qs ∙ ap (λ l. ofKind (kindNumber k) rs ++ l) (kind-programs (kindNumber k) qs h ∙ ap (λ b. cond b qs []) e) ∙ append-nil (ofKind (kindNumber k) rs))
 
   more-programs : textOfKind kind.Program (rs ++ qs) ≡ textOfKind kind.Program rs ++ text qs
-  unfolding textOfKind numberOf
+  unfolding textOfKind kindNumber
   more-programs = ap text (kind-append 4 rs qs ∙ ap (λ l. ofKind 4 rs ++ l) (kind-programs 4 qs h)) ∙ text-append (ofKind 4 rs) qs
 
   front-more : frontText (rs ++ qs) ≡ frontText rs ++ text qs
-  unfolding frontText numberOf
+  unfolding frontText kindNumber
   front-more =
       rw (same-kind kind.Header refl, same-kind kind.ReferenceSequence refl, same-kind kind.ReadGroup refl, more-programs)
       (sym (append-assoc (textOfKind kind.Header rs ++ textOfKind kind.ReferenceSequence rs ++ textOfKind kind.ReadGroup rs) (textOfKind kind.Program rs) (text qs)))
 
   tidy-more : tidy (rs ++ qs) ≡ withAdded rs (text qs)
-  unfolding withAdded numberOf
+  unfolding withAdded kindNumber
   tidy-more = tidy-kinds (rs ++ qs) ∙ ap₂ (λ x y. x ++ y) front-more (same-kind kind.Comment refl)
 
 -- the tidy text with programs more

@@ -14,7 +14,7 @@ use Rattle.format.specs.Adding.{added, used}
 use Rattle.format.specs.Calls.{Answer, then, untangled, writing}
 use Rattle.format.specs.declared.Kind.the-variants.{Comment}
 use Rattle.tidy_text.specs.Kinds.{textOfKind, frontText}
-use Rattle.add_ids.specs.Taken.{known}
+use Rattle.add_ids.specs.Taken.{isAmong}
 use Rattle.add_input.specs.declared.Given.{Given}
 use Rattle.add_input.specs.declared.Given.the-variants as given
 
@@ -35,9 +35,9 @@ isNothing (given.At at len) = false
 
 -- a given PP that equals no ID
 unfoldable pub stray : List (List ℕ) → Option Piece → Bool
-unfolding known
+unfolding isAmong
 stray ids none = false
-stray ids (some p) = not (known (p .bytes) ids)
+stray ids (some p) = not (isAmong (p .bytes) ids)
 
 -- the leaves of the programs that are there
 unfoldable pub leavesOf : List Record → List ℕ

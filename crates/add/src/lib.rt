@@ -3,7 +3,7 @@ use add_lines::Shape;
 use format::LineNo;
 use add_input::Given;
 use id_search::Named;
-use parser::Answer;
+use parser::CountAnswer;
 use parser::Checked;
 use per_kind::PerKind;
 use tidy_text::Measured;
@@ -21,10 +21,10 @@ ghost use Rattle.format.specs.Adding.{given};
 ghost use Rattle.format.specs.Calls.{writing, adding};
 ghost use Rattle.text.specs.Over.{over};
 ghost use Rattle.accepted.specs.Read.{isAccepted, recordsOf};
-ghost use Rattle.id_search.specs.Places.{idsAt, Placed};
+ghost use Rattle.id_search.specs.Places.{idsAt, PlacesInText};
 ghost use Rattle.id_search.specs.Search.{idsOf};
 ghost use Rattle.parser.specs.Answers.{answerOf, outputOf};
-ghost use Rattle.add_ids.specs.Taken.{known};
+ghost use Rattle.add_ids.specs.Taken.{isAmong};
 ghost use Rattle.add_input.specs.Given.{givenOf};
 ghost use Rattle.tidy_text.specs.Sizes.{sizesOf};
 ghost use Rattle.add_lines.specs.Lines.{addedText};
@@ -49,7 +49,7 @@ fn put_all(
     requires { ⌜ strict ≡ isStrict (announced (lines (now text))) ⌝ }
     requires { ⌜ sizes ≡ sizesOf (recordsOf (now text)) ⌝ }
     requires { ⌜ (more ≡ length (addedText (idsAt (now text) (now ats) (now lens)) (shape .empty) (shape .alone) (shape .linked) (now prefix) (now fields) (now leaves))) × (more ≤ 16777216) ⌝ }
-    requires { ⌜ Placed (now text) (now ats) (now lens) ⌝ }
+    requires { ⌜ PlacesInText (now text) (now ats) (now lens) ⌝ }
     requires { ⌜ length (withAdded (recordsOf (now text)) (addedText (idsAt (now text) (now ats) (now lens)) (shape .empty) (shape .alone) (shape .linked) (now prefix) (now fields) (now leaves))) ≤ length (now out) ⌝ }
     ensures next { λ r. ⌜ r ≡ length (withAdded (recordsOf (now (text .entry))) (addedText (idsAt (now (text .entry)) (now (ats .entry)) (now (lens .entry))) (shape .empty) (shape .alone) (shape .linked) (now (prefix .entry)) (now (fields .entry)) (now (leaves .entry)))) ⌝ }
     ensures wrote { λ _. ⌜ now (out .exit) ≡ over (now (out .entry)) 0 (withAdded (recordsOf (now (text .entry))) (addedText (idsAt (now (text .entry)) (now (ats .entry)) (now (lens .entry))) (shape .empty) (shape .alone) (shape .linked) (now (prefix .entry)) (now (fields .entry)) (now (leaves .entry)))) ⌝ }
@@ -96,27 +96,27 @@ fn write_added(
     leaves: &[u32],
     shape: Shape,
     out: &mut [u8],
-) -> Answer
+) -> CountAnswer
     requires { ⌜ isAccepted (readText (now text)) ≡ true ⌝ }
-    requires { ⌜ Placed (now text) (now ats) (now lens) ⌝ }
+    requires { ⌜ PlacesInText (now text) (now ats) (now lens) ⌝ }
     requires { ⌜ (length (now leaves) ≤ 1024) × (shape .empty ≡ false → 0 < length (now leaves)) ⌝ }
     ensures answer { λ r. ⌜ r ≡ answerOf (writing (length (now (out .entry))) (unwritable 0 (recordsOf (now (text .entry)))) (withAdded (recordsOf (now (text .entry))) (addedText (idsAt (now (text .entry)) (now (ats .entry)) (now (lens .entry))) (shape .empty) (shape .alone) (shape .linked) (now (prefix .entry)) (now (fields .entry)) (now (leaves .entry))))) ⌝ }
     ensures wrote { λ _. ⌜ now (out .exit) ≡ outputOf (writing (length (now (out .entry))) (unwritable 0 (recordsOf (now (text .entry)))) (withAdded (recordsOf (now (text .entry))) (addedText (idsAt (now (text .entry)) (now (ats .entry)) (now (lens .entry))) (shape .empty) (shape .alone) (shape .linked) (now (prefix .entry)) (now (fields .entry)) (now (leaves .entry))))) (now (out .entry)) ⌝ }
 {
     let strict = repeat_rule::is_strict(text);
     match tidy_text::measure(text, strict) {
-        Measured::Bad(line) => Answer::Refused(24, line),
+        Measured::Unwritable(line) => CountAnswer::Refused(24, line),
         Measured::Is(sizes) => {
             let n = sizes.total();
             if is_too_long(prefix, fields) {
-                return Answer::Refused(1, LineNo(0));
+                return CountAnswer::Refused(1, LineNo(0));
             }
             let more = add_lines::added_len(text, ats, lens, prefix, fields, leaves, shape);
             if is_over(n, more) {
-                return Answer::Refused(1, LineNo(0));
+                return CountAnswer::Refused(1, LineNo(0));
             }
             if out.len() < n + more {
-                return Answer::Refused(20, LineNo(0));
+                return CountAnswer::Refused(20, LineNo(0));
             }
             let n = put_all(
                 text,
@@ -131,15 +131,15 @@ fn write_added(
                 shape,
                 out,
             );
-            Answer::Count(n)
+            CountAnswer::Count(n)
         }
     }
 }
 
 // Whether an ID is no program's yet.
 fn is_free(text: &[u8], ats: &[u32], lens: &[u32], id: &[u8]) -> bool
-    requires { ⌜ Placed (now text) (now ats) (now lens) ⌝ }
-    ensures { λ r. ⌜ r ≡ not (known (now (id .entry)) (idsAt (now (text .entry)) (now (ats .entry)) (now (lens .entry)))) ⌝ }
+    requires { ⌜ PlacesInText (now text) (now ats) (now lens) ⌝ }
+    ensures { λ r. ⌜ r ≡ not (isAmong (now (id .entry)) (idsAt (now (text .entry)) (now (ats .entry)) (now (lens .entry)))) ⌝ }
 {
     match id_search::find_program(text, ats, lens, id) {
         Named::Nobody => true,
@@ -159,7 +159,7 @@ fn is_linked(previous: Given) -> bool
 
 // Whether a PP is given that equals no ID.
 fn is_stray(text: &[u8], ats: &[u32], lens: &[u32], fields: &[u8], previous: Given) -> bool
-    requires { ⌜ Placed (now text) (now ats) (now lens) ⌝ }
+    requires { ⌜ PlacesInText (now text) (now ats) (now lens) ⌝ }
     requires { ⌜ previous ≡ givenOf (lastOf 80 80 (given (now fields) .fields)) ⌝ }
     ensures { λ r. ⌜ r ≡ stray (idsAt (now (text .entry)) (now (ats .entry)) (now (lens .entry))) (lastOf 80 80 (given (now (fields .entry)) .fields)) ⌝ }
 {
@@ -202,9 +202,9 @@ fn add_after(
     leaves: &[u32],
     linked: bool,
     out: &mut [u8],
-) -> Answer
+) -> CountAnswer
     requires { ⌜ isAccepted (readText (now text)) ≡ true ⌝ }
-    requires { ⌜ Placed (now text) (now ats) (now lens) × (idsAt (now text) (now ats) (now lens) ≡ idsOf (programs (recordsOf (now text)))) ⌝ }
+    requires { ⌜ PlacesInText (now text) (now ats) (now lens) × (idsAt (now text) (now ats) (now lens) ≡ idsOf (programs (recordsOf (now text)))) ⌝ }
     requires { ⌜ (given (now fields) .stop ≡ 0) × (linked ≡ isNone (lastOf 80 80 (given (now fields) .fields))) ⌝ }
     requires { ⌜ (now leaves ≡ leavesOf (recordsOf (now text))) × (0 < length (now ats) → 0 < length (now leaves)) ⌝ }
     ensures answer { λ r. ⌜ r ≡ answerOf (addingOn (recordsOf (now (text .entry))) (now (prefix .entry)) (given (now (fields .entry)) .fields) (length (now (out .entry)))) ⌝ }
@@ -213,11 +213,11 @@ fn add_after(
     let alone = is_free(text, ats, lens, prefix);
     let first = first_joined(leaves.len(), alone);
     if add_ids::is_taken(text, ats, lens, prefix, &leaves[first..]) {
-        return Answer::Refused(18, LineNo(0));
+        return CountAnswer::Refused(18, LineNo(0));
     }
     let empty = ats.len() == 0;
     if 1024 < ats.len() + new_count(leaves.len(), empty) {
-        return Answer::Refused(19, LineNo(0));
+        return CountAnswer::Refused(19, LineNo(0));
     }
     let shape = Shape {
         empty,
@@ -228,15 +228,15 @@ fn add_after(
 }
 
 // Adds a program after each leaf, and writes the tidy text to the front of `out`: reading's refusals, 21, 26, 22, 23, 18, 19, 24, 1, 20.
-pub fn add(text: &[u8], kept: &[u8], prefix: &[u8], fields: &[u8], out: &mut [u8]) -> Answer
+pub fn add(text: &[u8], kept: &[u8], prefix: &[u8], fields: &[u8], out: &mut [u8]) -> CountAnswer
     ensures answer { λ r. ⌜ r ≡ answerOf (adding (now (text .entry)) (now (kept .entry)) (now (prefix .entry)) (now (fields .entry)) (length (now (out .entry)))) ⌝ }
     ensures wrote { λ _. ⌜ now (out .exit) ≡ outputOf (adding (now (text .entry)) (now (kept .entry)) (now (prefix .entry)) (now (fields .entry)) (length (now (out .entry)))) (now (out .entry)) ⌝ }
 {
     match parser::check(text, kept) {
-        Checked::Refused(n, line) => Answer::Refused(n, line),
+        Checked::Refused(n, line) => CountAnswer::Refused(n, line),
         Checked::Fresh => {
             if !add_input::is_in_form(prefix, fields) {
-                return Answer::Refused(26, LineNo(0));
+                return CountAnswer::Refused(26, LineNo(0));
             }
             let previous = add_input::find_previous(fields);
             let programs = programs::gather(kept);
@@ -246,11 +246,11 @@ pub fn add(text: &[u8], kept: &[u8], prefix: &[u8], fields: &[u8], out: &mut [u8
             let ats = &at[..programs.count];
             let lens = &len[..programs.count];
             if is_stray(text, ats, lens, fields, previous) {
-                return Answer::Refused(22, LineNo(0)); // the given PP
+                return CountAnswer::Refused(22, LineNo(0)); // the given PP
             }
             let graph = parents::find_leaves(text, programs);
             if graph.refusal != 0 {
-                return Answer::Refused(graph.refusal, LineNo(0));
+                return CountAnswer::Refused(graph.refusal, LineNo(0));
             }
             let found = graph.leaves;
             let list = found.list;

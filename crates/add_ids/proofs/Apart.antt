@@ -13,8 +13,8 @@ use Rattle.format.specs.Fields.{Field}
 use Rattle.format.specs.Records.{Record, header, reference, group, program, comment, code, key}
 use Rattle.format.specs.Reading.{readText, accept, clash, sameKeys, ofKind}
 use Rattle.format.specs.Programs.{bytesOf, programOf, programs}
-use Rattle.format.specs.Adding.{nobody, unplaced}
-use Rattle.accepted.specs.Admits.{Apart}
+use Rattle.format.specs.Adding.{noProgram, unplaced}
+use Rattle.accepted.specs.Admits.{KeysDiffer}
 use Rattle.accepted.proofs.Bools.{never, split}
 use Rattle.accepted.proofs.Pairs.{each-at}
 use Rattle.accepted.proofs.OfKind.{ofKind-code, apart-ofKind}
@@ -44,9 +44,9 @@ id-clash r q h g = is r h (λ p fs e. is q g (λ p' fs' e'. rw (e, e') (two p p'
 module _ (t : List ℕ) (rs : List Record) (h : readText t ≡ accept rs) where
   -- no two programs have one ID
   pub ids-apart : (j k : ℕ) → j < length (programs rs) → k < length (programs rs) → (j ≡ k → ⊥)
-      → same (getD (programs rs) j nobody .id) (getD (programs rs) k nobody .id) ≡ false
+      → same (getD (programs rs) j noProgram .id) (getD (programs rs) k noProgram .id) ≡ false
   unfolding programs
-  ids-apart j k l m n = rw (map-at programOf qs j d nobody lj, map-at programOf qs k d nobody lk) (id-clash (getD qs j d) (getD qs k d) (of j lj) (of k lk) ∙ clashes)
+  ids-apart j k l m n = rw (map-at programOf qs j d noProgram lj, map-at programOf qs k d noProgram lk) (id-clash (getD qs j d) (getD qs k d) (of j lj) (of k lk) ∙ clashes)
     where
       qs : List Record
       qs = ofKind 4 rs
@@ -63,7 +63,7 @@ module _ (t : List ℕ) (rs : List Record) (h : readText t ≡ accept rs) where
       of : (i : ℕ) → i < length qs → eqb (code (getD qs i d)) 4 ≡ true
       of i b = each-at (λ r. eqb (code r) 4 ≡ true) qs i d (ofKind-code 4 rs) b
 
-      apart : Apart qs
+      apart : KeysDiffer qs
       apart = apart-ofKind 4 rs (text-apart t rs h)
 
       clashes : clash (getD qs j d) (getD qs k d) ≡ false

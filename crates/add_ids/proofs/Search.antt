@@ -10,14 +10,14 @@ use lib.ListN.{length, take, drop, getD, drop-of-length-le, List·getD-eq-defaul
 use lib.Seq.{drop-cons}
 use Rattle.format.specs.Bytes.{same}
 use Rattle.format.specs.Adding.{isKnown}
-use Rattle.id_search.specs.Places.{idsAt, Placed}
-use Rattle.id_search.specs.Search.{ordinalIn}
+use Rattle.id_search.specs.Places.{idsAt, PlacesInText}
+use Rattle.id_search.specs.Search.{idOrdinalFrom}
 use Rattle.id_search.proofs.Search.{ids-length, ids-at}
-use Rattle.add_ids.specs.Taken.{joined, known, idIn, standing, taken}
+use Rattle.add_ids.specs.Taken.{joined, isAmong, idIn, idStanding, taken}
 
 -- ---- one ID
 
-module _ (t ats lens : List ℕ) (p : Placed t ats lens) (k : ℕ) where
+module _ (t ats lens : List ℕ) (p : PlacesInText t ats lens) (k : ℕ) where
   pub id-none : length ats ≤ k → idIn (idsAt t ats lens) k ≡ []
   unfolding idIn
   id-none h = List·getD-eq-default (idsAt t ats lens) [] (omega (arith, ids-length t ats lens p))
@@ -30,45 +30,45 @@ module _ (t ats lens : List ℕ) (p : Placed t ats lens) (k : ℕ) where
       ids-at t ats lens p k h ∙ ap (λ n. take n (drop (getD ats k 0) t)) z
 
   -- where no bytes stand
-  pub standing-none : (text : ℕ × ℕ) → length ats ≤ k → text ≡ standing ats k text
-  unfolding standing
+  pub standing-none : (text : ℕ × ℕ) → length ats ≤ k → text ≡ idStanding ats k text
+  unfolding idStanding
   standing-none text h = let z : text .1 ≡ getD ats k 0 + text .1 = omega (arith, List·getD-eq-default ats 0 h) in ap (λ n. (text .0, n)) z
 
 -- ---- one after another
 
 -- from where ordinals are counted does not matter
-known-from : (id : List ℕ) (j k : ℕ) (ids : List (List ℕ)) → isKnown (ordinalIn id j ids) ≡ isKnown (ordinalIn id k ids)
-unfolding ordinalIn isKnown
+known-from : (id : List ℕ) (j k : ℕ) (ids : List (List ℕ)) → isKnown (idOrdinalFrom id j ids) ≡ isKnown (idOrdinalFrom id k ids)
+unfolding idOrdinalFrom isKnown
 known-from id j k [] = refl
 known-from id j k (x ∷ ids) = go (same id x) (known-from id (j + 1) (k + 1) ids)
   where
-    go : (b : Bool) → isKnown (ordinalIn id (j + 1) ids) ≡ isKnown (ordinalIn id (k + 1) ids)
-        → isKnown (cond b (some j) (ordinalIn id (j + 1) ids)) ≡ isKnown (cond b (some k) (ordinalIn id (k + 1) ids))
+    go : (b : Bool) → isKnown (idOrdinalFrom id (j + 1) ids) ≡ isKnown (idOrdinalFrom id (k + 1) ids)
+        → isKnown (cond b (some j) (idOrdinalFrom id (j + 1) ids)) ≡ isKnown (cond b (some k) (idOrdinalFrom id (k + 1) ids))
     go true ih = refl
     go false ih = ih
 
-known-more : (id x : List ℕ) (ids : List (List ℕ)) → known id (x ∷ ids) ≡ same id x || known id ids
-unfolding known ordinalIn isKnown
+known-more : (id x : List ℕ) (ids : List (List ℕ)) → isAmong id (x ∷ ids) ≡ same id x || isAmong id ids
+unfolding isAmong idOrdinalFrom isKnown
 known-more id x ids = go (same id x)
   where
-    go : (b : Bool) → isKnown (cond b (some 0) (ordinalIn id (0 + 1) ids)) ≡ b || isKnown (ordinalIn id 0 ids)
+    go : (b : Bool) → isKnown (cond b (some 0) (idOrdinalFrom id (0 + 1) ids)) ≡ b || isKnown (idOrdinalFrom id 0 ids)
     go true = refl
     go false = known-from id (0 + 1) 0 ids
 
 module _ (id : List ℕ) (ids : List (List ℕ)) (k : ℕ) where
-  pub known-end : length ids ≤ k → known id (drop k ids) ≡ false
-  unfolding known ordinalIn isKnown
-  known-end h = ap (known id) (drop-of-length-le ids h)
+  pub known-end : length ids ≤ k → isAmong id (drop k ids) ≡ false
+  unfolding isAmong idOrdinalFrom isKnown
+  known-end h = ap (isAmong id) (drop-of-length-le ids h)
 
-  pub known-step : k < length ids → known id (drop k ids) ≡ same id (idIn ids k) || known id (drop (k + 1) ids)
+  pub known-step : k < length ids → isAmong id (drop k ids) ≡ same id (idIn ids k) || isAmong id (drop (k + 1) ids)
   unfolding idIn
-  known-step h = ap (known id) (drop-cons ids k [] h) ∙ known-more id (getD ids k []) (drop (suc k) ids) ∙ ap (λ n. same id (getD ids k []) || known id (drop n ids)) (sym (add-one k))
+  known-step h = ap (isAmong id) (drop-cons ids k [] h) ∙ known-more id (getD ids k []) (drop (suc k) ids) ∙ ap (λ n. same id (getD ids k []) || isAmong id (drop n ids)) (sym (add-one k))
 
 module _ (ids : List (List ℕ)) (prefix ks : List ℕ) (i : ℕ) where
   pub taken-end : length ks ≤ i → taken ids prefix (drop i ks) ≡ false
   unfolding taken
   taken-end h = ap (taken ids prefix) (drop-of-length-le ks h)
 
-  pub taken-step : i < length ks → taken ids prefix (drop i ks) ≡ known (joined prefix (idIn ids (getD ks i 0))) ids || taken ids prefix (drop (i + 1) ks)
+  pub taken-step : i < length ks → taken ids prefix (drop i ks) ≡ isAmong (joined prefix (idIn ids (getD ks i 0))) ids || taken ids prefix (drop (i + 1) ks)
   unfolding taken
   taken-step h = rw (drop-cons ks i 0 h, add-one i) refl

@@ -11,17 +11,17 @@ use Rattle.format.specs.Bytes.{same, any, none?}
 use Rattle.format.specs.Fields.{Field}
 use Rattle.format.specs.Records.{Record, program, code, key, others}
 use Rattle.format.specs.Reading.{readText, accept, ofKind}
-use Rattle.format.specs.Programs.{Program, bytesOf, programOf, programs, ordinalFrom, link, links, leaves, leavesFrom, counting}
-use Rattle.format.specs.Adding.{nobody, unplaced, chained, isKnown, after, added, used}
+use Rattle.format.specs.Programs.{Program, bytesOf, programOf, programs, ordinalFrom, link, links, leaves, leavesFrom, numbersFrom}
+use Rattle.format.specs.Adding.{noProgram, unplaced, chained, isKnown, afterLeaves, added, used}
 use Rattle.text.specs.Stands.{Each}
 use Rattle.text.proofs.Stands.{each-map}
 use Rattle.accepted.proofs.Bools.{or-left, or-right, or-false, or-true, and-left, and-right, split}
 use Rattle.accepted.proofs.Pairs.{each-all, each-both}
 use Rattle.chains.specs.Listed.{named, distinct}
 use Rattle.chains.proofs.Leaf.{leaves-exactly, leaves-distinct}
-use Rattle.id_search.specs.Search.{idsOf, ordinalIn}
+use Rattle.id_search.specs.Search.{idsOf, idOrdinalFrom}
 use Rattle.id_search.proofs.Search.{ordinal-ids}
-use Rattle.add_ids.specs.Taken.{joined, known, idIn, taken}
+use Rattle.add_ids.specs.Taken.{joined, isAmong, idIn, taken}
 use Rattle.add_ids.proofs.Joined.{joined-same, joined-prefix}
 use Rattle.add_ids.proofs.Apart.{ids-apart}
 
@@ -64,32 +64,32 @@ module _ (t : List ℕ) (rs : List Record) (h : readText t ≡ accept rs) (prefi
   ids = idsOf (programs rs)
 
   abbrev made : ℕ → List ℕ
-  made k = joined prefix (getD (programs rs) k nobody .id)
+  made k = joined prefix (getD (programs rs) k noProgram .id)
 
   -- `old` says of the ID that is made with `k` what the text's programs say
   abbrev Says : List Program → ℕ → Type 0
-  Says old k = isKnown (ordinalFrom 0 (made k) old) ≡ known (joined prefix (idIn ids k)) ids
+  Says old k = isKnown (ordinalFrom 0 (made k) old) ≡ isAmong (joined prefix (idIn ids k)) ids
 
   says : (k : ℕ) → Says ps k
-  unfolding known idIn nobody
-  says k = ap isKnown (sym (ordinal-ids (made k) 0 ps)) ∙ ap (λ id. isKnown (ordinalIn (joined prefix id) 0 ids)) (sym (List·getD-map (λ p. p .id) ps k nobody))
+  unfolding isAmong idIn noProgram
+  says k = ap isKnown (sym (ordinal-ids (made k) 0 ps)) ∙ ap (λ id. isKnown (idOrdinalFrom (joined prefix id) 0 ids)) (sym (List·getD-map (λ p. p .id) ps k noProgram))
 
   -- one more with another ID
   says-snoc : (old : List Program) (p : Program) (k : ℕ) → same (made k) (p .id) ≡ false → Says old k → Says (old ++ (p ∷ [])) k
   says-snoc old p k n s = known-snoc 0 (made k) old p ∙ rw n (or-false (isKnown (ordinalFrom 0 (made k) old))) ∙ s
 
   made-apart : (j k : ℕ) → j < length ps → k < length ps → (j ≡ k → ⊥) → same (made j) (made k) ≡ false
-  made-apart j k l m n = joined-same prefix (getD ps j nobody .id) (getD ps k nobody .id) ∙ ids-apart t rs h j k l m n
+  made-apart j k l m n = joined-same prefix (getD ps j noProgram .id) (getD ps k noProgram .id) ∙ ids-apart t rs h j k l m n
 
   abbrev Below : ℕ → Type 0
   Below k = k < length (programs rs)
 
   used-joined : (old : List Program) (ks : List ℕ) → Each (Says old) ks → Each Below ks → distinct ks ≡ true
-      → used old (programs (after false prefix fs ps ks)) ≡ taken ids prefix ks
-  unfolding used programs ofKind code programOf bytesOf key after unplaced taken joined Each distinct
+      → used old (programs (afterLeaves false prefix fs ps ks)) ≡ taken ids prefix ks
+  unfolding used programs ofKind code programOf bytesOf key afterLeaves unplaced taken joined Each distinct
   used-joined old [] s b d = refl
   used-joined old (k ∷ ks) s b d =
-      let p : Program = programOf (program (unplaced (made k)) (chained (getD ps k nobody .id) fs)) in
+      let p : Program = programOf (program (unplaced (made k)) (chained (getD ps k noProgram .id) fs)) in
       let others : Each (λ j. Says old j × (Below j × (eqb k j ≡ false))) ks =
       each-both (Says old) (λ j. Below j × (eqb k j ≡ false)) ks (s .1)
       (each-both Below (λ j. eqb k j ≡ false) ks (b .1) (none-each k ks (not-true (any (eqb k) ks) (and-left (not (any (eqb k) ks)) (distinct ks) d)))) in
@@ -113,18 +113,18 @@ module _ (t : List ℕ) (rs : List Record) (h : readText t ≡ accept rs) (prefi
 
   -- with the prefix for the first
   used-first : (xs : List ℕ) → isKnown (ordinalFrom 0 prefix ps) ≡ false → Each Below xs → distinct xs ≡ true
-      → used ps (programs (after true prefix fs ps xs)) ≡ taken ids prefix (drop 1 xs)
-  unfolding used programs ofKind code programOf bytesOf key after unplaced taken Each distinct
+      → used ps (programs (afterLeaves true prefix fs ps xs)) ≡ taken ids prefix (drop 1 xs)
+  unfolding used programs ofKind code programOf bytesOf key afterLeaves unplaced taken Each distinct
   used-first [] n b d = refl
   used-first (k ∷ xs) n b d =
-      let p : Program = programOf (program (unplaced prefix) (chained (getD ps k nobody .id) fs)) in
-      rw n (used-joined (ps ++ (p ∷ [])) xs (each-all (Says (ps ++ (p ∷ []))) (λ j. says-snoc ps p j (joined-prefix prefix (getD ps j nobody .id)) (says j)) xs) (b .1) (and-right (not (any (eqb k) xs)) (distinct xs) d))
+      let p : Program = programOf (program (unplaced prefix) (chained (getD ps k noProgram .id) fs)) in
+      rw n (used-joined (ps ++ (p ∷ [])) xs (each-all (Says (ps ++ (p ∷ []))) (λ j. says-snoc ps p j (joined-prefix prefix (getD ps j noProgram .id)) (says j)) xs) (b .1) (and-right (not (any (eqb k) xs)) (distinct xs) d))
 
   -- an ID of the new programs is used exactly if one that is made with a leaf is there
-  pub used-taken : used ps (programs (after free prefix fs ps ks)) ≡ taken ids prefix (cond free (drop 1 ks) ks)
+  pub used-taken : used ps (programs (afterLeaves free prefix fs ps ks)) ≡ taken ids prefix (cond free (drop 1 ks) ks)
   used-taken = split (isKnown (ordinalFrom 0 prefix ps)) (λ e. rw e old) (λ e. rw e (used-first ks e below (leaves-distinct (links ps))))
     where
-      old : used ps (programs (after false prefix fs ps ks)) ≡ taken ids prefix ks
+      old : used ps (programs (afterLeaves false prefix fs ps ks)) ≡ taken ids prefix ks
       old = used-joined ps ks (each-all (Says ps) says ks) below (leaves-distinct (links ps))
 
   -- the same of what is added, also where there are no programs
@@ -132,14 +132,14 @@ module _ (t : List ℕ) (rs : List Record) (h : readText t ≡ accept rs) (prefi
   used-added = go ps ∙ used-taken
     where
       go : (qs : List Program)
-          → used qs (programs (added prefix fs qs)) ≡ used qs (programs (after (not (isKnown (ordinalFrom 0 prefix qs))) prefix fs qs (leaves (links qs))))
-      go [] = unfold added used programs ofKind code programOf bytesOf key unplaced isKnown ordinalFrom after links leaves leavesFrom counting in refl
+          → used qs (programs (added prefix fs qs)) ≡ used qs (programs (afterLeaves (not (isKnown (ordinalFrom 0 prefix qs))) prefix fs qs (leaves (links qs))))
+      go [] = unfold added used programs ofKind code programOf bytesOf key unplaced isKnown ordinalFrom afterLeaves links leaves leavesFrom numbersFrom in refl
       go (q ∷ qs) = unfold added in refl
 
 -- ---- how many
 
-after-count : (free : Bool) (prefix : List ℕ) (fs : List Field) (ps : List Program) (ks : List ℕ) → length (after free prefix fs ps ks) ≡ length ks
-unfolding after
+after-count : (free : Bool) (prefix : List ℕ) (fs : List Field) (ps : List Program) (ks : List ℕ) → length (afterLeaves free prefix fs ps ks) ≡ length ks
+unfolding afterLeaves
 after-count free prefix fs ps [] = refl
 after-count free prefix fs ps (k ∷ ks) = ap suc (after-count false prefix fs ps ks)
 

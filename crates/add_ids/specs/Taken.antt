@@ -4,27 +4,27 @@ use mathlib.Core.Bool.{Bool, false, _||_}
 use mathlib.Core.List.{List, [], _∷_, _++_}
 use lib.ListN.{getD}
 use Rattle.format.specs.Adding.{isKnown}
-use Rattle.id_search.specs.Search.{ordinalIn}
+use Rattle.id_search.specs.Search.{idOrdinalFrom}
 
 -- prefix, `-`, ID
 unfoldable pub joined : List ℕ → List ℕ → List ℕ
 joined prefix id = prefix ++ (45 ∷ id)
 
 -- is it one of these IDs?
-unfoldable pub known : List ℕ → List (List ℕ) → Bool
-unfolding isKnown ordinalIn
-known id ids = isKnown (ordinalIn id 0 ids)
+unfoldable pub isAmong : List ℕ → List (List ℕ) → Bool
+unfolding isKnown idOrdinalFrom
+isAmong id ids = isKnown (idOrdinalFrom id 0 ids)
 
 -- the ID of the program with an ordinal, no bytes where there is none
 unfoldable pub idIn : List (List ℕ) → ℕ → List ℕ
 idIn ids k = getD ids k []
 
 -- where it stands in the text: no bytes stand at its front
-unfoldable pub standing : List ℕ → ℕ → ℕ × ℕ → ℕ × ℕ
-standing ats k text = (text .0, getD ats k 0 + text .1)
+unfoldable pub idStanding : List ℕ → ℕ → ℕ × ℕ → ℕ × ℕ
+idStanding ats k text = (text .0, getD ats k 0 + text .1)
 
 -- is there a program whose ID is made of the prefix and the ID of one of these?
 unfoldable pub taken : List (List ℕ) → List ℕ → List ℕ → Bool
-unfolding joined known idIn
+unfolding joined isAmong idIn
 taken ids prefix [] = false
-taken ids prefix (k ∷ ks) = known (joined prefix (idIn ids k)) ids || taken ids prefix ks
+taken ids prefix (k ∷ ks) = isAmong (joined prefix (idIn ids k)) ids || taken ids prefix ks

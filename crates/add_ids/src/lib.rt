@@ -2,8 +2,8 @@
 use format::ProgramNo;
 ghost use mathlib.Core.Path.{_≡_};
 ghost use Rattle.format.specs.Bytes.{same};
-ghost use Rattle.id_search.specs.Places.{idsAt, Placed};
-ghost use Rattle.add_ids.specs.Taken.{joined, known, idIn, standing, taken};
+ghost use Rattle.id_search.specs.Places.{idsAt, PlacesInText};
+ghost use Rattle.add_ids.specs.Taken.{joined, isAmong, idIn, idStanding, taken};
 
 // Whether an ID is the prefix, `-` and another ID: the lengths first, then part by part.
 fn is_joined(id: &[u8], prefix: &[u8], other: &[u8]) -> bool
@@ -29,9 +29,9 @@ fn is_joined(id: &[u8], prefix: &[u8], other: &[u8]) -> bool
 
 // The ID of the program with an ordinal, as a part of the text: no bytes where there is none.
 pub fn find_id<'a>(text: &'a [u8], ats: &[u32], lens: &[u32], program: ProgramNo) -> &'a [u8]
-    requires { ⌜ Placed (now text) (now ats) (now lens) ⌝ }
+    requires { ⌜ PlacesInText (now text) (now ats) (now lens) ⌝ }
     ensures value { λ r. ⌜ now r ≡ idIn (idsAt (now (text .entry)) (now (ats .entry)) (now (lens .entry))) (program .0) ⌝ }
-    ensures place { λ r. ⌜ r .ptr ≡ standing (now (ats .entry)) (program .0) (text .entry .ptr) ⌝ }
+    ensures place { λ r. ⌜ r .ptr ≡ idStanding (now (ats .entry)) (program .0) (text .entry .ptr) ⌝ }
 {
     let k = program.0 as usize;
     if ats.len() <= k {
@@ -44,8 +44,8 @@ pub fn find_id<'a>(text: &'a [u8], ats: &[u32], lens: &[u32], program: ProgramNo
 
 // Whether some program's ID is the prefix, `-` and another ID: the search stops at the first.
 fn is_known(text: &[u8], ats: &[u32], lens: &[u32], prefix: &[u8], other: &[u8]) -> bool
-    requires { ⌜ Placed (now text) (now ats) (now lens) ⌝ }
-    ensures { λ r. ⌜ r ≡ known (joined (now (prefix .entry)) (now (other .entry))) (idsAt (now (text .entry)) (now (ats .entry)) (now (lens .entry))) ⌝ }
+    requires { ⌜ PlacesInText (now text) (now ats) (now lens) ⌝ }
+    ensures { λ r. ⌜ r ≡ isAmong (joined (now (prefix .entry)) (now (other .entry))) (idsAt (now (text .entry)) (now (ats .entry)) (now (lens .entry))) ⌝ }
 {
     let mut k: usize = 0;
     while k < ats.len() {
@@ -60,7 +60,7 @@ fn is_known(text: &[u8], ats: &[u32], lens: &[u32], prefix: &[u8], other: &[u8])
 
 // Whether an ID that is made of the prefix and a leaf's ID is there already.
 pub fn is_taken(text: &[u8], ats: &[u32], lens: &[u32], prefix: &[u8], leaves: &[u32]) -> bool
-    requires { ⌜ Placed (now text) (now ats) (now lens) ⌝ }
+    requires { ⌜ PlacesInText (now text) (now ats) (now lens) ⌝ }
     ensures { λ r. ⌜ r ≡ taken (idsAt (now (text .entry)) (now (ats .entry)) (now (lens .entry))) (now (prefix .entry)) (now (leaves .entry)) ⌝ }
 {
     let mut i: usize = 0;

@@ -15,7 +15,7 @@ use Rattle.format.specs.declared.Kind.the-variants.{Program}
 use Rattle.text.specs.Upto.{upto, before}
 use Rattle.text.specs.Stands.{Stands}
 use Rattle.text.proofs.Lines.{upto-le}
-use Rattle.field.specs.declared.Field as code
+use Rattle.field.specs.declared.ParsedField as code
 use Rattle.field.specs.Parsed.{parsedOf}
 use Rattle.accepted.proofs.Bools.{split}
 use Rattle.record.proofs.Turn.{tailScan, prepend, upto-not}
@@ -35,14 +35,14 @@ given-tail (b ∷ s) = refl
 pub data Front (at : ℕ) : List ℕ → Type 0 where
   ends : Front at []
   stops : {s : List ℕ} (n : ℕ) → (n ≡ 0 → ⊥) → tailScan Program at s ≡ record { fields = []; stop = n } → Front at s
-  starts : (s : List ℕ) (g : code.Field) → Turned Program at s g → Front at (9 ∷ s)
+  starts : (s : List ℕ) (g : code.ParsedField) → Turned Program at s g → Front at (9 ∷ s)
 
 pub front : (at : ℕ) (s : List ℕ) → Front at s
 unfolding tailScan
 front at [] = ends
 front at (b ∷ s) = split (eqb b 9) tab (λ n. stops 6 (λ e. omega arith) (rw n refl))
   where
-    at-tab : (g : code.Field) → g ≡ parsedOf Program (field Program 0 (before 9 s)) → (t : Bool) → eqb (g .stop) 0 ≡ t → Front at (9 ∷ s)
+    at-tab : (g : code.ParsedField) → g ≡ parsedOf Program (field Program 0 (before 9 s)) → (t : Bool) → eqb (g .stop) 0 ≡ t → Front at (9 ∷ s)
     at-tab g q true e = starts s g (turned Program at s g q (eqb-true _ _ e))
     at-tab g q false e = stops (g .stop) (eqb-false _ _ e) (refused-here Program at s g q (eqb-false _ _ e))
 
@@ -51,7 +51,7 @@ front at (b ∷ s) = split (eqb b 9) tab (λ n. stops 6 (λ e. omega arith) (rw 
 
 -- ---- a field
 
-module _ (at : ℕ) (s : List ℕ) (g : code.Field) (t : Turned Program at s g) where
+module _ (at : ℕ) (s : List ℕ) (g : code.ParsedField) (t : Turned Program at s g) where
   -- how many bytes it has after its tab
   abbrev pub size : ℕ
   size = 3 + length (t .field .value .bytes)

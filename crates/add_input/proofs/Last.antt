@@ -14,7 +14,7 @@ use Rattle.format.specs.Adding.{given}
 use Rattle.format.specs.declared.Kind.the-variants.{Program}
 use Rattle.text.specs.Upto.{upto}
 use Rattle.text.proofs.Lines.{upto-le}
-use Rattle.field.specs.declared.Field as code
+use Rattle.field.specs.declared.ParsedField as code
 use Rattle.record.proofs.Turn.{tailScan, prepend}
 use Rattle.record.proofs.Walked.{Turned}
 use Rattle.add_input.specs.declared.Given.{Given}
@@ -51,7 +51,7 @@ seeking-start src h = record {
 -- it starts with the tab there
 record Field-at (src : List ℕ) (pos : ℕ) : Type 0 where
   tail : drop pos src ≡ 9 ∷ drop (pos + 1) src
-  read : code.Field
+  read : code.ParsedField
   turned : Turned Program pos (drop (pos + 1) src) read
 
 module _ (src : List ℕ) (last : Given) (pos : ℕ) (w : Seeking src last pos) where

@@ -15,7 +15,7 @@ use Rattle.text.proofs.Over.{over-none}
 use Rattle.parts.specs.Parts.{prefixText}
 use Rattle.parts.proofs.Wrote.{Wrote}
 use Rattle.accepted.proofs.Bools.{split}
-use Rattle.id_search.specs.Places.{idsAt, Placed}
+use Rattle.id_search.specs.Places.{idsAt, PlacesInText}
 use Rattle.add_ids.specs.Taken.{idIn}
 use Rattle.add_ids.proofs.Search.{id-none, id-some}
 use Rattle.add_lines.specs.Lines.{newLines, addedText}
@@ -83,7 +83,7 @@ module _ (ids : List (List ℕ)) (linked : Bool) (prefix fields ks : List ℕ) w
   lines-done first i h = rw (drop-of-length-le ks h) refl
 
 -- an ID is no longer than the text
-pub id-most : (t ats lens : List ℕ) → Placed t ats lens → (k : ℕ) → length (idIn (idsAt t ats lens) k) ≤ length t
+pub id-most : (t ats lens : List ℕ) → PlacesInText t ats lens → (k : ℕ) → length (idIn (idsAt t ats lens) k) ≤ length t
 id-most t ats lens p k = split (ltb k (length ats)) (λ q. within (ltb-true k (length ats) q)) (λ q. omega (arith, ap length (id-none t ats lens p k (ltb-false k (length ats) q))))
   where
     within : k < length ats → length (idIn (idsAt t ats lens) k) ≤ length t

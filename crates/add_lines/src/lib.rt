@@ -5,7 +5,7 @@ ghost use mathlib.Core.Path.{_≡_};
 ghost use Prim.Native.Nat.{_≤_, _+_};
 ghost use lib.ListN.{length};
 ghost use Rattle.text.specs.Over.{over};
-ghost use Rattle.id_search.specs.Places.{idsAt, Placed};
+ghost use Rattle.id_search.specs.Places.{idsAt, PlacesInText};
 ghost use Rattle.add_lines.specs.Line.{joining, linking, ending, newLine};
 ghost use Rattle.add_lines.specs.Lines.{addedText};
 
@@ -127,7 +127,7 @@ pub fn added_len(
     leaves: &[u32],
     shape: Shape,
 ) -> usize
-    requires { ⌜ Placed (now text) (now ats) (now lens) ⌝ }
+    requires { ⌜ PlacesInText (now text) (now ats) (now lens) ⌝ }
     requires { ⌜ (length (now text) ≤ 16777216) × (length (now prefix) ≤ 16777216) × (length (now fields) ≤ 16777216) × (length (now leaves) ≤ 1024) ⌝ }
     ensures { λ r. ⌜ r ≡ length (addedText (idsAt (now (text .entry)) (now (ats .entry)) (now (lens .entry))) (shape .empty) (shape .alone) (shape .linked) (now (prefix .entry)) (now (fields .entry)) (now (leaves .entry))) ⌝ }
 {
@@ -158,7 +158,7 @@ pub fn put_added(
     leaves: &[u32],
     shape: Shape,
 ) -> usize
-    requires { ⌜ Placed (now text) (now ats) (now lens) ⌝ }
+    requires { ⌜ PlacesInText (now text) (now ats) (now lens) ⌝ }
     requires { ⌜ o + length (addedText (idsAt (now text) (now ats) (now lens)) (shape .empty) (shape .alone) (shape .linked) (now prefix) (now fields) (now leaves)) ≤ length (now out) ⌝ }
     ensures next { λ r. ⌜ r ≡ o + length (addedText (idsAt (now (text .entry)) (now (ats .entry)) (now (lens .entry))) (shape .empty) (shape .alone) (shape .linked) (now (prefix .entry)) (now (fields .entry)) (now (leaves .entry))) ⌝ }
     ensures wrote { λ _. ⌜ now (out .exit) ≡ over (now (out .entry)) o (addedText (idsAt (now (text .entry)) (now (ats .entry)) (now (lens .entry))) (shape .empty) (shape .alone) (shape .linked) (now (prefix .entry)) (now (fields .entry)) (now (leaves .entry))) ⌝ }

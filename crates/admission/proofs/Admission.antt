@@ -11,7 +11,7 @@ use borrow.Author.Tests.{ne-eqb}
 use Rattle.format.specs.Bytes.{any, none?}
 use Rattle.format.specs.Lines.{Piece, lines, cut, placed}
 use Rattle.format.specs.Records as records
-use Rattle.format.specs.Records.{Record, header, reference, group, program, comment, code, key, Line, refused, read}
+use Rattle.format.specs.Records.{Record, header, reference, group, program, comment, code, key, Line, refusedLine, read}
 use Rattle.format.specs.Records.{announcing, versioned, measured, keyed, made, stopped, judged, fielded, remark, body, kindOf, bodied, kinded, prefixed, breaks}
 use Rattle.format.specs.Fields.{Field, Scan, scan, repeats, lastOf, settled, without}
 use Rattle.format.specs.Version.{version}
@@ -25,10 +25,10 @@ use Rattle.text.proofs.Stands.{each-map}
 use Rattle.accepted.specs.Pieces.{pieces, Pairs}
 use Rattle.accepted.proofs.Bools.{never}
 use Rattle.accepted.proofs.Stands.{line-stand, stands-within}
-use Rattle.record.specs.Head.{headOf, recordHead, placeOf}
+use Rattle.record.specs.Head.{headOf, recordHead, stretchOf}
 use Rattle.record.specs.declared.Head.{Head}
 use Rattle.record.specs.declared.Head.the-variants as head
-use Rattle.admission.specs.Admission.{refusalOf, isKeyed, hasKey, isUsed, isTaken, barring}
+use Rattle.admission.specs.Admission.{lineRefusal, isKeyed, hasKey, isUsed, isTaken, barring}
 
 -- ---- a line's key stands in the text
 
@@ -64,8 +64,8 @@ unkeyed-clash r e (q ∷ rs) = ap (λ o. (eqb (code r) (code q) && sameKeys o (k
 
 -- ---- after the records before
 
-unless-refusal : (n : ℕ) (r : Record) → refusalOf (unless n r) ≡ n
-unfolding refusalOf unless
+unless-refusal : (n : ℕ) (r : Record) → lineRefusal (unless n r) ≡ n
+unfolding lineRefusal unless
 unless-refusal zero r = refl
 unless-refusal (suc n) r = refl
 
@@ -74,8 +74,8 @@ new true n e = absurd (omega (arith, e))
 new false n e = refl
 
 module _ (t : List ℕ) (before : List Record) where
-  used-is : (r : Record) (k : ℕ) (p : Piece) → code r ≡ k → key r ≡ some p → Stands t 0 p → isUsed before t k (placeOf p) ≡ any (clash r) before
-  unfolding isUsed placeOf
+  used-is : (r : Record) (k : ℕ) (p : Piece) → code r ≡ k → key r ≡ some p → Stands t 0 p → isUsed before t k (stretchOf p) ≡ any (clash r) before
+  unfolding isUsed stretchOf
   used-is r k p c e s =
       ap (λ b. any (hasKey k b) before) (sym bytes) ∙ any-same (hasKey k (p .bytes)) (clash r) (λ q. sym (keyed-clash r k p c e q)) before
     where
@@ -95,12 +95,12 @@ module _ (t : List ℕ) (before : List Record) where
   record-barring (comment p) s = sym (ap (λ u. cond u 18 0) (unkeyed-clash (comment p) refl before))
 
   pub barring-is : (strict : Bool) (p : Piece) → Stands t 0 p
-      → barring (isTaken before t (headOf (records.line strict p))) (length before) (length (ofKind 4 before)) (headOf (records.line strict p)) ≡ refusalOf (admitted strict before p)
-  unfolding admitted following headOf barring refusalOf
+      → barring (isTaken before t (headOf (records.line strict p))) (length before) (length (ofKind 4 before)) (headOf (records.line strict p)) ≡ lineRefusal (admitted strict before p)
+  unfolding admitted following headOf barring lineRefusal
   barring-is strict p s = go (records.line strict p) refl
     where
-      go : (l : Line) → records.line strict p ≡ l → barring (isTaken before t (headOf l)) (length before) (length (ofKind 4 before)) (headOf l) ≡ refusalOf (following before l)
-      go (refused n) e = refl
+      go : (l : Line) → records.line strict p ≡ l → barring (isTaken before t (headOf l)) (length before) (length (ofKind 4 before)) (headOf l) ≡ lineRefusal (following before l)
+      go (refusedLine n) e = refl
       go (read r) e = record-barring r (stood strict t p s r e) ∙ sym (unless-refusal (reading.barred before r) r)
 
   -- a line that may follow has a new key
@@ -116,7 +116,7 @@ module _ (t : List ℕ) (before : List Record) where
 -- ---- a refusal is never 0
 
 data Numbered : Line → Type 0 where
-  of-refused : (n : ℕ) → Numbered (refused (suc n))
+  of-refused : (n : ℕ) → Numbered (refusedLine (suc n))
   of-read : (r : Record) → Numbered (read r)
 
 either : (t : Bool) {i j : Line} → Numbered i → Numbered j → Numbered (cond t i j)
@@ -194,35 +194,35 @@ line-numbered : (strict : Bool) (p : Piece) → Numbered (records.line strict p)
 unfolding records.line
 line-numbered strict p = either (any breaks (p .bytes)) (of-refused 1) (prefixed-numbered strict (p .at) (p .bytes))
 
-pub refused-some : (strict : Bool) (p : Piece) (n : ℕ) → records.line strict p ≡ refused n → n ≡ 0 → ⊥
-unfolding refusalOf
+pub refused-some : (strict : Bool) (p : Piece) (n : ℕ) → records.line strict p ≡ refusedLine n → n ≡ 0 → ⊥
+unfolding lineRefusal
 refused-some strict p n e = go (line-numbered strict p) e
   where
-    go : {l : Line} → Numbered l → l ≡ refused n → n ≡ 0 → ⊥
-    go (of-refused m) e z = let k : suc m ≡ n = ap refusalOf e in omega arith
+    go : {l : Line} → Numbered l → l ≡ refusedLine n → n ≡ 0 → ⊥
+    go (of-refused m) e z = let k : suc m ≡ n = ap lineRefusal e in omega arith
     go (of-read r) e z = never (cc)
 
 -- ---- what the number says
 
 -- 0: the line is read, and its record may follow
-pub refusal-none : (strict : Bool) (before : List Record) (p : Piece) → refusalOf (admitted strict before p) ≡ 0
+pub refusal-none : (strict : Bool) (before : List Record) (p : Piece) → lineRefusal (admitted strict before p) ≡ 0
     → (r : Record) × (records.line strict p ≡ read r) × (admitted strict before p ≡ read r)
-unfolding admitted following refusalOf unless
+unfolding admitted following lineRefusal unless
 refusal-none strict before p h = go (records.line strict p) refl h
   where
-    free : (n : ℕ) (r : Record) → refusalOf (unless n r) ≡ 0 → unless n r ≡ read r
+    free : (n : ℕ) (r : Record) → lineRefusal (unless n r) ≡ 0 → unless n r ≡ read r
     free zero r e = refl
     free (suc n) r e = absurd (omega arith)
 
-    go : (l : Line) → records.line strict p ≡ l → refusalOf (following before l) ≡ 0 → (r : Record) × (records.line strict p ≡ read r) × (following before (records.line strict p) ≡ read r)
-    go (refused n) e h = absurd (refused-some strict p n e h)
+    go : (l : Line) → records.line strict p ≡ l → lineRefusal (following before l) ≡ 0 → (r : Record) × (records.line strict p ≡ read r) × (following before (records.line strict p) ≡ read r)
+    go (refusedLine n) e h = absurd (refused-some strict p n e h)
     go (read r) e h = (r, e, ap (following before) e ∙ free (reading.barred before r) r h)
 
 -- another number: the line is refused with it
-pub refusal-some : (strict : Bool) (before : List Record) (p : Piece) (n : ℕ) → refusalOf (admitted strict before p) ≡ n → (n ≡ 0 → ⊥) → admitted strict before p ≡ refused n
-unfolding refusalOf
+pub refusal-some : (strict : Bool) (before : List Record) (p : Piece) (n : ℕ) → lineRefusal (admitted strict before p) ≡ n → (n ≡ 0 → ⊥) → admitted strict before p ≡ refusedLine n
+unfolding lineRefusal
 refusal-some strict before p n h s = go (admitted strict before p) h
   where
-    go : (l : Line) → refusalOf l ≡ n → l ≡ refused n
-    go (refused m) e = ap refused e
+    go : (l : Line) → lineRefusal l ≡ n → l ≡ refusedLine n
+    go (refusedLine m) e = ap refusedLine e
     go (read r) e = absurd (s (sym e))

@@ -11,7 +11,7 @@ use Rattle.format.specs.Fields.{Field, tagged, without, put, settledOn, settled
 use Rattle.format.specs.Records.{Record, others, read, line}
 use Rattle.format.specs.declared.Kind.{Kind}
 use Rattle.accepted.specs.Spelled as sp
-use Rattle.accepted.specs.Spelled.{Good, Made, Accepted}
+use Rattle.accepted.specs.Spelled.{Good, Made, AcceptedLine}
 use Rattle.accepted.proofs.Pairs.{pairs-length}
 use Rattle.accepted.proofs.Spelled.{line-accepted}
 
@@ -75,7 +75,7 @@ made-few fs k r (sp.of-reference p n e g) =
 made-few fs k r (sp.of-group p e) = omega (arith, settled-few (without 73 68 fs), without-few 73 68 fs)
 made-few fs k r (sp.of-program p e) = omega (arith, settled-few (without 73 68 fs), without-few 73 68 fs)
 
-accepted-few : (strict : Bool) (at : ℕ) (s : List ℕ) (r : Record) → Accepted strict at s r → length (others r) ≤ length s
+accepted-few : (strict : Bool) (at : ℕ) (s : List ℕ) (r : Record) → AcceptedLine strict at s r → length (others r) ≤ length s
 unfolding others
 accepted-few strict at s r (sp.of-remark t) = omega arith
 accepted-few strict at s r (sp.of-fields a) =

@@ -7,15 +7,15 @@ use lib.ListN.{take, drop}
 use lib.Dec.{eqb, leb}
 use Rattle.format.specs.Bytes.{same, any}
 use Rattle.format.specs.Lines.{Piece}
-use Rattle.format.specs.Records.{Record, code, key, Line, refused, read}
-use Rattle.record.specs.declared.Place.{Place}
+use Rattle.format.specs.Records.{Record, code, key, Line, refusedLine, read}
+use Rattle.record.specs.declared.Stretch.{Stretch}
 use Rattle.record.specs.declared.Head.{Head}
 use Rattle.record.specs.declared.Head.the-variants as head
 
 -- 0, or the number of a refusal
-unfoldable pub refusalOf : Line → ℕ
-refusalOf (refused n) = n
-refusalOf (read r) = 0
+unfoldable pub lineRefusal : Line → ℕ
+lineRefusal (refusedLine n) = n
+lineRefusal (read r) = 0
 
 unfoldable pub isKeyed : List ℕ → Option Piece → Bool
 unfolding same
@@ -28,7 +28,7 @@ unfolding isKeyed code key
 hasKey k id r = eqb k (code r) && isKeyed id (key r)
 
 -- has one of some records, in kind `k`, the key at a place of the text?
-unfoldable pub isUsed : List Record → List ℕ → ℕ → Place → Bool
+unfoldable pub isUsed : List Record → List ℕ → ℕ → Stretch → Bool
 unfolding any hasKey
 isUsed rs t k p = any (hasKey k (take (p .len) (drop (p .at) t))) rs
 

@@ -8,18 +8,18 @@ use lib.ListN.{length}
 use lib.Dec.{eqb, ltb}
 use borrow.Author.Tests.{ltb-true, ltb-false, eqb-true, eqb-false}
 use Rattle.format.specs.Programs.{Program, Link, programs, links, hops, leaves, tangled}
-use Rattle.format.specs.Calls.{Answer, no, yes, then, fitting, leafing}
+use Rattle.format.specs.Calls.{Answer, refused, yes, then, fitting, leafing}
 use Rattle.accepted.proofs.Bools.{split}
 use Rattle.accepted.specs.Read.{recordsOf}
 use Rattle.chains.proofs.Bound.{hops-bound}
 use Rattle.chains.proofs.Leaf.{leaves-length}
 use Rattle.parents.proofs.Numbers.{links-count, links-named}
 use Rattle.parents.proofs.Road.{none-dangles, none-loops}
-use Rattle.calls.proofs.Fresh.{Current, refused, passed}
+use Rattle.calls.proofs.Fresh.{Current, refused-is-no-answer, passed}
 use Rattle.calls.proofs.Chained.{too-short, fits, opened, leaves-tangled, leaves-own}
 
 unfoldable toldOf : List ℕ × ℕ → Answer (List ℕ × ℕ) → List ℕ × ℕ
-toldOf z (no n l) = z
+toldOf z (refused n l) = z
 toldOf z (yes a) = a
 
 module _ (t c : List ℕ) (own : Current t c) where
@@ -34,13 +34,13 @@ module _ (t c : List ℕ) (own : Current t c) where
   answered P room a is given =
       split (eqb (tangled ls) 0)
       (λ q. untangled (eqb-true (tangled ls) 0 q))
-      (λ q. absurd (refused (tangled ls) 0 a (sym (leaves-tangled t c own room (tangled ls) refl (eqb-false (tangled ls) 0 q)) ∙ is)))
+      (λ q. absurd (refused-is-no-answer (tangled ls) 0 a (sym (leaves-tangled t c own room (tangled ls) refl (eqb-false (tangled ls) 0 q)) ∙ is)))
     where
       fitted : Answer (List ℕ) → Answer (List ℕ × ℕ)
       fitted b = then b (λ xs. yes (xs, hops ls))
 
-      short : fitted (no 20 0) ≡ yes a → ⊥
-      short e = unfold then in refused 20 0 a e
+      short : fitted (refused 20 0) ≡ yes a → ⊥
+      short e = unfold then in refused-is-no-answer 20 0 a e
 
       told : fitted (yes (leaves ls)) ≡ yes a → (leaves ls, hops ls) ≡ a
       told e = unfold then toldOf in ap (toldOf a) e

@@ -9,7 +9,7 @@ use Rattle.format.specs.Records.{Record}
 use Rattle.format.specs.Reading.{readText}
 use Rattle.format.specs.Catalogue.{catalogue}
 use Rattle.format.specs.Programs.{Program, programs, links, roots, leaves, hops, tangled}
-use Rattle.format.specs.Calls.{Answer, no, yes, then, fitting, untangled, fresh, rooting, leafing}
+use Rattle.format.specs.Calls.{Answer, refused, yes, then, fitting, untangled, fresh, rooting, leafing}
 use Rattle.format.specs.declared.LineNo.{LineNo}
 use Rattle.accepted.specs.Read.{isAccepted, recordsOf}
 use Rattle.entries.specs.Entries.{entriesIn, counted}
@@ -20,12 +20,12 @@ use Rattle.parents.proofs.Own.{few-programs}
 use Rattle.parser.specs.Answers.{answerOf, outputOf}
 use Rattle.parser.proofs.Told.{refused-answer}
 use Rattle.calls.specs.declared.LeavesAnswer.the-variants.{Refused}
-use Rattle.calls.specs.Answers.{leavesOf, listOf, withHops}
+use Rattle.calls.specs.Answers.{leavesAnswerOf, listOf, withHops}
 use Rattle.calls.proofs.Fresh.{Current, goes-on, stops}
 
 -- ---- 20 comes last
 
-pub too-short : (room : ℕ) (xs : List ℕ) → room < length xs → fitting room xs ≡ no 20 0
+pub too-short : (room : ℕ) (xs : List ℕ) → room < length xs → fitting room xs ≡ refused 20 0
 unfolding fitting
 too-short room xs h = rw (lt-ltb _ _ h) refl
 
@@ -35,12 +35,12 @@ fits room xs h = rw (le-ltb _ _ h) refl
 
 -- ---- a refusal of the check
 
-module _ (t c : List ℕ) (n l : ℕ) (e : fresh t c ≡ no n l) (room : ℕ) where
-  pub roots-refused : rooting t c room ≡ no n l
+module _ (t c : List ℕ) (n l : ℕ) (e : fresh t c ≡ refused n l) (room : ℕ) where
+  pub roots-refused : rooting t c room ≡ refused n l
   unfolding rooting
   roots-refused = stops t c (λ rs. fitting room (roots (links (programs rs)))) n l e
 
-  pub leaves-refused : leafing t c room ≡ no n l
+  pub leaves-refused : leafing t c room ≡ refused n l
   unfolding leafing
   leaves-refused = stops t c (λ rs. then (untangled rs (tangled (links (programs rs)))) (λ rs. then (fitting room (leaves (links (programs rs)))) (λ xs. yes (xs, hops (links (programs rs)))))) n l e
 
@@ -89,7 +89,7 @@ module _ (t c : List ℕ) (own : Current t c) where
         ∙ ap (λ n. then (untangled rs n) (λ rs. then (fitting room (leaves (links (programs rs)))) (λ xs. yes (xs, hops (links (programs rs)))))) e
 
     -- 22 or 23
-    pub leaves-tangled : (n : ℕ) → n ≡ tangled (links ps) → (n ≡ 0 → ⊥) → leafing t c room ≡ no n 0
+    pub leaves-tangled : (n : ℕ) → n ≡ tangled (links ps) → (n ≡ 0 → ⊥) → leafing t c room ≡ refused n 0
     unfolding untangled then
     leaves-tangled zero e z = absurd (z refl)
     leaves-tangled (suc n) e z = leaved (suc n) (sym e)
@@ -102,25 +102,25 @@ module _ (t c : List ℕ) (own : Current t c) where
 -- ---- the answer of leaves in the code's numbers
 
 module _ (a : Answer (List ℕ × ℕ)) (out : List ℕ) where
-  pub refused-leaves : (n : ℕ) (l : LineNo) → a ≡ no n (l .0) → (Refused n l ≡ leavesOf a) × (out ≡ outputOf (listOf a) out)
-  unfolding leavesOf listOf
-  refused-leaves n l e = (sym (ap leavesOf e), refused-answer (listOf a) out n l (ap listOf e) .1)
+  pub refused-leaves : (n : ℕ) (l : LineNo) → a ≡ refused n (l .0) → (Refused n l ≡ leavesAnswerOf a) × (out ≡ outputOf (listOf a) out)
+  unfolding leavesAnswerOf listOf
+  refused-leaves n l e = (sym (ap leavesAnswerOf e), refused-answer (listOf a) out n l (ap listOf e) .1)
 
 module _ (h : ℕ) where
-  hops-told : (a : Answer (List ℕ)) → withHops (answerOf a) h ≡ leavesOf (then a (λ xs. yes (xs, h)))
-  unfolding withHops answerOf leavesOf then
-  hops-told (no n l) = refl
+  hops-told : (a : Answer (List ℕ)) → withHops (answerOf a) h ≡ leavesAnswerOf (then a (λ xs. yes (xs, h)))
+  unfolding withHops answerOf leavesAnswerOf then
+  hops-told (refused n l) = refl
   hops-told (yes xs) = refl
 
   list-told : (a : Answer (List ℕ)) → a ≡ listOf (then a (λ xs. yes (xs, h)))
   unfolding listOf then
-  list-told (no n l) = refl
+  list-told (refused n l) = refl
   list-told (yes xs) = refl
 
   -- what is fitted into the output is the list of the answer with the hops
   pub written-leaves : (a : Answer (List ℕ × ℕ)) (room : ℕ) (xs out : List ℕ) → a ≡ then (fitting room xs) (λ xs. yes (xs, h))
-      → (withHops (answerOf (fitting room xs)) h ≡ leavesOf a) × (outputOf (fitting room xs) out ≡ outputOf (listOf a) out)
+      → (withHops (answerOf (fitting room xs)) h ≡ leavesAnswerOf a) × (outputOf (fitting room xs) out ≡ outputOf (listOf a) out)
   written-leaves a room xs out e = (
-    hops-told (fitting room xs) ∙ ap leavesOf (sym e),
+    hops-told (fitting room xs) ∙ ap leavesAnswerOf (sym e),
     ap (λ b. outputOf b out) (list-told (fitting room xs) ∙ ap listOf (sym e)),
   )

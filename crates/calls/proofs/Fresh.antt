@@ -6,9 +6,9 @@ use mathlib.Core.List.{List}
 use native.Mathlib.Omega.{arith}
 use Rattle.format.specs.Bytes.{same}
 use Rattle.format.specs.Records.{Record}
-use Rattle.format.specs.Reading.{Reading, refuse, accept, readText}
+use Rattle.format.specs.Reading.{Reading, refusedText, accept, readText}
 use Rattle.format.specs.Catalogue.{catalogue}
-use Rattle.format.specs.Calls.{Answer, no, yes, then, fresh}
+use Rattle.format.specs.Calls.{Answer, refused, yes, then, fresh}
 use Rattle.format.specs.declared.LineNo.{LineNo}
 use Rattle.text.proofs.Equal.{same-equal}
 use Rattle.accepted.proofs.Bools.{never}
@@ -19,8 +19,8 @@ use Rattle.parser.specs.Answers.{checkedOf}
 use Rattle.parser.proofs.Told.{fresh-refused, fresh-reads}
 
 -- a refusal is no answer
-pub refused : {A : Type 0} (n l : ℕ) (a : A) → no n l ≡ yes a → ⊥
-refused n l a e = never cc
+pub refused-is-no-answer : {A : Type 0} (n l : ℕ) (a : A) → refused n l ≡ yes a → ⊥
+refused-is-no-answer n l a e = never cc
 
 -- the text is read, and the catalogue is its own
 pub record Current (t c : List ℕ) : Type 0 where
@@ -29,16 +29,16 @@ pub record Current (t c : List ℕ) : Type 0 where
   pub says : fresh t c ≡ yes (recordsOf t)
 
 module _ (t c : List ℕ) where
-  answer-refused : (a : Answer (List Record)) (n : ℕ) (l : LineNo) → checkedOf a ≡ Refused n l → a ≡ no n (l .0)
+  answer-refused : (a : Answer (List Record)) (n : ℕ) (l : LineNo) → checkedOf a ≡ Refused n l → a ≡ refused n (l .0)
   unfolding checkedOf
-  answer-refused (no m k) n l e =
+  answer-refused (refused m k) n l e =
       let x : m ≡ n = cc in
       let y : _≡_ {A = LineNo} (record { 0 = k }) l = cc in
       rw (x, ← y) refl
   answer-refused (yes rs) n l e = absurd (let z : _≡_ {A = ℕ} 0 1 = cc in omega arith)
 
   -- a refusal is not fresh
-  never-fresh : (n l : ℕ) → checkedOf (no n l) ≡ Fresh → ⊥
+  never-fresh : (n l : ℕ) → checkedOf (refused n l) ≡ Fresh → ⊥
   unfolding checkedOf
   never-fresh n l e = let z : _≡_ {A = ℕ} 0 1 = cc in omega arith
 
@@ -52,17 +52,17 @@ module _ (t c : List ℕ) where
           record {
             reads = q ∙ ap accept (sym own);
             own = same-equal c (catalogue rs) s ∙ ap catalogue (sym own);
-            says = fresh-reads t c rs q ∙ ap (λ b. cond b (yes rs) (no 21 0)) s ∙ ap yes (sym own);
+            says = fresh-reads t c rs q ∙ ap (λ b. cond b (yes rs) (refused 21 0)) s ∙ ap yes (sym own);
           }
       judged rs q false s =
-          absurd (never-fresh 21 0 (sym (ap checkedOf (fresh-reads t c rs q ∙ ap (λ b. cond b (yes rs) (no 21 0)) s)) ∙ e))
+          absurd (never-fresh 21 0 (sym (ap checkedOf (fresh-reads t c rs q ∙ ap (λ b. cond b (yes rs) (refused 21 0)) s)) ∙ e))
 
       go : (r : Reading) → readText t ≡ r → Current t c
-      go (refuse n l) q = absurd (never-fresh n l (sym (ap checkedOf (fresh-refused t c n l q)) ∙ e))
+      go (refusedText n l) q = absurd (never-fresh n l (sym (ap checkedOf (fresh-refused t c n l q)) ∙ e))
       go (accept rs) q = judged rs q (same c (catalogue rs)) refl
 
   -- by the word of the check
-  pub refused-by : {w : Checked} → w ≡ checkedOf (fresh t c) → (n : ℕ) (l : LineNo) → w ≡ Refused n l → fresh t c ≡ no n (l .0)
+  pub refused-by : {w : Checked} → w ≡ checkedOf (fresh t c) → (n : ℕ) (l : LineNo) → w ≡ Refused n l → fresh t c ≡ refused n (l .0)
   refused-by said n l e = answer-refused (fresh t c) n l (sym said ∙ e)
 
   pub fresh-by : {w : Checked} → w ≡ checkedOf (fresh t c) → w ≡ Fresh → Current t c
@@ -75,7 +75,7 @@ module _ (t c : List ℕ) where
     unfolding then
     goes-on k = ap (λ a. then a f) (k .says)
 
-    pub stops : (n l : ℕ) → fresh t c ≡ no n l → then (fresh t c) f ≡ no n l
+    pub stops : (n l : ℕ) → fresh t c ≡ refused n l → then (fresh t c) f ≡ refused n l
     unfolding then
     stops n l e = ap (λ a. then a f) e
 
@@ -85,5 +85,5 @@ module _ (t c : List ℕ) where
     passed a e = go (fresh t c) refl
       where
         go : (x : Answer (List Record)) → fresh t c ≡ x → Current t c
-        go (no n l) q = absurd (refused n l a (sym (stops n l q) ∙ e))
+        go (refused n l) q = absurd (refused-is-no-answer n l a (sym (stops n l q) ∙ e))
         go (yes rs) q = check-fresh (ap checkedOf q)

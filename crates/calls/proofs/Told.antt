@@ -12,7 +12,7 @@ use Rattle.format.specs.Lines.{Piece}
 use Rattle.format.specs.Records.{Record}
 use Rattle.format.specs.Reading.{ofKind}
 use Rattle.format.specs.Catalogue.{catalogue}
-use Rattle.format.specs.Calls.{Answer, no, yes, there, keyed, sized, valued, orStand, fresh, counting, keying, sizing, valuing, looking}
+use Rattle.format.specs.Calls.{Answer, refused, yes, there, keyIfThere, lengthIfThere, valueIfThere, orStand, fresh, counting, keying, sizing, valuing, looking}
 use Rattle.text.specs.Stands.{Stands}
 use Rattle.accepted.proofs.Bools.{never}
 use Rattle.accepted.proofs.Text.{text-fits}
@@ -26,12 +26,12 @@ use Rattle.lookup.proofs.Kept.{text-counted, text-keyed, text-valued}
 use Rattle.lookup.proofs.Answers.{text-key, text-ln, text-field}
 use Rattle.calls.specs.declared.KeyAnswer.the-variants as key
 use Rattle.calls.specs.declared.ValuePlace.the-variants as place
-use Rattle.calls.specs.Answers.{keyOf, placeOf, standing}
+use Rattle.calls.specs.Answers.{keyAnswerOf, valuePlaceOf, partStanding}
 use Rattle.calls.proofs.Fresh.{Current, passed, goes-on, stops}
 
 -- ---- what is found, as an answer
 
-found-none : (o : Option Piece) → foundOf o ≡ Nothing → there o ≡ no 25 0
+found-none : (o : Option Piece) → foundOf o ≡ Nothing → there o ≡ refused 25 0
 unfolding foundOf there
 found-none none e = refl
 found-none (some p) e = absurd (never cc)
@@ -52,7 +52,7 @@ unfolding foundOf
 found-some none q e = absurd (never cc)
 found-some (some p) q e = record { piece = p; is = refl; place = cc }
 
-sized-none : (o : Option ℕ) → sizedOf o ≡ ln.Nothing → there o ≡ no 25 0
+sized-none : (o : Option ℕ) → sizedOf o ≡ ln.Nothing → there o ≡ refused 25 0
 unfolding sizedOf there
 sized-none none e = refl
 sized-none (some n) e = absurd (never cc)
@@ -64,22 +64,22 @@ sized-some (some m) n e = let z : m ≡ n = cc in ap yes z
 
 -- ---- a refusal of the check is every call's
 
-module _ (t c : List ℕ) (n l : ℕ) (e : fresh t c ≡ no n l) where
-  pub count-refused : (k : ℕ) → counting t c k ≡ no n l
+module _ (t c : List ℕ) (n l : ℕ) (e : fresh t c ≡ refused n l) where
+  pub count-refused : (k : ℕ) → counting t c k ≡ refused n l
   unfolding counting
-  count-refused k = stops t c (λ rs. cond (leb 1 k && leb k 5) (yes (length (ofKind k rs))) (no 25 0)) n l e
+  count-refused k = stops t c (λ rs. cond (leb 1 k && leb k 5) (yes (length (ofKind k rs))) (refused 25 0)) n l e
 
-  pub key-refused : (k i : ℕ) → keying t c k i ≡ no n l
+  pub key-refused : (k i : ℕ) → keying t c k i ≡ refused n l
   unfolding keying
-  key-refused k i = stops t c (λ rs. there (keyed (getElem? (ofKind k rs) i))) n l e
+  key-refused k i = stops t c (λ rs. there (keyIfThere (getElem? (ofKind k rs) i))) n l e
 
-  pub length-refused : (i : ℕ) → sizing t c i ≡ no n l
+  pub length-refused : (i : ℕ) → sizing t c i ≡ refused n l
   unfolding sizing
-  length-refused i = stops t c (λ rs. there (sized (getElem? (ofKind 2 rs) i))) n l e
+  length-refused i = stops t c (λ rs. there (lengthIfThere (getElem? (ofKind 2 rs) i))) n l e
 
-  pub field-refused : (k i a b : ℕ) → valuing t c k i a b ≡ no n l
+  pub field-refused : (k i a b : ℕ) → valuing t c k i a b ≡ refused n l
   unfolding valuing
-  field-refused k i a b = stops t c (λ rs. there (valued a b (getElem? (ofKind k rs) i))) n l e
+  field-refused k i a b = stops t c (λ rs. there (valueIfThere a b (getElem? (ofKind k rs) i))) n l e
 
 -- ---- over the text's own catalogue
 
@@ -93,14 +93,14 @@ module _ (t c : List ℕ) (own : Current t c) where
 
   -- ---- counts
 
-  counts : (k : ℕ) → counting t c k ≡ cond (leb 1 k && leb k 5) (yes (length (ofKind k rs))) (no 25 0)
+  counts : (k : ℕ) → counting t c k ≡ cond (leb 1 k && leb k 5) (yes (length (ofKind k rs))) (refused 25 0)
   unfolding counting
-  counts k = goes-on t c (λ rs. cond (leb 1 k && leb k 5) (yes (length (ofKind k rs))) (no 25 0)) own
+  counts k = goes-on t c (λ rs. cond (leb 1 k && leb k 5) (yes (length (ofKind k rs))) (refused 25 0)) own
 
-  pub count-below : (k : ℕ) → k < 1 → counting t c k ≡ no 25 0
+  pub count-below : (k : ℕ) → k < 1 → counting t c k ≡ refused 25 0
   count-below k h = counts k ∙ rw (lt-leb 1 k h) refl
 
-  pub count-above : (k : ℕ) → 5 < k → counting t c k ≡ no 25 0
+  pub count-above : (k : ℕ) → 5 < k → counting t c k ≡ refused 25 0
   count-above k h = counts k ∙ rw (lt-leb k 5 h, and-false (leb 1 k)) refl
 
   pub count-served : (k : ℕ) → 1 ≤ k → k ≤ 5 → counting t c k ≡ yes (counted k (entriesIn c))
@@ -109,59 +109,59 @@ module _ (t c : List ℕ) (own : Current t c) where
 
   -- ---- keys
 
-  keys : (k i : ℕ) → keying t c k i ≡ there (keyed (getElem? (ofKind k rs) i))
+  keys : (k i : ℕ) → keying t c k i ≡ there (keyIfThere (getElem? (ofKind k rs) i))
   unfolding keying
-  keys k i = goes-on t c (λ rs. there (keyed (getElem? (ofKind k rs) i))) own
+  keys k i = goes-on t c (λ rs. there (keyIfThere (getElem? (ofKind k rs) i))) own
 
-  key-told : (k i : ℕ) → foundOf (keyed (getElem? (ofKind k rs) i)) ≡ keyIn k i (entriesIn c)
+  key-told : (k i : ℕ) → foundOf (keyIfThere (getElem? (ofKind k rs) i)) ≡ keyIn k i (entriesIn c)
   key-told k i = sym (here (λ s. keyIn k i (entriesIn s)) ∙ text-key t rs (own .reads) k i)
 
-  pub key-none : (k i : ℕ) → keyIn k i (entriesIn c) ≡ Nothing → keying t c k i ≡ no 25 0
-  key-none k i e = keys k i ∙ found-none (keyed (getElem? (ofKind k rs) i)) (key-told k i ∙ e)
+  pub key-none : (k i : ℕ) → keyIn k i (entriesIn c) ≡ Nothing → keying t c k i ≡ refused 25 0
+  key-none k i e = keys k i ∙ found-none (keyIfThere (getElem? (ofKind k rs) i)) (key-told k i ∙ e)
 
-  pub key-found : (k i : ℕ) (q : Place) → keyIn k i (entriesIn c) ≡ At q → keyOf (keying t c k i) ≡ key.At (q .at) (q .len)
-  unfolding keyOf there pieceAt
+  pub key-found : (k i : ℕ) (q : Place) → keyIn k i (entriesIn c) ≡ At q → keyAnswerOf (keying t c k i) ≡ key.At (q .at) (q .len)
+  unfolding keyAnswerOf there pieceAt
   key-found k i q e =
-      let o = keyed (getElem? (ofKind k rs) i) in
+      let o = keyIfThere (getElem? (ofKind k rs) i) in
       let s : Piece-at o q = found-some o q (key-told k i ∙ e) in
-      ap keyOf (keys k i ∙ ap there (s .is)) ∙ ap (λ (p : Place). key.At (p .at) (p .len)) (s .place)
+      ap keyAnswerOf (keys k i ∙ ap there (s .is)) ∙ ap (λ (p : Place). key.At (p .at) (p .len)) (s .place)
 
   -- ---- lengths
 
-  lengths : (i : ℕ) → sizing t c i ≡ there (sized (getElem? (ofKind 2 rs) i))
+  lengths : (i : ℕ) → sizing t c i ≡ there (lengthIfThere (getElem? (ofKind 2 rs) i))
   unfolding sizing
-  lengths i = goes-on t c (λ rs. there (sized (getElem? (ofKind 2 rs) i))) own
+  lengths i = goes-on t c (λ rs. there (lengthIfThere (getElem? (ofKind 2 rs) i))) own
 
-  length-told : (i : ℕ) → sizedOf (sized (getElem? (ofKind 2 rs) i)) ≡ lengthIn i (entriesIn c)
+  length-told : (i : ℕ) → sizedOf (lengthIfThere (getElem? (ofKind 2 rs) i)) ≡ lengthIn i (entriesIn c)
   length-told i = sym (here (λ s. lengthIn i (entriesIn s)) ∙ text-ln t rs (own .reads) i)
 
-  pub length-none : (i : ℕ) → lengthIn i (entriesIn c) ≡ ln.Nothing → sizing t c i ≡ no 25 0
-  length-none i e = lengths i ∙ sized-none (sized (getElem? (ofKind 2 rs) i)) (length-told i ∙ e)
+  pub length-none : (i : ℕ) → lengthIn i (entriesIn c) ≡ ln.Nothing → sizing t c i ≡ refused 25 0
+  length-none i e = lengths i ∙ sized-none (lengthIfThere (getElem? (ofKind 2 rs) i)) (length-told i ∙ e)
 
   pub length-found : (i n : ℕ) → lengthIn i (entriesIn c) ≡ ln.Is n → sizing t c i ≡ yes n
-  length-found i n e = lengths i ∙ sized-some (sized (getElem? (ofKind 2 rs) i)) n (length-told i ∙ e)
+  length-found i n e = lengths i ∙ sized-some (lengthIfThere (getElem? (ofKind 2 rs) i)) n (length-told i ∙ e)
 
   -- ---- fields
 
   module _ (k i a b : ℕ) where
     abbrev value : Option Piece
-    value = valued a b (getElem? (ofKind k rs) i)
+    value = valueIfThere a b (getElem? (ofKind k rs) i)
 
     values : valuing t c k i a b ≡ there value
     unfolding valuing
-    values = goes-on t c (λ rs. there (valued a b (getElem? (ofKind k rs) i))) own
+    values = goes-on t c (λ rs. there (valueIfThere a b (getElem? (ofKind k rs) i))) own
 
     value-told : foundOf value ≡ fieldIn k i a b (entriesIn c)
     value-told = sym (here (λ s. fieldIn k i a b (entriesIn s)) ∙ text-field t rs (own .reads) k i a b)
 
-    pub field-none : fieldIn k i a b (entriesIn c) ≡ Nothing → valuing t c k i a b ≡ no 25 0
+    pub field-none : fieldIn k i a b (entriesIn c) ≡ Nothing → valuing t c k i a b ≡ refused 25 0
     field-none e = values ∙ found-none value (value-told ∙ e)
 
-    pub field-found : (q : Place) → fieldIn k i a b (entriesIn c) ≡ At q → placeOf (valuing t c k i a b) ≡ place.At (q .at) (q .len)
-    unfolding placeOf there pieceAt
+    pub field-found : (q : Place) → fieldIn k i a b (entriesIn c) ≡ At q → valuePlaceOf (valuing t c k i a b) ≡ place.At (q .at) (q .len)
+    unfolding valuePlaceOf there pieceAt
     field-found q e =
         let s : Piece-at value q = found-some value q (value-told ∙ e) in
-        ap placeOf (values ∙ ap there (s .is)) ∙ ap (λ (p : Place). place.At (p .at) (p .len)) (s .place)
+        ap valuePlaceOf (values ∙ ap there (s .is)) ∙ ap (λ (p : Place). place.At (p .at) (p .len)) (s .place)
 
 -- ---- what is answered stands in a text that is not too long, whatever the text and the catalogue are
 
@@ -169,8 +169,8 @@ module _ (t c : List ℕ) (k i : ℕ) where
   pub key-short : (p : Piece) → keying t c k i ≡ yes p → p .at + length (p .bytes) ≤ 16777216
   unfolding keying
   key-short p e =
-      let own = passed t c (λ rs. there (keyed (getElem? (ofKind k rs) i))) p e in
-      let s = text-keyed t (recordsOf t) (own .reads) k i p (there-some (keyed (getElem? (ofKind k (recordsOf t)) i)) p (sym (keys t c own k i) ∙ e)) in
+      let own = passed t c (λ rs. there (keyIfThere (getElem? (ofKind k rs) i))) p e in
+      let s = text-keyed t (recordsOf t) (own .reads) k i p (there-some (keyIfThere (getElem? (ofKind k (recordsOf t)) i)) p (sym (keys t c own k i) ∙ e)) in
       omega (arith, s .within, text-fits t (recordsOf t) (own .reads))
 
 module _ (t c : List ℕ) (k i a b : ℕ) where
@@ -178,22 +178,22 @@ module _ (t c : List ℕ) (k i a b : ℕ) where
   pub value-stands : (p : Piece) → valuing t c k i a b ≡ yes p → Stands t 0 p
   unfolding valuing
   value-stands p e =
-      let own = passed t c (λ rs. there (valued a b (getElem? (ofKind k rs) i))) p e in
+      let own = passed t c (λ rs. there (valueIfThere a b (getElem? (ofKind k rs) i))) p e in
       text-valued t (recordsOf t) (own .reads) k i a b p (there-some (value t c own k i a b) p (sym (values t c own k i a b) ∙ e))
 
   pub value-short : (p : Piece) → valuing t c k i a b ≡ yes p → p .at + length (p .bytes) ≤ 16777216
   unfolding valuing
   value-short p e =
-      let own = passed t c (λ rs. there (valued a b (getElem? (ofKind k rs) i))) p e in
+      let own = passed t c (λ rs. there (valueIfThere a b (getElem? (ofKind k rs) i))) p e in
       omega (arith, value-stands p e .within, text-fits t (recordsOf t) (own .reads))
 
   -- the place that is answered is within the text
-  pub place-inside : (at len : ℕ) → placeOf (valuing t c k i a b) ≡ place.At at len → at + len ≤ length t
-  unfolding placeOf
+  pub place-inside : (at len : ℕ) → valuePlaceOf (valuing t c k i a b) ≡ place.At at len → at + len ≤ length t
+  unfolding valuePlaceOf
   place-inside at len e = go (valuing t c k i a b) refl e
     where
-      go : (v : Answer Piece) → valuing t c k i a b ≡ v → placeOf v ≡ place.At at len → at + len ≤ length t
-      go (no n l) is e = absurd (never cc)
+      go : (v : Answer Piece) → valuing t c k i a b ≡ v → valuePlaceOf v ≡ place.At at len → at + len ≤ length t
+      go (refused n l) is e = absurd (never cc)
       go (yes p) is e =
           let x : p .at ≡ at = cc in
           let y : length (p .bytes) ≡ len = cc in
@@ -202,23 +202,23 @@ module _ (t c : List ℕ) (k i a b : ℕ) where
   -- ---- the bytes that a lookup answers with, and where they stand
 
   module _ (stand : List ℕ) (at-text at-stand : ℕ × ℕ) where
-    pub stood : placeOf (valuing t c k i a b) ≡ place.StandIn
-        → (stand ≡ looking t c k i a b stand) × (at-stand ≡ standing (valuing t c k i a b) at-text at-stand)
-    unfolding placeOf looking orStand standing
+    pub stood : valuePlaceOf (valuing t c k i a b) ≡ place.StandIn
+        → (stand ≡ looking t c k i a b stand) × (at-stand ≡ partStanding (valuing t c k i a b) at-text at-stand)
+    unfolding valuePlaceOf looking orStand partStanding
     stood e = go (valuing t c k i a b) e
       where
-        go : (v : Answer Piece) → placeOf v ≡ place.StandIn → (stand ≡ orStand stand v) × (at-stand ≡ standing v at-text at-stand)
-        go (no n l) e = (refl, refl)
+        go : (v : Answer Piece) → valuePlaceOf v ≡ place.StandIn → (stand ≡ orStand stand v) × (at-stand ≡ partStanding v at-text at-stand)
+        go (refused n l) e = (refl, refl)
         go (yes p) e = absurd (never cc)
 
-    pub valued-at : (at len : ℕ) → placeOf (valuing t c k i a b) ≡ place.At at len
-        → (take len (drop at t) ≡ looking t c k i a b stand) × (_≡_ {A = ℕ × ℕ} (at-text .0, at + at-text .1) (standing (valuing t c k i a b) at-text at-stand))
-    unfolding placeOf looking orStand standing
+    pub valued-at : (at len : ℕ) → valuePlaceOf (valuing t c k i a b) ≡ place.At at len
+        → (take len (drop at t) ≡ looking t c k i a b stand) × (_≡_ {A = ℕ × ℕ} (at-text .0, at + at-text .1) (partStanding (valuing t c k i a b) at-text at-stand))
+    unfolding valuePlaceOf looking orStand partStanding
     valued-at at len e = go (valuing t c k i a b) refl e
       where
-        go : (v : Answer Piece) → valuing t c k i a b ≡ v → placeOf v ≡ place.At at len
-            → (take len (drop at t) ≡ orStand stand v) × (_≡_ {A = ℕ × ℕ} (at-text .0, at + at-text .1) (standing v at-text at-stand))
-        go (no n l) is e = absurd (never cc)
+        go : (v : Answer Piece) → valuing t c k i a b ≡ v → valuePlaceOf v ≡ place.At at len
+            → (take len (drop at t) ≡ orStand stand v) × (_≡_ {A = ℕ × ℕ} (at-text .0, at + at-text .1) (partStanding v at-text at-stand))
+        go (refused n l) is e = absurd (never cc)
         go (yes p) is e =
             let x : p .at ≡ at = cc in
             let y : length (p .bytes) ≡ len = cc in

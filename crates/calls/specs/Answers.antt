@@ -3,9 +3,9 @@ use Prim.Native.Nat.{ℕ, _+_}
 use mathlib.Core.List.{List}
 use lib.ListN.{length}
 use Rattle.format.specs.Lines.{Piece}
-use Rattle.format.specs.Calls.{Answer, no, yes}
-use Rattle.parser.specs.declared.Answer as parser
-use Rattle.parser.specs.declared.Answer.the-variants.{Refused, Count}
+use Rattle.format.specs.Calls.{Answer, refused, yes}
+use Rattle.parser.specs.declared.CountAnswer as parser
+use Rattle.parser.specs.declared.CountAnswer.the-variants.{Refused, Count}
 use Rattle.calls.specs.declared.KeyAnswer.{KeyAnswer}
 use Rattle.calls.specs.declared.KeyAnswer.the-variants as key
 use Rattle.calls.specs.declared.LengthAnswer.{LengthAnswer}
@@ -16,41 +16,41 @@ use Rattle.calls.specs.declared.ValuePlace.{ValuePlace}
 use Rattle.calls.specs.declared.ValuePlace.the-variants as place
 
 -- a refusal and its line, or how many
-unfoldable pub countOf : Answer ℕ → parser.Answer
-countOf (no n l) = Refused n (record { 0 = l })
+unfoldable pub countOf : Answer ℕ → parser.CountAnswer
+countOf (refused n l) = Refused n (record { 0 = l })
 countOf (yes n) = Count n
 
 -- a refusal and its line, or where the key stands and how long it is
-unfoldable pub keyOf : Answer Piece → KeyAnswer
-keyOf (no n l) = key.Refused n (record { 0 = l })
-keyOf (yes p) = key.At (p .at) (length (p .bytes))
+unfoldable pub keyAnswerOf : Answer Piece → KeyAnswer
+keyAnswerOf (refused n l) = key.Refused n (record { 0 = l })
+keyAnswerOf (yes p) = key.At (p .at) (length (p .bytes))
 
 -- a refusal and its line, or the LN
-unfoldable pub lengthOf : Answer ℕ → LengthAnswer
-lengthOf (no n l) = ln.Refused n (record { 0 = l })
-lengthOf (yes n) = ln.Is n
+unfoldable pub lengthAnswerOf : Answer ℕ → LengthAnswer
+lengthAnswerOf (refused n l) = ln.Refused n (record { 0 = l })
+lengthAnswerOf (yes n) = ln.Is n
 
 -- a refusal and its line, or how many leaves, and the hops
-unfoldable pub leavesOf : Answer (List ℕ × ℕ) → LeavesAnswer
-leavesOf (no n l) = leaves.Refused n (record { 0 = l })
-leavesOf (yes a) = leaves.Counted (length (a .0)) (a .1)
+unfoldable pub leavesAnswerOf : Answer (List ℕ × ℕ) → LeavesAnswer
+leavesAnswerOf (refused n l) = leaves.Refused n (record { 0 = l })
+leavesAnswerOf (yes a) = leaves.Counted (length (a .0)) (a .1)
 
 -- the list of ordinals that is answered
 unfoldable pub listOf : Answer (List ℕ × ℕ) → Answer (List ℕ)
-listOf (no n l) = no n l
+listOf (refused n l) = refused n l
 listOf (yes a) = yes (a .0)
 
 -- an answer in the code's numbers, with the hops
-unfoldable pub withHops : parser.Answer → ℕ → LeavesAnswer
+unfoldable pub withHops : parser.CountAnswer → ℕ → LeavesAnswer
 withHops (Refused n l) h = leaves.Refused n l
 withHops (Count n) h = leaves.Counted n h
 
 -- where the value of a field stands and how long it is, or that the stand-in takes its place
-unfoldable pub placeOf : Answer Piece → ValuePlace
-placeOf (no n l) = place.StandIn
-placeOf (yes p) = place.At (p .at) (length (p .bytes))
+unfoldable pub valuePlaceOf : Answer Piece → ValuePlace
+valuePlaceOf (refused n l) = place.StandIn
+valuePlaceOf (yes p) = place.At (p .at) (length (p .bytes))
 
 -- where a lookup's answer stands: in the text, from the value's offset on, or where the stand-in stands
-unfoldable pub standing : Answer Piece → ℕ × ℕ → ℕ × ℕ → ℕ × ℕ
-standing (no n l) text stand = stand
-standing (yes p) text stand = (text .0, p .at + text .1)
+unfoldable pub partStanding : Answer Piece → ℕ × ℕ → ℕ × ℕ → ℕ × ℕ
+partStanding (refused n l) text stand = stand
+partStanding (yes p) text stand = (text .0, p .at + text .1)

@@ -2,13 +2,13 @@
 use format::LineNo;
 use lookup::Found;
 use lookup::Sized;
-use parser::Answer;
+use parser::CountAnswer;
 use parser::Checked;
 ghost use mathlib.Core.Path.{_≡_};
 ghost use lib.ListN.{length};
 ghost use Rattle.format.specs.Calls.{fitting, counting, keying, sizing, valuing, looking, rooting, leafing};
 ghost use Rattle.parser.specs.Answers.{answerOf, outputOf};
-ghost use Rattle.calls.specs.Answers.{countOf, keyOf, lengthOf, leavesOf, listOf, withHops, placeOf, standing};
+ghost use Rattle.calls.specs.Answers.{countOf, keyAnswerOf, lengthAnswerOf, leavesAnswerOf, listOf, withHops, valuePlaceOf, partStanding};
 
 // A refusal and its line, or the key's offset and length.
 pub enum KeyAnswer {
@@ -35,26 +35,26 @@ pub enum ValuePlace {
 }
 
 // How many records of a kind, 1 to 5, the text has.
-pub fn count(text: &[u8], kept: &[u8], kind: u8) -> Answer
+pub fn count(text: &[u8], kept: &[u8], kind: u8) -> CountAnswer
     ensures { λ r. ⌜ r ≡ countOf (counting (now (text .entry)) (now (kept .entry)) kind) ⌝ }
 {
     match parser::check(text, kept) {
-        Checked::Refused(n, line) => Answer::Refused(n, line),
+        Checked::Refused(n, line) => CountAnswer::Refused(n, line),
         Checked::Fresh => {
             if kind < 1 {
-                return Answer::Refused(25, LineNo(0));
+                return CountAnswer::Refused(25, LineNo(0));
             }
             if 5 < kind {
-                return Answer::Refused(25, LineNo(0));
+                return CountAnswer::Refused(25, LineNo(0));
             }
-            Answer::Count(entries::count_kind(kept, kind))
+            CountAnswer::Count(entries::count_kind(kept, kind))
         }
     }
 }
 
 // Where the key of a record stands: SQ, RG and PG have one.
 pub fn key(text: &[u8], kept: &[u8], kind: u8, ordinal: u32) -> KeyAnswer
-    ensures { λ r. ⌜ r ≡ keyOf (keying (now (text .entry)) (now (kept .entry)) kind ordinal) ⌝ }
+    ensures { λ r. ⌜ r ≡ keyAnswerOf (keying (now (text .entry)) (now (kept .entry)) kind ordinal) ⌝ }
 {
     match parser::check(text, kept) {
         Checked::Refused(n, line) => KeyAnswer::Refused(n, line),
@@ -67,7 +67,7 @@ pub fn key(text: &[u8], kept: &[u8], kind: u8, ordinal: u32) -> KeyAnswer
 
 // The LN of the SQ with an ordinal.
 pub fn length(text: &[u8], kept: &[u8], ordinal: u32) -> LengthAnswer
-    ensures { λ r. ⌜ r ≡ lengthOf (sizing (now (text .entry)) (now (kept .entry)) ordinal) ⌝ }
+    ensures { λ r. ⌜ r ≡ lengthAnswerOf (sizing (now (text .entry)) (now (kept .entry)) ordinal) ⌝ }
 {
     match parser::check(text, kept) {
         Checked::Refused(n, line) => LengthAnswer::Refused(n, line),
@@ -80,7 +80,7 @@ pub fn length(text: &[u8], kept: &[u8], ordinal: u32) -> LengthAnswer
 
 // Where the value of a field stands in the text: nowhere if anything is amiss or there is no such field.
 pub fn place(text: &[u8], kept: &[u8], kind: u8, ordinal: u32, a: u8, b: u8) -> ValuePlace
-    ensures { λ r. ⌜ r ≡ placeOf (valuing (now (text .entry)) (now (kept .entry)) kind ordinal a b) ⌝ }
+    ensures { λ r. ⌜ r ≡ valuePlaceOf (valuing (now (text .entry)) (now (kept .entry)) kind ordinal a b) ⌝ }
 {
     match parser::check(text, kept) {
         Checked::Refused(_, _) => ValuePlace::StandIn,
@@ -102,7 +102,7 @@ pub fn field<'a>(
     stand_in: &'a [u8],
 ) -> &'a [u8]
     ensures value { λ r. ⌜ now r ≡ looking (now (text .entry)) (now (kept .entry)) kind ordinal a b (now (stand_in .entry)) ⌝ }
-    ensures place { λ r. ⌜ r .ptr ≡ standing (valuing (now (text .entry)) (now (kept .entry)) kind ordinal a b) (text .entry .ptr) (stand_in .entry .ptr) ⌝ }
+    ensures place { λ r. ⌜ r .ptr ≡ partStanding (valuing (now (text .entry)) (now (kept .entry)) kind ordinal a b) (text .entry .ptr) (stand_in .entry .ptr) ⌝ }
 {
     match place(text, kept, kind, ordinal, a, b) {
         ValuePlace::StandIn => stand_in,
@@ -115,28 +115,28 @@ pub fn field<'a>(
 }
 
 // Writes ordinals to the front of `out`, and answers how many: 20 where it is too short.
-fn put_ordinals(out: &mut [u32], from: &[u32]) -> Answer
+fn put_ordinals(out: &mut [u32], from: &[u32]) -> CountAnswer
     ensures answer { λ r. ⌜ r ≡ answerOf (fitting (length (now (out .entry))) (now (from .entry))) ⌝ }
     ensures wrote { λ _. ⌜ now (out .exit) ≡ outputOf (fitting (length (now (out .entry))) (now (from .entry))) (now (out .entry)) ⌝ }
 {
     if out.len() < from.len() {
-        return Answer::Refused(20, LineNo(0));
+        return CountAnswer::Refused(20, LineNo(0));
     }
     let mut i: usize = 0;
     while i < from.len() {
         out[i] = from[i];
         i += 1;
     }
-    Answer::Count(i)
+    CountAnswer::Count(i)
 }
 
 // The programs without PP at the front of `out`: no graph check.
-pub fn roots(text: &[u8], kept: &[u8], out: &mut [u32]) -> Answer
+pub fn roots(text: &[u8], kept: &[u8], out: &mut [u32]) -> CountAnswer
     ensures answer { λ r. ⌜ r ≡ answerOf (rooting (now (text .entry)) (now (kept .entry)) (length (now (out .entry)))) ⌝ }
     ensures wrote { λ _. ⌜ now (out .exit) ≡ outputOf (rooting (now (text .entry)) (now (kept .entry)) (length (now (out .entry)))) (now (out .entry)) ⌝ }
 {
     match parser::check(text, kept) {
-        Checked::Refused(n, line) => Answer::Refused(n, line),
+        Checked::Refused(n, line) => CountAnswer::Refused(n, line),
         Checked::Fresh => {
             let parents = parents::find_parents(text, programs::gather(kept));
             let list = parents.list;
@@ -148,18 +148,18 @@ pub fn roots(text: &[u8], kept: &[u8], out: &mut [u32]) -> Answer
 }
 
 // An answer with the hops beside the number of leaves.
-fn with_hops(a: Answer, hops: u32) -> LeavesAnswer
+fn with_hops(a: CountAnswer, hops: u32) -> LeavesAnswer
     ensures { λ r. ⌜ r ≡ withHops a hops ⌝ }
 {
     match a {
-        Answer::Refused(n, line) => LeavesAnswer::Refused(n, line),
-        Answer::Count(n) => LeavesAnswer::Counted(n, hops),
+        CountAnswer::Refused(n, line) => LeavesAnswer::Refused(n, line),
+        CountAnswer::Count(n) => LeavesAnswer::Counted(n, hops),
     }
 }
 
 // The leaves at the front of `out`, in the crate's order, and the hops: 22 where a PP dangles, 23 where there is a cycle.
 pub fn leaves(text: &[u8], kept: &[u8], out: &mut [u32]) -> LeavesAnswer
-    ensures answer { λ r. ⌜ r ≡ leavesOf (leafing (now (text .entry)) (now (kept .entry)) (length (now (out .entry)))) ⌝ }
+    ensures answer { λ r. ⌜ r ≡ leavesAnswerOf (leafing (now (text .entry)) (now (kept .entry)) (length (now (out .entry)))) ⌝ }
     ensures wrote { λ _. ⌜ now (out .exit) ≡ outputOf (listOf (leafing (now (text .entry)) (now (kept .entry)) (length (now (out .entry))))) (now (out .entry)) ⌝ }
 {
     match parser::check(text, kept) { // 21 comes before 22

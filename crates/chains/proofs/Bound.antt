@@ -13,7 +13,7 @@ use borrow.Author.Tests.{eqb-true, ltb-true}
 use Rattle.format.specs.Bytes.{all}
 use Rattle.format.specs.Programs.{Link, root, dangling, child, loopsFrom, depth, depths, hops}
 use Rattle.chains.specs.Listed.{named}
-use Rattle.chains.specs.Parents.{nobody, linkOf, linksOf, within}
+use Rattle.chains.specs.Parents.{nobody, linkOf, linksOf, areParents}
 use Rattle.chains.proofs.Bools.{both-true}
 use Rattle.chains.proofs.Pairs.{under, unders, pairs, under-next}
 use Rattle.chains.proofs.Paths.{Below, below-at, depth-less}
@@ -66,8 +66,8 @@ module _ (ls : List Link) (acyclic : loopsFrom ls 0 ls ≡ false) (below : (k : 
       less-one (suc n) h e = rw (sub-one (suc n)) (omega (arith, mul-suc (suc n) n))
 
 -- the parents of a list that is within `n` are below `n`
-pub within-below : (n : ℕ) (ps : List ℕ) → within n ps ≡ true → (k : ℕ) → named k (linksOf ps) ≡ true → k < n
-unfolding within nobody all linkOf linksOf named
+pub within-below : (n : ℕ) (ps : List ℕ) → areParents n ps ≡ true → (k : ℕ) → named k (linksOf ps) ≡ true → k < n
+unfolding areParents nobody all linkOf linksOf named
 within-below n [] w k e = absurd (false≢true e)
 within-below n (p ∷ ps) w k e =
     let both = both-true (eqb p 4294967295 || ltb p n) (all (λ q. eqb q nobody || ltb q n) ps) w in

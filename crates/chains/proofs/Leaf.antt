@@ -9,52 +9,52 @@ use lib.ListN.{length, length-map}
 use lib.Dec.{eqb, ltb}
 use borrow.Author.Tests.{eqb-true, eqb-false, ltb-true, ltb-false}
 use Rattle.format.specs.Bytes.{any}
-use Rattle.format.specs.Programs.{Link, root, dangling, child, rootsFrom, roots, counting, lastOr, butLast, instead, swapRemove, leavesFrom, leaves}
+use Rattle.format.specs.Programs.{Link, root, dangling, child, rootsFrom, roots, numbersFrom, lastOr, butLast, instead, swapRemove, leavesFrom, leaves}
 use Rattle.chains.specs.Listed.{named, distinct}
 use Rattle.chains.proofs.Times.{hit, times, Once, hit-same, hit-other, times-none, times-some, swap-once, swap-none, swap-some}
 use Rattle.chains.proofs.Swaps.{front-length}
 
 -- ---- counting
 
-pub counting-length : (i n : ℕ) → length (counting i n) ≡ n
-unfolding counting
+pub counting-length : (i n : ℕ) → length (numbersFrom i n) ≡ n
+unfolding numbersFrom
 counting-length i zero = refl
 counting-length i (suc n) = ap suc (counting-length (i + 1) n)
 
 -- one more comes last
-pub counting-more : (i n : ℕ) → counting i (suc n) ≡ counting i n ++ (i + n) ∷ []
-unfolding counting
+pub counting-more : (i n : ℕ) → numbersFrom i (suc n) ≡ numbersFrom i n ++ (i + n) ∷ []
+unfolding numbersFrom
 counting-more i zero = ap (λ x. x ∷ []) (omega arith)
-counting-more i (suc n) = ap (λ r. i ∷ r) (counting-more (i + 1) n ∙ ap (λ x. counting (i + 1) n ++ x ∷ []) (omega arith))
+counting-more i (suc n) = ap (λ r. i ∷ r) (counting-more (i + 1) n ∙ ap (λ x. numbersFrom (i + 1) n ++ x ∷ []) (omega arith))
 
 module _ (x : ℕ) where
-  counting-above : (i n : ℕ) → x < i → times x (counting i n) ≡ 0
-  unfolding counting times
+  counting-above : (i n : ℕ) → x < i → times x (numbersFrom i n) ≡ 0
+  unfolding numbersFrom times
   counting-above i zero h = refl
   counting-above i (suc n) h = omega (arith, hit-other x i (omega arith), counting-above (i + 1) n (omega arith))
 
-  counting-below : (i n : ℕ) → i + n ≤ x → times x (counting i n) ≡ 0
-  unfolding counting times
+  counting-below : (i n : ℕ) → i + n ≤ x → times x (numbersFrom i n) ≡ 0
+  unfolding numbersFrom times
   counting-below i zero h = refl
   counting-below i (suc n) h = omega (arith, hit-other x i (omega arith), counting-below (i + 1) n (omega arith))
 
-  counting-inside : (i n : ℕ) → i ≤ x → x < i + n → times x (counting i n) ≡ 1
-  unfolding counting times hit
+  counting-inside : (i n : ℕ) → i ≤ x → x < i + n → times x (numbersFrom i n) ≡ 1
+  unfolding numbersFrom times hit
   counting-inside i zero h l = absurd (omega arith)
   counting-inside i (suc n) h l = go (eqb x i) refl (counting-inside (i + 1) n)
     where
-      go : (t : Bool) → eqb x i ≡ t → (i + 1 ≤ x → x < i + 1 + n → times x (counting (i + 1) n) ≡ 1) → cond t 1 0 + times x (counting (i + 1) n) ≡ 1
+      go : (t : Bool) → eqb x i ≡ t → (i + 1 ≤ x → x < i + 1 + n → times x (numbersFrom (i + 1) n) ≡ 1) → cond t 1 0 + times x (numbersFrom (i + 1) n) ≡ 1
       go true e ih = omega (arith, eqb-true x i e, counting-above (i + 1) n (omega (arith, eqb-true x i e)))
       go false e ih = omega (arith, ih (omega (arith, eqb-false x i e)) (omega arith))
 
-  counting-times : (n : ℕ) → times x (counting 0 n) ≡ cond (ltb x n) 1 0
+  counting-times : (n : ℕ) → times x (numbersFrom 0 n) ≡ cond (ltb x n) 1 0
   counting-times n = go (ltb x n) refl
     where
-      go : (t : Bool) → ltb x n ≡ t → times x (counting 0 n) ≡ cond t 1 0
+      go : (t : Bool) → ltb x n ≡ t → times x (numbersFrom 0 n) ≡ cond t 1 0
       go true e = counting-inside 0 n (omega arith) (omega (arith, ltb-true x n e))
       go false e = counting-below 0 n (omega (arith, ltb-false x n e))
 
-pub counting-once : (n : ℕ) → Once (counting 0 n)
+pub counting-once : (n : ℕ) → Once (numbersFrom 0 n)
 counting-once n x = rw (counting-times x n) (go (ltb x n))
   where
     go : (t : Bool) → cond t 1 0 ≤ 1
@@ -88,7 +88,7 @@ left-times x l (child k ∷ ls) o =
 pub leaves-times : (ls : List Link) (x : ℕ) → times x (leaves ls) ≡ cond (ltb x (length ls) && not (named x ls)) 1 0
 unfolding leaves
 leaves-times ls x =
-    left-times x (counting 0 (length ls)) ls (counting-once (length ls))
+    left-times x (numbersFrom 0 (length ls)) ls (counting-once (length ls))
     ∙ ap (cond (named x ls) 0) (counting-times x (length ls))
     ∙ go (ltb x (length ls)) (named x ls)
   where
@@ -146,7 +146,7 @@ left-length l (child k ∷ ls) = omega (arith, left-length (swapRemove k l) ls, 
 
 pub leaves-length : (ls : List Link) → length (leaves ls) ≤ length ls
 unfolding leaves
-leaves-length ls = omega (arith, left-length (counting 0 (length ls)) ls, counting-length 0 (length ls))
+leaves-length ls = omega (arith, left-length (numbersFrom 0 (length ls)) ls, counting-length 0 (length ls))
 
 rooted-length : (i : ℕ) (ls : List Link) → length (rootsFrom i ls) ≤ length ls
 unfolding rootsFrom

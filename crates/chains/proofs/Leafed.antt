@@ -13,7 +13,7 @@ use Rattle.format.specs.Bytes.{same, any}
 use Rattle.format.specs.Lines.{Piece}
 use Rattle.format.specs.Records.{Record}
 use Rattle.format.specs.Programs.{Program, Link, found, link, links, programs, ordinalFrom, isDangling, loopsFrom, tangled, leaves, hops}
-use Rattle.format.specs.Calls.{Answer, no, yes, then, fitting, untangled, fresh, leafing}
+use Rattle.format.specs.Calls.{Answer, refused, yes, then, fitting, untangled, fresh, leafing}
 use Rattle.chains.specs.Listed.{named, distinct}
 use Rattle.chains.specs.Leafed.{isStray, strays, returns, Leaves, Leafed, AllLeafed}
 use Rattle.chains.proofs.Leaf.{leaves-exactly, leaves-distinct}
@@ -43,9 +43,9 @@ links-stray ps (q ∷ qs) = rw (link-stray ps (q .previous), links-stray ps qs) 
 
 -- what leaves answers, by the two tests of the graph
 ending : List Program → ℕ → Bool → Bool → Answer (List ℕ × ℕ)
-ending ps room true r = no 22 0
-ending ps room false true = no 23 0
-ending ps room false false = cond (ltb room (length (leaves (links ps)))) (no 20 0) (yes (leaves (links ps), hops (links ps)))
+ending ps room true r = refused 22 0
+ending ps room false true = refused 23 0
+ending ps room false false = cond (ltb room (length (leaves (links ps)))) (refused 20 0) (yes (leaves (links ps), hops (links ps)))
 
 module _ (text c : List ℕ) (room : ℕ) (rs : List Record) (e : fresh text c ≡ yes rs) where
   ps : List Program
@@ -55,7 +55,7 @@ module _ (text c : List ℕ) (room : ℕ) (rs : List Record) (e : fresh text c �
   unfolding ps leafing then untangled tangled fitting strays returns ending
   ends = rw (e, links-stray (programs rs) (programs rs)) (go (any (λ p. isStray (programs rs) (p .previous)) (programs rs)) (loopsFrom (links (programs rs)) 0 (links (programs rs))))
     where
-      short : (t : Bool) → then {B = List ℕ × ℕ} (cond t (no 20 0) (yes (leaves (links ps)))) (λ xs. yes (xs, hops (links ps))) ≡ cond t (no 20 0) (yes (leaves (links ps), hops (links ps)))
+      short : (t : Bool) → then {B = List ℕ × ℕ} (cond t (refused 20 0) (yes (leaves (links ps)))) (λ xs. yes (xs, hops (links ps))) ≡ cond t (refused 20 0) (yes (leaves (links ps), hops (links ps)))
       short true = refl
       short false = refl
 
@@ -64,10 +64,10 @@ module _ (text c : List ℕ) (room : ℕ) (rs : List Record) (e : fresh text c �
       go false true = refl
       go false false = short (ltb room (length (leaves (links ps))))
 
-one-no : (m n : ℕ) → _≡_ {A = Answer (List ℕ × ℕ)} (no m 0) (no n 0) → m ≡ n
+one-no : (m n : ℕ) → _≡_ {A = Answer (List ℕ × ℕ)} (refused m 0) (refused n 0) → m ≡ n
 one-no m n e = cc
 
-no-yes : (n : ℕ) (a : List ℕ × ℕ) → _≡_ {A = Answer (List ℕ × ℕ)} (no n 0) (yes a) → ⊥
+no-yes : (n : ℕ) (a : List ℕ × ℕ) → _≡_ {A = Answer (List ℕ × ℕ)} (refused n 0) (yes a) → ⊥
 no-yes n a e = false≢true cc
 
 one-yes : (xs ys : List ℕ) (m n : ℕ) → _≡_ {A = Answer (List ℕ × ℕ)} (yes (xs, m)) (yes (ys, n)) → xs ≡ ys
@@ -85,7 +85,7 @@ module _ (ps : List Program) (room : ℕ) where
 
   -- a graph in order: the list fits, or it does not
   listed-by : (t : Bool) → ltb room (length (leaves (links ps))) ≡ t → strays ps ≡ false → returns ps ≡ false
-      → Leafed ps room (cond t (no 20 0) (yes (leaves (links ps), hops (links ps))))
+      → Leafed ps room (cond t (refused 20 0) (yes (leaves (links ps), hops (links ps))))
   listed-by true q s r = record {
     dangling = (λ e. absurd (omega (arith, one-no 20 22 e)), λ h. absurd (false≢true (sym s ∙ h)));
     cycle = (λ e. absurd (omega (arith, one-no 20 23 e)), λ h. absurd (false≢true (sym r ∙ h .1)));

@@ -10,7 +10,7 @@ use borrow.Author.Tests.{eq-eqb, ne-eqb, ltb-true}
 use Rattle.format.specs.Bytes.{all}
 use Rattle.format.specs.Programs.{Link, root, dangling, child, reaches, depth}
 use Rattle.chains.proofs.Bools.{both-true}
-use Rattle.chains.specs.Parents.{nobody, linkOf, linksOf, within}
+use Rattle.chains.specs.Parents.{nobody, linkOf, linksOf, areParents}
 
 pub link-none : (p : ℕ) → p ≡ 4294967295 → linkOf p ≡ root
 unfolding linkOf nobody
@@ -31,8 +31,8 @@ unfolding linksOf
 link-at ps k h = map-at linkOf ps k 0 root h
 
 -- each parent that there is stands below `n`
-pub within-at : (n : ℕ) (ps : List ℕ) (k : ℕ) → within n ps ≡ true → k < length ps → (getD ps k 0 ≡ 4294967295 → ⊥) → getD ps k 0 < n
-unfolding within nobody all
+pub within-at : (n : ℕ) (ps : List ℕ) (k : ℕ) → areParents n ps ≡ true → k < length ps → (getD ps k 0 ≡ 4294967295 → ⊥) → getD ps k 0 < n
+unfolding areParents nobody all
 within-at n [] k w h e = absurd (omega arith)
 within-at n (p ∷ ps) zero w h e = ltb-true p n (rw (ne-eqb _ _ e) at (both-true (eqb p 4294967295 || ltb p n) (all (λ q. eqb q nobody || ltb q n) ps) w .0))
 within-at n (p ∷ ps) (suc k) w h e = within-at n ps k (both-true (eqb p 4294967295 || ltb p n) (all (λ q. eqb q nobody || ltb q n) ps) w .1) (omega arith) e

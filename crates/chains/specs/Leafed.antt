@@ -12,7 +12,7 @@ use Rattle.format.specs.Bytes.{same, any}
 use Rattle.format.specs.Lines.{Piece}
 use Rattle.format.specs.Records.{Record}
 use Rattle.format.specs.Programs.{Program, programs, links, loopsFrom, leaves}
-use Rattle.format.specs.Calls.{Answer, no, yes, fresh, leafing}
+use Rattle.format.specs.Calls.{Answer, refused, yes, fresh, leafing}
 use Rattle.chains.specs.Listed.{named, distinct}
 
 -- does this PP equal no ID?
@@ -40,9 +40,9 @@ pub record Leaves (ps : List Program) (xs : List ℕ) : Type 0 where
 
 -- what leaves answers for these programs and this room
 pub record Leafed (ps : List Program) (room : ℕ) (answer : Answer (List ℕ × ℕ)) : Type 0 where
-  pub dangling : (answer ≡ no 22 0) ↔ (strays ps ≡ true)
-  pub cycle : (answer ≡ no 23 0) ↔ ((strays ps ≡ false) × (returns ps ≡ true))
-  pub short : (answer ≡ no 20 0) ↔ ((strays ps ≡ false) × (returns ps ≡ false) × (room < length (leaves (links ps))))
+  pub dangling : (answer ≡ refused 22 0) ↔ (strays ps ≡ true)
+  pub cycle : (answer ≡ refused 23 0) ↔ ((strays ps ≡ false) × (returns ps ≡ true))
+  pub short : (answer ≡ refused 20 0) ↔ ((strays ps ≡ false) × (returns ps ≡ false) × (room < length (leaves (links ps))))
   pub listed : (xs : List ℕ) (hops : ℕ) → answer ≡ yes (xs, hops) → Leaves ps xs
 
 -- for every text and catalogue that is this text's

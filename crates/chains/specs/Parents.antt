@@ -21,15 +21,15 @@ unfolding linkOf
 linksOf ps = map linkOf ps
 
 -- each parent is nobody, or one of the `n` programs
-unfoldable pub within : ℕ → List ℕ → Bool
+unfoldable pub areParents : ℕ → List ℕ → Bool
 unfolding nobody all
-within n ps = all (λ p. eqb p nobody || ltb p n) ps
+areParents n ps = all (λ p. eqb p nobody || ltb p n) ps
 
 -- a list of ordinals in an array of 1,024: zeros after it
 unfoldable pub inArray : List ℕ → List ℕ
 inArray xs = xs ++ replicate (1024 - length xs) 0
 
 -- the place of `x` in a list, or the list's length where it is not there
-unfoldable pub placeOf : ℕ → List ℕ → ℕ
-placeOf x [] = 0
-placeOf x (y ∷ ys) = cond (eqb x y) 0 (suc (placeOf x ys))
+unfoldable pub indexIn : ℕ → List ℕ → ℕ
+indexIn x [] = 0
+indexIn x (y ∷ ys) = cond (eqb x y) 0 (suc (indexIn x ys))

@@ -3,14 +3,14 @@ ghost use mathlib.Core.Path.{_≡_};
 ghost use mathlib.Core.Bool.{true};
 ghost use Prim.Native.Nat.{_≤_, _<_};
 ghost use lib.ListN.{length, getD};
-ghost use Rattle.format.specs.Programs.{reaches, loopsFrom, depth, hops, counting, leaves, roots};
-ghost use Rattle.chains.specs.Parents.{linkOf, linksOf, within, inArray, placeOf};
+ghost use Rattle.format.specs.Programs.{reaches, loopsFrom, depth, hops, numbersFrom, leaves, roots};
+ghost use Rattle.chains.specs.Parents.{linkOf, linksOf, areParents, inArray, indexIn};
 
 pub const NOBODY: u32 = 4294967295;
 
 // Whether program `i` comes back to itself after 1 to n parent steps.
 fn comes_back(parents: &[u32], i: usize) -> bool
-    requires { ⌜ within (length (now parents)) (now parents) ≡ true ⌝ }
+    requires { ⌜ areParents (length (now parents)) (now parents) ≡ true ⌝ }
     requires { ⌜ i < length (now parents) ⌝ }
     ensures { λ r. ⌜ r ≡ reaches (linksOf (now (parents .entry))) i (length (now (parents .entry))) (linkOf (getD (now (parents .entry)) i 0)) ⌝ }
 {
@@ -32,7 +32,7 @@ fn comes_back(parents: &[u32], i: usize) -> bool
 
 // Whether some program comes back to itself after 1 to n parent steps: every program is looked at, with at most n steps each.
 pub fn has_cycle(parents: &[u32]) -> bool
-    requires { ⌜ within (length (now parents)) (now parents) ≡ true ⌝ }
+    requires { ⌜ areParents (length (now parents)) (now parents) ≡ true ⌝ }
     ensures { λ r. ⌜ r ≡ loopsFrom (linksOf (now (parents .entry))) 0 (linksOf (now (parents .entry))) ⌝ }
 {
     let mut i: usize = 0;
@@ -47,7 +47,7 @@ pub fn has_cycle(parents: &[u32]) -> bool
 
 // The parent links from program `i` to its root.
 fn depth(parents: &[u32], i: usize) -> u32
-    requires { ⌜ within (length (now parents)) (now parents) ≡ true ⌝ }
+    requires { ⌜ areParents (length (now parents)) (now parents) ≡ true ⌝ }
     requires { ⌜ length (now parents) ≤ 1024 ⌝ }
     requires { ⌜ i < length (now parents) ⌝ }
     ensures { λ r. ⌜ r ≡ depth (linksOf (now (parents .entry))) (length (now (parents .entry))) (linkOf (getD (now (parents .entry)) i 0)) ⌝ }
@@ -68,7 +68,7 @@ fn depth(parents: &[u32], i: usize) -> u32
 
 // The parent links from every program to its root, summed.
 pub fn hops(parents: &[u32]) -> u32
-    requires { ⌜ within (length (now parents)) (now parents) ≡ true ⌝ }
+    requires { ⌜ areParents (length (now parents)) (now parents) ≡ true ⌝ }
     requires { ⌜ length (now parents) ≤ 1024 ⌝ }
     ensures { λ r. ⌜ r ≡ hops (linksOf (now (parents .entry))) ⌝ }
 {
@@ -90,7 +90,7 @@ pub struct Ordinals {
 // The first `n` ordinals.
 fn counting(n: usize) -> [u32; 1024]
     requires { ⌜ n ≤ 1024 ⌝ }
-    ensures { λ r. ⌜ r ≡ inArray (counting 0 n) ⌝ }
+    ensures { λ r. ⌜ r ≡ inArray (numbersFrom 0 n) ⌝ }
 {
     let mut list: [u32; 1024] = [0; 1024];
     let mut i: usize = 0;
@@ -103,7 +103,7 @@ fn counting(n: usize) -> [u32; 1024]
 
 // The place of `x` in a list, or the list's length where it is not there.
 fn place(list: &[u32], x: u32) -> usize
-    ensures { λ r. ⌜ r ≡ placeOf x (now (list .entry)) ⌝ }
+    ensures { λ r. ⌜ r ≡ indexIn x (now (list .entry)) ⌝ }
 {
     let mut i: usize = 0;
     while i < list.len() {
@@ -117,7 +117,7 @@ fn place(list: &[u32], x: u32) -> usize
 
 // The leaves in the crate's order: for each program in order that has a PP, the last of the list takes the parent's place.
 pub fn leaves(parents: &[u32]) -> Ordinals
-    requires { ⌜ within (length (now parents)) (now parents) ≡ true ⌝ }
+    requires { ⌜ areParents (length (now parents)) (now parents) ≡ true ⌝ }
     requires { ⌜ length (now parents) ≤ 1024 ⌝ }
     ensures { λ r. ⌜ (r .list ≡ inArray (leaves (linksOf (now (parents .entry))))) × (r .count ≡ length (leaves (linksOf (now (parents .entry))))) ⌝ }
 {

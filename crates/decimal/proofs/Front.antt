@@ -13,7 +13,7 @@ use borrow.Author.Tests.{leb-true, le-leb, lt-leb, lt-ltb, le-ltb, ne-eqb}
 use Rattle.format.specs.Bytes.{digit, none?}
 use Rattle.format.specs.Decimal.{worth, worthFrom}
 use Rattle.format.specs.Decimal.{span}
-use Rattle.decimal.specs.Number.{counted, front}
+use Rattle.decimal.specs.Number.{digitsNumber, numberAtFront}
 use Rattle.decimal.specs.declared.Number.{Number}
 use Rattle.decimal.specs.declared.Number.the-variants.{NoDigit, TooLarge, Is}
 
@@ -64,13 +64,13 @@ unfoldable pub frontFrom : ℕ → ℕ → ℕ → List ℕ → Number
 unfolding done worthFrom span
 frontFrom limit n i s = done limit (worthFrom n (span s .0)) (i + length (span s .0))
 
-counted-done : (limit : ℕ) (ds : List ℕ) → counted limit ds ≡ done limit (worthFrom 0 ds) (0 + length ds)
-unfolding counted done worth none?
+counted-done : (limit : ℕ) (ds : List ℕ) → digitsNumber limit ds ≡ done limit (worthFrom 0 ds) (0 + length ds)
+unfolding digitsNumber done worth none?
 counted-done limit [] = refl
 counted-done limit (b ∷ ds) = rw (zero-add (suc (length ds)), ne-eqb (suc (length ds)) 0 (λ e. omega arith))
 
-pub front-start : (limit : ℕ) (s : List ℕ) → front limit s ≡ frontFrom limit 0 0 s
-unfolding front frontFrom
+pub front-start : (limit : ℕ) (s : List ℕ) → numberAtFront limit s ≡ frontFrom limit 0 0 s
+unfolding numberAtFront frontFrom
 front-start limit s = counted-done limit (span s .0)
 
 pub done-none : (limit n : ℕ) → done limit n 0 ≡ NoDigit

@@ -12,7 +12,7 @@ use borrow.Author.Tests.{lt-ltb}
 use Rattle.format.specs.Bytes.{digit, all, none?}
 use Rattle.format.specs.Decimal.{worth, worthFrom, digits, number, written}
 use Rattle.format.specs.Decimal.{span}
-use Rattle.decimal.specs.Number.{front}
+use Rattle.decimal.specs.Number.{numberAtFront}
 use Rattle.decimal.specs.declared.Number.the-variants.{Is}
 use Rattle.decimal.proofs.Front.{both, digit-yes, digit-top, span-digit}
 use Rattle.decimal.proofs.Written.{one-digit, written-one, written-step, written-some, written-fits}
@@ -81,8 +81,8 @@ span-append (b ∷ ds) rest e h =
     span-digit b (ds ++ rest) (t .0) ∙ ap (λ l. b ∷ l) (span-append ds rest (t .1) h)
 
 pub front-back : (limit n : ℕ) (rest : List ℕ) → n < limit → limit ≤ 10 ^ 20 → span rest .0 ≡ []
-    → front limit (written n ++ rest) ≡ Is n (length (written n))
-unfolding front
+    → numberAtFront limit (written n ++ rest) ≡ Is n (length (written n))
+unfolding numberAtFront
 front-back limit n rest h k e =
     rw (span-append (written n) rest (spells n n (omega arith) (omega arith) .digit-all) e)
     (rw (some-digits (written n) (written-some n), reads-back n (omega arith), lt-ltb n limit h))

@@ -11,7 +11,7 @@ use borrow.Author.Tests.{eq-eqb, ne-eqb, ltb-true}
 use Rattle.format.specs.Bytes.{digit, all, none?}
 use Rattle.format.specs.Decimal.{worth, digits, number}
 use Rattle.format.specs.Decimal.{span}
-use Rattle.decimal.specs.Number.{counted, front}
+use Rattle.decimal.specs.Number.{digitsNumber, numberAtFront}
 use Rattle.decimal.specs.declared.Number.{Number}
 use Rattle.decimal.specs.declared.Number.the-variants.{NoDigit, TooLarge, Is}
 use Rattle.decimal.proofs.Front.{both, span-digit}
@@ -52,8 +52,8 @@ pub record Within (limit k v n : ℕ) : Type 0 where
   pub some-digit : 0 < n
   pub inside : n ≤ k
 
-counted-within : (limit v n : ℕ) (ds : List ℕ) → counted limit ds ≡ Is v n → Within limit (length ds) v n
-unfolding counted
+counted-within : (limit v n : ℕ) (ds : List ℕ) → digitsNumber limit ds ≡ Is v n → Within limit (length ds) v n
+unfolding digitsNumber
 counted-within limit v n [] e = absurd (let z : _≡_ {A = ℕ} 0 1 = cc in omega arith)
 counted-within limit v n (b ∷ ds) e = go (ltb (worth (b ∷ ds)) limit) refl e
   where
@@ -64,8 +64,8 @@ counted-within limit v n (b ∷ ds) e = go (ltb (worth (b ∷ ds)) limit) refl e
         record { below = omega (arith, ltb-true (worth (b ∷ ds)) limit k); some-digit = omega arith; inside = omega arith }
     go false k e = absurd (let z : _≡_ {A = ℕ} 0 1 = cc in omega arith)
 
-pub front-within : (limit v n : ℕ) (s : List ℕ) → front limit s ≡ Is v n → Within limit (length s) v n
-unfolding front
+pub front-within : (limit v n : ℕ) (s : List ℕ) → numberAtFront limit s ≡ Is v n → Within limit (length s) v n
+unfolding numberAtFront
 front-within limit v n s e =
     let w : Within limit (length (span s .0)) v n = counted-within limit v n (span s .0) e in
     record { below = w .below; some-digit = w .some-digit; inside = omega (arith, span-le s) }
@@ -79,8 +79,8 @@ whole k TooLarge = none
 whole k (Is v n) = cond (eqb n k) (some v) none
 
 -- a run of digits that is all there is
-whole-all : (limit : ℕ) (ds : List ℕ) → whole (length ds) (counted limit ds) ≡ cond (not (none? ds) && ltb (worth ds) limit) (some (worth ds)) none
-unfolding counted whole none?
+whole-all : (limit : ℕ) (ds : List ℕ) → whole (length ds) (digitsNumber limit ds) ≡ cond (not (none? ds) && ltb (worth ds) limit) (some (worth ds)) none
+unfolding digitsNumber whole none?
 whole-all limit [] = refl
 whole-all limit (b ∷ ds) = go (ltb (worth (b ∷ ds)) limit)
   where
@@ -89,8 +89,8 @@ whole-all limit (b ∷ ds) = go (ltb (worth (b ∷ ds)) limit)
     go false = refl
 
 -- a run of digits with more behind it
-whole-short : (limit k : ℕ) (ds : List ℕ) → length ds < k → whole k (counted limit ds) ≡ none
-unfolding counted whole none?
+whole-short : (limit k : ℕ) (ds : List ℕ) → length ds < k → whole k (digitsNumber limit ds) ≡ none
+unfolding digitsNumber whole none?
 whole-short limit k [] h = refl
 whole-short limit k (b ∷ ds) h = go (ltb (worth (b ∷ ds)) limit)
   where
@@ -99,10 +99,10 @@ whole-short limit k (b ∷ ds) h = go (ltb (worth (b ∷ ds)) limit)
     go false = refl
 
 -- a slice is a number where the digits at its front are a number and are all of it
-pub number-front : (limit : ℕ) (s : List ℕ) → number limit s ≡ whole (length s) (front limit s)
-unfolding front number digits
+pub number-front : (limit : ℕ) (s : List ℕ) → number limit s ≡ whole (length s) (numberAtFront limit s)
+unfolding numberAtFront number digits
 number-front limit s = go (all digit s) refl
   where
-    go : (t : Bool) → all digit s ≡ t → cond (not (none? s) && t && ltb (worth s) limit) (some (worth s)) none ≡ whole (length s) (counted limit (span s .0))
+    go : (t : Bool) → all digit s ≡ t → cond (not (none? s) && t && ltb (worth s) limit) (some (worth s)) none ≡ whole (length s) (digitsNumber limit (span s .0))
     go true e = rw (and-true (not (none? s)), span-all s e) (sym (whole-all limit s))
     go false e = rw (and-false (not (none? s))) (sym (whole-short limit (length s) (span s .0) (span-short s e)))

@@ -11,11 +11,11 @@ use Rattle.decimal.specs.declared.Number.{Number}
 use Rattle.decimal.specs.declared.Number.the-variants.{NoDigit, TooLarge, Is}
 
 -- a run of digits: none; worth `limit` or more; or its worth and how many they are
-unfoldable pub counted : ℕ → List ℕ → Number
+unfoldable pub digitsNumber : ℕ → List ℕ → Number
 unfolding none? worth
-counted limit ds = cond (none? ds) NoDigit (cond (ltb (worth ds) limit) (Is (worth ds) (length ds)) TooLarge)
+digitsNumber limit ds = cond (none? ds) NoDigit (cond (ltb (worth ds) limit) (Is (worth ds) (length ds)) TooLarge)
 
 -- the digits at the front of `s`, read as a number below `limit`
-unfoldable pub front : ℕ → List ℕ → Number
-unfolding counted span
-front limit s = counted limit (span s .0)
+unfoldable pub numberAtFront : ℕ → List ℕ → Number
+unfolding digitsNumber span
+numberAtFront limit s = digitsNumber limit (span s .0)

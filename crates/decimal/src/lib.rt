@@ -4,7 +4,7 @@ ghost use Prim.Native.Nat.{suc, _≤_, _+_, _^_};
 ghost use lib.ListN.{length};
 ghost use Rattle.format.specs.Decimal.{written};
 ghost use Rattle.text.specs.Over.{over};
-ghost use Rattle.decimal.specs.Number.{front};
+ghost use Rattle.decimal.specs.Number.{numberAtFront};
 
 // What stands at the front of a slice: its worth and how many digits it has.
 pub enum Number {
@@ -15,7 +15,7 @@ pub enum Number {
 
 // The digits at the front of `s` as a number of at most `max`: leading zeros count for nothing, a sign is no digit.
 pub fn read_up_to(s: &[u8], max: u64) -> Number
-    ensures { λ r. ⌜ r ≡ front (suc max) (now (s .entry)) ⌝ }
+    ensures { λ r. ⌜ r ≡ numberAtFront (suc max) (now (s .entry)) ⌝ }
 {
     let tenth = max / 10;
     let mut n: u64 = 0;
@@ -46,13 +46,13 @@ pub fn read_up_to(s: &[u8], max: u64) -> Number
 }
 
 pub fn read_u32(s: &[u8]) -> Number
-    ensures { λ r. ⌜ r ≡ front (2 ^ 32) (now (s .entry)) ⌝ }
+    ensures { λ r. ⌜ r ≡ numberAtFront (2 ^ 32) (now (s .entry)) ⌝ }
 {
     read_up_to(s, 4294967295)
 }
 
 pub fn read_u64(s: &[u8]) -> Number
-    ensures { λ r. ⌜ r ≡ front (2 ^ 64) (now (s .entry)) ⌝ }
+    ensures { λ r. ⌜ r ≡ numberAtFront (2 ^ 64) (now (s .entry)) ⌝ }
 {
     read_up_to(s, 18446744073709551615)
 }

@@ -4,7 +4,7 @@ use mathlib.Core.Path.{_≡_, refl}
 use mathlib.Core.List.{List, [], _∷_}
 use Rattle.entries.specs.declared.Entry.{Entry}
 use Rattle.entries.specs.declared.Entry.the-variants.{Program, Field}
-use Rattle.entries.specs.Entries.{bytesOf, entriesIn}
+use Rattle.entries.specs.Entries.{entriesBytes, entriesIn}
 
 bytes : List ℕ
 bytes = 4 ∷ 7 ∷ 0 ∷ 0 ∷ 0 ∷ 1 ∷ 0 ∷ 0 ∷ 0 ∷ 6 ∷ 80 ∷ 80 ∷ 12 ∷ 0 ∷ 0 ∷ 0 ∷ 1 ∷ 0 ∷ 0 ∷ 0 ∷ []
@@ -12,8 +12,8 @@ bytes = 4 ∷ 7 ∷ 0 ∷ 0 ∷ 0 ∷ 1 ∷ 0 ∷ 0 ∷ 0 ∷ 6 ∷ 80 ∷ 80 �
 entries : List Entry
 entries = Program (record { at = 7; len = 1 }) ∷ Field 80 80 (record { at = 12; len = 1 }) ∷ []
 
-written : bytesOf entries ≡ bytes
-unfolding bytesOf bytes entries
+written : entriesBytes entries ≡ bytes
+unfolding entriesBytes bytes entries
 written = refl
 
 walked : entriesIn bytes ≡ entries

@@ -13,7 +13,7 @@ use Rattle.format.specs.Records.{Record, code, others}
 use Rattle.format.specs.Reading.{ofKind}
 use Rattle.format.specs.Catalogue.{catalogue}
 use Rattle.entries.specs.declared.Entry.{Entry}
-use Rattle.entries.specs.Entries.{kindOf, bytesOf, Fits, headEntry, fieldEntry, entriesOf, entriesIn, entriesBefore, counted, sizes}
+use Rattle.entries.specs.Entries.{kindByte, entriesBytes, FitsEntry, headEntry, fieldEntry, entriesOf, entriesIn, entriesBefore, counted, sizes}
 use Rattle.text.specs.Stands.{Each}
 use Rattle.entries.proofs.Walk.{entries-back}
 use Rattle.entries.proofs.Written.{bytes-sizes}
@@ -27,19 +27,19 @@ sizes-append [] ys = omega arith
 sizes-append (e ∷ xs) ys = omega (arith, sizes-append xs ys)
 
 -- behind entries stand the others
-pub behind-entries : (xs ys : List Entry) (n : ℕ) → drop (sizes xs + n) (bytesOf (xs ++ ys)) ≡ drop n (bytesOf ys)
-behind-entries xs ys n = rw (bytes-append xs ys, ← bytes-sizes xs) (drop-append-add (bytesOf xs) (bytesOf ys) n)
+pub behind-entries : (xs ys : List Entry) (n : ℕ) → drop (sizes xs + n) (entriesBytes (xs ++ ys)) ≡ drop n (entriesBytes ys)
+behind-entries xs ys n = rw (bytes-append xs ys, ← bytes-sizes xs) (drop-append-add (entriesBytes xs) (entriesBytes ys) n)
 
 -- where there is none, all are before it
 pub before-all : (k i : ℕ) (es : List Entry) → counted k es ≤ i → entriesBefore k i es ≡ es
 unfolding counted entriesBefore
 before-all k i [] h = refl
-before-all k zero (e ∷ es) h = go (eqb (kindOf e) k) (before-all k zero es) h
+before-all k zero (e ∷ es) h = go (eqb (kindByte e) k) (before-all k zero es) h
   where
     go : (t : Bool) → (counted k es ≤ 0 → entriesBefore k 0 es ≡ es) → cond t (suc (counted k es)) (counted k es) ≤ 0 → cond t [] (e ∷ entriesBefore k 0 es) ≡ e ∷ es
     go true ih l = absurd (omega arith)
     go false ih l = ap (λ x. e ∷ x) (ih l)
-before-all k (suc i) (e ∷ es) h = ap (λ x. e ∷ x) (go (eqb (kindOf e) k) (before-all k i es) (before-all k (suc i) es) h)
+before-all k (suc i) (e ∷ es) h = ap (λ x. e ∷ x) (go (eqb (kindByte e) k) (before-all k i es) (before-all k (suc i) es) h)
   where
     go : (t : Bool) → (counted k es ≤ i → entriesBefore k i es ≡ es) → (counted k es ≤ suc i → entriesBefore k (suc i) es ≡ es)
         → cond t (suc (counted k es)) (counted k es) ≤ suc i → cond t (entriesBefore k i es) (entriesBefore k (suc i) es) ≡ es
@@ -47,7 +47,7 @@ before-all k (suc i) (e ∷ es) h = ap (λ x. e ∷ x) (go (eqb (kindOf e) k) (b
     go false ih jh l = jh l
 
 -- and the place is the catalogue's end
-pub before-length : (k i : ℕ) (es : List Entry) → counted k es ≤ i → sizes (entriesBefore k i es) ≡ length (bytesOf es)
+pub before-length : (k i : ℕ) (es : List Entry) → counted k es ≤ i → sizes (entriesBefore k i es) ≡ length (entriesBytes es)
 before-length k i es h = ap sizes (before-all k i es h) ∙ sym (bytes-sizes es)
 
 -- ---- records
@@ -55,7 +55,7 @@ before-length k i es h = ap sizes (before-all k i es h) ∙ sym (bytes-sizes es)
 -- the entries of a record's fields are passed
 before-fields : (k : ℕ) → k < 6 → (i : ℕ) (fs : List fields.Field) (es : List Entry)
     → entriesBefore k i (map fieldEntry fs ++ es) ≡ map fieldEntry fs ++ entriesBefore k i es
-unfolding entriesBefore kindOf fieldEntry
+unfolding entriesBefore kindByte fieldEntry
 before-fields k h i [] es = refl
 before-fields k h zero (f ∷ fs) es =
     let n : 6 ≡ k → ⊥ = λ e. omega arith in
@@ -73,9 +73,9 @@ recordsFrom k (suc i) (r ∷ rs) = cond (eqb (code r) k) (recordsFrom k i rs) (r
 
 -- from where its entry is found on
 abbrev from : ℕ → ℕ → List Record → List ℕ
-from k i rs = drop (sizes (entriesBefore k i (entriesOf rs))) (bytesOf (entriesOf rs))
+from k i rs = drop (sizes (entriesBefore k i (entriesOf rs))) (entriesBytes (entriesOf rs))
 
-nothing : (k i : ℕ) → from k i [] ≡ bytesOf (entriesOf [])
+nothing : (k i : ℕ) → from k i [] ≡ entriesBytes (entriesOf [])
 unfolding entriesBefore entriesOf sizes
 nothing k i = refl
 
@@ -84,7 +84,7 @@ module _ (k : ℕ) (r : Record) (rs : List Record) where
   rest = map fieldEntry (others r) ++ entriesOf rs
 
   -- it is this record's own
-  here : eqb (code r) k ≡ true → from k 0 (r ∷ rs) ≡ bytesOf (entriesOf (r ∷ rs))
+  here : eqb (code r) k ≡ true → from k 0 (r ∷ rs) ≡ entriesBytes (entriesOf (r ∷ rs))
   unfolding entriesBefore entriesOf sizes
   here q = rw (head-kind r, q) refl
 
@@ -94,8 +94,8 @@ module _ (k : ℕ) (r : Record) (rs : List Record) where
   passed h i j q =
       let es : List Entry = headEntry r ∷ map fieldEntry (others r) in
       let p : entriesBefore k i (entriesOf (r ∷ rs)) ≡ es ++ entriesBefore k j (entriesOf rs) = q ∙ ap (λ x. headEntry r ∷ x) (before-fields k h j (others r) (entriesOf rs)) in
-      ap (λ x. drop (sizes x) (bytesOf (entriesOf (r ∷ rs)))) p
-      ∙ ap (λ n. drop n (bytesOf (entriesOf (r ∷ rs)))) (sizes-append es (entriesBefore k j (entriesOf rs)))
+      ap (λ x. drop (sizes x) (entriesBytes (entriesOf (r ∷ rs)))) p
+      ∙ ap (λ n. drop n (entriesBytes (entriesOf (r ∷ rs)))) (sizes-append es (entriesBefore k j (entriesOf rs)))
       ∙ behind-entries es (entriesOf rs) (sizes (entriesBefore k j (entriesOf rs)))
 
   one : (i : ℕ) → eqb (code r) k ≡ true → entriesBefore k (suc i) (entriesOf (r ∷ rs)) ≡ headEntry r ∷ entriesBefore k i rest
@@ -107,18 +107,18 @@ module _ (k : ℕ) (r : Record) (rs : List Record) where
   other zero q = rw (head-kind r, q) refl
   other (suc i) q = rw (head-kind r, q) refl
 
-found-entries : (k i : ℕ) → k < 6 → (rs : List Record) → from k i rs ≡ bytesOf (entriesOf (recordsFrom k i rs))
+found-entries : (k i : ℕ) → k < 6 → (rs : List Record) → from k i rs ≡ entriesBytes (entriesOf (recordsFrom k i rs))
 unfolding recordsFrom
 found-entries k i h [] = nothing k i
 found-entries k zero h (r ∷ rs) = go (eqb (code r) k) refl (found-entries k zero h rs)
   where
-    go : (t : Bool) → eqb (code r) k ≡ t → from k 0 rs ≡ bytesOf (entriesOf (recordsFrom k 0 rs)) → from k 0 (r ∷ rs) ≡ bytesOf (entriesOf (cond t (r ∷ rs) (recordsFrom k 0 rs)))
+    go : (t : Bool) → eqb (code r) k ≡ t → from k 0 rs ≡ entriesBytes (entriesOf (recordsFrom k 0 rs)) → from k 0 (r ∷ rs) ≡ entriesBytes (entriesOf (cond t (r ∷ rs) (recordsFrom k 0 rs)))
     go true q ih = here k r rs q
     go false q ih = passed k r rs h 0 0 (other k r rs 0 q) ∙ ih
 found-entries k (suc i) h (r ∷ rs) = go (eqb (code r) k) refl (found-entries k i h rs) (found-entries k (suc i) h rs)
   where
-    go : (t : Bool) → eqb (code r) k ≡ t → from k i rs ≡ bytesOf (entriesOf (recordsFrom k i rs)) → from k (suc i) rs ≡ bytesOf (entriesOf (recordsFrom k (suc i) rs))
-        → from k (suc i) (r ∷ rs) ≡ bytesOf (entriesOf (cond t (recordsFrom k i rs) (recordsFrom k (suc i) rs)))
+    go : (t : Bool) → eqb (code r) k ≡ t → from k i rs ≡ entriesBytes (entriesOf (recordsFrom k i rs)) → from k (suc i) rs ≡ entriesBytes (entriesOf (recordsFrom k (suc i) rs))
+        → from k (suc i) (r ∷ rs) ≡ entriesBytes (entriesOf (cond t (recordsFrom k i rs) (recordsFrom k (suc i) rs)))
     go true q ih jh = passed k r rs h (suc i) i (one k r rs i q) ∙ ih
     go false q ih jh = passed k r rs h (suc i) (suc i) (other k r rs (suc i) q) ∙ jh
 
@@ -144,5 +144,5 @@ first-record k (suc i) (r ∷ rs) = go (eqb (code r) k) (first-record k i rs) (f
 
 -- ---- a walk over a catalogue
 
-pub entries-catalogue : (rs : List Record) → Each Fits (entriesOf rs) → entriesIn (catalogue rs) ≡ entriesOf rs
+pub entries-catalogue : (rs : List Record) → Each FitsEntry (entriesOf rs) → entriesIn (catalogue rs) ≡ entriesOf rs
 entries-catalogue rs h = ap entriesIn (catalogue-entries rs) ∙ entries-back (entriesOf rs) h

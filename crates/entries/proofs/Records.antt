@@ -12,12 +12,12 @@ use Rattle.format.specs.Records.{Record, header, reference, group, program, com
 use Rattle.format.specs.Reading.{ofKind}
 use Rattle.format.specs.Catalogue.{head, tails, catalogue}
 use Rattle.entries.specs.declared.Entry.{Entry}
-use Rattle.entries.specs.Entries.{kindOf, entryBytes, bytesOf, headEntry, fieldEntry, entriesOf, counted}
+use Rattle.entries.specs.Entries.{kindByte, entryBytes, entriesBytes, headEntry, fieldEntry, entriesOf, counted}
 
-pub bytes-append : (xs ys : List Entry) → bytesOf (xs ++ ys) ≡ bytesOf xs ++ bytesOf ys
-unfolding bytesOf
+pub bytes-append : (xs ys : List Entry) → entriesBytes (xs ++ ys) ≡ entriesBytes xs ++ entriesBytes ys
+unfolding entriesBytes
 bytes-append [] ys = refl
-bytes-append (e ∷ xs) ys = rw (bytes-append xs ys, append-assoc (entryBytes e) (bytesOf xs) (bytesOf ys)) refl
+bytes-append (e ∷ xs) ys = rw (bytes-append xs ys, append-assoc (entryBytes e) (entriesBytes xs) (entriesBytes ys)) refl
 
 head-entry : (r : Record) → head r ≡ entryBytes (headEntry r)
 unfolding head headEntry entryBytes
@@ -27,13 +27,13 @@ head-entry (group p fs) = refl
 head-entry (program p fs) = refl
 head-entry (comment p) = refl
 
-tails-entries : (fs : List fields.Field) → tails fs ≡ bytesOf (map fieldEntry fs)
-unfolding tails bytesOf entryBytes fieldEntry
+tails-entries : (fs : List fields.Field) → tails fs ≡ entriesBytes (map fieldEntry fs)
+unfolding tails entriesBytes entryBytes fieldEntry
 tails-entries [] = refl
 tails-entries (f ∷ fs) = ap (λ t. entryBytes (fieldEntry f) ++ t) (tails-entries fs)
 
-pub catalogue-entries : (rs : List Record) → catalogue rs ≡ bytesOf (entriesOf rs)
-unfolding catalogue entriesOf bytesOf
+pub catalogue-entries : (rs : List Record) → catalogue rs ≡ entriesBytes (entriesOf rs)
+unfolding catalogue entriesOf entriesBytes
 catalogue-entries [] = refl
 catalogue-entries (r ∷ rs) =
     let es : List Entry = map fieldEntry (others r) in
@@ -42,14 +42,14 @@ catalogue-entries (r ∷ rs) =
       tails-entries (others r),
       catalogue-entries rs,
       bytes-append es (entriesOf rs),
-      append-assoc (entryBytes (headEntry r)) (bytesOf es) (bytesOf (entriesOf rs)),
+      append-assoc (entryBytes (headEntry r)) (entriesBytes es) (entriesBytes (entriesOf rs)),
     )
     refl
 
 -- ---- how many of a kind
 
-pub head-kind : (r : Record) → kindOf (headEntry r) ≡ code r
-unfolding kindOf headEntry code
+pub head-kind : (r : Record) → kindByte (headEntry r) ≡ code r
+unfolding kindByte headEntry code
 head-kind (header v fs) = refl
 head-kind (reference p n fs) = refl
 head-kind (group p fs) = refl
@@ -58,7 +58,7 @@ head-kind (comment p) = refl
 
 -- no field entry is of a record's kind
 counted-fields : (k : ℕ) → k < 6 → (fs : List fields.Field) (es : List Entry) → counted k (map fieldEntry fs ++ es) ≡ counted k es
-unfolding counted kindOf fieldEntry
+unfolding counted kindByte fieldEntry
 counted-fields k h [] es = refl
 counted-fields k h (f ∷ fs) es =
     let n : 6 ≡ k → ⊥ = λ e. omega arith in

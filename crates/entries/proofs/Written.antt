@@ -13,12 +13,12 @@ use Rattle.format.specs.declared.Version.{Version}
 use Rattle.entries.specs.declared.Place.{Place}
 use Rattle.entries.specs.declared.Entry.{Entry}
 use Rattle.entries.specs.declared.Entry.the-variants.{End, Header, ReferenceSequence, ReadGroup, Program, Comment, Field}
-use Rattle.entries.specs.Entries.{kindOf, kindSize, sizeOf, versionOf, placeOf, bodied, entryOf, placeBytes, entryBytes, bytesOf, FitsPlace, Fits, sizes}
+use Rattle.entries.specs.Entries.{kindByte, kindSize, entrySize, versionFrom, placeFrom, entryWith, entryOf, placeBytes, entryBytes, entriesBytes, FitsPlace, FitsEntry, sizes}
 
 -- ---- how long
 
-pub entry-length : (e : Entry) → length (entryBytes e) ≡ sizeOf e
-unfolding entryBytes sizeOf kindOf kindSize little placeBytes
+pub entry-length : (e : Entry) → length (entryBytes e) ≡ entrySize e
+unfolding entryBytes entrySize kindByte kindSize little placeBytes
 entry-length End = refl
 entry-length (Header v) = refl
 entry-length (ReferenceSequence p n) = refl
@@ -27,18 +27,18 @@ entry-length (Program p) = refl
 entry-length (Comment p) = refl
 entry-length (Field a b p) = refl
 
-pub bytes-length : (e : Entry) (es : List Entry) → length (bytesOf (e ∷ es)) ≡ sizeOf e + length (bytesOf es)
-unfolding bytesOf
-bytes-length e es = omega (arith, length-append (entryBytes e) (bytesOf es), entry-length e)
+pub bytes-length : (e : Entry) (es : List Entry) → length (entriesBytes (e ∷ es)) ≡ entrySize e + length (entriesBytes es)
+unfolding entriesBytes
+bytes-length e es = omega (arith, length-append (entryBytes e) (entriesBytes es), entry-length e)
 
-pub bytes-sizes : (es : List Entry) → length (bytesOf es) ≡ sizes es
-unfolding bytesOf sizes
+pub bytes-sizes : (es : List Entry) → length (entriesBytes es) ≡ sizes es
+unfolding entriesBytes sizes
 bytes-sizes [] = refl
 bytes-sizes (e ∷ es) = omega (arith, bytes-length e es, bytes-sizes es)
 
 -- no entry is empty
-pub fit-size : (e : Entry) → Fits e → 0 < sizeOf e
-unfolding Fits sizeOf kindOf kindSize
+pub fit-size : (e : Entry) → FitsEntry e → 0 < entrySize e
+unfolding FitsEntry entrySize kindByte kindSize
 fit-size End h = absurd h
 fit-size (Header v) h = omega arith
 fit-size (ReferenceSequence p n) h = omega arith
@@ -49,28 +49,28 @@ fit-size (Field a b p) h = omega arith
 
 -- ---- what is read at the front
 
-version-back : (v : Version) (rest : List ℕ) → v .major < 2 ^ 32 → v .minor < 2 ^ 32 → versionOf (little 4 (v .major) ++ little 4 (v .minor) ++ rest) ≡ v
-unfolding versionOf little
+version-back : (v : Version) (rest : List ℕ) → v .major < 2 ^ 32 → v .minor < 2 ^ 32 → versionFrom (little 4 (v .major) ++ little 4 (v .minor) ++ rest) ≡ v
+unfolding versionFrom little
 version-back v rest h k = go _ _ (of-little 4 (v .major) h) (of-little 4 (v .minor) k)
   where
     go : (a b : ℕ) → a ≡ v .major → b ≡ v .minor → _≡_ {A = Version} (record { major = a; minor = b }) v
     go a b p q = rw (p, q) refl
 
-place-back : (p : Place) (rest : List ℕ) → FitsPlace p → placeOf (placeBytes p ++ rest) ≡ p
-unfolding placeOf placeBytes
+place-back : (p : Place) (rest : List ℕ) → FitsPlace p → placeFrom (placeBytes p ++ rest) ≡ p
+unfolding placeFrom placeBytes
 place-back p rest h = go _ _ (of-little 4 (p .at) (h .0)) (of-little 4 (p .len) (h .1))
   where
     go : (a b : ℕ) → a ≡ p .at → b ≡ p .len → _≡_ {A = Place} (record { at = a; len = b }) p
     go a b p q = rw (p, q) refl
 
 -- a body that is there
-whole : (k : ℕ) (s : List ℕ) → kindSize k ≤ length (k ∷ s) → entryOf (k ∷ s) ≡ bodied k s
+whole : (k : ℕ) (s : List ℕ) → kindSize k ≤ length (k ∷ s) → entryOf (k ∷ s) ≡ entryWith k s
 unfolding entryOf
 whole k s h = rw (le-leb (kindSize k) (length (k ∷ s)) h) refl
 
 -- an entry that fits is read back
-pub entry-back : (e : Entry) (rest : List ℕ) → Fits e → entryOf (entryBytes e ++ rest) ≡ e
-unfolding Fits entryBytes bodied kindSize
+pub entry-back : (e : Entry) (rest : List ℕ) → FitsEntry e → entryOf (entryBytes e ++ rest) ≡ e
+unfolding FitsEntry entryBytes entryWith kindSize
 entry-back End rest h = absurd h
 entry-back (Header v) rest h = whole 1 (little 4 (v .major) ++ little 4 (v .minor) ++ rest) (omega arith) ∙ ap Header (version-back v rest (h .0) (h .1))
 entry-back (ReferenceSequence p n) rest h =
@@ -84,29 +84,29 @@ entry-back (Field a b p) rest h = whole 6 (a ∷ b ∷ placeBytes p ++ rest) (om
 
 -- ---- a walk from entry to entry
 
-pub end-size : sizeOf End ≡ 0
-unfolding sizeOf kindOf kindSize
+pub end-size : entrySize End ≡ 0
+unfolding entrySize kindByte kindSize
 end-size = refl
 
-pub first-entry : (e : Entry) (es : List Entry) → Fits e → entryOf (bytesOf (e ∷ es)) ≡ e
-unfolding bytesOf
-first-entry e es h = entry-back e (bytesOf es) h
+pub first-entry : (e : Entry) (es : List Entry) → FitsEntry e → entryOf (entriesBytes (e ∷ es)) ≡ e
+unfolding entriesBytes
+first-entry e es h = entry-back e (entriesBytes es) h
 
-pub other-entries : (e : Entry) (es : List Entry) → drop (sizeOf e) (bytesOf (e ∷ es)) ≡ bytesOf es
-unfolding bytesOf
-other-entries e es = drop-at (entryBytes e) (bytesOf es) (sizeOf e) (entry-length e)
+pub other-entries : (e : Entry) (es : List Entry) → drop (entrySize e) (entriesBytes (e ∷ es)) ≡ entriesBytes es
+unfolding entriesBytes
+other-entries e es = drop-at (entryBytes e) (entriesBytes es) (entrySize e) (entry-length e)
 
-pub no-entry : entryOf (bytesOf []) ≡ End
-unfolding bytesOf entryOf
+pub no-entry : entryOf (entriesBytes []) ≡ End
+unfolding entriesBytes entryOf
 no-entry = refl
 
 -- the same at a place of a catalogue
-module _ (c : List ℕ) (at : ℕ) (e : Entry) (es : List Entry) (h : drop at c ≡ bytesOf (e ∷ es)) where
-  pub walk-entry : Fits e → entryOf (drop at c) ≡ e
+module _ (c : List ℕ) (at : ℕ) (e : Entry) (es : List Entry) (h : drop at c ≡ entriesBytes (e ∷ es)) where
+  pub walk-entry : FitsEntry e → entryOf (drop at c) ≡ e
   walk-entry k = ap entryOf h ∙ first-entry e es k
 
-  pub walk-next : drop (at + sizeOf e) c ≡ bytesOf es
-  walk-next = sym (drop-drop (sizeOf e) at c) ∙ ap (drop (sizeOf e)) h ∙ other-entries e es
+  pub walk-next : drop (at + entrySize e) c ≡ entriesBytes es
+  walk-next = sym (drop-drop (entrySize e) at c) ∙ ap (drop (entrySize e)) h ∙ other-entries e es
 
-pub walk-end : (c : List ℕ) (at : ℕ) → drop at c ≡ bytesOf [] → entryOf (drop at c) ≡ End
+pub walk-end : (c : List ℕ) (at : ℕ) → drop at c ≡ entriesBytes [] → entryOf (drop at c) ≡ End
 walk-end c at h = ap entryOf h ∙ no-entry

@@ -18,14 +18,14 @@ use Rattle.entries.specs.declared.Entry.the-variants.{End, Header, Refer
 -- ---- kinds and sizes
 
 -- the byte of kind; 0 for what is no entry
-unfoldable pub kindOf : Entry → ℕ
-kindOf End = 0
-kindOf (Header v) = 1
-kindOf (ReferenceSequence p n) = 2
-kindOf (ReadGroup p) = 3
-kindOf (Program p) = 4
-kindOf (Comment p) = 5
-kindOf (Field a b p) = 6
+unfoldable pub kindByte : Entry → ℕ
+kindByte End = 0
+kindByte (Header v) = 1
+kindByte (ReferenceSequence p n) = 2
+kindByte (ReadGroup p) = 3
+kindByte (Program p) = 4
+kindByte (Comment p) = 5
+kindByte (Field a b p) = 6
 
 -- how long an entry of a kind is, its byte of kind and its body; 0 where there is no such kind
 unfoldable pub kindSize : ℕ → ℕ
@@ -37,38 +37,38 @@ kindSize k =
     (cond (eqb k 5) 9
     (cond (eqb k 6) 11 0)))))
 
-unfoldable pub sizeOf : Entry → ℕ
-unfolding kindOf kindSize
-sizeOf e = kindSize (kindOf e)
+unfoldable pub entrySize : Entry → ℕ
+unfolding kindByte kindSize
+entrySize e = kindSize (kindByte e)
 
 -- ---- from bytes
 
 -- major and minor, in four bytes each
-unfoldable pub versionOf : List ℕ → Version
+unfoldable pub versionFrom : List ℕ → Version
 unfolding ofLittle
-versionOf s = record { major = ofLittle (take 4 s); minor = ofLittle (take 4 (drop 4 s)) }
+versionFrom s = record { major = ofLittle (take 4 s); minor = ofLittle (take 4 (drop 4 s)) }
 
 -- offset and length, in four bytes each
-unfoldable pub placeOf : List ℕ → Place
+unfoldable pub placeFrom : List ℕ → Place
 unfolding ofLittle
-placeOf s = record { at = ofLittle (take 4 s); len = ofLittle (take 4 (drop 4 s)) }
+placeFrom s = record { at = ofLittle (take 4 s); len = ofLittle (take 4 (drop 4 s)) }
 
 -- the entry of kind `k` with the body at the front of `s`
-unfoldable pub bodied : ℕ → List ℕ → Entry
-unfolding versionOf placeOf ofLittle
-bodied k s =
-    cond (eqb k 1) (Header (versionOf s))
-    (cond (eqb k 2) (ReferenceSequence (placeOf s) (ofLittle (take 8 (drop 8 s))))
-    (cond (eqb k 3) (ReadGroup (placeOf s))
-    (cond (eqb k 4) (Program (placeOf s))
-    (cond (eqb k 5) (Comment (placeOf s))
-    (cond (eqb k 6) (Field (getD s 0 0) (getD s 1 0) (placeOf (drop 2 s))) End)))))
+unfoldable pub entryWith : ℕ → List ℕ → Entry
+unfolding versionFrom placeFrom ofLittle
+entryWith k s =
+    cond (eqb k 1) (Header (versionFrom s))
+    (cond (eqb k 2) (ReferenceSequence (placeFrom s) (ofLittle (take 8 (drop 8 s))))
+    (cond (eqb k 3) (ReadGroup (placeFrom s))
+    (cond (eqb k 4) (Program (placeFrom s))
+    (cond (eqb k 5) (Comment (placeFrom s))
+    (cond (eqb k 6) (Field (getD s 0 0) (getD s 1 0) (placeFrom (drop 2 s))) End)))))
 
 -- what stands at the front of `s`: no entry where nothing is left, where the kind is unknown, or where the body is short
 unfoldable pub entryOf : List ℕ → Entry
-unfolding kindSize bodied
+unfolding kindSize entryWith
 entryOf [] = End
-entryOf (k ∷ s) = cond (leb (kindSize k) (length (k ∷ s))) (bodied k s) End
+entryOf (k ∷ s) = cond (leb (kindSize k) (length (k ∷ s))) (entryWith k s) End
 
 -- ---- to bytes
 
@@ -87,10 +87,10 @@ entryBytes (Comment p) = 5 ∷ placeBytes p
 entryBytes (Field a b p) = 6 ∷ a ∷ b ∷ placeBytes p
 
 -- one after another
-unfoldable pub bytesOf : List Entry → List ℕ
+unfoldable pub entriesBytes : List Entry → List ℕ
 unfolding entryBytes
-bytesOf [] = []
-bytesOf (e ∷ es) = entryBytes e ++ bytesOf es
+entriesBytes [] = []
+entriesBytes (e ∷ es) = entryBytes e ++ entriesBytes es
 
 -- ---- what the bytes can hold
 
@@ -98,14 +98,14 @@ abbrev pub FitsPlace : Place → Type 0
 FitsPlace p = (p .at < 2 ^ 32) × (p .len < 2 ^ 32)
 
 -- each number is below what its bytes hold
-unfoldable pub Fits : Entry → Type 0
-Fits End = ⊥
-Fits (Header v) = (v .major < 2 ^ 32) × (v .minor < 2 ^ 32)
-Fits (ReferenceSequence p n) = FitsPlace p × (n < 2 ^ 64)
-Fits (ReadGroup p) = FitsPlace p
-Fits (Program p) = FitsPlace p
-Fits (Comment p) = FitsPlace p
-Fits (Field a b p) = (a < 256) × (b < 256) × FitsPlace p
+unfoldable pub FitsEntry : Entry → Type 0
+FitsEntry End = ⊥
+FitsEntry (Header v) = (v .major < 2 ^ 32) × (v .minor < 2 ^ 32)
+FitsEntry (ReferenceSequence p n) = FitsPlace p × (n < 2 ^ 64)
+FitsEntry (ReadGroup p) = FitsPlace p
+FitsEntry (Program p) = FitsPlace p
+FitsEntry (Comment p) = FitsPlace p
+FitsEntry (Field a b p) = (a < 256) × (b < 256) × FitsPlace p
 
 -- ---- from records
 
@@ -137,11 +137,11 @@ entriesOf (r ∷ rs) = headEntry r ∷ map fieldEntry (others r) ++ entriesOf rs
 
 -- the entries from the front of `s` on, `f` at most, up to what is no entry
 unfoldable pub entriesWithin : ℕ → List ℕ → List Entry
-unfolding entryOf sizeOf
+unfolding entryOf entrySize
 entriesWithin zero s = []
 entriesWithin (suc f) s =
     let e : Entry = entryOf s in
-    cond (eqb (sizeOf e) 0) [] (e ∷ entriesWithin f (drop (sizeOf e) s))
+    cond (eqb (entrySize e) 0) [] (e ∷ entriesWithin f (drop (entrySize e) s))
 
 -- the entries of a catalogue: no more than it has bytes
 unfoldable pub entriesIn : List ℕ → List Entry
@@ -150,22 +150,22 @@ entriesIn c = entriesWithin (length c) c
 
 -- how many are of kind `k`
 unfoldable pub counted : ℕ → List Entry → ℕ
-unfolding kindOf
+unfolding kindByte
 counted k [] = 0
-counted k (e ∷ es) = cond (eqb (kindOf e) k) (suc (counted k es)) (counted k es)
+counted k (e ∷ es) = cond (eqb (kindByte e) k) (suc (counted k es)) (counted k es)
 
 -- those before the one of kind `k` with `i` of that kind before it; all where there is none
 unfoldable pub entriesBefore : ℕ → ℕ → List Entry → List Entry
-unfolding kindOf
+unfolding kindByte
 entriesBefore k i [] = []
-entriesBefore k zero (e ∷ es) = cond (eqb (kindOf e) k) [] (e ∷ entriesBefore k zero es)
-entriesBefore k (suc i) (e ∷ es) = e ∷ cond (eqb (kindOf e) k) (entriesBefore k i es) (entriesBefore k (suc i) es)
+entriesBefore k zero (e ∷ es) = cond (eqb (kindByte e) k) [] (e ∷ entriesBefore k zero es)
+entriesBefore k (suc i) (e ∷ es) = e ∷ cond (eqb (kindByte e) k) (entriesBefore k i es) (entriesBefore k (suc i) es)
 
 -- the bytes that entries take
 unfoldable pub sizes : List Entry → ℕ
-unfolding sizeOf
+unfolding entrySize
 sizes [] = 0
-sizes (e ∷ es) = sizeOf e + sizes es
+sizes (e ∷ es) = entrySize e + sizes es
 
 -- how far a walk over them goes, and how many of kind `k` it passes
 unfoldable pub passing : ℕ → List Entry → Passed

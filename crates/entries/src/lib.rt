@@ -3,7 +3,7 @@ use format::Version;
 ghost use mathlib.Core.Path.{_≡_};
 ghost use Prim.Native.Nat.{_≤_, _+_};
 ghost use lib.ListN.{length, drop};
-ghost use Rattle.entries.specs.Entries.{kindOf, kindSize, sizeOf, versionOf, placeOf, bodied, entryOf, entriesIn, counted, entriesBefore, sizes, passing};
+ghost use Rattle.entries.specs.Entries.{kindByte, kindSize, entrySize, versionFrom, placeFrom, entryWith, entryOf, entriesIn, counted, entriesBefore, sizes, passing};
 
 // Where a piece of the text stands.
 pub struct Place {
@@ -24,7 +24,7 @@ pub enum Entry {
 
 // The byte of kind of an entry: 0 for what is none.
 pub fn kind_of(e: Entry) -> u8
-    ensures { λ r. ⌜ r ≡ kindOf e ⌝ }
+    ensures { λ r. ⌜ r ≡ kindByte e ⌝ }
 {
     match e {
         Entry::End => 0,
@@ -54,7 +54,7 @@ fn kind_size(kind: u8) -> usize
 
 // How long an entry is.
 pub fn size(e: Entry) -> usize
-    ensures { λ r. ⌜ r ≡ sizeOf e ⌝ }
+    ensures { λ r. ⌜ r ≡ entrySize e ⌝ }
 {
     kind_size(kind_of(e))
 }
@@ -62,7 +62,7 @@ pub fn size(e: Entry) -> usize
 // The version in the eight bytes at `at`: major, then minor.
 fn version_at(s: &[u8], at: usize) -> Version
     requires { ⌜ at + 8 ≤ length (now s) ⌝ }
-    ensures { λ r. ⌜ r ≡ versionOf (drop at (now (s .entry))) ⌝ }
+    ensures { λ r. ⌜ r ≡ versionFrom (drop at (now (s .entry))) ⌝ }
 {
     let major = text::get_u32(s, at);
     let minor = text::get_u32(s, at + 4);
@@ -72,7 +72,7 @@ fn version_at(s: &[u8], at: usize) -> Version
 // The place in the eight bytes at `at`: offset, then length.
 fn place_at(s: &[u8], at: usize) -> Place
     requires { ⌜ at + 8 ≤ length (now s) ⌝ }
-    ensures { λ r. ⌜ r ≡ placeOf (drop at (now (s .entry))) ⌝ }
+    ensures { λ r. ⌜ r ≡ placeFrom (drop at (now (s .entry))) ⌝ }
 {
     let offset = text::get_u32(s, at);
     let len = text::get_u32(s, at + 4);
@@ -82,7 +82,7 @@ fn place_at(s: &[u8], at: usize) -> Place
 // The entry of a kind at `at`: its body is behind the byte of kind.
 fn body_at(s: &[u8], at: usize, kind: u8) -> Entry
     requires { ⌜ at + kindSize kind ≤ length (now s) ⌝ }
-    ensures { λ r. ⌜ r ≡ bodied kind (drop (at + 1) (now (s .entry))) ⌝ }
+    ensures { λ r. ⌜ r ≡ entryWith kind (drop (at + 1) (now (s .entry))) ⌝ }
 {
     match kind {
         1 => Entry::Header(version_at(s, at + 1)),

@@ -7,18 +7,18 @@ use lib.ListN.{length}
 use Rattle.text.specs.Over.{over}
 use Rattle.text.proofs.Over.{over-over}
 use Rattle.entries.specs.declared.Entry.{Entry}
-use Rattle.entries.specs.Entries.{sizeOf, entryBytes, bytesOf, sizes}
+use Rattle.entries.specs.Entries.{entrySize, entryBytes, entriesBytes, sizes}
 use Rattle.entries.proofs.Written.{entry-length, bytes-sizes}
 use Rattle.entries.proofs.Records.{bytes-append}
 
-single : (e : Entry) → bytesOf (e ∷ []) ≡ entryBytes e
-unfolding bytesOf
+single : (e : Entry) → entriesBytes (e ∷ []) ≡ entryBytes e
+unfolding entriesBytes
 single e = append-nil (entryBytes e)
 
 -- one more entry behind those that were written
-pub over-next : (out : List ℕ) (at : ℕ) (es : List Entry) (e : Entry) → at + sizes es + sizeOf e ≤ length out
-    → over (over out at (bytesOf es)) (at + sizes es) (entryBytes e) ≡ over out at (bytesOf (es ++ e ∷ []))
+pub over-next : (out : List ℕ) (at : ℕ) (es : List Entry) (e : Entry) → at + sizes es + entrySize e ≤ length out
+    → over (over out at (entriesBytes es)) (at + sizes es) (entryBytes e) ≡ over out at (entriesBytes (es ++ e ∷ []))
 over-next out at es e h =
-    ap (λ n. over (over out at (bytesOf es)) (at + n) (entryBytes e)) (sym (bytes-sizes es))
-    ∙ over-over out at (bytesOf es) (entryBytes e) (omega (arith, bytes-sizes es, entry-length e))
-    ∙ ap (over out at) (ap (λ x. bytesOf es ++ x) (sym (single e)) ∙ sym (bytes-append es (e ∷ [])))
+    ap (λ n. over (over out at (entriesBytes es)) (at + n) (entryBytes e)) (sym (bytes-sizes es))
+    ∙ over-over out at (entriesBytes es) (entryBytes e) (omega (arith, bytes-sizes es, entry-length e))
+    ∙ ap (over out at) (ap (λ x. entriesBytes es ++ x) (sym (single e)) ∙ sym (bytes-append es (e ∷ [])))

@@ -7,7 +7,7 @@ ghost use Prim.Native.Nat.{_≤_, _+_};
 ghost use lib.ListN.{length};
 ghost use Rattle.format.specs.Catalogue.{little};
 ghost use Rattle.text.specs.Over.{over};
-ghost use Rattle.entries.specs.Entries.{sizeOf, entryBytes};
+ghost use Rattle.entries.specs.Entries.{entrySize, entryBytes};
 
 // Writes two numbers in four bytes each.
 fn put_numbers(out: &mut [u8], at: usize, a: u32, b: u32)
@@ -53,8 +53,8 @@ pub fn put_field(out: &mut [u8], at: usize, a: u8, b: u8, value: Place)
 
 // Writes an entry at `at`, and gives the place behind it. `End` is no byte.
 pub fn put_entry(out: &mut [u8], at: usize, e: Entry) -> usize
-    requires { ⌜ at + sizeOf e ≤ length (now out) ⌝ }
-    ensures next { λ r. ⌜ r ≡ at + sizeOf e ⌝ }
+    requires { ⌜ at + entrySize e ≤ length (now out) ⌝ }
+    ensures next { λ r. ⌜ r ≡ at + entrySize e ⌝ }
     ensures wrote { λ _. ⌜ now (out .exit) ≡ over (now (out .entry)) at (entryBytes e) ⌝ }
 {
     let next = at + entries::size(e);

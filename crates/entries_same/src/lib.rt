@@ -7,7 +7,7 @@ ghost use Prim.Native.Nat.{_≤_, _+_};
 ghost use lib.ListN.{length, drop};
 ghost use Rattle.format.specs.Bytes.{starts};
 ghost use Rattle.format.specs.Catalogue.{little};
-ghost use Rattle.entries.specs.Entries.{sizeOf, entryBytes};
+ghost use Rattle.entries.specs.Entries.{entrySize, entryBytes};
 
 // Whether two numbers stand at `at`, in four bytes each.
 fn has_numbers(s: &[u8], at: usize, a: u32, b: u32) -> bool
@@ -76,7 +76,7 @@ pub fn same_field(catalogue: &[u8], at: usize, a: u8, b: u8, value: Place) -> bo
 
 // Whether an entry stands at `at`, which is long enough for it. `End` is no byte.
 fn has_entry(s: &[u8], at: usize, e: Entry) -> bool
-    requires { ⌜ at + sizeOf e ≤ length (now s) ⌝ }
+    requires { ⌜ at + entrySize e ≤ length (now s) ⌝ }
     ensures { λ r. ⌜ r ≡ starts (entryBytes e) (drop at (now (s .entry))) ⌝ }
 {
     match e {

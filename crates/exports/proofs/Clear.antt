@@ -6,7 +6,7 @@ use native.Mathlib.Omega.{arith}
 use lib.ListN.{length}
 use Rattle.format.specs.Lines.{Piece}
 use Rattle.format.specs.Calls.{yes, keying, valuing, leafing}
-use Rattle.calls.specs.Answers.{keyOf, placeOf, leavesOf}
+use Rattle.calls.specs.Answers.{keyAnswerOf, valuePlaceOf, leavesAnswerOf}
 use Rattle.calls.proofs.Bound.{hops-few, leaves-few}
 use Rattle.calls.proofs.Told.{key-short, value-short}
 use Rattle.words.specs.Words.{leavesWord, pairWord, keyWord, fieldWord}
@@ -16,16 +16,16 @@ unfolding pairWord
 place-clear p h = omega (arith, h)
 
 module _ (t c : List ℕ) where
-  pub leaves-clear : (room : ℕ) (xs : List ℕ) (h : ℕ) → leafing t c room ≡ yes (xs, h) → leavesWord (leavesOf (leafing t c room)) < 2 ^ 63
-  unfolding leavesWord leavesOf pairWord
+  pub leaves-clear : (room : ℕ) (xs : List ℕ) (h : ℕ) → leafing t c room ≡ yes (xs, h) → leavesWord (leavesAnswerOf (leafing t c room)) < 2 ^ 63
+  unfolding leavesWord leavesAnswerOf pairWord
   leaves-clear room xs h is =
       let z : h * 2 ^ 32 + length xs < 2 ^ 63 = omega (arith, hops-few t c room xs h is, leaves-few t c room xs h is) in
-      subst (λ a. leavesWord (leavesOf a) < 2 ^ 63) (sym is) z
+      subst (λ a. leavesWord (leavesAnswerOf a) < 2 ^ 63) (sym is) z
 
-  pub key-clear : (k i : ℕ) (p : Piece) → keying t c k i ≡ yes p → keyWord (keyOf (keying t c k i)) < 2 ^ 63
-  unfolding keyWord keyOf
-  key-clear k i p is = subst (λ a. keyWord (keyOf a) < 2 ^ 63) (sym is) (place-clear p (key-short t c k i p is))
+  pub key-clear : (k i : ℕ) (p : Piece) → keying t c k i ≡ yes p → keyWord (keyAnswerOf (keying t c k i)) < 2 ^ 63
+  unfolding keyWord keyAnswerOf
+  key-clear k i p is = subst (λ a. keyWord (keyAnswerOf a) < 2 ^ 63) (sym is) (place-clear p (key-short t c k i p is))
 
-  pub field-clear : (k i a b : ℕ) (p : Piece) → valuing t c k i a b ≡ yes p → fieldWord (placeOf (valuing t c k i a b)) < 2 ^ 63
-  unfolding fieldWord placeOf
-  field-clear k i a b p is = subst (λ v. fieldWord (placeOf v) < 2 ^ 63) (sym is) (place-clear p (value-short t c k i a b p is))
+  pub field-clear : (k i a b : ℕ) (p : Piece) → valuing t c k i a b ≡ yes p → fieldWord (valuePlaceOf (valuing t c k i a b)) < 2 ^ 63
+  unfolding fieldWord valuePlaceOf
+  field-clear k i a b p is = subst (λ v. fieldWord (valuePlaceOf v) < 2 ^ 63) (sym is) (place-clear p (value-short t c k i a b p is))

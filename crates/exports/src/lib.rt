@@ -8,7 +8,7 @@ ghost use Rattle.format.specs.Calls.{reading, fresh, tidying, counting, keying,
 ghost use Rattle.names.specs.Batch.{batching};
 ghost use Rattle.names.specs.Answers.{namesOf, resultsOf, slotsOf};
 ghost use Rattle.parser.specs.Answers.{answerOf, outputOf, checkedOf};
-ghost use Rattle.calls.specs.Answers.{countOf, keyOf, lengthOf, leavesOf, listOf, placeOf};
+ghost use Rattle.calls.specs.Answers.{countOf, keyAnswerOf, lengthAnswerOf, leavesAnswerOf, listOf, valuePlaceOf};
 ghost use Rattle.words.specs.Words.{answerWord, checkedWord, leavesWord, keyWord, fieldWord, lengthWord, lengthLeft, namesWord, namesLeft};
 
 #[no_mangle]
@@ -51,7 +51,7 @@ pub extern "C" fn sam_header_roots(text: &[u8], catalogue: &[u8], out: &mut [u32
 
 #[no_mangle]
 pub extern "C" fn sam_header_leaves(text: &[u8], catalogue: &[u8], out: &mut [u32]) -> u64
-    ensures answer { λ r. ⌜ r ≡ leavesWord (leavesOf (leafing (now (text .entry)) (now (catalogue .entry)) (length (now (out .entry))))) ⌝ }
+    ensures answer { λ r. ⌜ r ≡ leavesWord (leavesAnswerOf (leafing (now (text .entry)) (now (catalogue .entry)) (length (now (out .entry))))) ⌝ }
     ensures wrote { λ _. ⌜ now (out .exit) ≡ outputOf (listOf (leafing (now (text .entry)) (now (catalogue .entry)) (length (now (out .entry))))) (now (out .entry)) ⌝ }
 {
     match calls::leaves(text, catalogue, out) {
@@ -62,7 +62,7 @@ pub extern "C" fn sam_header_leaves(text: &[u8], catalogue: &[u8], out: &mut [u3
 
 #[no_mangle]
 pub extern "C" fn sam_header_key(text: &[u8], catalogue: &[u8], kind: u8, ordinal: u32) -> u64
-    ensures { λ r. ⌜ r ≡ keyWord (keyOf (keying (now (text .entry)) (now (catalogue .entry)) kind ordinal)) ⌝ }
+    ensures { λ r. ⌜ r ≡ keyWord (keyAnswerOf (keying (now (text .entry)) (now (catalogue .entry)) kind ordinal)) ⌝ }
 {
     words::key_word(calls::key(text, catalogue, kind, ordinal))
 }
@@ -74,8 +74,8 @@ pub extern "C" fn sam_header_length(
     ordinal: u32,
     ln: &mut u64,
 ) -> u64
-    ensures answer { λ r. ⌜ r ≡ lengthWord (lengthOf (sizing (now (text .entry)) (now (catalogue .entry)) ordinal)) ⌝ }
-    ensures wrote { λ _. ⌜ now (ln .exit) ≡ lengthLeft (lengthOf (sizing (now (text .entry)) (now (catalogue .entry)) ordinal)) (now (ln .entry)) ⌝ }
+    ensures answer { λ r. ⌜ r ≡ lengthWord (lengthAnswerOf (sizing (now (text .entry)) (now (catalogue .entry)) ordinal)) ⌝ }
+    ensures wrote { λ _. ⌜ now (ln .exit) ≡ lengthLeft (lengthAnswerOf (sizing (now (text .entry)) (now (catalogue .entry)) ordinal)) (now (ln .entry)) ⌝ }
 {
     match calls::length(text, catalogue, ordinal) {
         LengthAnswer::Refused(n, line) => words::refusal_word(n, line),
@@ -95,7 +95,7 @@ pub extern "C" fn sam_header_field(
     tag_0: u8,
     tag_1: u8,
 ) -> u64
-    ensures { λ r. ⌜ r ≡ fieldWord (placeOf (valuing (now (text .entry)) (now (catalogue .entry)) kind ordinal tag_0 tag_1)) ⌝ }
+    ensures { λ r. ⌜ r ≡ fieldWord (valuePlaceOf (valuing (now (text .entry)) (now (catalogue .entry)) kind ordinal tag_0 tag_1)) ⌝ }
 {
     words::field_word(calls::place(text, catalogue, kind, ordinal, tag_0, tag_1))
 }

@@ -12,54 +12,54 @@ use borrow.Author.Tests.{eqb-false}
 use Rattle.format.specs.Bytes.{none?}
 use Rattle.format.specs.Decimal.{worth}
 use Rattle.format.specs.Decimal.{span}
-use Rattle.format.specs.Fields.{Field, Judged, good, bad, goodThen, isValue, isWide, allows, plain, spelled, versionField, lengthField, valueField, isTag, field}
+use Rattle.format.specs.Fields.{Field, JudgedPiece, good, refusedPiece, goodThen, isValue, isWide, allows, plain, spelled, versionField, lengthField, valueField, isTag, field}
 use Rattle.format.specs.Fields as fields
 use Rattle.format.specs.Version.{version}
 use Rattle.format.specs.declared.Version.{Version}
 use Rattle.format.specs.declared.Kind.{Kind}
 use Rattle.format.specs.declared.Kind.the-variants.{Header, ReferenceSequence}
 use Rattle.text.specs.Upto.{before}
-use Rattle.field.specs.Parsed.{parsedOf, valued, isVersion, isLength}
+use Rattle.field.specs.Parsed.{parsedOf, fieldNumbers, isVersion, isLength}
 use Rattle.field.proofs.Judged.{some-value, none-allowed, judged-length, judged-version, judged-plain}
 use Rattle.field.proofs.Next.{then-onward}
 
 -- an accepted field is not answered as a refusal, has a value of at least one byte, and LN of SQ is at least 1
 pub record Told (k : Kind) (f : Field) : Type 0 where
-  pub stop : valued k f .stop ≡ 0
+  pub stop : fieldNumbers k f .stop ≡ 0
   pub some : length (f .value .bytes) ≡ 0 → ⊥
   pub sized : isLength k (f .tag₀) (f .tag₁) ≡ true → worth (f .value .bytes) ≡ 0 → ⊥
 
 -- a refusal has a number
-unfoldable Sound : Kind → Judged → Type 0
-Sound k (bad n) = n ≡ 0 → ⊥
+unfoldable Sound : Kind → JudgedPiece → Type 0
+Sound k (refusedPiece n) = n ≡ 0 → ⊥
 Sound k (good f) = Told k f
 Sound k (goodThen f m) = Told k f
 
 plain-sound : (k : Kind) (a b at : ℕ) (v : List ℕ) → isLength k a b ≡ false → isVersion k a b ≡ false → Sound k (plain k a b at v)
-unfolding Sound plain valued
+unfolding Sound plain fieldNumbers
 plain-sound k a b at v e d = go (allows k a b v) refl
   where
     f : Field
     f = record { tag₀ = a; tag₁ = b; value = record { at = at; bytes = v } }
 
-    go : (t : Bool) → allows k a b v ≡ t → Sound k (cond t (good f) (bad 10))
+    go : (t : Bool) → allows k a b v ≡ t → Sound k (cond t (good f) (refusedPiece 10))
     go true q = record { stop = rw (e, d) refl; some = some-value (allows k a b) (none-allowed k a b) v q; sized = λ l. absurd (false≢true (sym e ∙ l)) }
     go false q = λ z. omega arith
 
 version-sound : (at : ℕ) (v : List ℕ) → Sound Header (versionField at v)
-unfolding Sound versionField plain valued isLength allows isWide isValue
+unfolding Sound versionField plain fieldNumbers isLength allows isWide isValue
 version-sound at v = go (isValue v) refl (version v) refl
   where
     f : Field
     f = record { tag₀ = 86; tag₁ = 78; value = record { at = at; bytes = v } }
 
-    go : (t : Bool) → isValue v ≡ t → (o : Option Version) → version v ≡ o → Sound Header (cond t (spelled o (cond t (good f) (bad 10))) (bad 10))
+    go : (t : Bool) → isValue v ≡ t → (o : Option Version) → version v ≡ o → Sound Header (cond t (spelled o (cond t (good f) (refusedPiece 10))) (refusedPiece 10))
     go true q none k = λ z. omega arith
     go true q (some w) k = record { stop = rw k refl; some = some-value isValue refl v q; sized = λ l. absurd (false≢true l) }
     go false q o k = λ z. omega arith
 
 length-sound : (at : ℕ) (ds more : List ℕ) → Sound ReferenceSequence (lengthField at (ds, more))
-unfolding Sound lengthField valued
+unfolding Sound lengthField fieldNumbers
 length-sound at [] more = λ z. omega arith
 length-sound at (b ∷ ds) more =
     go (not (ltb (worth (b ∷ ds)) 18446744073709551616)) (eqb (worth (b ∷ ds)) 0) refl (not (ltb (worth (b ∷ ds)) 2147483648)) (none? more)
@@ -71,7 +71,7 @@ length-sound at (b ∷ ds) more =
     told e = record { stop = refl; some = λ z. omega arith; sized = λ l. eqb-false (worth (b ∷ ds)) 0 e }
 
     go : (t u : Bool) → eqb (worth (b ∷ ds)) 0 ≡ u → (v w : Bool)
-        → Sound ReferenceSequence (cond t (bad 12) (cond u (bad 13) (cond v (bad 27) (cond w (good f) (goodThen f 6)))))
+        → Sound ReferenceSequence (cond t (refusedPiece 12) (cond u (refusedPiece 13) (cond v (refusedPiece 27) (cond w (good f) (goodThen f 6)))))
     go true u e v w = λ z. omega arith
     go false true e v w = λ z. omega arith
     go false false e true w = λ z. omega arith
@@ -94,24 +94,24 @@ field-sound k at [] = λ z. omega arith
 field-sound k at (a ∷ []) = λ z. omega arith
 field-sound k at (a ∷ b ∷ []) = go (isTag a b)
   where
-    go : (t : Bool) → Sound k (cond t (bad 9) (bad 8))
+    go : (t : Bool) → Sound k (cond t (refusedPiece 9) (refusedPiece 8))
     go true = λ z. omega arith
     go false = λ z. omega arith
 field-sound k at (a ∷ b ∷ c ∷ v) = go (isTag a b) (eqb c 58)
   where
-    go : (t u : Bool) → Sound k (cond t (cond u (valueField k a b (at + 3) v) (bad 9)) (bad 8))
+    go : (t u : Bool) → Sound k (cond t (cond u (valueField k a b (at + 3) v) (refusedPiece 9)) (refusedPiece 8))
     go true true = value-sound k a b (at + 3) v
     go true false = λ z. omega arith
     go false u = λ z. omega arith
 
 -- ---- what an answer says
 
-pub parsed-bad : (k : Kind) (at : ℕ) (p : List ℕ) → (parsedOf k (field k at p) .stop ≡ 0 → ⊥) → field k at p ≡ bad (parsedOf k (field k at p) .stop)
+pub parsed-bad : (k : Kind) (at : ℕ) (p : List ℕ) → (parsedOf k (field k at p) .stop ≡ 0 → ⊥) → field k at p ≡ refusedPiece (parsedOf k (field k at p) .stop)
 unfolding Sound parsedOf
 parsed-bad k at p n = go (field k at p) (field-sound k at p) n
   where
-    go : (j : Judged) → Sound k j → (parsedOf k j .stop ≡ 0 → ⊥) → j ≡ bad (parsedOf k j .stop)
-    go (bad m) h n = refl
+    go : (j : JudgedPiece) → Sound k j → (parsedOf k j .stop ≡ 0 → ⊥) → j ≡ refusedPiece (parsedOf k j .stop)
+    go (refusedPiece m) h n = refl
     go (good f) h n = absurd (n (h .stop))
     go (goodThen f m) h n = absurd (n (h .stop))
 
@@ -125,7 +125,7 @@ pub parsed-found : (k : Kind) (at : ℕ) (s : List ℕ) → parsedOf k (field k 
 unfolding Sound parsedOf
 parsed-found k at s z = go (field k at (before 9 s)) refl (field-sound k at (before 9 s)) z
   where
-    go : (j : Judged) → field k at (before 9 s) ≡ j → Sound k j → parsedOf k j .stop ≡ 0 → Found k at s
-    go (bad m) e h z = absurd (h z)
+    go : (j : JudgedPiece) → field k at (before 9 s) ≡ j → Sound k j → parsedOf k j .stop ≡ 0 → Found k at s
+    go (refusedPiece m) e h z = absurd (h z)
     go (good f) e h z = record { field = f; told = h; judged = inl e }
     go (goodThen f n) e h z = record { field = f; told = h; judged = inr (e ∙ ap (goodThen f) (then-onward k at s f n e .1)) }

@@ -5,7 +5,7 @@ use mathlib.Core.Bool.{Bool, true, false, cond}
 use mathlib.Core.List.{List, [], _∷_}
 use lib.Dec.{eqb}
 use borrow.Author.Tests.{eqb-true, eqb-false}
-use Rattle.format.specs.Fields.{bad, allows, field, valueField, isTag}
+use Rattle.format.specs.Fields.{refusedPiece, allows, field, valueField, isTag}
 use Rattle.format.specs.declared.Kind.{Kind}
 use Rattle.field.specs.Parsed.{takenOf, isVersion, isLength, parsedOf}
 use Rattle.field.proofs.Judged.{value-length, value-none, value-version, value-kept}
@@ -29,7 +29,7 @@ field-anywhere k at (a ∷ b ∷ []) = refl
 field-anywhere k at (a ∷ b ∷ c ∷ v) = go (isTag a b) (eqb c 58)
   where
     go : (t u : Bool)
-        → parsedOf k (cond t (cond u (valueField k a b (at + 3) v) (bad 9)) (bad 8)) ≡ parsedOf k (cond t (cond u (valueField k a b 3 v) (bad 9)) (bad 8))
+        → parsedOf k (cond t (cond u (valueField k a b (at + 3) v) (refusedPiece 9)) (refusedPiece 8)) ≡ parsedOf k (cond t (cond u (valueField k a b 3 v) (refusedPiece 9)) (refusedPiece 8))
     go true true = value-anywhere a b (at + 3) 3 v k
     go true false = refl
     go false u = refl

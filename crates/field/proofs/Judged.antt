@@ -7,20 +7,20 @@ use mathlib.Core.Option.{Option, none, some}
 use native.Mathlib.Omega.{arith}
 use lib.ListN.{length}
 use lib.Dec.{eqb, ltb}
-use Rattle.decimal.specs.Number.{counted}
+use Rattle.decimal.specs.Number.{digitsNumber}
 use Rattle.decimal.specs.declared.Number.{Number}
 use Rattle.decimal.specs.declared.Number.the-variants as number
 use Rattle.format.specs.Bytes.{none?}
 use Rattle.format.specs.Decimal.{worth}
 use Rattle.format.specs.Decimal.{span}
-use Rattle.format.specs.Fields.{isValue, isWideValue, isWide, allows, good, bad, goodThen, plain, spelled, versionField, lengthField, valueField}
+use Rattle.format.specs.Fields.{isValue, isWideValue, isWide, allows, good, refusedPiece, goodThen, plain, spelled, versionField, lengthField, valueField}
 use Rattle.format.specs.Fields as fields
 use Rattle.format.specs.Version.{version}
 use Rattle.format.specs.declared.Version.{Version}
 use Rattle.format.specs.declared.Kind.{Kind}
 use Rattle.format.specs.declared.Kind.the-variants.{Header, ReferenceSequence, ReadGroup, Program, Comment}
-use Rattle.field.specs.Parsed.{takenOf, refusedBy, keptBy, versionedBy, sizedBy, isVersion, isLength, parsedOf, valued}
-use Rattle.field.specs.declared.Field.{Field}
+use Rattle.field.specs.Parsed.{takenOf, refusedBy, keptBy, versionedBy, sizedBy, isVersion, isLength, parsedOf, fieldNumbers}
+use Rattle.field.specs.declared.ParsedField.{ParsedField}
 
 -- ---- what taking a value tells
 
@@ -63,13 +63,13 @@ header-value k a b v e = ap (λ l. allows l a b v) (sym e)
 -- ---- LN of SQ
 
 -- what stands at the front as a number
-unfoldable pub lengthBy : Number → Field
+unfoldable pub lengthBy : Number → ParsedField
 lengthBy number.NoDigit = refusedBy 12
 lengthBy number.TooLarge = refusedBy 12
 lengthBy (number.Is n k) = cond (eqb n 0) (refusedBy 13) (cond (ltb n (2 ^ 31)) (sizedBy k n) (refusedBy 27))
 
-pub length-sized : (at : ℕ) (ds rest : List ℕ) → parsedOf ReferenceSequence (lengthField at (ds, rest)) ≡ lengthBy (counted (2 ^ 64) ds)
-unfolding parsedOf lengthField lengthBy counted
+pub length-sized : (at : ℕ) (ds rest : List ℕ) → parsedOf ReferenceSequence (lengthField at (ds, rest)) ≡ lengthBy (digitsNumber (2 ^ 64) ds)
+unfolding parsedOf lengthField lengthBy digitsNumber
 length-sized at [] rest = refl
 length-sized at (b ∷ ds) rest = go (ltb n (2 ^ 64)) (eqb n 0) refl (ltb n (2 ^ 31)) refl (none? rest)
   where
@@ -80,7 +80,7 @@ length-sized at (b ∷ ds) rest = go (ltb n (2 ^ 64)) (eqb n 0) refl (ltb n (2 ^
     n = worth (b ∷ ds)
 
     go : (t u : Bool) → eqb n 0 ≡ u → (v : Bool) → ltb n (2 ^ 31) ≡ v → (w : Bool)
-        → parsedOf ReferenceSequence (cond (not t) (bad 12) (cond u (bad 13) (cond (not v) (bad 27) (cond w (good f) (goodThen f 6)))))
+        → parsedOf ReferenceSequence (cond (not t) (refusedPiece 12) (cond u (refusedPiece 13) (cond (not v) (refusedPiece 27) (cond w (good f) (goodThen f 6)))))
         ≡ lengthBy (cond t (number.Is n (length (b ∷ ds))) number.TooLarge)
     go true true k v l w = rw k refl
     go true false k true l true = rw (k, l) refl
@@ -119,7 +119,7 @@ module _ (a b at : ℕ) (v : List ℕ) where
 
   -- ---- what is answered
 
-  pub value-length : (k : Kind) → isLength k a b ≡ true → parsedOf k (valueField k a b at v) ≡ lengthBy (counted (2 ^ 64) (span v .0))
+  pub value-length : (k : Kind) → isLength k a b ≡ true → parsedOf k (valueField k a b at v) ≡ lengthBy (digitsNumber (2 ^ 64) (span v .0))
   value-length k e =
       let j = judged-length k e in
       ap (parsedOf k) (j .1) ∙ ap (λ l. parsedOf l (lengthField at (span v))) (j .0) ∙ length-sized at (span v .0) (span v .1)
@@ -137,7 +137,7 @@ module _ (a b at : ℕ) (v : List ℕ) where
 
   pub value-version : (k : Kind) → isVersion k a b ≡ true → (takenOf (allows k a b) v ≡ 0 → ⊥)
       → parsedOf k (valueField k a b at v) ≡ versionedBy (takenOf (allows k a b) v) (version v)
-  unfolding parsedOf plain versionField valued allows isWide
+  unfolding parsedOf plain versionField fieldNumbers allows isWide
   value-version k d z =
       let j = judged-version k d in
       let w = a-value (allows k a b) v z in
@@ -152,5 +152,5 @@ module _ (a b at : ℕ) (v : List ℕ) where
 
   pub value-kept : (k : Kind) → isLength k a b ≡ false → isVersion k a b ≡ false → (takenOf (allows k a b) v ≡ 0 → ⊥)
       → parsedOf k (valueField k a b at v) ≡ keptBy a b (takenOf (allows k a b) v)
-  unfolding parsedOf plain valued
+  unfolding parsedOf plain fieldNumbers
   value-kept k e d z = ap (parsedOf k) (judged-plain k e d) ∙ rw (a-value (allows k a b) v z .0, a-value (allows k a b) v z .1, e, d) refl

@@ -12,7 +12,7 @@ use borrow.Author.Tests.{eqb-true}
 use Rattle.format.specs.Bytes.{digit, none?}
 use Rattle.format.specs.Decimal.{worth}
 use Rattle.format.specs.Decimal.{span}
-use Rattle.format.specs.Fields.{Field, Judged, good, bad, goodThen, isValue, allows, plain, spelled, versionField, lengthField, valueField, isTag, field}
+use Rattle.format.specs.Fields.{Field, JudgedPiece, good, refusedPiece, goodThen, isValue, allows, plain, spelled, versionField, lengthField, valueField, isTag, field}
 use Rattle.format.specs.Version.{version}
 use Rattle.format.specs.declared.Version.{Version}
 use Rattle.format.specs.declared.Kind.{Kind}
@@ -31,8 +31,8 @@ pub record Kept (a b at : ℕ) (p : List ℕ) (f : Field) : Type 0 where
   pub bytes : f .value .bytes ≡ take (length (f .value .bytes)) p
 
 -- its value is all of `p`, or `p` goes on where a tab is due
-unfoldable pub Used : ℕ → ℕ → ℕ → List ℕ → Judged → Type 0
-Used a b at p (bad n) = Unit
+unfoldable pub Used : ℕ → ℕ → ℕ → List ℕ → JudgedPiece → Type 0
+Used a b at p (refusedPiece n) = Unit
 Used a b at p (good f) = Kept a b at p f × (length (f .value .bytes) ≡ length p)
 Used a b at p (goodThen f n) = Kept a b at p f × (n ≡ 6) × (length (f .value .bytes) < length p)
 
@@ -40,7 +40,7 @@ plain-used : (k : Kind) (a b at : ℕ) (p : List ℕ) → Used a b at p (plain k
 unfolding Used plain
 plain-used k a b at p = go (allows k a b p)
   where
-    go : (t : Bool) → Used a b at p (cond t (good (record { tag₀ = a; tag₁ = b; value = record { at = at; bytes = p } })) (bad 10))
+    go : (t : Bool) → Used a b at p (cond t (good (record { tag₀ = a; tag₁ = b; value = record { at = at; bytes = p } })) (refusedPiece 10))
     go true = (record { first = refl; second = refl; starts = refl; bytes = sym (take-length p) }, refl)
     go false = tt
 
@@ -48,7 +48,7 @@ version-used : (at : ℕ) (p : List ℕ) → Used 86 78 at p (versionField at p)
 unfolding Used versionField
 version-used at p = go (isValue p) (version p)
   where
-    go : (t : Bool) (o : Option Version) → Used 86 78 at p (cond t (spelled o (plain Header 86 78 at p)) (bad 10))
+    go : (t : Bool) (o : Option Version) → Used 86 78 at p (cond t (spelled o (plain Header 86 78 at p)) (refusedPiece 10))
     go true none = tt
     go true (some v) = plain-used Header 86 78 at p
     go false o = tt
@@ -77,7 +77,7 @@ length-used at ds more = go (none? ds || not (ltb (worth ds) 1844674407370955161
     kept l = record { first = refl; second = refl; starts = refl; bytes = sym (take-append-seam ds l) }
 
     go : (t u v : Bool) (l : List ℕ)
-        → Used 76 78 at (ds ++ l) (cond t (bad 12) (cond u (bad 13) (cond v (bad 27) (cond (none? l) (good f) (goodThen f 6)))))
+        → Used 76 78 at (ds ++ l) (cond t (refusedPiece 12) (cond u (refusedPiece 13) (cond v (refusedPiece 27) (cond (none? l) (good f) (goodThen f 6)))))
     go true u v l = tt
     go false true v l = tt
     go false false true l = tt
@@ -109,8 +109,8 @@ value-used Comment a b at p = plain-used Comment a b at p
 -- ---- a field at the front of `s`, its first byte at `at`
 
 -- its piece is used up, or goes on where a tab is due
-unfoldable pub Onward : ℕ → List ℕ → Judged → Type 0
-Onward at s (bad n) = Unit
+unfoldable pub Onward : ℕ → List ℕ → JudgedPiece → Type 0
+Onward at s (refusedPiece n) = Unit
 Onward at s (good f) = Kept (getD s 0 0) (getD s 1 0) (at + 3) (drop 3 s) f × (3 + length (f .value .bytes) ≡ upto 9 s)
 Onward at s (goodThen f n) = Kept (getD s 0 0) (getD s 1 0) (at + 3) (drop 3 s) f × (n ≡ 6) × (3 + length (f .value .bytes) < upto 9 s)
 
@@ -126,9 +126,9 @@ longer a b at v f h l =
     }
 
 onward : (a b c at : ℕ) (v : List ℕ) → upto 9 (a ∷ b ∷ c ∷ v) ≡ 3 + upto 9 v
-    → (j : Judged) → Used a b (at + 3) (before 9 v) j → Onward at (a ∷ b ∷ c ∷ v) j
+    → (j : JudgedPiece) → Used a b (at + 3) (before 9 v) j → Onward at (a ∷ b ∷ c ∷ v) j
 unfolding Used Onward
-onward a b c at v up (bad n) h = tt
+onward a b c at v up (refusedPiece n) h = tt
 onward a b c at v up (good f) h =
     let l : length (before 9 v) ≡ upto 9 v = before-length 9 v in
     (longer a b (at + 3) v f (h .0) (omega (arith, h .1, l)), omega (arith, h .1, l, up))
@@ -142,13 +142,13 @@ place-onward k at [] = tt
 place-onward k at (a ∷ []) = tt
 place-onward k at (a ∷ b ∷ []) = go (isTag a b)
   where
-    go : (t : Bool) → Onward at (a ∷ b ∷ []) (cond t (bad 9) (bad 8))
+    go : (t : Bool) → Onward at (a ∷ b ∷ []) (cond t (refusedPiece 9) (refusedPiece 8))
     go true = tt
     go false = tt
 place-onward k at (a ∷ b ∷ c ∷ v) = go (isTag a b) refl (eqb c 58) refl
   where
     go : (t : Bool) → isTag a b ≡ t → (u : Bool) → eqb c 58 ≡ u
-        → Onward at (a ∷ b ∷ c ∷ v) (cond t (cond u (valueField k a b (at + 3) (before 9 v)) (bad 9)) (bad 8))
+        → Onward at (a ∷ b ∷ c ∷ v) (cond t (cond u (valueField k a b (at + 3) (before 9 v)) (refusedPiece 9)) (refusedPiece 8))
     go true e true f = onward a b c at v (upto-value a b c v e f) (valueField k a b (at + 3) (before 9 v)) (value-used k a b (at + 3) (before 9 v))
     go true e false f = tt
     go false e u f = tt

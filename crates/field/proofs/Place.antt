@@ -9,21 +9,21 @@ use lib.Seq.{drop-cons}
 use lib.Dec.{eqb}
 use borrow.Author.Tests.{eq-eqb, ne-eqb, eqb-true}
 use Rattle.format.specs.Bytes.{letter}
-use Rattle.format.specs.Fields.{Judged, bad, field, valueField, isTag}
+use Rattle.format.specs.Fields.{JudgedPiece, refusedPiece, field, valueField, isTag}
 use Rattle.format.specs.declared.Kind.{Kind}
 use Rattle.text.specs.Upto.{upto, before}
 use Rattle.field.proofs.Before.{before-stop, before-pass}
 
 -- what is due after the tag `a`, `b`
-unfoldable pub colonAt : Kind → ℕ → ℕ → ℕ → List ℕ → Judged
-colonAt k a b at [] = bad 9
-colonAt k a b at (c ∷ v) = cond (eqb c 58) (valueField k a b at (before 9 v)) (bad 9)
+unfoldable pub colonAt : Kind → ℕ → ℕ → ℕ → List ℕ → JudgedPiece
+colonAt k a b at [] = refusedPiece 9
+colonAt k a b at (c ∷ v) = cond (eqb c 58) (valueField k a b at (before 9 v)) (refusedPiece 9)
 
-unfoldable pub inPlace : Kind → ℕ → List ℕ → Judged
+unfoldable pub inPlace : Kind → ℕ → List ℕ → JudgedPiece
 unfolding colonAt
-inPlace k at [] = bad 8
-inPlace k at (a ∷ []) = bad 8
-inPlace k at (a ∷ b ∷ w) = cond (isTag a b) (colonAt k a b (at + 3) w) (bad 8)
+inPlace k at [] = refusedPiece 8
+inPlace k at (a ∷ []) = refusedPiece 8
+inPlace k at (a ∷ b ∷ w) = cond (isTag a b) (colonAt k a b (at + 3) w) (refusedPiece 8)
 
 tab-first : (a b : ℕ) → eqb a 9 ≡ true → isTag a b ≡ false
 unfolding isTag
@@ -59,12 +59,12 @@ unfolding field inPlace before
 field-in-place k at [] = refl
 field-in-place k at (a ∷ []) = go (eqb a 9)
   where
-    go : (t : Bool) → field k at (take (cond t 0 1) (a ∷ [])) ≡ bad 8
+    go : (t : Bool) → field k at (take (cond t 0 1) (a ∷ [])) ≡ refusedPiece 8
     go true = refl
     go false = refl
 field-in-place k at (a ∷ b ∷ w) = go (eqb a 9) refl (eqb b 9) refl
   where
-    no-tag : isTag a b ≡ false → bad 8 ≡ inPlace k at (a ∷ b ∷ w)
+    no-tag : isTag a b ≡ false → refusedPiece 8 ≡ inPlace k at (a ∷ b ∷ w)
     no-tag e = sym (rw e refl)
 
     go : (t : Bool) → eqb a 9 ≡ t → (u : Bool) → eqb b 9 ≡ u → field k at (before 9 (a ∷ b ∷ w)) ≡ inPlace k at (a ∷ b ∷ w)
@@ -77,13 +77,13 @@ field-in-place k at (a ∷ b ∷ w) = go (eqb a 9) refl (eqb b 9) refl
 -- ---- as the bytes are looked at, one after the other
 
 module _ (k : Kind) (at : ℕ) where
-  pub place-short : (s : List ℕ) → length s < 2 → inPlace k at s ≡ bad 8
+  pub place-short : (s : List ℕ) → length s < 2 → inPlace k at s ≡ refusedPiece 8
   unfolding inPlace
   place-short [] h = refl
   place-short (a ∷ []) h = refl
   place-short (a ∷ b ∷ w) h = absurd (omega arith)
 
-  pub place-tag : (s : List ℕ) → 2 ≤ length s → isTag (getD s 0 0) (getD s 1 0) ≡ false → inPlace k at s ≡ bad 8
+  pub place-tag : (s : List ℕ) → 2 ≤ length s → isTag (getD s 0 0) (getD s 1 0) ≡ false → inPlace k at s ≡ refusedPiece 8
   unfolding inPlace
   place-tag [] h e = absurd (omega arith)
   place-tag (a ∷ []) h e = absurd (omega arith)
@@ -97,11 +97,11 @@ module _ (k : Kind) (at : ℕ) where
   place-colon (a ∷ b ∷ w) h e = rw e refl
 
 module _ (k : Kind) (a b at : ℕ) (s : List ℕ) where
-  pub colon-none : length s ≡ 2 → colonAt k a b at (drop 2 s) ≡ bad 9
+  pub colon-none : length s ≡ 2 → colonAt k a b at (drop 2 s) ≡ refusedPiece 9
   unfolding colonAt
   colon-none h = let g : length s ≤ 2 = omega arith in rw (drop-of-length-le s g) refl
 
-  pub colon-other : 2 < length s → (getD s 2 0 ≡ 58 → ⊥) → colonAt k a b at (drop 2 s) ≡ bad 9
+  pub colon-other : 2 < length s → (getD s 2 0 ≡ 58 → ⊥) → colonAt k a b at (drop 2 s) ≡ refusedPiece 9
   unfolding colonAt
   colon-other h n = rw (drop-cons s 2 0 h, ne-eqb _ _ n) refl
 

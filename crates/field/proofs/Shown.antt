@@ -13,12 +13,12 @@ use Rattle.format.specs.Version.{version}
 use Rattle.format.specs.declared.Version.{Version}
 use Rattle.format.specs.declared.Kind.{Kind}
 use Rattle.format.specs.declared.Kind.the-variants.{Header, ReferenceSequence, ReadGroup, Program, Comment}
-use Rattle.field.specs.declared.Field as code
-use Rattle.field.specs.Parsed.{keptBy, versionedBy, sizedBy, isVersion, isLength, valued}
+use Rattle.field.specs.declared.ParsedField as code
+use Rattle.field.specs.Parsed.{keptBy, versionedBy, sizedBy, isVersion, isLength, fieldNumbers}
 use Rattle.field.proofs.Answer.{Told}
 
 -- the tag and the length that are answered are the field's
-pub record Shown (f : Field) (g : code.Field) : Type 0 where
+pub record Shown (f : Field) (g : code.ParsedField) : Type 0 where
   pub first : g .«tag_0» ≡ f .tag₀
   pub second : g .«tag_1» ≡ f .tag₁
   pub len : g .len ≡ length (f .value .bytes)
@@ -59,16 +59,16 @@ module _ (k : Kind) (f : Field) where
   size : ℕ
   size = length (f .value .bytes)
 
-  pub valued-length : isLength k (f .tag₀) (f .tag₁) ≡ true → valued k f ≡ sizedBy (length (f .value .bytes)) (worth (f .value .bytes))
-  unfolding valued
+  pub valued-length : isLength k (f .tag₀) (f .tag₁) ≡ true → fieldNumbers k f ≡ sizedBy (length (f .value .bytes)) (worth (f .value .bytes))
+  unfolding fieldNumbers
   valued-length h = rw h refl
 
-  pub valued-kept : isLength k (f .tag₀) (f .tag₁) ≡ false → isVersion k (f .tag₀) (f .tag₁) ≡ false → valued k f ≡ keptBy (f .tag₀) (f .tag₁) (length (f .value .bytes))
-  unfolding valued
+  pub valued-kept : isLength k (f .tag₀) (f .tag₁) ≡ false → isVersion k (f .tag₀) (f .tag₁) ≡ false → fieldNumbers k f ≡ keptBy (f .tag₀) (f .tag₁) (length (f .value .bytes))
+  unfolding fieldNumbers
   valued-kept h n = rw (h, n) refl
 
-  valued-by : isVersion k (f .tag₀) (f .tag₁) ≡ true → valued k f ≡ versionedBy (length (f .value .bytes)) (version (f .value .bytes))
-  unfolding valued
+  valued-by : isVersion k (f .tag₀) (f .tag₁) ≡ true → fieldNumbers k f ≡ versionedBy (length (f .value .bytes)) (version (f .value .bytes))
+  unfolding fieldNumbers
   valued-by h = rw (no-version k (f .tag₀) (f .tag₁) h, h) refl
 
   module _ (t : Told k f) where
@@ -82,14 +82,14 @@ module _ (k : Kind) (f : Field) where
         go (some v) e z = (v, e)
 
     pub valued-version : (h : isVersion k (f .tag₀) (f .tag₁) ≡ true)
-        → valued k f ≡ versionedBy (length (f .value .bytes)) (some (told-version h .0))
+        → fieldNumbers k f ≡ versionedBy (length (f .value .bytes)) (some (told-version h .0))
     valued-version h = valued-by h ∙ ap (versionedBy (length (f .value .bytes))) (told-version h .1)
 
-    pub shown : Shown f (valued k f)
+    pub shown : Shown f (fieldNumbers k f)
     unfolding versionedBy
     shown = go (isLength k (f .tag₀) (f .tag₁)) refl (isVersion k (f .tag₀) (f .tag₁)) refl
       where
-        go : (l : Bool) → isLength k (f .tag₀) (f .tag₁) ≡ l → (v : Bool) → isVersion k (f .tag₀) (f .tag₁) ≡ v → Shown f (valued k f)
+        go : (l : Bool) → isLength k (f .tag₀) (f .tag₁) ≡ l → (v : Bool) → isVersion k (f .tag₀) (f .tag₁) ≡ v → Shown f (fieldNumbers k f)
         go true h v n =
             let e = length-tag k (f .tag₀) (f .tag₁) h in
             rw (valued-length h) (record { first = sym (e .0); second = sym (e .1); len = refl })

@@ -11,9 +11,9 @@ use lib.Dec.{eqb}
 use Rattle.format.specs.Decimal.{number}
 use Rattle.format.specs.Version.{sides, grow, both, numbered, version}
 use Rattle.text.specs.Upto.{upto, before}
-use Rattle.field.specs.Parsed.{partOf, spelledOf}
-use Rattle.field.specs.declared.Part.the-variants as part
-use Rattle.field.specs.declared.Spelled.the-variants as spelled
+use Rattle.field.specs.Parsed.{versionSideOf, parsedVersionOf}
+use Rattle.field.specs.declared.VersionSide.the-variants as part
+use Rattle.field.specs.declared.ParsedVersion.the-variants as spelled
 
 pub sides-none : (d : ℕ) (s : List ℕ) → upto d s ≡ length s → sides d s ≡ none
 unfolding sides upto
@@ -50,20 +50,20 @@ version-sides s i e h = rw (e, add-one (upto 46 s)) (ap numbered (sides-some 46 
 
 -- ---- what the sides answer
 
-pub no-major : (m n : Option ℕ) → part.Invalid ≡ partOf m → spelledOf (both m n) ≡ spelled.Invalid
-unfolding partOf spelledOf both
+pub no-major : (m n : Option ℕ) → part.Invalid ≡ versionSideOf m → parsedVersionOf (both m n) ≡ spelled.Invalid
+unfolding versionSideOf parsedVersionOf both
 no-major none n e = refl
 no-major (some a) n e = cc
 
-pub no-minor : (m n : Option ℕ) → part.Invalid ≡ partOf n → spelledOf (both m n) ≡ spelled.Invalid
-unfolding partOf spelledOf both
+pub no-minor : (m n : Option ℕ) → part.Invalid ≡ versionSideOf n → parsedVersionOf (both m n) ≡ spelled.Invalid
+unfolding versionSideOf parsedVersionOf both
 no-minor none n e = refl
 no-minor (some a) none e = refl
 no-minor (some a) (some b) e = cc
 
-pub major-minor : (m n : Option ℕ) (a b : ℕ) → part.Is a ≡ partOf m → part.Is b ≡ partOf n
-    → spelledOf (both m n) ≡ spelled.Is (record { major = a; minor = b })
-unfolding partOf spelledOf both
+pub major-minor : (m n : Option ℕ) (a b : ℕ) → part.Is a ≡ versionSideOf m → part.Is b ≡ versionSideOf n
+    → parsedVersionOf (both m n) ≡ spelled.Is (record { major = a; minor = b })
+unfolding versionSideOf parsedVersionOf both
 major-minor none n a b e f = cc
 major-minor (some c) none a b e f = cc
 major-minor (some c) (some d) a b e f =

@@ -9,46 +9,46 @@ use Rattle.format.specs.declared.Kind.{Kind}
 use Rattle.format.specs.declared.Kind.the-variants.{Header, ReferenceSequence, ReadGroup, Program, Comment}
 use Rattle.format.specs.declared.Version.{Version}
 use Rattle.format.specs.Decimal.{worth}
-use Rattle.format.specs.Fields.{Judged, bad, good, goodThen}
+use Rattle.format.specs.Fields.{JudgedPiece, refusedPiece, good, goodThen}
 use Rattle.format.specs.Fields as fields
 use Rattle.format.specs.Version.{version}
-use Rattle.field.specs.declared.Part.{Part}
-use Rattle.field.specs.declared.Part.the-variants as part
-use Rattle.field.specs.declared.Spelled.{Spelled}
-use Rattle.field.specs.declared.Spelled.the-variants as spelled
-use Rattle.field.specs.declared.Field.{Field}
+use Rattle.field.specs.declared.VersionSide.{VersionSide}
+use Rattle.field.specs.declared.VersionSide.the-variants as part
+use Rattle.field.specs.declared.ParsedVersion.{ParsedVersion}
+use Rattle.field.specs.declared.ParsedVersion.the-variants as spelled
+use Rattle.field.specs.declared.ParsedField.{ParsedField}
 
 -- how many of the bytes before the next tab are taken as a value: all, or none where `allowed` says that they are no value
 unfoldable pub takenOf : (List ℕ → Bool) → List ℕ → ℕ
 takenOf allowed v = cond (allowed v) (length v) 0
 
 -- one side of a version's dot
-unfoldable pub partOf : Option ℕ → Part
-partOf none = part.Invalid
-partOf (some n) = part.Is n
+unfoldable pub versionSideOf : Option ℕ → VersionSide
+versionSideOf none = part.Invalid
+versionSideOf (some n) = part.Is n
 
 -- a version, or refusal 11 (`Invalid`)
-unfoldable pub spelledOf : Option Version → Spelled
-spelledOf none = spelled.Invalid
-spelledOf (some v) = spelled.Is v
+unfoldable pub parsedVersionOf : Option Version → ParsedVersion
+parsedVersionOf none = spelled.Invalid
+parsedVersionOf (some v) = spelled.Is v
 
 -- ---- a field
 
 -- the refusal `n`
-abbrev pub refusedBy : ℕ → Field
+abbrev pub refusedBy : ℕ → ParsedField
 refusedBy n = record { stop = n; tag_0 = 0; tag_1 = 0; len = 0; major = 0; minor = 0; length = 0 }
 
 -- a value of `n` bytes that is kept as it stands
-abbrev pub keptBy : ℕ → ℕ → ℕ → Field
+abbrev pub keptBy : ℕ → ℕ → ℕ → ParsedField
 keptBy a b n = record { stop = 0; tag_0 = a; tag_1 = b; len = n; major = 0; minor = 0; length = 0 }
 
 -- VN of HD, whose value has `n` bytes, with its version
-unfoldable pub versionedBy : ℕ → Option Version → Field
+unfoldable pub versionedBy : ℕ → Option Version → ParsedField
 versionedBy n none = refusedBy 11
 versionedBy n (some v) = record { stop = 0; tag_0 = 86; tag_1 = 78; len = n; major = v .major; minor = v .minor; length = 0 }
 
 -- LN of SQ, whose value has `n` bytes, with its number
-abbrev pub sizedBy : ℕ → ℕ → Field
+abbrev pub sizedBy : ℕ → ℕ → ParsedField
 sizedBy n l = record { stop = 0; tag_0 = 76; tag_1 = 78; len = n; major = 0; minor = 0; length = l }
 
 -- VN of HD
@@ -68,16 +68,16 @@ isLength Program a b = false
 isLength Comment a b = false
 
 -- a field of a record of kind `k`: VN of HD carries its version, LN of SQ its number
-unfoldable pub valued : Kind → fields.Field → Field
+unfoldable pub fieldNumbers : Kind → fields.Field → ParsedField
 unfolding versionedBy isVersion isLength version worth
-valued k f =
+fieldNumbers k f =
     cond (isLength k (f .tag₀) (f .tag₁)) (sizedBy (length (f .value .bytes)) (worth (f .value .bytes)))
     (cond (isVersion k (f .tag₀) (f .tag₁)) (versionedBy (length (f .value .bytes)) (version (f .value .bytes)))
     (keptBy (f .tag₀) (f .tag₁) (length (f .value .bytes))))
 
 -- the refusal, or the field; what may follow its value is the next field's affair
-unfoldable pub parsedOf : Kind → Judged → Field
-unfolding valued
-parsedOf k (bad n) = refusedBy n
-parsedOf k (good f) = valued k f
-parsedOf k (goodThen f n) = valued k f
+unfoldable pub parsedOf : Kind → JudgedPiece → ParsedField
+unfolding fieldNumbers
+parsedOf k (refusedPiece n) = refusedBy n
+parsedOf k (good f) = fieldNumbers k f
+parsedOf k (goodThen f n) = fieldNumbers k f

@@ -13,22 +13,22 @@ ghost use Rattle.format.specs.Version.{version};
 ghost use Prim.Native.Nat.{_+_, _*_, _/_, _^_, _≤_};
 ghost use Rattle.text.specs.Upto.{before};
 ghost use Rattle.text.specs.Run.{run};
-ghost use Rattle.field.specs.Parsed.{takenOf, partOf, spelledOf, refusedBy, keptBy, versionedBy, isVersion, isLength, parsedOf};
+ghost use Rattle.field.specs.Parsed.{takenOf, versionSideOf, parsedVersionOf, refusedBy, keptBy, versionedBy, isVersion, isLength, parsedOf};
 
 // The version that a value spells.
-pub enum Spelled {
+pub enum ParsedVersion {
     Is(Version),
     Invalid,
 }
 
 // One side of a version's dot.
-enum Part {
+enum VersionSide {
     Is(u32),
     Invalid,
 }
 
 // A field of a line, or the refusal of one, in plain numbers: `stop` is 0 or the refusal, VN of HD says `major` and `minor`, LN of SQ says `length`.
-pub struct Field {
+pub struct ParsedField {
     pub stop: u8,
     pub tag_0: u8,
     pub tag_1: u8,
@@ -166,46 +166,46 @@ fn allowed_len(kind: Kind, a: u8, b: u8, src: &[u8]) -> usize
 // ---- versions
 
 // The number below 2 ^ 32 that all of `src` spells.
-fn parse_part(src: &[u8]) -> Part
-    ensures { λ r. ⌜ r ≡ partOf (number (2 ^ 32) (now (src .entry))) ⌝ }
+fn parse_part(src: &[u8]) -> VersionSide
+    ensures { λ r. ⌜ r ≡ versionSideOf (number (2 ^ 32) (now (src .entry))) ⌝ }
 {
     match decimal::read_u32(src) {
-        Number::NoDigit => Part::Invalid,
-        Number::TooLarge => Part::Invalid,
+        Number::NoDigit => VersionSide::Invalid,
+        Number::TooLarge => VersionSide::Invalid,
         Number::Is(n, k) => {
             if k == src.len() {
-                Part::Is(n as u32)
+                VersionSide::Is(n as u32)
             } else {
-                Part::Invalid
+                VersionSide::Invalid
             }
         }
     }
 }
 
 // The version that all of `src` spells, split at its first dot.
-pub fn parse_version(src: &[u8]) -> Spelled
-    ensures { λ r. ⌜ r ≡ spelledOf (version (now (src .entry))) ⌝ }
+pub fn parse_version(src: &[u8]) -> ParsedVersion
+    ensures { λ r. ⌜ r ≡ parsedVersionOf (version (now (src .entry))) ⌝ }
 {
     let dot = text::upto(src, b'.');
     if dot == src.len() {
-        return Spelled::Invalid;
+        return ParsedVersion::Invalid;
     }
-    let Part::Is(major) = parse_part(&src[..dot]) else {
-        return Spelled::Invalid;
+    let VersionSide::Is(major) = parse_part(&src[..dot]) else {
+        return ParsedVersion::Invalid;
     };
-    let Part::Is(minor) = parse_part(&src[dot + 1..]) else {
-        return Spelled::Invalid;
+    let VersionSide::Is(minor) = parse_part(&src[dot + 1..]) else {
+        return ParsedVersion::Invalid;
     };
-    Spelled::Is(Version::new(major, minor))
+    ParsedVersion::Is(Version::new(major, minor))
 }
 
 // ---- fields
 
-impl Field {
+impl ParsedField {
     fn refused(stop: u8) -> Self
         ensures { λ r. ⌜ r ≡ refusedBy stop ⌝ }
     {
-        Field {
+        ParsedField {
             stop,
             tag_0: 0,
             tag_1: 0,
@@ -220,7 +220,7 @@ impl Field {
     fn kept(a: u8, b: u8, len: usize) -> Self
         ensures { λ r. ⌜ r ≡ keptBy a b len ⌝ }
     {
-        Field {
+        ParsedField {
             stop: 0,
             tag_0: a,
             tag_1: b,
@@ -233,12 +233,12 @@ impl Field {
 }
 
 // VN of HD, whose value is `src`.
-fn parse_version_value(src: &[u8]) -> Field
+fn parse_version_value(src: &[u8]) -> ParsedField
     ensures { λ r. ⌜ r ≡ versionedBy (length (now (src .entry))) (version (now (src .entry))) ⌝ }
 {
     match parse_version(src) {
-        Spelled::Invalid => Field::refused(11),
-        Spelled::Is(version) => Field {
+        ParsedVersion::Invalid => ParsedField::refused(11),
+        ParsedVersion::Is(version) => ParsedField {
             stop: 0,
             tag_0: b'V',
             tag_1: b'N',
@@ -251,20 +251,20 @@ fn parse_version_value(src: &[u8]) -> Field
 }
 
 // LN of SQ: not a value, so what follows its digits is not judged here. A number of 64 bits that is above 2,147,483,647 has a refusal of its own.
-fn parse_length_value(src: &[u8]) -> Field
+fn parse_length_value(src: &[u8]) -> ParsedField
     ensures { λ r. ⌜ r ≡ parsedOf Kind.ReferenceSequence (lengthField 3 (span (before 9 (now (src .entry))))) ⌝ }
 {
     match decimal::read_u64(src) {
-        Number::NoDigit => Field::refused(12),
-        Number::TooLarge => Field::refused(12),
+        Number::NoDigit => ParsedField::refused(12),
+        Number::TooLarge => ParsedField::refused(12),
         Number::Is(n, len) => {
             if n == 0 {
-                return Field::refused(13);
+                return ParsedField::refused(13);
             }
             if 2147483647 < n {
-                return Field::refused(27);
+                return ParsedField::refused(27);
             }
-            Field {
+            ParsedField {
                 stop: 0,
                 tag_0: b'L',
                 tag_1: b'N',
@@ -298,7 +298,7 @@ pub fn is_length(kind: Kind, a: u8, b: u8) -> bool
 }
 
 // What follows the colon of the tag `a`, `b`.
-fn parse_field_value(kind: Kind, a: u8, b: u8, src: &[u8]) -> Field
+fn parse_field_value(kind: Kind, a: u8, b: u8, src: &[u8]) -> ParsedField
     ensures { λ r. ⌜ r ≡ parsedOf kind (valueField kind a b 3 (before 9 (now (src .entry)))) ⌝ }
 {
     if is_length(kind, a, b) {
@@ -306,31 +306,31 @@ fn parse_field_value(kind: Kind, a: u8, b: u8, src: &[u8]) -> Field
     }
     let len = allowed_len(kind, a, b, src);
     if len == 0 {
-        return Field::refused(10);
+        return ParsedField::refused(10);
     }
     if is_version(kind, a, b) {
         return parse_version_value(&src[..len]);
     }
-    Field::kept(a, b, len)
+    ParsedField::kept(a, b, len)
 }
 
 // The field at the front of `src`, which starts after its tab and goes up to the next tab or the end.
-pub fn parse_field(kind: Kind, src: &[u8]) -> Field
+pub fn parse_field(kind: Kind, src: &[u8]) -> ParsedField
     ensures { λ r. ⌜ r ≡ parsedOf kind (field kind 0 (before 9 (now (src .entry)))) ⌝ }
 {
     if src.len() < 2 {
-        return Field::refused(8);
+        return ParsedField::refused(8);
     }
     let a = src[0];
     let b = src[1];
     if !is_tag(a, b) {
-        return Field::refused(8);
+        return ParsedField::refused(8);
     }
     if src.len() == 2 {
-        return Field::refused(9);
+        return ParsedField::refused(9);
     }
     if src[2] != b':' {
-        return Field::refused(9);
+        return ParsedField::refused(9);
     }
     parse_field_value(kind, a, b, &src[3..])
 }

@@ -9,7 +9,7 @@ use mathlib.Core.List.{List, [], _∷_, _++_}
 use lib.Dec.{eqb}
 use Rattle.format.specs.Bytes.{same}
 use Rattle.format.specs.Calls as calls
-use Rattle.format.specs.Calls.{Answer, no, yes}
+use Rattle.format.specs.Calls.{Answer, refused, yes}
 
 -- the bytes of a text in ASCII
 ascii : String → List ℕ
@@ -26,13 +26,13 @@ pub data Case : Type 0 where
 -- ---- the test
 
 sameAnswer : {A B : Type 0} → (A → B → Bool) → Answer A → Answer B → Bool
-sameAnswer e (no n l) (no m k) = eqb n m && eqb l k
-sameAnswer e (no n l) (yes b) = false
-sameAnswer e (yes a) (no m k) = false
+sameAnswer e (refused n l) (refused m k) = eqb n m && eqb l k
+sameAnswer e (refused n l) (yes b) = false
+sameAnswer e (yes a) (refused m k) = false
 sameAnswer e (yes a) (yes b) = e a b
 
 listed : Answer (List ℕ) → List ℕ
-listed (no n l) = []
+listed (refused n l) = []
 listed (yes xs) = xs
 
 -- outputs with room for all
@@ -68,28 +68,28 @@ one-six = 1 ∷ 1 ∷ 0 ∷ 0 ∷ 0 ∷ 6 ∷ 0 ∷ 0 ∷ 0 ∷ []
 pub cases : List Case
 unfolding pg0-pg3 largest one-six
 cases =
-    reading "@SQ\tSN:s\tLN:0" (no 13 0)
-    ∷ reading "@SQ\tSN:s\tLN:8x" (no 6 0)
+    reading "@SQ\tSN:s\tLN:0" (refused 13 0)
+    ∷ reading "@SQ\tSN:s\tLN:8x" (refused 6 0)
     ∷ reading "@SQ\tSN:s\tLN:2147483647" (yes largest)
-    ∷ reading "@SQ\tSN:s\tLN:2147483648" (no 27 0)
-    ∷ reading "@SQ\tSN:s\tLN:18446744073709551615" (no 27 0)
-    ∷ reading "@SQ\tSN:s\tLN:18446744073709551616" (no 12 0)
-    ∷ reading "@HD" (no 15 0)
-    ∷ reading "@CO\t\n@HD\tVN:1.6\n" (no 17 1)
-    ∷ reading "\n" (no 3 0)
+    ∷ reading "@SQ\tSN:s\tLN:2147483648" (refused 27 0)
+    ∷ reading "@SQ\tSN:s\tLN:18446744073709551615" (refused 27 0)
+    ∷ reading "@SQ\tSN:s\tLN:18446744073709551616" (refused 12 0)
+    ∷ reading "@HD" (refused 15 0)
+    ∷ reading "@CO\t\n@HD\tVN:1.6\n" (refused 17 1)
+    ∷ reading "\n" (refused 3 0)
     ∷ looking "@HD\tVN:1.5\tSO:unsorted\tSO:coordinate\n" 1 0 83 79 "coordinate"
-    ∷ reading "@HD\tVN:1.6\tSO:unsorted\tSO:coordinate\n" (no 14 0)
+    ∷ reading "@HD\tVN:1.6\tSO:unsorted\tSO:coordinate\n" (refused 14 0)
     ∷ reading "@HD\tVN:1.5\tVN:1.6\n" (yes one-six)
     ∷ leafing pg0-pg3 (yes (3 ∷ 2 ∷ [], 3))
     ∷ adding pg0-pg3 "x" "" (yes "@PG\tID:pg0\n@PG\tID:pg1\tPP:pg0\n@PG\tID:pg2\tPP:pg1\n@PG\tID:pg3\n@PG\tID:x\tPP:pg3\n@PG\tID:x-pg2\tPP:pg2\n")
     ∷ adding pg0-pg3 "pg0" "" (yes "@PG\tID:pg0\n@PG\tID:pg1\tPP:pg0\n@PG\tID:pg2\tPP:pg1\n@PG\tID:pg3\n@PG\tID:pg0-pg3\tPP:pg3\n@PG\tID:pg0-pg2\tPP:pg2\n")
-    ∷ leafing "@PG\tID:c\tPP:a\n@PG\tID:a\tPP:b\n@PG\tID:b\tPP:a\n" (no 23 0)
-    ∷ leafing "@PG\tID:a\tPP:a\n" (no 23 0)
-    ∷ leafing "@PG\tID:a\tPP:b\n" (no 22 0)
+    ∷ leafing "@PG\tID:c\tPP:a\n@PG\tID:a\tPP:b\n@PG\tID:b\tPP:a\n" (refused 23 0)
+    ∷ leafing "@PG\tID:a\tPP:a\n" (refused 23 0)
+    ∷ leafing "@PG\tID:a\tPP:b\n" (refused 22 0)
     ∷ looking "@RG\tID:a\tPL:x\tPL:y\n" 3 0 80 76 "y"
-    ∷ reading "@HD\tSO:a\tSO:b\n" (no 15 0)
-    ∷ reading "@HD\tSO:a\tSO:b\tVN:x\n" (no 11 0)
-    ∷ adding "@PG\tID:a\tPN:x\tPN:y\n" "b" "\tCL:x\tCL:y" (no 26 0)
+    ∷ reading "@HD\tSO:a\tSO:b\n" (refused 15 0)
+    ∷ reading "@HD\tSO:a\tSO:b\tVN:x\n" (refused 11 0)
+    ∷ adding "@PG\tID:a\tPN:x\tPN:y\n" "b" "\tCL:x\tCL:y" (refused 26 0)
     ∷ []
 
 -- ---- the statement

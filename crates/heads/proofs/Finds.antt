@@ -9,7 +9,7 @@ use lib.ListN.{length, take, drop, getD}
 use Rattle.format.specs.Decimal.{worth, digits}
 use Rattle.format.specs.Lines.{Piece, cut, placed}
 use Rattle.format.specs.Fields.{Field, tagged, lastOf}
-use Rattle.format.specs.Records.{Record, header, reference, group, program, comment, Line, refused, read, line}
+use Rattle.format.specs.Records.{Record, header, reference, group, program, comment, Line, refusedLine, read, line}
 use Rattle.format.specs.Version.{version}
 use Rattle.format.specs.declared.Version.{Version}
 use Rattle.format.specs.declared.Kind.{Kind}
@@ -17,7 +17,7 @@ use Rattle.format.specs.declared.Kind.the-variants.{Header, ReferenceSequence, 
 use Rattle.text.specs.Stands.{Stands, Each}
 use Rattle.accepted.specs.Sound.{kind}
 use Rattle.accepted.specs.Spelled as sp
-use Rattle.accepted.specs.Spelled.{Sized, Good, Made, Spelled, Accepted, kind₀, kind₁}
+use Rattle.accepted.specs.Spelled.{LengthInRange, Good, Made, Spelled, AcceptedLine, kind₀, kind₁}
 use Rattle.accepted.specs.Read.{isRead}
 use Rattle.accepted.proofs.Bools.{never, and-left, and-right}
 use Rattle.accepted.proofs.Fields.{Of, lastOf-of}
@@ -26,18 +26,18 @@ use Rattle.accepted.proofs.Sound.{made-kind}
 use Rattle.accepted.proofs.Spelled.{line-accepted}
 use Rattle.accepted.proofs.Stands.{fields-stand}
 use Rattle.text.proofs.Stands.{pieces-stand}
-use Rattle.record.specs.Head.{placeOf, recordHead, headOf}
-use Rattle.record.specs.declared.Place.{Place}
+use Rattle.record.specs.Head.{stretchOf, recordHead, headOf}
+use Rattle.record.specs.declared.Stretch.{Stretch}
 use Rattle.record.specs.declared.Head.{Head}
 use Rattle.record.specs.declared.Head.the-variants as head
 use Rattle.other_fields.specs.Run.{AtField, fieldsFrom}
-use Rattle.other_fields.specs.Next.{standing, orValue, nowhere}
+use Rattle.other_fields.specs.Next.{valueOfPiece, orValue, noValue}
 use Rattle.other_fields.specs.declared.Value.{Value}
 use Rattle.other_fields.specs.Tables.{HasTag}
 use Rattle.other_fields.proofs.Start.{accepted-start, accepted-fields, accepted-tags}
 use borrow.Author.Tests.{lt-ltb, not-true}
 use Rattle.format.specs.Bytes.{digit, all, none?}
-use Rattle.decimal.specs.Number.{counted, front}
+use Rattle.decimal.specs.Number.{digitsNumber, numberAtFront}
 use Rattle.decimal.specs.declared.Number.the-variants.{Is}
 use Rattle.decimal.proofs.Whole.{span-all}
 use Rattle.heads.specs.Found.{kindBy, isComment, uncounted}
@@ -80,13 +80,13 @@ pub record OfReference (at : ℕ) (s : List ℕ) (h : Head) : Type 0 where
   pub has-size : Has at s 76 78 size
   pub fits : worth (size .bytes) < 2 ^ 64
   pub spells : digits (size .bytes) ≡ true
-  pub is : h ≡ head.ReferenceSequence (placeOf name) (worth (size .bytes)) 0
+  pub is : h ≡ head.ReferenceSequence (stretchOf name) (worth (size .bytes)) 0
 
 -- of an RG or PG, by its ID
-pub record OfMap (at : ℕ) (s : List ℕ) (make : Place → Head) (h : Head) : Type 0 where
+pub record OfMap (at : ℕ) (s : List ℕ) (make : Stretch → Head) (h : Head) : Type 0 where
   pub piece : Piece
   pub has : Has at s 73 68 piece
-  pub is : h ≡ make (placeOf piece)
+  pub is : h ≡ make (stretchOf piece)
 
 unfoldable pub Held : Bool → Kind → ℕ → List ℕ → Head → Type 0
 Held strict Header at s h = AtField strict at s 3 × OfHeader at s h
@@ -118,27 +118,27 @@ module _ (strict : Bool) (at : ℕ) (s : List ℕ) where
         let o = lastOf-of (λ f. Stands s at (f .value)) x y (a .fields) p (fields-stand strict at s r a) e in
         record { last = ap (lastOf x y) (accepted-fields strict at s r a) ∙ e; stands = subst (Stands s at) (o .value) (o .holds) }
 
-    sized : Each (Sized (a .kind)) (a .fields)
+    sized : Each (LengthInRange (a .kind)) (a .fields)
     sized =
-        pairs-right (λ p f. Good (a .kind) (p .at) (p .bytes) f) (Stands (a .rest) (at + 4)) (Sized (a .kind)) (λ p f h g. g .sized)
+        pairs-right (λ p f. Good (a .kind) (p .at) (p .bytes) f) (Stands (a .rest) (at + 4)) (LengthInRange (a .kind)) (λ p f h g. g .sized)
         (placed (at + 4) (cut 9 (a .rest))) (a .fields) (pieces-stand 9 (at + 4) (a .rest)) (a .each)
 
     pub number : a .kind ≡ ReferenceSequence → (p : Piece) → lastOf 76 78 (a .fields) ≡ some p → Number p
-    unfolding Sized Number
+    unfolding LengthInRange Number
     number k p e =
-        let o = lastOf-of (Sized ReferenceSequence) 76 78 (a .fields) p (subst (λ k. Each (Sized k) (a .fields)) k sized) e in
+        let o = lastOf-of (LengthInRange ReferenceSequence) 76 78 (a .fields) p (subst (λ k. Each (LengthInRange k) (a .fields)) k sized) e in
         let n = o .holds (o .tag) in
         subst Number (o .value) (omega (arith, n .1), n .2)
 
-accepted-held : (strict : Bool) (at : ℕ) (s : List ℕ) (r : Record) → Accepted strict at s r → Held strict (kind r) at s (uncounted (recordHead r))
-unfolding Held uncounted recordHead kind placeOf
+accepted-held : (strict : Bool) (at : ℕ) (s : List ℕ) (r : Record) → AcceptedLine strict at s r → Held strict (kind r) at s (uncounted (recordHead r))
+unfolding Held uncounted recordHead kind stretchOf
 accepted-held strict at s r (sp.of-remark t) = (omega arith, ap (λ n. head.Comment (record { at = at + 4; len = n })) (omega arith))
 accepted-held strict at s r (sp.of-fields a) =
     subst (λ k. Held strict k at s (uncounted (recordHead r))) (sym (made-kind (a .fields) (a .kind) r (a .made)))
     (made-held strict at s (a .fields) (a .kind) r (accepted-start strict at s r a) (has strict at s r a) (number strict at s r a) (a .made))
 
 -- its second byte
-pub accepted-byte : (strict : Bool) (at : ℕ) (s : List ℕ) (r : Record) → Accepted strict at s r → (3 ≤ length s) × (kindBy (getD s 1 0) ≡ kind r)
+pub accepted-byte : (strict : Bool) (at : ℕ) (s : List ℕ) (r : Record) → AcceptedLine strict at s r → (3 ≤ length s) × (kindBy (getD s 1 0) ≡ kind r)
 unfolding kind kind₀
 accepted-byte strict at s r (sp.of-remark t) = (omega arith, first-byte Comment)
 accepted-byte strict at s r (sp.of-fields a) = (
@@ -147,7 +147,7 @@ accepted-byte strict at s r (sp.of-fields a) = (
 )
 
 -- fields
-accepted-fielded : (strict : Bool) (at : ℕ) (s : List ℕ) (r : Record) → Accepted strict at s r → isComment (kind r) ≡ false → AtField strict at s 3 × Each HasTag (fieldsFrom at s 3)
+accepted-fielded : (strict : Bool) (at : ℕ) (s : List ℕ) (r : Record) → AcceptedLine strict at s r → isComment (kind r) ≡ false → AtField strict at s 3 × Each HasTag (fieldsFrom at s 3)
 unfolding kind
 accepted-fielded strict at s r (sp.of-remark t) n = absurd (never (cc))
 accepted-fielded strict at s r (sp.of-fields a) n = (accepted-start strict at s r a, accepted-tags strict at s r a)
@@ -160,10 +160,10 @@ module _ (strict : Bool) (at : ℕ) (s : List ℕ) (h : isRead (line strict (rec
   by-record P f = go (line strict (record { at = at; bytes = s })) refl h
     where
       go : (l : Line) → line strict (record { at = at; bytes = s }) ≡ l → isRead l ≡ true → P l
-      go (refused n) e q = absurd (never (cc))
+      go (refusedLine n) e q = absurd (never (cc))
       go (read r) e q = f r e
 
-  by-accepted : (P : Line → Type 0) → ((r : Record) → Accepted strict at s r → P (read r)) → P (line strict (record { at = at; bytes = s }))
+  by-accepted : (P : Line → Type 0) → ((r : Record) → AcceptedLine strict at s r → P (read r)) → P (line strict (record { at = at; bytes = s }))
   by-accepted P f = by-record P (λ r e. f r (line-accepted strict (record { at = at; bytes = s }) r e))
 
   pub three : 3 ≤ length s
@@ -182,14 +182,14 @@ module _ (strict : Bool) (at : ℕ) (s : List ℕ) (h : isRead (line strict (rec
 
 -- ---- a piece by its place
 
-module _ (at : ℕ) (s : List ℕ) (a b : ℕ) (p : Piece) (h : Has at s a b p) (v : Value) (e : v ≡ orValue nowhere (lastOf a b (fieldsFrom at s 3))) where
+module _ (at : ℕ) (s : List ℕ) (a b : ℕ) (p : Piece) (h : Has at s a b p) (v : Value) (e : v ≡ orValue noValue (lastOf a b (fieldsFrom at s 3))) where
   -- the value that is found
-  found : v ≡ standing p
+  found : v ≡ valueOfPiece p
   unfolding orValue
-  found = e ∙ ap (orValue nowhere) (h .last)
+  found = e ∙ ap (orValue noValue) (h .last)
 
-  pub found-place : _≡_ {A = Place} (record { at = v .at; len = v .len }) (placeOf p)
-  unfolding placeOf
+  pub found-place : _≡_ {A = Stretch} (record { at = v .at; len = v .len }) (stretchOf p)
+  unfolding stretchOf
   found-place = ap (λ v. record { at = v .at; len = v .len }) found
 
   pub value-within : (at ≤ v .at) × (v .at - at + v .len ≤ length s)
@@ -203,8 +203,8 @@ module _ (at : ℕ) (s : List ℕ) (a b : ℕ) (p : Piece) (h : Has at s a b p) 
 
 -- ---- what they say
 
-pub front-digits : (limit : ℕ) (ds : List ℕ) → digits ds ≡ true → worth ds < limit → front limit ds ≡ Is (worth ds) (length ds)
-unfolding front counted digits
+pub front-digits : (limit : ℕ) (ds : List ℕ) → digits ds ≡ true → worth ds < limit → numberAtFront limit ds ≡ Is (worth ds) (length ds)
+unfolding numberAtFront digitsNumber digits
 front-digits limit ds h l =
     let n = and-left (not (none? ds)) (all digit ds) h in
     rw (span-all ds (and-right (not (none? ds)) (all digit ds) h), not-true (none? ds) n, lt-ltb (worth ds) limit l) refl

@@ -7,7 +7,7 @@ use mathlib.Core.Option.{Option, none, some}
 use lib.Dec.{eqb}
 use Rattle.format.specs.Lines.{Piece, cut, placed}
 use Rattle.format.specs.Fields.{Scan, scan, repeats}
-use Rattle.format.specs.Records.{Record, Line, refused, read, stopped, judged, fielded, remark, body, kindOf, bodied, kinded, prefixed, breaks, line}
+use Rattle.format.specs.Records.{Record, Line, refusedLine, read, stopped, judged, fielded, remark, body, kindOf, bodied, kinded, prefixed, breaks, line}
 use Rattle.format.specs.declared.Kind.{Kind}
 use Rattle.format.specs.declared.Kind.the-variants.{Header, ReferenceSequence, ReadGroup, Program, Comment}
 use Rattle.format.specs.Bytes.{any}
@@ -15,7 +15,7 @@ use Rattle.accepted.specs.Read.{isRead}
 use Rattle.accepted.proofs.Bools.{never}
 
 -- a test on the way that both take
-both : (t : Bool) (x y : Line) (n : ℕ) → (isRead x ≡ true → x ≡ y) → isRead (cond t x (refused n)) ≡ true → cond t x (refused n) ≡ cond t y (refused n)
+both : (t : Bool) (x y : Line) (n : ℕ) → (isRead x ≡ true → x ≡ y) → isRead (cond t x (refusedLine n)) ≡ true → cond t x (refusedLine n) ≡ cond t y (refusedLine n)
 unfolding isRead
 both true x y n f h = f h
 both false x y n f h = refl
@@ -24,7 +24,7 @@ judged-lax : (k : Kind) (s : Scan) → isRead (judged true k s) ≡ true → jud
 unfolding isRead judged
 judged-lax k s h = go (repeats (s .fields)) h
   where
-    go : (t : Bool) → isRead (cond t (refused 14) (stopped k (s .fields) (s .stop))) ≡ true → cond t (refused 14) (stopped k (s .fields) (s .stop)) ≡ stopped k (s .fields) (s .stop)
+    go : (t : Bool) → isRead (cond t (refusedLine 14) (stopped k (s .fields) (s .stop))) ≡ true → cond t (refusedLine 14) (stopped k (s .fields) (s .stop)) ≡ stopped k (s .fields) (s .stop)
     go true h = absurd (never (cc))
     go false h = refl
 
@@ -63,7 +63,7 @@ unfolding isRead line
 line-lax false p h = refl
 line-lax true p h = go (any breaks (p .bytes)) h
   where
-    go : (t : Bool) → isRead (cond t (refused 2) (prefixed true (p .at) (p .bytes))) ≡ true → cond t (refused 2) (prefixed true (p .at) (p .bytes)) ≡ cond t (refused 2) (prefixed false (p .at) (p .bytes))
+    go : (t : Bool) → isRead (cond t (refusedLine 2) (prefixed true (p .at) (p .bytes))) ≡ true → cond t (refusedLine 2) (prefixed true (p .at) (p .bytes)) ≡ cond t (refusedLine 2) (prefixed false (p .at) (p .bytes))
     go true h = refl
     go false h = prefixed-lax (p .at) (p .bytes) h
 

@@ -18,13 +18,13 @@ use Rattle.other_fields.specs.Next.{orValue, valueAt}
 use Rattle.other_fields.specs.declared.Value.{Value}
 use Rattle.other_fields.proofs.Place.{same-at, other-at}
 use Rattle.heads.specs.Keys.{lastKey, lastNumber, keysFrom, withKey}
-use Rattle.heads.specs.declared.Keys.{Keys}
+use Rattle.heads.specs.declared.KeyValues.{KeyValues}
 
-pub keys-none : (k : Kind) (ks : Keys) (fs : List Field) → fs ≡ [] → keysFrom k ks fs ≡ ks
+pub keys-none : (k : Kind) (ks : KeyValues) (fs : List Field) → fs ≡ [] → keysFrom k ks fs ≡ ks
 unfolding keysFrom orValue lastKey lastNumber lastOf
 keys-none k ks fs e = rw e (go k)
   where
-    go : (k : Kind) → _≡_ {A = Keys} (record { key = orValue (ks .key) (lastKey k []); number = orValue (ks .number) (lastNumber k []) }) ks
+    go : (k : Kind) → _≡_ {A = KeyValues} (record { key = orValue (ks .key) (lastKey k []); number = orValue (ks .number) (lastNumber k []) }) ks
     go Header = refl
     go ReferenceSequence = refl
     go ReadGroup = refl
@@ -53,7 +53,7 @@ module _ (once : Bool) (at : ℕ) (line : List ℕ) (i : ℕ) (h : AtField once 
   other x y w t = other-at once at line i h l end q x y w t
 
   -- no key is met
-  pub keys-past : (k : Kind) (ks : Keys) → isKey k (getD line (i + 1) 0) (getD line (i + 2) 0) ≡ false → keysFrom k ks (fieldsFrom at line i) ≡ keysFrom k ks (fieldsFrom at line end)
+  pub keys-past : (k : Kind) (ks : KeyValues) → isKey k (getD line (i + 1) 0) (getD line (i + 2) 0) ≡ false → keysFrom k ks (fieldsFrom at line i) ≡ keysFrom k ks (fieldsFrom at line end)
   unfolding keysFrom lastKey lastNumber isKey a b rest
   keys-past Header ks n = ap (λ v. record { key = v; number = ks .number }) (other 86 78 (ks .key) n)
   keys-past ReferenceSequence ks n =
@@ -72,7 +72,7 @@ module _ (once : Bool) (at : ℕ) (line : List ℕ) (i : ℕ) (h : AtField once 
   half t u e = rw e refl
 
   -- a key is met
-  pub keys-met : (k : Kind) (ks : Keys) → isKey k (getD line (i + 1) 0) (getD line (i + 2) 0) ≡ true
+  pub keys-met : (k : Kind) (ks : KeyValues) → isKey k (getD line (i + 1) 0) (getD line (i + 2) 0) ≡ true
       → keysFrom k ks (fieldsFrom at line i) ≡ keysFrom k (withKey ks (getD line (i + 1) 0) (valueAt at i end)) (fieldsFrom at line end)
   unfolding keysFrom lastKey lastNumber isKey withKey a b v rest
   keys-met Header ks n = rw (no-length 86 78 n (λ e. absurd (omega arith))) (ap (λ v. record { key = v; number = ks .number }) (same 86 78 (ks .key) n))

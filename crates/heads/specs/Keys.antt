@@ -8,9 +8,9 @@ use Rattle.format.specs.Lines.{Piece}
 use Rattle.format.specs.Fields.{Field, lastOf}
 use Rattle.format.specs.declared.Kind.{Kind}
 use Rattle.format.specs.declared.Kind.the-variants.{Header, ReferenceSequence, ReadGroup, Program, Comment}
-use Rattle.other_fields.specs.Next.{orValue, nowhere}
+use Rattle.other_fields.specs.Next.{orValue, noValue}
 use Rattle.other_fields.specs.declared.Value.{Value}
-use Rattle.heads.specs.declared.Keys.{Keys}
+use Rattle.heads.specs.declared.KeyValues.{KeyValues}
 
 -- VN of HD, SN of SQ, ID of RG and PG
 unfoldable pub lastKey : Kind → List Field → Option Piece
@@ -31,17 +31,17 @@ lastNumber Program fs = none
 lastNumber Comment fs = none
 
 -- the keys among fields, or else `ks`
-unfoldable pub keysFrom : Kind → Keys → List Field → Keys
+unfoldable pub keysFrom : Kind → KeyValues → List Field → KeyValues
 unfolding orValue lastKey lastNumber
 keysFrom k ks fs = record { key = orValue (ks .key) (lastKey k fs); number = orValue (ks .number) (lastNumber k fs) }
 
-abbrev pub noKeys : Keys
-noKeys = record { key = nowhere; number = nowhere }
+abbrev pub noKeyValues : KeyValues
+noKeyValues = record { key = noValue; number = noValue }
 
-unfoldable pub keysIn : Kind → List Field → Keys
+unfoldable pub keysIn : Kind → List Field → KeyValues
 unfolding keysFrom
-keysIn k fs = keysFrom k noKeys fs
+keysIn k fs = keysFrom k noKeyValues fs
 
 -- one key more: LN is told by its first letter
-unfoldable pub withKey : Keys → ℕ → Value → Keys
+unfoldable pub withKey : KeyValues → ℕ → Value → KeyValues
 withKey ks a v = cond (eqb a 76) (record { key = ks .key; number = v }) (record { key = v; number = ks .number })

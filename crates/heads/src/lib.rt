@@ -1,9 +1,9 @@
 // The head of an accepted line: its kind, its key and its number, by where their values stand. Nothing is judged again.
 use decimal::Number;
-use field::Spelled;
+use field::ParsedVersion;
 use format::Kind;
 use record::Head;
-use record::Place;
+use record::Stretch;
 use other_fields::Value;
 ghost use mathlib.Core.Path.{_≡_};
 ghost use mathlib.Core.Bool.{true, false};
@@ -16,26 +16,26 @@ ghost use Rattle.record.specs.Head.{headOf};
 ghost use Rattle.other_fields.specs.Run.{fieldsFrom};
 ghost use Rattle.other_fields.specs.Tables.{Walkable};
 ghost use Rattle.heads.specs.Found.{kindBy, isComment, uncounted};
-ghost use Rattle.heads.specs.Keys.{noKeys, withKey, keysIn};
+ghost use Rattle.heads.specs.Keys.{noKeyValues, withKey, keysIn};
 
 // Where the last values of a line's keys stand: VN, SN or ID, and LN of SQ.
-pub struct Keys {
+pub struct KeyValues {
     pub key: Value,
     pub number: Value,
 }
 
-impl Keys {
+impl KeyValues {
     pub fn new() -> Self
-        ensures { λ r. ⌜ r ≡ noKeys ⌝ }
+        ensures { λ r. ⌜ r ≡ noKeyValues ⌝ }
     {
-        Keys {
+        KeyValues {
             key: Value { at: 0, len: 0 },
             number: Value { at: 0, len: 0 },
         }
     }
 
     // With the value of a key whose tag starts with `a`: that of LN alone starts with L.
-    pub fn with(self, a: u8, v: Value) -> Keys
+    pub fn with(self, a: u8, v: Value) -> KeyValues
         ensures { λ r. ⌜ r ≡ withKey self a v ⌝ }
     {
         let mut key_at = self.key.at;
@@ -49,7 +49,7 @@ impl Keys {
             key_at = v.at;
             key_len = v.len;
         }
-        Keys {
+        KeyValues {
             key: Value {
                 at: key_at,
                 len: key_len,
@@ -97,30 +97,30 @@ pub fn is_comment(kind: Kind) -> bool
 }
 
 // The keys of an accepted line of fields.
-pub fn find_keys(kind: Kind, src: &[u8], at: usize, once: bool, tables: &[u32]) -> Keys
+pub fn find_keys(kind: Kind, src: &[u8], at: usize, once: bool, tables: &[u32]) -> KeyValues
     requires { ⌜ Walkable once at (now src) (now tables) ⌝ }
     requires { ⌜ at + length (now src) ≤ 4294967295 ⌝ }
     ensures { λ r. ⌜ r ≡ keysIn kind (fieldsFrom at (now (src .entry)) 3) ⌝ }
 {
     let nowhere = Value { at: 0, len: 0 };
     match kind {
-        Kind::Header => Keys {
+        Kind::Header => KeyValues {
             key: other_fields::find_value(src, at, b'V', b'N', once, tables),
             number: nowhere,
         },
-        Kind::ReferenceSequence => Keys {
+        Kind::ReferenceSequence => KeyValues {
             key: other_fields::find_value(src, at, b'S', b'N', once, tables),
             number: other_fields::find_value(src, at, b'L', b'N', once, tables),
         },
-        Kind::ReadGroup => Keys {
+        Kind::ReadGroup => KeyValues {
             key: other_fields::find_value(src, at, b'I', b'D', once, tables),
             number: nowhere,
         },
-        Kind::Program => Keys {
+        Kind::Program => KeyValues {
             key: other_fields::find_value(src, at, b'I', b'D', once, tables),
             number: nowhere,
         },
-        Kind::Comment => Keys::new(),
+        Kind::Comment => KeyValues::new(),
     }
 }
 
@@ -135,13 +135,13 @@ fn header_of(src: &[u8], at: usize, version: Value) -> Head
     let from = version.at - at;
     let len = version.len;
     match field::parse_version(&src[from..from + len]) {
-        Spelled::Is(v) => Head::Header(v, 0),
-        Spelled::Invalid => Head::Refused(11),
+        ParsedVersion::Is(v) => Head::Header(v, 0),
+        ParsedVersion::Invalid => Head::Refused(11),
     }
 }
 
 // The head of an accepted SQ: where its SN stands, and the number that its LN spells.
-fn sequence_of(src: &[u8], at: usize, keys: Keys) -> Head
+fn sequence_of(src: &[u8], at: usize, keys: KeyValues) -> Head
     requires { ⌜ isRead (line false (record { at = at; bytes = now src })) ≡ true ⌝ }
     requires { ⌜ kindBy (getD (now src) 1 0) ≡ ReferenceSequence ⌝ }
     requires { ⌜ keys ≡ keysIn ReferenceSequence (fieldsFrom at (now src) 3) ⌝ }
@@ -152,7 +152,7 @@ fn sequence_of(src: &[u8], at: usize, keys: Keys) -> Head
     let number = keys.number;
     let from = number.at - at;
     let len = number.len;
-    let place = Place {
+    let place = Stretch {
         at: name.at,
         len: name.len,
     };
@@ -164,7 +164,7 @@ fn sequence_of(src: &[u8], at: usize, keys: Keys) -> Head
 }
 
 // The head of an accepted line at the offset `at` by its keys, without the number of its other fields.
-pub fn head_of(kind: Kind, src: &[u8], at: usize, keys: Keys) -> Head
+pub fn head_of(kind: Kind, src: &[u8], at: usize, keys: KeyValues) -> Head
     requires { ⌜ isRead (line false (record { at = at; bytes = now src })) ≡ true ⌝ }
     requires { ⌜ kindBy (getD (now src) 1 0) ≡ kind ⌝ }
     requires { ⌜ keys ≡ keysIn kind (fieldsFrom at (now src) 3) ⌝ }
@@ -172,7 +172,7 @@ pub fn head_of(kind: Kind, src: &[u8], at: usize, keys: Keys) -> Head
     ensures { λ r. ⌜ r ≡ uncounted (headOf (line false (record { at = at; bytes = now (src .entry) }))) ⌝ }
 {
     let key = keys.key;
-    let place = Place {
+    let place = Stretch {
         at: key.at,
         len: key.len,
     };
@@ -181,7 +181,7 @@ pub fn head_of(kind: Kind, src: &[u8], at: usize, keys: Keys) -> Head
         Kind::ReferenceSequence => sequence_of(src, at, keys),
         Kind::ReadGroup => Head::ReadGroup(place, 0),
         Kind::Program => Head::Program(place, 0),
-        Kind::Comment => Head::Comment(Place {
+        Kind::Comment => Head::Comment(Stretch {
             at: at + 4,
             len: src.len() - 4,
         }),

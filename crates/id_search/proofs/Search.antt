@@ -16,8 +16,8 @@ use Rattle.text.proofs.Equal.{same-other}
 use Rattle.accepted.proofs.Pairs.{each-at}
 use Rattle.chains.proofs.Walks.{map-at}
 use Rattle.entries.specs.declared.Place.{Place}
-use Rattle.id_search.specs.Places.{Inside, bytesAt, nowhere, placesOf, idsAt, Placed}
-use Rattle.id_search.specs.Search.{idsOf, ordinalIn}
+use Rattle.id_search.specs.Places.{InsideText, bytesAt, nowhere, placesOf, idsAt, PlacesInText}
+use Rattle.id_search.specs.Search.{idsOf, idOrdinalFrom}
 
 -- ---- places by numbers
 
@@ -34,7 +34,7 @@ places-at (a ∷ ats) [] k d h l = absurd (omega arith)
 places-at (a ∷ ats) (n ∷ lens) zero d h l = refl
 places-at (a ∷ ats) (n ∷ lens) (suc k) d h l = places-at ats lens k d (omega arith) (omega arith)
 
-module _ (t ats lens : List ℕ) (p : Placed t ats lens) where
+module _ (t ats lens : List ℕ) (p : PlacesInText t ats lens) where
   pub ids-length : length (idsAt t ats lens) ≡ length ats
   unfolding idsAt
   ids-length = length-map (placesOf ats lens) (bytesAt t) ∙ places-length ats lens (p .even)
@@ -43,7 +43,7 @@ module _ (t ats lens : List ℕ) (p : Placed t ats lens) where
     pub placed-inside : getD ats k 0 + getD lens k 0 ≤ length t
     placed-inside =
         let l : k < length (placesOf ats lens) = omega (arith, places-length ats lens (p .even)) in
-        rw (places-at ats lens k nowhere (p .even) h) at (each-at (Inside (length t)) (placesOf ats lens) k nowhere (p .inside) l)
+        rw (places-at ats lens k nowhere (p .even) h) at (each-at (InsideText (length t)) (placesOf ats lens) k nowhere (p .inside) l)
 
     -- the ID there
     pub ids-at : getD (idsAt t ats lens) k [] ≡ take (getD lens k 0) (drop (getD ats k 0) t)
@@ -106,19 +106,19 @@ module _ (t id : List ℕ) (start : ℕ) (h : start + length id ≤ length t) (i
 
 -- the answer is what the IDs from the one at `k` on say
 abbrev pub Ahead : List ℕ → List (List ℕ) → ℕ → Type 0
-Ahead id ids k = (k ≤ length ids) × (ordinalIn id 0 ids ≡ ordinalIn id k (drop k ids))
+Ahead id ids k = (k ≤ length ids) × (idOrdinalFrom id 0 ids ≡ idOrdinalFrom id k (drop k ids))
 
 module _ (id : List ℕ) (ids : List (List ℕ)) (k : ℕ) (a : Ahead id ids k) where
-  pub ahead-none : k ≡ length ids → ordinalIn id 0 ids ≡ none
-  unfolding ordinalIn
-  ahead-none e = let l : length ids ≤ k = omega arith in a .1 ∙ ap (ordinalIn id k) (drop-of-length-le ids l)
+  pub ahead-none : k ≡ length ids → idOrdinalFrom id 0 ids ≡ none
+  unfolding idOrdinalFrom
+  ahead-none e = let l : length ids ≤ k = omega arith in a .1 ∙ ap (idOrdinalFrom id k) (drop-of-length-le ids l)
 
   module _ (h : k < length ids) where
-    first : ordinalIn id 0 ids ≡ cond (same id (getD ids k [])) (some k) (ordinalIn id (k + 1) (drop (k + 1) ids))
-    unfolding ordinalIn
+    first : idOrdinalFrom id 0 ids ≡ cond (same id (getD ids k [])) (some k) (idOrdinalFrom id (k + 1) (drop (k + 1) ids))
+    unfolding idOrdinalFrom
     first = a .1 ∙ rw (drop-cons ids k [] h, add-one k) refl
 
-    ahead-here : same id (getD ids k []) ≡ true → ordinalIn id 0 ids ≡ some k
+    ahead-here : same id (getD ids k []) ≡ true → idOrdinalFrom id 0 ids ≡ some k
     ahead-here e = first ∙ rw e refl
 
     ahead-on : same id (getD ids k []) ≡ false → Ahead id ids (k + 1)
@@ -126,7 +126,7 @@ module _ (id : List ℕ) (ids : List (List ℕ)) (k : ℕ) (a : Ahead id ids k) 
 
 -- ---- a turn at `k`: the bytes there decide
 
-module _ (t ats lens id : List ℕ) (p : Placed t ats lens) (k : ℕ) (h : k < length ats) (a : Ahead id (idsAt t ats lens) k) where
+module _ (t ats lens id : List ℕ) (p : PlacesInText t ats lens) (k : ℕ) (h : k < length ats) (a : Ahead id (idsAt t ats lens) k) where
   abbrev start : ℕ
   start = getD ats k 0
 
@@ -153,7 +153,7 @@ module _ (t ats lens id : List ℕ) (p : Placed t ats lens) (k : ℕ) (h : k < l
     bytes : (b : Bool) → same id (part t id start) ≡ b → same id (getD (idsAt t ats lens) k []) ≡ b
     bytes b q = ap (same id) (ids-at t ats lens p k h) ∙ ap (λ n. same id (take n (drop start t))) e ∙ q
 
-    pub turn-here : same id (part t id start) ≡ true → ordinalIn id 0 (idsAt t ats lens) ≡ some k
+    pub turn-here : same id (part t id start) ≡ true → idOrdinalFrom id 0 (idsAt t ats lens) ≡ some k
     turn-here q = ahead-here id (idsAt t ats lens) k a within (bytes true q)
 
     pub turn-differs : same id (part t id start) ≡ false → Ahead id (idsAt t ats lens) (k + 1)
@@ -162,7 +162,7 @@ module _ (t ats lens id : List ℕ) (p : Placed t ats lens) (k : ℕ) (h : k < l
 -- ---- the IDs of programs
 
 -- the first program with an ID
-pub ordinal-ids : (id : List ℕ) (k : ℕ) (ps : List Program) → ordinalIn id k (idsOf ps) ≡ ordinalFrom k id ps
-unfolding ordinalIn ordinalFrom
+pub ordinal-ids : (id : List ℕ) (k : ℕ) (ps : List Program) → idOrdinalFrom id k (idsOf ps) ≡ ordinalFrom k id ps
+unfolding idOrdinalFrom ordinalFrom
 ordinal-ids id k [] = refl
 ordinal-ids id k (p ∷ ps) = ap (λ o. cond (same id (p .id)) (some k) o) (ordinal-ids id (k + 1) ps)

@@ -7,8 +7,8 @@ use Rattle.text.specs.Stands.{Each}
 use Rattle.entries.specs.declared.Place.{Place}
 
 -- a place is within `n` bytes
-abbrev pub Inside : ℕ → Place → Type 0
-Inside n p = p .at + p .len ≤ n
+abbrev pub InsideText : ℕ → Place → Type 0
+InsideText n p = p .at + p .len ≤ n
 
 -- no place of a text is there
 unfoldable pub nowhere : Place
@@ -30,7 +30,7 @@ unfolding bytesAt placesOf
 idsAt t ats lens = map (bytesAt t) (placesOf ats lens)
 
 -- as many offsets as lengths, 1,024 at most, and each place is within the text
-pub record Placed (t ats lens : List ℕ) : Type 0 where
+pub record PlacesInText (t ats lens : List ℕ) : Type 0 where
   pub even : length ats ≡ length lens
   pub few : length ats ≤ 1024
-  pub inside : Each (Inside (length t)) (placesOf ats lens)
+  pub inside : Each (InsideText (length t)) (placesOf ats lens)

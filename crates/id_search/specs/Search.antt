@@ -13,10 +13,10 @@ abbrev pub idsOf : List Program → List (List ℕ)
 idsOf ps = map (λ p. p .id) ps
 
 -- the ordinal of the first ID that is `id`, counted from `k`
-unfoldable pub ordinalIn : List ℕ → ℕ → List (List ℕ) → Option ℕ
+unfoldable pub idOrdinalFrom : List ℕ → ℕ → List (List ℕ) → Option ℕ
 unfolding same
-ordinalIn id k [] = none
-ordinalIn id k (x ∷ xs) = cond (same id x) (some k) (ordinalIn id (k + 1) xs)
+idOrdinalFrom id k [] = none
+idOrdinalFrom id k (x ∷ xs) = cond (same id x) (some k) (idOrdinalFrom id (k + 1) xs)
 
 unfoldable pub namedOf : Option ℕ → Named
 namedOf none = Nobody

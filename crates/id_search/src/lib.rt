@@ -1,8 +1,8 @@
 // The search for the program with an ID, among IDs that stand at places of a text.
 use format::ProgramNo;
 ghost use mathlib.Core.Path.{_≡_};
-ghost use Rattle.id_search.specs.Places.{idsAt, Placed};
-ghost use Rattle.id_search.specs.Search.{ordinalIn, namedOf};
+ghost use Rattle.id_search.specs.Places.{idsAt, PlacesInText};
+ghost use Rattle.id_search.specs.Search.{idOrdinalFrom, namedOf};
 
 // A program, if there is one.
 pub enum Named {
@@ -12,8 +12,8 @@ pub enum Named {
 
 // The program whose ID is `id`: the search stops at the first. Bytes are compared from the last one on: long IDs often begin alike.
 pub fn find_program(text: &[u8], ats: &[u32], lens: &[u32], id: &[u8]) -> Named
-    requires { ⌜ Placed (now text) (now ats) (now lens) ⌝ }
-    ensures { λ r. ⌜ r ≡ namedOf (ordinalIn (now (id .entry)) 0 (idsAt (now (text .entry)) (now (ats .entry)) (now (lens .entry)))) ⌝ }
+    requires { ⌜ PlacesInText (now text) (now ats) (now lens) ⌝ }
+    ensures { λ r. ⌜ r ≡ namedOf (idOrdinalFrom (now (id .entry)) 0 (idsAt (now (text .entry)) (now (ats .entry)) (now (lens .entry)))) ⌝ }
 {
     let mut k: usize = 0;
     let found = 'search: loop {

@@ -11,7 +11,7 @@ use lib.Dec.{eqb, ltb}
 use borrow.Author.Tests.{ne-eqb, eq-eqb, eqb-true, eqb-false, ltb-true, ltb-false, lt-ltb, le-ltb}
 use Rattle.format.specs.Lines.{Piece, lines, linesFrom}
 use Rattle.format.specs.Records as records
-use Rattle.format.specs.Records.{Record, Line, refused, read}
+use Rattle.format.specs.Records.{Record, Line, refusedLine, read}
 use Rattle.format.specs.Reading.{admitted}
 use Rattle.format.specs.Catalogue.{catalogue}
 use Rattle.format.specs.Slots.{Held}
@@ -28,7 +28,7 @@ use Rattle.record.specs.Head.{headOf, recordHead}
 use Rattle.admission.proofs.Admission.{stood}
 use Rattle.admission.specs.Admission.{isTaken}
 use Rattle.key_index.specs.Told.{start, isMet, afterMeeting}
-use Rattle.key_index.specs.Keyed.{valuesOf, keysOf, Ended}
+use Rattle.key_index.specs.Keyed.{valuesOf, keyValuesOf, Ended}
 use Rattle.key_index.proofs.LineKeys.{line-ended}
 use Rattle.key_index.proofs.Keyed.{toldIn, told-none, told-append, told-taken, met-told, keys-snoc, ended-snoc, meeting-length, meeting-holds, values-few}
 use Rattle.judging.specs.declared.Block.{Block}
@@ -134,7 +134,7 @@ pub record Blocking (strict : Bool) (t area₀ area : List ℕ) (b : Block) (at 
   pub ended : Each (Ended t) (j .before)
   pub old : List ℕ
   pub new : List ℕ
-  pub parts : keysOf (j .before) ≡ old ++ new
+  pub parts : keyValuesOf (j .before) ≡ old ++ new
   pub held : Held (start t (length area)) area new
   pub long : length area ≡ length area₀
   pub some : 4 ≤ length area
@@ -144,7 +144,7 @@ pub record Blocking (strict : Bool) (t area₀ area : List ℕ) (b : Block) (at 
 
 pub blocking-start : (strict : Bool) (t area : List ℕ) → length t ≤ 16777216 → 4 ≤ length area → Held (start t (length area)) area []
     → Blocking strict t area area (record { until = length area / 4 * 3; clash = 16777217 }) 0 0 0 0 (judging-start strict t)
-unfolding judging-start Each keysOf
+unfolding judging-start Each keyValuesOf
 blocking-start strict t area small s g =
     record {
       ended = tt;

@@ -9,8 +9,8 @@ use lib.Seq.{drop-drop, length-take-le, take-at}
 use lib.Dec.{eqb}
 use Rattle.format.specs.Lines.{Piece, lines, linesFrom}
 use Rattle.format.specs.Records as records
-use Rattle.format.specs.Records.{Record, header, reference, group, program, comment, code, Line, refused, read, others}
-use Rattle.format.specs.Reading.{Reading, refuse, accept, ofKind, admitted, taken, readFrom}
+use Rattle.format.specs.Records.{Record, header, reference, group, program, comment, code, Line, refusedLine, read, others}
+use Rattle.format.specs.Reading.{Reading, refusedText, accept, ofKind, admitted, readOn, readFrom}
 use Rattle.format.specs.Catalogue.{catalogue}
 use Rattle.text.specs.First.{firstLine}
 use Rattle.text.specs.Stands.{Stands}
@@ -111,26 +111,26 @@ module _ (strict : Bool) (t : List ℕ) (at n programs size : ℕ) (j : Judging 
         }
 
     pub onward : readFrom strict 0 [] (lines t)
-        ≡ taken n (λ r. readFrom strict (n + 1) (j .before ++ (r ∷ [])) (linesFrom (at + firstLine (drop at t) .next) (drop (at + firstLine (drop at t) .next) t)))
+        ≡ readOn n (λ r. readFrom strict (n + 1) (j .before ++ (r ∷ [])) (linesFrom (at + firstLine (drop at t) .next) (drop (at + firstLine (drop at t) .next) t)))
         (admitted strict (j .before) (record { at = at; bytes = take (firstLine (drop at t) .len) (drop at t) }))
     onward =
         j .left
         ∙ read-first strict n (j .before) at (drop at t) some-left
-        ∙ ap (λ l. taken n (λ r. readFrom strict (n + 1) (j .before ++ (r ∷ [])) (linesFrom (at + firstLine (drop at t) .next) l)) (admitted strict (j .before) (record { at = at; bytes = take (firstLine (drop at t) .len) (drop at t) })))
+        ∙ ap (λ l. readOn n (λ r. readFrom strict (n + 1) (j .before ++ (r ∷ [])) (linesFrom (at + firstLine (drop at t) .next) l)) (admitted strict (j .before) (record { at = at; bytes = take (firstLine (drop at t) .len) (drop at t) })))
         (drop-drop (firstLine (drop at t) .next) at t)
 
     -- the line is refused
-    pub judging-refused : (m : ℕ) → admitted strict (j .before) (record { at = at; bytes = take (firstLine (drop at t) .len) (drop at t) }) ≡ refused m
+    pub judging-refused : (m : ℕ) → admitted strict (j .before) (record { at = at; bytes = take (firstLine (drop at t) .len) (drop at t) }) ≡ refusedLine m
         → Refused m (record { 0 = n }) ≡ judgedOf (readFrom strict 0 [] (lines t))
-    unfolding judgedOf taken
-    judging-refused m e = sym (ap judgedOf (onward ∙ ap (taken n (λ r. readFrom strict (n + 1) (j .before ++ (r ∷ [])) (linesFrom (at + firstLine (drop at t) .next) (drop (at + firstLine (drop at t) .next) t)))) e))
+    unfolding judgedOf readOn
+    judging-refused m e = sym (ap judgedOf (onward ∙ ap (readOn n (λ r. readFrom strict (n + 1) (j .before ++ (r ∷ [])) (linesFrom (at + firstLine (drop at t) .next) (drop (at + firstLine (drop at t) .next) t)))) e))
 
     -- the line is a record more
     module _ (r : Record) (is : records.line strict (record { at = at; bytes = take (firstLine (drop at t) .len) (drop at t) }) ≡ read r)
         (ok : admitted strict (j .before) (record { at = at; bytes = take (firstLine (drop at t) .len) (drop at t) }) ≡ read r)
         (entry : ℕ) (long : length (catalogue (j .before ++ (r ∷ []))) ≡ length (catalogue (j .before)) + entry) (bound : entry ≤ 28 * firstLine (drop at t) .next) where
       unfoldable pub judging-on : Judging strict t (at + firstLine (drop at t) .next) (n + 1) (programs + programsOf (recordHead r)) (size + entry)
-      unfolding taken
+      unfolding readOn
       judging-on =
           record {
             passed = j .passed ++ (record { at = at; bytes = take (firstLine (drop at t) .len) (drop at t) } ∷ []);
@@ -140,7 +140,7 @@ module _ (strict : Bool) (t : List ℕ) (at n programs size : ℕ) (j : Judging 
                 ∙ ap (λ l. j .passed ++ l) (lines-first at (drop at t) some-left ∙ ap (λ l. record { at = at; bytes = take (firstLine (drop at t) .len) (drop at t) } ∷ linesFrom (at + firstLine (drop at t) .next) l) (drop-drop (firstLine (drop at t) .next) at t))
                 ∙ sym (append-assoc (j .passed) (record { at = at; bytes = take (firstLine (drop at t) .len) (drop at t) } ∷ []) (linesFrom (at + firstLine (drop at t) .next) (drop (at + firstLine (drop at t) .next) t)));
             pairs = pairs-snoc (λ p r. records.line strict p ≡ read r) (j .passed) (j .before) (record { at = at; bytes = take (firstLine (drop at t) .len) (drop at t) }) r (j .pairs) is;
-            left = onward ∙ ap (taken n (λ r. readFrom strict (n + 1) (j .before ++ (r ∷ [])) (linesFrom (at + firstLine (drop at t) .next) (drop (at + firstLine (drop at t) .next) t)))) ok;
+            left = onward ∙ ap (readOn n (λ r. readFrom strict (n + 1) (j .before ++ (r ∷ [])) (linesFrom (at + firstLine (drop at t) .next) (drop (at + firstLine (drop at t) .next) t)))) ok;
             counted = omega (arith, length-append (j .before) (r ∷ []), j .counted);
             told = omega (arith, j .told, programs-one r, ap length (ofKind-append 4 (j .before) (r ∷ [])), length-append (ofKind 4 (j .before)) (ofKind 4 (r ∷ [])));
             sized = omega (arith, j .sized, long);

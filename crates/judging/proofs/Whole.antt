@@ -7,7 +7,7 @@ use native.Mathlib.Omega.{arith}
 use lib.ListN.{length}
 use borrow.Author.Tests.{lt-ltb, le-ltb}
 use Rattle.format.specs.Lines.{lines}
-use Rattle.format.specs.Reading.{Reading, refuse, accept, readText, readFrom, announced, isStrict, longest}
+use Rattle.format.specs.Reading.{Reading, refusedText, accept, readText, readFrom, announced, isStrict, longest}
 use Rattle.format.specs.Catalogue.{catalogue}
 use Rattle.format.specs.declared.LineNo.{LineNo}
 use Rattle.accepted.specs.Read.{kept, recordsOf}
@@ -16,7 +16,7 @@ use Rattle.judging.specs.Judged.{judgedOf}
 
 -- ---- by its lines
 
-pub too-long : (t : List ℕ) → 16777216 < length t → readText t ≡ refuse 1 0
+pub too-long : (t : List ℕ) → 16777216 < length t → readText t ≡ refusedText 1 0
 unfolding readText longest
 too-long t h = rw (lt-ltb _ _ h) refl
 
@@ -26,12 +26,12 @@ by-lines strict t h e = rw (le-ltb 16777216 (length t) h, e) refl
 
 -- ---- what its judgement says
 
-pub text-refused : (t : List ℕ) (n : ℕ) (l : LineNo) → judgedOf (readText t) ≡ Refused n l → readText t ≡ refuse n (l .0)
+pub text-refused : (t : List ℕ) (n : ℕ) (l : LineNo) → judgedOf (readText t) ≡ Refused n l → readText t ≡ refusedText n (l .0)
 unfolding judgedOf
 text-refused t n l j = go (readText t) j
   where
-    go : (r : Reading) → judgedOf r ≡ Refused n l → r ≡ refuse n (l .0)
-    go (refuse m k) j =
+    go : (r : Reading) → judgedOf r ≡ Refused n l → r ≡ refusedText n (l .0)
+    go (refusedText m k) j =
         let x : m ≡ n = cc in
         let y : _≡_ {A = LineNo} (record { 0 = k }) l = cc in
         rw (x, ← y) refl
@@ -42,7 +42,7 @@ unfolding judgedOf recordsOf kept
 text-accepted t n j = go (readText t) refl j
   where
     go : (r : Reading) → readText t ≡ r → judgedOf r ≡ Accepted n → (readText t ≡ accept (recordsOf t)) × (n ≡ length (catalogue (recordsOf t)))
-    go (refuse m k) q j = absurd (let z : _≡_ {A = ℕ} 0 1 = cc in omega arith)
+    go (refusedText m k) q j = absurd (let z : _≡_ {A = ℕ} 0 1 = cc in omega arith)
     go (accept rs) q j =
         let own : recordsOf t ≡ rs = ap kept q in
         let size : length (catalogue rs) ≡ n = cc in

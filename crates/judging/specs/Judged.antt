@@ -2,7 +2,7 @@
 use Prim.Native.Nat.{ℕ}
 use mathlib.Core.List.{List}
 use lib.ListN.{length}
-use Rattle.format.specs.Reading.{Reading, refuse, accept}
+use Rattle.format.specs.Reading.{Reading, refusedText, accept}
 use Rattle.format.specs.Catalogue.{catalogue}
 use Rattle.record.specs.declared.Head.{Head}
 use Rattle.record.specs.declared.Head.the-variants as head
@@ -12,7 +12,7 @@ use Rattle.judging.specs.declared.Judged.the-variants.{Refused, Accepted
 -- the first refusal and its line, or how long the catalogue is
 unfoldable pub judgedOf : Reading → Judged
 unfolding catalogue
-judgedOf (refuse n l) = Refused n (record { 0 = l })
+judgedOf (refusedText n l) = Refused n (record { 0 = l })
 judgedOf (accept rs) = Accepted (length (catalogue rs))
 
 -- a program counts

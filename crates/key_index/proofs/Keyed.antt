@@ -10,13 +10,13 @@ use borrow.Author.Tests.{lt-ltb, ltb-false}
 use Rattle.format.specs.Bytes.{any, same}
 use Rattle.format.specs.Lines.{Piece, lines}
 use Rattle.format.specs.Records as records
-use Rattle.format.specs.Records.{Record, header, reference, group, program, comment, code, key, Line, refused, read}
+use Rattle.format.specs.Records.{Record, header, reference, group, program, comment, code, key, Line, refusedLine, read}
 use Rattle.format.specs.Slots.{pick, Held}
 use Rattle.text.specs.First.{firstLine}
 use Rattle.text.specs.Stands.{Stands, Each}
 use Rattle.accepted.specs.Pieces.{pieces, Pairs}
 use Rattle.accepted.proofs.Bools.{or-assoc}
-use Rattle.record.specs.Head.{headOf, recordHead, placeOf}
+use Rattle.record.specs.Head.{headOf, recordHead, stretchOf}
 use Rattle.record.specs.declared.Head.{Head}
 use Rattle.record.specs.declared.Head.the-variants as head
 use Rattle.admission.specs.Admission.{isKeyed, hasKey, isUsed, isTaken}
@@ -24,8 +24,8 @@ use Rattle.admission.proofs.Admission.{stood}
 use Rattle.key_index.specs.declared.Sought.{Sought}
 use Rattle.key_index.specs.declared.Sought.the-variants.{Known, Free, Full}
 use Rattle.key_index.specs.Word.{word}
-use Rattle.key_index.specs.Told.{mark, value, tells, begins, start, sought, isKnown, after, isMet, afterMeeting}
-use Rattle.key_index.specs.Keyed.{valuesOf, keysOf, Ended, Placed}
+use Rattle.key_index.specs.Told.{mark, value, tellsKey, firstSlot, start, sought, saysKnown, afterLooking, isMet, afterMeeting}
+use Rattle.key_index.specs.Keyed.{valuesOf, keyValuesOf, Ended, KeyInText}
 use Rattle.key_index.proofs.LineKeys.{line-ended}
 use Rattle.key_index.proofs.Looking.{mark-same, sought-known, sought-enters, value-start, value-tells}
 
@@ -46,17 +46,17 @@ pick-value hit (suc k) vs z = go (hit (suc k))
 
 module _ (t : List ℕ) (k : ℕ) (id : List ℕ) where
   one-has : (j : ℕ) → 0 < j → (p : Piece) → (p .at < 16777216) × (word (drop (p .at) t) ≡ p .bytes) → (vs : List ℕ)
-      → ltb 0 (pick (tells t k id) (value (mark j (p .bytes)) (p .at) ∷ vs)) ≡ ((eqb k j && same id (p .bytes)) || ltb 0 (pick (tells t k id) vs))
+      → ltb 0 (pick (tellsKey t k id) (value (mark j (p .bytes)) (p .at) ∷ vs)) ≡ ((eqb k j && same id (p .bytes)) || ltb 0 (pick (tellsKey t k id) vs))
   one-has j h p e vs =
-      pick-value (tells t k id) (value (mark j (p .bytes)) (p .at)) vs (value-some j (p .bytes) (p .at) h)
-      ∙ ap (λ b. b || ltb 0 (pick (tells t k id) vs))
+      pick-value (tellsKey t k id) (value (mark j (p .bytes)) (p .at)) vs (value-some j (p .bytes) (p .at) h)
+      ∙ ap (λ b. b || ltb 0 (pick (tellsKey t k id) vs))
       (value-tells t k id (mark j (p .bytes)) (p .at) (e .0) ∙ ap (λ w. eqb (mark k id) (mark j (p .bytes)) && same id w) (e .1) ∙ mark-same k j id (p .bytes))
 
-  record-has : (r : Record) → Ended t r → (vs : List ℕ) → ltb 0 (pick (tells t k id) (valuesOf r ++ vs)) ≡ (hasKey k id r || ltb 0 (pick (tells t k id) vs))
+  record-has : (r : Record) → Ended t r → (vs : List ℕ) → ltb 0 (pick (tellsKey t k id) (valuesOf r ++ vs)) ≡ (hasKey k id r || ltb 0 (pick (tellsKey t k id) vs))
   unfolding Ended valuesOf hasKey isKeyed code key
   record-has (header v fs) e vs = none (eqb k 1)
     where
-      none : (b : Bool) → ltb 0 (pick (tells t k id) vs) ≡ ((b && false) || ltb 0 (pick (tells t k id) vs))
+      none : (b : Bool) → ltb 0 (pick (tellsKey t k id) vs) ≡ ((b && false) || ltb 0 (pick (tellsKey t k id) vs))
       none true = refl
       none false = refl
   record-has (reference p n fs) e vs = one-has 2 (omega arith) p e vs
@@ -64,19 +64,19 @@ module _ (t : List ℕ) (k : ℕ) (id : List ℕ) where
   record-has (program p fs) e vs = one-has 4 (omega arith) p e vs
   record-has (comment p) e vs = none (eqb k 5)
     where
-      none : (b : Bool) → ltb 0 (pick (tells t k id) vs) ≡ ((b && false) || ltb 0 (pick (tells t k id) vs))
+      none : (b : Bool) → ltb 0 (pick (tellsKey t k id) vs) ≡ ((b && false) || ltb 0 (pick (tellsKey t k id) vs))
       none true = refl
       none false = refl
 
-  keys-have : (rs : List Record) → Each (Ended t) rs → ltb 0 (pick (tells t k id) (keysOf rs)) ≡ any (hasKey k id) rs
-  unfolding Each keysOf any pick
+  keys-have : (rs : List Record) → Each (Ended t) rs → ltb 0 (pick (tellsKey t k id) (keyValuesOf rs)) ≡ any (hasKey k id) rs
+  unfolding Each keyValuesOf any pick
   keys-have [] e = refl
-  keys-have (r ∷ rs) e = record-has r (e .0) (keysOf rs) ∙ ap (λ b. hasKey k id r || b) (keys-have rs (e .1))
+  keys-have (r ∷ rs) e = record-has r (e .0) (keyValuesOf rs) ∙ ap (λ b. hasKey k id r || b) (keys-have rs (e .1))
 
-pub keys-snoc : (rs : List Record) (r : Record) → keysOf (rs ++ (r ∷ [])) ≡ keysOf rs ++ valuesOf r
-unfolding keysOf
+pub keys-snoc : (rs : List Record) (r : Record) → keyValuesOf (rs ++ (r ∷ [])) ≡ keyValuesOf rs ++ valuesOf r
+unfolding keyValuesOf
 keys-snoc [] r = append-nil (valuesOf r)
-keys-snoc (q ∷ rs) r = ap (λ l. valuesOf q ++ l) (keys-snoc rs r) ∙ sym (append-assoc (valuesOf q) (keysOf rs) (valuesOf r))
+keys-snoc (q ∷ rs) r = ap (λ l. valuesOf q ++ l) (keys-snoc rs r) ∙ sym (append-assoc (valuesOf q) (keyValuesOf rs) (valuesOf r))
 
 pub ended-snoc : (t : List ℕ) (rs : List Record) (r : Record) → Each (Ended t) rs → Ended t r → Each (Ended t) (rs ++ (r ∷ []))
 unfolding Each
@@ -97,12 +97,12 @@ pick-append hit (suc k ∷ vs) ws = go (hit (suc k)) (pick-append hit vs ws)
 
 -- is a head's key among them?
 unfoldable pub toldIn : List ℕ → List ℕ → Head → Bool
-unfolding tells pick
+unfolding tellsKey pick
 toldIn t vs (head.Refused n) = false
 toldIn t vs (head.Header v n) = false
-toldIn t vs (head.ReferenceSequence q l n) = ltb 0 (pick (tells t 2 (take (q .len) (drop (q .at) t))) vs)
-toldIn t vs (head.ReadGroup q n) = ltb 0 (pick (tells t 3 (take (q .len) (drop (q .at) t))) vs)
-toldIn t vs (head.Program q n) = ltb 0 (pick (tells t 4 (take (q .len) (drop (q .at) t))) vs)
+toldIn t vs (head.ReferenceSequence q l n) = ltb 0 (pick (tellsKey t 2 (take (q .len) (drop (q .at) t))) vs)
+toldIn t vs (head.ReadGroup q n) = ltb 0 (pick (tellsKey t 3 (take (q .len) (drop (q .at) t))) vs)
+toldIn t vs (head.Program q n) = ltb 0 (pick (tellsKey t 4 (take (q .len) (drop (q .at) t))) vs)
 toldIn t vs (head.Comment q) = false
 
 pub told-none : (t : List ℕ) (x : Head) → toldIn t [] x ≡ false
@@ -118,9 +118,9 @@ pub told-append : (t vs ws : List ℕ) (x : Head) → toldIn t (vs ++ ws) x ≡ 
 unfolding toldIn
 told-append t vs ws (head.Refused n) = refl
 told-append t vs ws (head.Header v n) = refl
-told-append t vs ws (head.ReferenceSequence q l n) = pick-append (tells t 2 (take (q .len) (drop (q .at) t))) vs ws
-told-append t vs ws (head.ReadGroup q n) = pick-append (tells t 3 (take (q .len) (drop (q .at) t))) vs ws
-told-append t vs ws (head.Program q n) = pick-append (tells t 4 (take (q .len) (drop (q .at) t))) vs ws
+told-append t vs ws (head.ReferenceSequence q l n) = pick-append (tellsKey t 2 (take (q .len) (drop (q .at) t))) vs ws
+told-append t vs ws (head.ReadGroup q n) = pick-append (tellsKey t 3 (take (q .len) (drop (q .at) t))) vs ws
+told-append t vs ws (head.Program q n) = pick-append (tellsKey t 4 (take (q .len) (drop (q .at) t))) vs ws
 told-append t vs ws (head.Comment q) = refl
 
 -- it is met where the slots hold them
@@ -135,7 +135,7 @@ module _ (t slots vs : List ℕ) (p : 0 < length slots) (g : Held (start t (leng
   met-told (head.Comment q) = refl
 
 -- it is one of the keys of some records where one of them has it
-pub told-taken : (t : List ℕ) (rs : List Record) → Each (Ended t) rs → (x : Head) → toldIn t (keysOf rs) x ≡ isTaken rs t x
+pub told-taken : (t : List ℕ) (rs : List Record) → Each (Ended t) rs → (x : Head) → toldIn t (keyValuesOf rs) x ≡ isTaken rs t x
 unfolding toldIn isTaken isUsed
 told-taken t rs e (head.Refused n) = refl
 told-taken t rs e (head.Header v n) = refl
@@ -146,8 +146,8 @@ told-taken t rs e (head.Comment q) = refl
 
 -- ---- one record more
 
-after-length : (room : Bool) (v : ℕ) (slots : List ℕ) (s : Sought) → length (after room v slots s) ≡ length slots
-unfolding after
+after-length : (room : Bool) (v : ℕ) (slots : List ℕ) (s : Sought) → length (afterLooking room v slots s) ≡ length slots
+unfolding afterLooking
 after-length room v slots Known = refl
 after-length true v slots (Free i) = length-set slots i v
 after-length false v slots (Free i) = refl
@@ -163,8 +163,8 @@ meeting-length room t slots (head.Program q n) = after-length room (value (mark 
 meeting-length room t slots (head.Comment q) = refl
 
 -- without room nothing changes
-after-none : (v : ℕ) (slots : List ℕ) (s : Sought) → after false v slots s ≡ slots
-unfolding after
+after-none : (v : ℕ) (slots : List ℕ) (s : Sought) → afterLooking false v slots s ≡ slots
+unfolding afterLooking
 after-none v slots Known = refl
 after-none v slots (Free i) = refl
 after-none v slots Full = refl
@@ -181,21 +181,21 @@ meeting-none t slots (head.Comment q) = refl
 module _ (t slots vs : List ℕ) (p : 0 < length slots) (g : Held (start t (length slots)) slots vs) (room : length vs < length slots) where
   one-enters : (k : ℕ) → 0 < k → (q : Piece) → (q .at < 16777216) × (word (drop (q .at) t) ≡ q .bytes) → Stands t 0 q
       → let id : List ℕ = take (length (q .bytes)) (drop (q .at) t) in
-      isKnown (sought t slots k id) ≡ false
-      → Held (start t (length slots)) (after true (value (mark k id) (q .at)) slots (sought t slots k id)) (vs ++ (value (mark k (q .bytes)) (q .at) ∷ []))
+      saysKnown (sought t slots k id) ≡ false
+      → Held (start t (length slots)) (afterLooking true (value (mark k id) (q .at)) slots (sought t slots k id)) (vs ++ (value (mark k (q .bytes)) (q .at) ∷ []))
   one-enters k h q e s m =
       let id : List ℕ = take (length (q .bytes)) (drop (q .at) t) in
       let i : q .bytes ≡ id = s .bytes ∙ ap (λ j. take (length (q .bytes)) (drop j t)) (let z : q .at - 0 ≡ q .at = omega arith in z) in
-      subst (λ b. Held (start t (length slots)) (after true (value (mark k id) (q .at)) slots (sought t slots k id)) (vs ++ (value (mark k b) (q .at) ∷ []))) (sym i)
-      (sought-enters t slots vs p g k id (value (mark k id) (q .at)) (value-some k id (q .at) h) (value-start t (length slots) k id (q .at) (e .0) ∙ ap (begins (length slots) k) (e .1 ∙ i)) room
-      (none (ltb-false 0 (pick (tells t k id) vs) (sym (sought-known t slots vs p g k id) ∙ m))))
+      subst (λ b. Held (start t (length slots)) (afterLooking true (value (mark k id) (q .at)) slots (sought t slots k id)) (vs ++ (value (mark k b) (q .at) ∷ []))) (sym i)
+      (sought-enters t slots vs p g k id (value (mark k id) (q .at)) (value-some k id (q .at) h) (value-start t (length slots) k id (q .at) (e .0) ∙ ap (firstSlot (length slots) k) (e .1 ∙ i)) room
+      (none (ltb-false 0 (pick (tellsKey t k id) vs) (sym (sought-known t slots vs p g k id) ∙ m))))
     where
       none : {n : ℕ} → n ≤ 0 → n ≡ 0
       none h = omega (arith, h)
 
   pub meeting-holds : (r : Record) → Ended t r → Each (Stands t 0) (pieces r) → isMet t slots (recordHead r) ≡ false
       → Held (start t (length slots)) (afterMeeting true t slots (recordHead r)) (vs ++ valuesOf r)
-  unfolding isMet afterMeeting recordHead placeOf valuesOf Ended pieces Each
+  unfolding isMet afterMeeting recordHead stretchOf valuesOf Ended pieces Each
   meeting-holds (header v fs) e s m = subst (Held (start t (length slots)) slots) (sym (append-nil vs)) g
   meeting-holds (reference q n fs) e s m = one-enters 2 (omega arith) q e (s .0) m
   meeting-holds (group q fs) e s m = one-enters 3 (omega arith) q e (s .0) m
@@ -204,8 +204,8 @@ module _ (t slots vs : List ℕ) (p : 0 < length slots) (g : Held (start t (leng
 
 -- ---- where the key of a line stands
 
-record-placed : (t : List ℕ) (r : Record) → Ended t r → Each (Stands t 0) (pieces r) → Placed (length t) (recordHead r)
-unfolding Ended Placed recordHead placeOf pieces Each
+record-placed : (t : List ℕ) (r : Record) → Ended t r → Each (Stands t 0) (pieces r) → KeyInText (length t) (recordHead r)
+unfolding Ended KeyInText recordHead stretchOf pieces Each
 record-placed t (header v fs) e s = tt
 record-placed t (reference q n fs) e s = (omega (arith, s .0 .within), e .0)
 record-placed t (group q fs) e s = (omega (arith, s .0 .within), e .0)
@@ -214,12 +214,12 @@ record-placed t (comment q) e s = tt
 
 pub head-placed : (strict : Bool) (t : List ℕ) (at : ℕ) → length t ≤ 16777216
     → Stands t 0 (record { at = at; bytes = take (firstLine (drop at t) .len) (drop at t) })
-    → Placed (length t) (headOf (records.line strict (record { at = at; bytes = take (firstLine (drop at t) .len) (drop at t) })))
-unfolding headOf Placed
+    → KeyInText (length t) (headOf (records.line strict (record { at = at; bytes = take (firstLine (drop at t) .len) (drop at t) })))
+unfolding headOf KeyInText
 head-placed strict t at small s = go (records.line strict (record { at = at; bytes = take (firstLine (drop at t) .len) (drop at t) })) refl
   where
-    go : (l : Line) → records.line strict (record { at = at; bytes = take (firstLine (drop at t) .len) (drop at t) }) ≡ l → Placed (length t) (headOf l)
-    go (refused n) e = tt
+    go : (l : Line) → records.line strict (record { at = at; bytes = take (firstLine (drop at t) .len) (drop at t) }) ≡ l → KeyInText (length t) (headOf l)
+    go (refusedLine n) e = tt
     go (read r) e =
         let st = stood strict t (record { at = at; bytes = take (firstLine (drop at t) .len) (drop at t) }) s r e in
         record-placed t r (line-ended strict t at r small e st) st

@@ -21,9 +21,9 @@ use Rattle.text.specs.Stands.{Stands, Each}
 use Rattle.text.proofs.Before.{upto-cases, upto-at}
 use Rattle.text.proofs.First.{first-whole, first-more, first-le, first-within, chomp-one, chomp-at}
 use Rattle.text.proofs.Stands.{each-piece}
-use Rattle.accepted.specs.Sound.{Named}
+use Rattle.accepted.specs.Sound.{KeyIsValue}
 use Rattle.accepted.specs.Spelled as sp
-use Rattle.accepted.specs.Spelled.{Good, Made, Spelled, Accepted, kind₀, kind₁}
+use Rattle.accepted.specs.Spelled.{Good, Made, Spelled, AcceptedLine, kind₀, kind₁}
 use Rattle.accepted.specs.Pieces.{pieces}
 use Rattle.accepted.proofs.Bools.{and-left, and-right}
 use Rattle.accepted.proofs.Clean.{between-bounds}
@@ -148,7 +148,7 @@ made-parted s at fs k r h (sp.of-reference p n e g) = one-parted s at fs h 83 78
 made-parted s at fs k r h (sp.of-group p e) = one-parted s at fs h 73 68 p e
 made-parted s at fs k r h (sp.of-program p e) = one-parted s at fs h 73 68 p e
 
-accepted-parted : (strict : Bool) (at : ℕ) (s : List ℕ) (r : Record) → Accepted strict at s r → KeyParted s at (key r)
+accepted-parted : (strict : Bool) (at : ℕ) (s : List ℕ) (r : Record) → AcceptedLine strict at s r → KeyParted s at (key r)
 unfolding KeyParted key
 accepted-parted strict at s r (sp.of-remark t) = tt
 accepted-parted strict at s r (sp.of-fields a) = made-parted s at (a .fields) (a .kind) r (fields-parted strict at s r a) (a .made)
@@ -212,10 +212,10 @@ module _ (strict : Bool) (t : List ℕ) (at : ℕ) (r : Record) (small : length 
       below (c ∷ b) v w = omega (arith, w, small)
 
   pub line-ended : Ended t r
-  unfolding bytes KeyParted key Ended Named pieces Each
+  unfolding bytes KeyParted key Ended KeyIsValue pieces Each
   line-ended = go r (accepted-parted strict at bytes r (line-accepted strict (record { at = at; bytes = bytes }) r is)) (line-sound strict (record { at = at; bytes = bytes }) r is .named) stand
     where
-      go : (r : Record) → KeyParted bytes at (key r) → Named (key r) → Each (Stands t 0) (pieces r) → Ended t r
+      go : (r : Record) → KeyParted bytes at (key r) → KeyIsValue (key r) → Each (Stands t 0) (pieces r) → Ended t r
       go (header v fs) h n s = tt
       go (reference p m fs) h n s = one p h n (s .0)
       go (group p fs) h n s = one p h n (s .0)

@@ -31,6 +31,6 @@ bytesFrom h [] = h
 bytesFrom h (b ∷ s) = bytesFrom (mixed h b) s
 
 -- the number of a key, from that of its kind on
-unfoldable pub hashFrom : ℕ → List ℕ → ℕ
+unfoldable pub keyHash : ℕ → List ℕ → ℕ
 unfolding wordsFrom bytesFrom
-hashFrom h s = bytesFrom (wordsFrom h s) (drop (length s - length s % 4) s)
+keyHash h s = bytesFrom (wordsFrom h s) (drop (length s - length s % 4) s)

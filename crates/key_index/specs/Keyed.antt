@@ -19,10 +19,10 @@ valuesOf (program p fs) = value (mark 4 (p .bytes)) (p .at) ∷ []
 valuesOf (comment p) = []
 
 -- the values of the keys of some records, in order
-unfoldable pub keysOf : List Record → List ℕ
+unfoldable pub keyValuesOf : List Record → List ℕ
 unfolding valuesOf
-keysOf [] = []
-keysOf (r ∷ rs) = valuesOf r ++ keysOf rs
+keyValuesOf [] = []
+keyValuesOf (r ∷ rs) = valuesOf r ++ keyValuesOf rs
 
 -- a record's key is told by its place: below 2 ^ 24, and it ends where the next byte is below 32
 unfoldable pub Ended : List ℕ → Record → Type 0
@@ -34,10 +34,10 @@ Ended t (program p fs) = (p .at < 16777216) × (word (drop (p .at) t) ≡ p .byt
 Ended t (comment p) = Unit
 
 -- a head's key stands in a text of this size, below the offset 2 ^ 24
-unfoldable pub Placed : ℕ → Head → Type 0
-Placed size (head.Refused n) = Unit
-Placed size (head.Header v n) = Unit
-Placed size (head.ReferenceSequence p l n) = (p .at + p .len ≤ size) × (p .at < 16777216)
-Placed size (head.ReadGroup p n) = (p .at + p .len ≤ size) × (p .at < 16777216)
-Placed size (head.Program p n) = (p .at + p .len ≤ size) × (p .at < 16777216)
-Placed size (head.Comment p) = Unit
+unfoldable pub KeyInText : ℕ → Head → Type 0
+KeyInText size (head.Refused n) = Unit
+KeyInText size (head.Header v n) = Unit
+KeyInText size (head.ReferenceSequence p l n) = (p .at + p .len ≤ size) × (p .at < 16777216)
+KeyInText size (head.ReadGroup p n) = (p .at + p .len ≤ size) × (p .at < 16777216)
+KeyInText size (head.Program p n) = (p .at + p .len ≤ size) × (p .at < 16777216)
+KeyInText size (head.Comment p) = Unit

@@ -5,9 +5,9 @@ use mathlib.Core.List.{List, [], _∷_}
 use lib.ListN.{length, take, drop, set}
 use lib.Dec.{eqb}
 use Rattle.format.specs.Bytes.{same}
-use Rattle.key_index.specs.Hash.{hashFrom}
+use Rattle.key_index.specs.Hash.{keyHash}
 use Rattle.format.specs.Slots.{around}
-use Rattle.record.specs.declared.Place.{Place}
+use Rattle.record.specs.declared.Stretch.{Stretch}
 use Rattle.record.specs.declared.Head.{Head}
 use Rattle.record.specs.declared.Head.the-variants as head
 use Rattle.key_index.specs.declared.Sought.{Sought}
@@ -19,77 +19,77 @@ use Rattle.key_index.specs.Word.{word}
 -- what a slot keeps of a key besides its place: its kind, and the five highest bits of its number, by which most other keys are told
 -- apart without a look at the text
 unfoldable pub mark : ℕ → List ℕ → ℕ
-unfolding hashFrom
-mark k id = k * 32 + hashFrom k id / 134217728 % 32
+unfolding keyHash
+mark k id = k * 32 + keyHash k id / 134217728 % 32
 
 -- what tells a key with this mark at the offset `at`: offsets are below 2 ^ 24
 unfoldable pub value : ℕ → ℕ → ℕ
 value m at = m * 16777216 + at
 
 -- the key that a slot tells
-unfoldable pub keyIn : List ℕ → ℕ → List ℕ
+unfoldable pub keyTold : List ℕ → ℕ → List ℕ
 unfolding word
-keyIn t v = word (drop (v % 16777216) t)
+keyTold t v = word (drop (v % 16777216) t)
 
 -- does it tell the key `id` of kind `k`?
-unfoldable pub tells : List ℕ → ℕ → List ℕ → ℕ → Bool
-unfolding mark same keyIn
-tells t k id v = eqb (mark k id) (v / 16777216) && same id (keyIn t v)
+unfoldable pub tellsKey : List ℕ → ℕ → List ℕ → ℕ → Bool
+unfolding mark same keyTold
+tellsKey t k id v = eqb (mark k id) (v / 16777216) && same id (keyTold t v)
 
 -- the slot, of `n`, at which looking for a key starts
-unfoldable pub begins : ℕ → ℕ → List ℕ → ℕ
-unfolding hashFrom
-begins n k id = hashFrom k id % n
+unfoldable pub firstSlot : ℕ → ℕ → List ℕ → ℕ
+unfolding keyHash
+firstSlot n k id = keyHash k id % n
 
 -- and for the key that a slot tells
 unfoldable pub start : List ℕ → ℕ → ℕ → ℕ
-unfolding begins keyIn
-start t n v = begins n (v / 536870912) (keyIn t v)
+unfolding firstSlot keyTold
+start t n v = firstSlot n (v / 536870912) (keyTold t v)
 
 -- ---- looking
 
 -- along slots, of which the first is the slot `at` of `n`
-unfoldable pub looking : (ℕ → Bool) → ℕ → ℕ → List ℕ → Sought
-looking hit n at [] = Full
-looking hit n at (zero ∷ ss) = Free at
-looking hit n at (suc k ∷ ss) = cond (hit (suc k)) Known (looking hit n ((at + 1) % n) ss)
+unfoldable pub lookAlong : (ℕ → Bool) → ℕ → ℕ → List ℕ → Sought
+lookAlong hit n at [] = Full
+lookAlong hit n at (zero ∷ ss) = Free at
+lookAlong hit n at (suc k ∷ ss) = cond (hit (suc k)) Known (lookAlong hit n ((at + 1) % n) ss)
 
 -- for the key `id` of kind `k`
 unfoldable pub sought : List ℕ → List ℕ → ℕ → List ℕ → Sought
-unfolding looking tells begins around
+unfolding lookAlong tellsKey firstSlot around
 sought t slots k id =
-    let at : ℕ = begins (length slots) k id in
-    looking (tells t k id) (length slots) at (around at slots)
+    let at : ℕ = firstSlot (length slots) k id in
+    lookAlong (tellsKey t k id) (length slots) at (around at slots)
 
-unfoldable pub isKnown : Sought → Bool
-isKnown Known = true
-isKnown (Free i) = false
-isKnown Full = false
+unfoldable pub saysKnown : Sought → Bool
+saysKnown Known = true
+saysKnown (Free i) = false
+saysKnown Full = false
 
 -- the slots after that: a key that is new enters, where there is room
-unfoldable pub after : Bool → ℕ → List ℕ → Sought → List ℕ
-after room v slots Known = slots
-after room v slots (Free i) = cond room (set slots i v) slots
-after room v slots Full = slots
+unfoldable pub afterLooking : Bool → ℕ → List ℕ → Sought → List ℕ
+afterLooking room v slots Known = slots
+afterLooking room v slots (Free i) = cond room (set slots i v) slots
+afterLooking room v slots Full = slots
 
 -- ---- the key of a head
 
 -- is it in the slots?
 unfoldable pub isMet : List ℕ → List ℕ → Head → Bool
-unfolding isKnown sought
+unfolding saysKnown sought
 isMet t slots (head.Refused n) = false
 isMet t slots (head.Header v n) = false
-isMet t slots (head.ReferenceSequence p l n) = isKnown (sought t slots 2 (take (p .len) (drop (p .at) t)))
-isMet t slots (head.ReadGroup p n) = isKnown (sought t slots 3 (take (p .len) (drop (p .at) t)))
-isMet t slots (head.Program p n) = isKnown (sought t slots 4 (take (p .len) (drop (p .at) t)))
+isMet t slots (head.ReferenceSequence p l n) = saysKnown (sought t slots 2 (take (p .len) (drop (p .at) t)))
+isMet t slots (head.ReadGroup p n) = saysKnown (sought t slots 3 (take (p .len) (drop (p .at) t)))
+isMet t slots (head.Program p n) = saysKnown (sought t slots 4 (take (p .len) (drop (p .at) t)))
 isMet t slots (head.Comment p) = false
 
 -- the slots after that
 unfoldable pub afterMeeting : Bool → List ℕ → List ℕ → Head → List ℕ
-unfolding after sought value mark
+unfolding afterLooking sought value mark
 afterMeeting room t slots (head.Refused n) = slots
 afterMeeting room t slots (head.Header v n) = slots
-afterMeeting room t slots (head.ReferenceSequence p l n) = after room (value (mark 2 (take (p .len) (drop (p .at) t))) (p .at)) slots (sought t slots 2 (take (p .len) (drop (p .at) t)))
-afterMeeting room t slots (head.ReadGroup p n) = after room (value (mark 3 (take (p .len) (drop (p .at) t))) (p .at)) slots (sought t slots 3 (take (p .len) (drop (p .at) t)))
-afterMeeting room t slots (head.Program p n) = after room (value (mark 4 (take (p .len) (drop (p .at) t))) (p .at)) slots (sought t slots 4 (take (p .len) (drop (p .at) t)))
+afterMeeting room t slots (head.ReferenceSequence p l n) = afterLooking room (value (mark 2 (take (p .len) (drop (p .at) t))) (p .at)) slots (sought t slots 2 (take (p .len) (drop (p .at) t)))
+afterMeeting room t slots (head.ReadGroup p n) = afterLooking room (value (mark 3 (take (p .len) (drop (p .at) t))) (p .at)) slots (sought t slots 3 (take (p .len) (drop (p .at) t)))
+afterMeeting room t slots (head.Program p n) = afterLooking room (value (mark 4 (take (p .len) (drop (p .at) t))) (p .at)) slots (sought t slots 4 (take (p .len) (drop (p .at) t)))
 afterMeeting room t slots (head.Comment p) = slots

@@ -1,17 +1,17 @@
 // An exact index of the keys that stood: a slot is 0, or tells a key by its kind and its offset in the text. A key ends at the
 // first byte below 32, or with the text, so that no length is kept.
 use record::Head;
-use record::Place;
+use record::Stretch;
 ghost use mathlib.Core.Path.{_≡_};
 ghost use mathlib.Core.Bool.{_&&_};
 ghost use Prim.Native.Nat.{_≤_, _<_, _+_, _*_, _/_, _%_};
 ghost use lib.Dec.{eqb};
 ghost use lib.ListN.{length, take, drop, replicate};
 ghost use Rattle.format.specs.Bytes.{same, none?};
-ghost use Rattle.key_index.specs.Hash.{mixed, wordsFrom, hashFrom};
+ghost use Rattle.key_index.specs.Hash.{mixed, wordsFrom, keyHash};
 ghost use Rattle.key_index.specs.Word.{word};
-ghost use Rattle.key_index.specs.Told.{mark, value, keyIn, sought, isKnown, after, isMet, afterMeeting};
-ghost use Rattle.key_index.specs.Keyed.{Placed};
+ghost use Rattle.key_index.specs.Told.{mark, value, keyTold, sought, saysKnown, afterLooking, isMet, afterMeeting};
+ghost use Rattle.key_index.specs.Keyed.{KeyInText};
 
 // How looking for a key ends: at a slot that tells it, at an empty one, or after all slots.
 pub enum Sought {
@@ -44,7 +44,7 @@ fn hash_words(kind: u8, id: &[u8]) -> usize
 
 // The number of a key of this kind: words, and then the bytes that are left.
 fn hash(kind: u8, id: &[u8]) -> usize
-    ensures { λ r. ⌜ r ≡ hashFrom kind (now (id .entry)) ⌝ }
+    ensures { λ r. ⌜ r ≡ keyHash kind (now (id .entry)) ⌝ }
 {
     let mut h = hash_words(kind, id);
     let mut i = id.len() - id.len() % 4;
@@ -93,7 +93,7 @@ fn mark(kind: u8, number: usize) -> u32
 // Whether a slot tells the key `id` with this mark: only where the marks are equal the text is looked at.
 fn is_told(text: &[u8], slot: u32, mark: u32, id: &[u8]) -> bool
     requires { ⌜ length (now id) ≤ 16777216 ⌝ }
-    ensures { λ r. ⌜ r ≡ (eqb mark (slot / 16777216) && same (now (id .entry)) (keyIn (now (text .entry)) slot)) ⌝ }
+    ensures { λ r. ⌜ r ≡ (eqb mark (slot / 16777216) && same (now (id .entry)) (keyTold (now (text .entry)) slot)) ⌝ }
 {
     if slot / 16777216 != mark {
         return false;
@@ -116,7 +116,7 @@ fn next(at: usize, n: usize) -> usize
 fn look(text: &[u8], area: &[u32], kind: u8, id: &[u8], number: usize) -> Sought
     requires { ⌜ length (now id) ≤ 16777216 ⌝ }
     requires { ⌜ 0 < length (now area) ⌝ }
-    requires { ⌜ number ≡ hashFrom kind (now id) ⌝ }
+    requires { ⌜ number ≡ keyHash kind (now id) ⌝ }
     ensures { λ r. ⌜ r ≡ sought (now (text .entry)) (now (area .entry)) kind (now (id .entry)) ⌝ }
 {
     let told = mark(kind, number);
@@ -137,13 +137,13 @@ fn look(text: &[u8], area: &[u32], kind: u8, id: &[u8], number: usize) -> Sought
 }
 
 // Whether the key of this kind at a place of the text is in the area. One that is not enters, where there is `room`.
-fn meet_at(text: &[u8], area: &mut [u32], kind: u8, place: Place, room: bool) -> bool
+fn meet_at(text: &[u8], area: &mut [u32], kind: u8, place: Stretch, room: bool) -> bool
     requires { ⌜ length (now text) ≤ 16777216 ⌝ }
     requires { ⌜ 0 < length (now area) ⌝ }
     requires { ⌜ place .at + place .len ≤ length (now text) ⌝ }
     requires { ⌜ (place .at < 16777216) × (kind ≤ 7) ⌝ }
-    ensures known { λ r. ⌜ r ≡ isKnown (sought (now (text .entry)) (now (area .entry)) kind (take (place .len) (drop (place .at) (now (text .entry))))) ⌝ }
-    ensures wrote { λ _. ⌜ now (area .exit) ≡ after room (value (mark kind (take (place .len) (drop (place .at) (now (text .entry))))) (place .at)) (now (area .entry)) (sought (now (text .entry)) (now (area .entry)) kind (take (place .len) (drop (place .at) (now (text .entry))))) ⌝ }
+    ensures known { λ r. ⌜ r ≡ saysKnown (sought (now (text .entry)) (now (area .entry)) kind (take (place .len) (drop (place .at) (now (text .entry))))) ⌝ }
+    ensures wrote { λ _. ⌜ now (area .exit) ≡ afterLooking room (value (mark kind (take (place .len) (drop (place .at) (now (text .entry))))) (place .at)) (now (area .entry)) (sought (now (text .entry)) (now (area .entry)) kind (take (place .len) (drop (place .at) (now (text .entry))))) ⌝ }
 {
     let start = place.at;
     let end = start + place.len;
@@ -165,7 +165,7 @@ fn meet_at(text: &[u8], area: &mut [u32], kind: u8, place: Place, room: bool) ->
 pub fn meet(text: &[u8], area: &mut [u32], head: Head, room: bool) -> bool
     requires { ⌜ length (now text) ≤ 16777216 ⌝ }
     requires { ⌜ 0 < length (now area) ⌝ }
-    requires { ⌜ Placed (length (now text)) head ⌝ }
+    requires { ⌜ KeyInText (length (now text)) head ⌝ }
     ensures known { λ r. ⌜ r ≡ isMet (now (text .entry)) (now (area .entry)) head ⌝ }
     ensures wrote { λ _. ⌜ now (area .exit) ≡ afterMeeting room (now (text .entry)) (now (area .entry)) head ⌝ }
 {

@@ -7,19 +7,19 @@ use Rattle.format.specs.Records.{kindOf}
 use Rattle.kind.specs.declared.ParsedKind.{ParsedKind}
 use Rattle.kind.specs.declared.ParsedKind.the-variants.{Empty, Invalid, Is}
 
-unfoldable pub known : Option Kind → ParsedKind
-known none = Invalid
-known (some k) = Is k
+unfoldable pub parsedKindOf : Option Kind → ParsedKind
+parsedKindOf none = Invalid
+parsedKindOf (some k) = Is k
 
 -- after the `@`: no byte, one byte or an unknown kind, or a kind
 unfoldable pub kindAt : List ℕ → ParsedKind
-unfolding known kindOf
+unfolding parsedKindOf kindOf
 kindAt [] = Empty
 kindAt (a ∷ []) = Invalid
-kindAt (a ∷ b ∷ s) = known (kindOf a b)
+kindAt (a ∷ b ∷ s) = parsedKindOf (kindOf a b)
 
 -- the refusal that each is, and 0 for a kind
-unfoldable pub refusalOf : ParsedKind → ℕ
-refusalOf Empty = 4
-refusalOf Invalid = 5
-refusalOf (Is k) = 0
+unfoldable pub kindRefusal : ParsedKind → ℕ
+kindRefusal Empty = 4
+kindRefusal Invalid = 5
+kindRefusal (Is k) = 0

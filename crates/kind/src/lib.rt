@@ -2,7 +2,7 @@
 use format::Kind;
 ghost use mathlib.Core.Path.{_≡_};
 ghost use Rattle.format.specs.Records.{kindOf};
-ghost use Rattle.kind.specs.Kind.{kindAt, known};
+ghost use Rattle.kind.specs.Kind.{kindAt, parsedKindOf};
 
 pub enum ParsedKind {
     Empty,
@@ -24,7 +24,7 @@ pub fn parse_kind(src: &[u8]) -> ParsedKind
 }
 
 fn kind_of(a: u8, b: u8) -> ParsedKind
-    ensures { λ r. ⌜ r ≡ known (kindOf a b) ⌝ }
+    ensures { λ r. ⌜ r ≡ parsedKindOf (kindOf a b) ⌝ }
 {
     if a == b'H' && b == b'D' {
         return ParsedKind::Is(Kind::Header);

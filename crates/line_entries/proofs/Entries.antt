@@ -11,13 +11,13 @@ use Rattle.text.specs.Over.{over}
 use Rattle.text.proofs.Over.{over-over, over-length}
 use Rattle.entries.specs.declared.Entry.{Entry}
 use Rattle.entries.specs.declared.Entry.the-variants.{End, Header, ReferenceSequence, ReadGroup, Program, Comment, Field}
-use Rattle.entries.specs.Entries.{kindOf, kindSize, sizeOf, entryBytes}
+use Rattle.entries.specs.Entries.{kindByte, kindSize, entrySize, entryBytes}
 use Rattle.entries.proofs.Written.{entry-length}
 use Rattle.entries_same.proofs.Starts.{starts-then}
 
 -- none is longer than that of an SQ
-pub size-most : (e : Entry) → sizeOf e ≤ 17
-unfolding sizeOf kindOf kindSize
+pub size-most : (e : Entry) → entrySize e ≤ 17
+unfolding entrySize kindByte kindSize
 size-most End = omega arith
 size-most (Header v) = omega arith
 size-most (ReferenceSequence p n) = omega arith
@@ -42,11 +42,11 @@ over-before out o xs ys h =
 
 -- `xs` is the entry `e`, and then `ys`
 module _ (e : Entry) (xs ys : List ℕ) (q : xs ≡ entryBytes e ++ ys) where
-  pub entry-then : length xs ≡ sizeOf e + length ys
+  pub entry-then : length xs ≡ entrySize e + length ys
   entry-then = ap length q ∙ length-append (entryBytes e) ys ∙ ap (λ n. n + length ys) (entry-length e)
 
   -- the entry was written at `o`, and `n` is the place after it: what is left to write follows
-  pub wrote : (out last : List ℕ) (o n : ℕ) → o + length xs ≤ length out → n ≡ o + sizeOf e → last ≡ over out o (entryBytes e)
+  pub wrote : (out last : List ℕ) (o n : ℕ) → o + length xs ≤ length out → n ≡ o + entrySize e → last ≡ over out o (entryBytes e)
       → (n + length ys ≡ o + length xs) × (over last n ys ≡ over out o xs) × (length last ≡ length out)
   wrote out last o n h p w = (
     omega (arith, entry-then),
@@ -58,7 +58,7 @@ module _ (e : Entry) (xs ys : List ℕ) (q : xs ≡ entryBytes e ++ ys) where
   )
 
   -- what follows the entry was written before it
-  pub wrote-before : (out mid last : List ℕ) (o n : ℕ) → n ≡ sizeOf e → o + length xs ≤ length out → mid ≡ over out (o + n) ys → last ≡ over mid o (entryBytes e) → last ≡ over out o xs
+  pub wrote-before : (out mid last : List ℕ) (o n : ℕ) → n ≡ entrySize e → o + length xs ≤ length out → mid ≡ over out (o + n) ys → last ≡ over mid o (entryBytes e) → last ≡ over out o xs
   wrote-before out mid last o n p h w v =
       let l : length (entryBytes e) ≡ n = entry-length e ∙ sym p in
       v
@@ -67,5 +67,5 @@ module _ (e : Entry) (xs ys : List ℕ) (q : xs ≡ entryBytes e ++ ys) where
       ∙ ap (over out o) (sym q)
 
   -- the entry is compared, and what follows it
-  pub compared : (c : List ℕ) (o n : ℕ) → n ≡ sizeOf e → starts xs (drop o c) ≡ (starts (entryBytes e) (drop o c) && starts ys (drop (o + n) c))
+  pub compared : (c : List ℕ) (o n : ℕ) → n ≡ entrySize e → starts xs (drop o c) ≡ (starts (entryBytes e) (drop o c) && starts ys (drop (o + n) c))
   compared c o n p = ap (λ l. starts l (drop o c)) q ∙ starts-then c o (entryBytes e) ys n (entry-length e ∙ sym p)

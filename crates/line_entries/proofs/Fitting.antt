@@ -20,7 +20,7 @@ use Rattle.accepted.proofs.Bools.{and-left, and-right, or-split}
 use Rattle.accepted.proofs.Pairs.{each-both}
 use Rattle.accepted.proofs.Stands.{line-stand}
 use Rattle.accepted.proofs.Sound.{line-sound}
-use Rattle.entries.specs.Entries.{FitsPlace, Fits, pieceAt, headEntry, fieldEntry}
+use Rattle.entries.specs.Entries.{FitsPlace, FitsEntry, pieceAt, headEntry, fieldEntry}
 
 -- ---- where a piece stands
 
@@ -65,11 +65,11 @@ module _ (strict : Bool) (p : Piece) (r : Record) (e : line strict p ≡ read r)
   each-fits = each-map (Stands (p .bytes) (p .at)) (λ q. FitsPlace (pieceAt q)) (piece-fits (p .bytes) (p .at) h) (pieces r) (line-stand strict p r e)
 
   -- a record's own entry
-  pub head-fits : Fits (headEntry r)
-  unfolding Fits headEntry sound.Fits Each pieces
+  pub head-fits : FitsEntry (headEntry r)
+  unfolding FitsEntry headEntry sound.FitsRecord Each pieces
   head-fits = go r (line-sound strict p r e .fits) each-fits
     where
-      go : (r : Record) → sound.Fits r → Each (λ q. FitsPlace (pieceAt q)) (pieces r) → Fits (headEntry r)
+      go : (r : Record) → sound.FitsRecord r → Each (λ q. FitsPlace (pieceAt q)) (pieces r) → FitsEntry (headEntry r)
       go (header v fs) s k = s
       go (reference p n fs) s k = (k .0, omega (arith, s .1))
       go (group p fs) s k = k .0
@@ -77,11 +77,11 @@ module _ (strict : Bool) (p : Piece) (r : Record) (e : line strict p ≡ read r)
       go (comment p) s k = k .0
 
   -- the entries of its other fields
-  pub fields-fit : Each (λ f. Fits (fieldEntry f)) (others r)
-  unfolding Fits fieldEntry
+  pub fields-fit : Each (λ f. FitsEntry (fieldEntry f)) (others r)
+  unfolding FitsEntry fieldEntry
   fields-fit =
-      each-map (λ f. Other (kind r) f × FitsPlace (pieceAt (f .value))) (λ f. Fits (fieldEntry f)) one (others r)
+      each-map (λ f. Other (kind r) f × FitsPlace (pieceAt (f .value))) (λ f. FitsEntry (fieldEntry f)) one (others r)
       (each-both (Other (kind r)) (λ f. FitsPlace (pieceAt (f .value))) (others r) (line-sound strict p r e .other) (pieces-values (λ q. FitsPlace (pieceAt q)) r each-fits))
     where
-      one : (f : Field) → Other (kind r) f × FitsPlace (pieceAt (f .value)) → Fits (fieldEntry f)
+      one : (f : Field) → Other (kind r) f × FitsPlace (pieceAt (f .value)) → FitsEntry (fieldEntry f)
       one f m = let t = tag-below (f .tag₀) (f .tag₁) (m .0 .tag) in (t .0, t .1, m .1)

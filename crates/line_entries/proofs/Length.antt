@@ -8,12 +8,12 @@ use lib.ListN.{length, length-append, length-drop}
 use Rattle.format.specs.Bytes.{any}
 use Rattle.format.specs.Lines.{Piece}
 use Rattle.format.specs.Fields.{Field, tagged}
-use Rattle.format.specs.Records.{Record, others, Line, refused, read, line}
+use Rattle.format.specs.Records.{Record, others, Line, refusedLine, read, line}
 use Rattle.format.specs.Tidy.{fieldText, fieldsText}
 use Rattle.format.specs.declared.Kind.{Kind}
 use Rattle.accepted.specs.Sound.{isKey, kind}
 use Rattle.accepted.specs.Spelled as sp
-use Rattle.accepted.specs.Spelled.{Accepted}
+use Rattle.accepted.specs.Spelled.{AcceptedLine}
 use Rattle.accepted.proofs.Spelled.{line-accepted}
 use Rattle.record.specs.Head.{recordHead, headOf}
 use Rattle.tags.specs.Others.{latest, firsts}
@@ -42,7 +42,7 @@ unfolding fieldsText fieldText
 text-long [] = omega arith
 text-long (f ∷ fs) = omega (arith, text-long fs, length-append (f .value .bytes) (fieldsText fs))
 
-accepted-few : (strict : Bool) (at : ℕ) (s : List ℕ) (r : Record) → Accepted strict at s r → 4 + 4 * length (others r) ≤ length s + 1
+accepted-few : (strict : Bool) (at : ℕ) (s : List ℕ) (r : Record) → AcceptedLine strict at s r → 4 + 4 * length (others r) ≤ length s + 1
 unfolding others
 accepted-few strict at s r (sp.of-remark t) = omega arith
 accepted-few strict at s r (sp.of-fields a) =
@@ -63,7 +63,7 @@ module _ (strict : Bool) (p : Piece) where
   others-few = go (line strict p) refl
     where
       go : (l : Line) → line strict p ≡ l → othersOf (headOf l) ≤ length (p .bytes)
-      go (refused n) e = omega arith
+      go (refusedLine n) e = omega arith
       go (read r) e = omega (arith, own-others r, accepted-few strict (p .at) (p .bytes) r (line-accepted strict p r e))
 
   pub bytes-few : length (recordBytes (line strict p)) ≤ 8 * length (p .bytes)
@@ -71,6 +71,6 @@ module _ (strict : Bool) (p : Piece) where
   bytes-few = go (line strict p) refl
     where
       go : (l : Line) → line strict p ≡ l → length (recordBytes l) ≤ 8 * length (p .bytes)
-      go (refused n) e = omega arith
+      go (refusedLine n) e = omega arith
       go (read r) e =
           omega (arith, size-length (read r), size-most (ownEntry (recordHead r)), own-others r, accepted-few strict (p .at) (p .bytes) r (line-accepted strict p r e))

@@ -5,10 +5,10 @@ use mathlib.Core.List.{List, [], _∷_, _++_, append-assoc, append-nil}
 use native.Mathlib.Omega.{arith}
 use lib.ListN.{length, length-append}
 use Rattle.format.specs.Fields as fields
-use Rattle.format.specs.Records.{Record, header, reference, group, program, comment, others, Line, refused, read}
+use Rattle.format.specs.Records.{Record, header, reference, group, program, comment, others, Line, refusedLine, read}
 use Rattle.format.specs.Catalogue.{little, place, head, tails, catalogue}
-use Rattle.record.specs.Head.{placeOf, recordHead, headOf}
-use Rattle.entries.specs.Entries.{kindOf, kindSize, sizeOf, placeBytes, entryBytes, pieceAt, headEntry, fieldEntry}
+use Rattle.record.specs.Head.{stretchOf, recordHead, headOf}
+use Rattle.entries.specs.Entries.{kindByte, kindSize, entrySize, placeBytes, entryBytes, pieceAt, headEntry, fieldEntry}
 use Rattle.entries.proofs.Written.{entry-length}
 use Rattle.line_entries.specs.Line.{recordBytes}
 use Rattle.line_entries.specs.Parts.{ownEntry, othersOf, sizeOfHead}
@@ -34,7 +34,7 @@ catalogue-length rs r = ap length (catalogue-more rs r) ∙ length-append (catal
 -- ---- a record's own entry
 
 pub own-entry : (r : Record) → ownEntry (recordHead r) ≡ headEntry r
-unfolding ownEntry recordHead placeOf headEntry pieceAt
+unfolding ownEntry recordHead stretchOf headEntry pieceAt
 own-entry (header v fs) = refl
 own-entry (reference p n fs) = refl
 own-entry (group p fs) = refl
@@ -42,7 +42,7 @@ own-entry (program p fs) = refl
 own-entry (comment p) = refl
 
 pub own-bytes : (r : Record) → entryBytes (ownEntry (recordHead r)) ≡ head r
-unfolding ownEntry recordHead placeOf entryBytes placeBytes head place
+unfolding ownEntry recordHead stretchOf entryBytes placeBytes head place
 own-bytes (header v fs) = refl
 own-bytes (reference p n fs) = refl
 own-bytes (group p fs) = refl
@@ -71,8 +71,8 @@ tails-length (f ∷ fs) = omega (arith, tails-length fs)
 -- ---- how long
 
 pub size-length : (l : Line) → sizeOfHead (headOf l) ≡ length (recordBytes l)
-unfolding sizeOfHead headOf recordBytes ownEntry othersOf sizeOf kindOf kindSize
-size-length (refused n) = refl
+unfolding sizeOfHead headOf recordBytes ownEntry othersOf entrySize kindByte kindSize
+size-length (refusedLine n) = refl
 size-length (read r) =
     omega (
       arith,

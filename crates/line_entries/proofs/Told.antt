@@ -10,7 +10,7 @@ use Rattle.format.specs.declared.Kind.{Kind}
 use Rattle.format.specs.declared.Kind.the-variants as kinds
 use Rattle.accepted.specs.Sound.{kind}
 use Rattle.accepted.specs.Spelled as sp
-use Rattle.accepted.specs.Spelled.{Accepted}
+use Rattle.accepted.specs.Spelled.{AcceptedLine}
 use Rattle.accepted.specs.Read.{isRead}
 use Rattle.accepted.proofs.Bools.{never}
 use Rattle.accepted.proofs.Spelled.{line-accepted}
@@ -22,7 +22,7 @@ use Rattle.other_fields.proofs.Start.{accepted-others}
 use Rattle.heads.specs.Found.{kindBy, isComment, uncounted}
 use Rattle.heads.proofs.Finds.{accepted-byte, by-record}
 use Rattle.entries.specs.declared.Entry.{Entry}
-use Rattle.entries.specs.Entries.{kindOf, kindSize, sizeOf, entryBytes, Fits, headEntry}
+use Rattle.entries.specs.Entries.{kindByte, kindSize, entrySize, entryBytes, FitsEntry, headEntry}
 use Rattle.line_entries.specs.Line.{recordBytes}
 use Rattle.line_entries.specs.Parts.{ownEntry, ownSize, fieldBytes}
 use Rattle.line_entries.proofs.Records.{own-entry, own-bytes}
@@ -39,8 +39,8 @@ own-uncounted (heads.Program p n) = refl
 own-uncounted (heads.Comment p) = refl
 
 -- its size goes by the kind
-own-long : (r : Record) → sizeOf (ownEntry (recordHead r)) ≡ ownSize (kind r)
-unfolding ownEntry recordHead kind sizeOf kindOf kindSize
+own-long : (r : Record) → entrySize (ownEntry (recordHead r)) ≡ ownSize (kind r)
+unfolding ownEntry recordHead kind entrySize kindByte kindSize
 own-long (header v fs) = refl
 own-long (reference p n fs) = refl
 own-long (group p fs) = refl
@@ -48,7 +48,7 @@ own-long (program p fs) = refl
 own-long (comment p) = refl
 
 -- what follows it
-accepted-rest : (strict : Bool) (at : ℕ) (s : List ℕ) (r : Record) → Accepted strict at s r → isComment (kind r) ≡ false → tails (others r) ≡ fieldBytes (kind r) at s 3
+accepted-rest : (strict : Bool) (at : ℕ) (s : List ℕ) (r : Record) → AcceptedLine strict at s r → isComment (kind r) ≡ false → tails (others r) ≡ fieldBytes (kind r) at s 3
 unfolding kind fieldBytes fieldsOf
 accepted-rest strict at s r (sp.of-remark t) n = absurd (never (cc))
 accepted-rest strict at s r (sp.of-fields a) n = sym (ap tails (accepted-others strict at s r a))
@@ -65,13 +65,13 @@ module _ (at : ℕ) (s : List ℕ) (h : isRead (line false (record { at = at; by
   abbrev pub own : Entry
   own = ownEntry (headOf (line false (record { at = at; bytes = s })))
 
-  pub own-fits : at + length s ≤ 16777216 → Fits own
+  pub own-fits : at + length s ≤ 16777216 → FitsEntry own
   unfolding headOf
-  own-fits fit = by-record false at s h (λ l. Fits (ownEntry (headOf l))) (λ r e. rw (own-entry r) (head-fits false (record { at = at; bytes = s }) r e fit))
+  own-fits fit = by-record false at s h (λ l. FitsEntry (ownEntry (headOf l))) (λ r e. rw (own-entry r) (head-fits false (record { at = at; bytes = s }) r e fit))
 
-  pub own-size : (k : Kind) → kindBy (getD s 1 0) ≡ k → sizeOf own ≡ ownSize k
+  pub own-size : (k : Kind) → kindBy (getD s 1 0) ≡ k → entrySize own ≡ ownSize k
   unfolding headOf
-  own-size k e = by-record false at s h (λ l. sizeOf (ownEntry (headOf l)) ≡ ownSize k) (λ r d. own-long r ∙ ap ownSize (sym (byte r d) ∙ e))
+  own-size k e = by-record false at s h (λ l. entrySize (ownEntry (headOf l)) ≡ ownSize k) (λ r d. own-long r ∙ ap ownSize (sym (byte r d) ∙ e))
     where
       byte : (r : Record) → line false (record { at = at; bytes = s }) ≡ read r → kindBy (getD s 1 0) ≡ kind r
       byte r d = accepted-byte false at s r (line-accepted false (record { at = at; bytes = s }) r d) .1

@@ -18,8 +18,8 @@ use Rattle.other_fields.specs.declared.Value.{Value}
 use Rattle.other_fields.proofs.Here.{ended}
 use Rattle.other_fields.proofs.Walked.{Taken}
 use Rattle.other_fields.proofs.Place.{next-at, passed-at, taken-at}
-use Rattle.heads.specs.Keys.{keysFrom, keysIn, noKeys, withKey}
-use Rattle.heads.specs.declared.Keys.{Keys}
+use Rattle.heads.specs.Keys.{keysFrom, keysIn, noKeyValues, withKey}
+use Rattle.heads.specs.declared.KeyValues.{KeyValues}
 use Rattle.heads.proofs.MetKeys.{keys-none, keys-past, keys-met}
 use Rattle.entries.specs.declared.Place.{Place}
 use Rattle.entries.specs.declared.Entry.the-variants as entry
@@ -28,11 +28,11 @@ use Rattle.line_entries.specs.Parts.{fieldBytes}
 use Rattle.line_entries.proofs.Records.{tails-more}
 
 -- the walk has come to the place `i`, and has met the keys `ks`
-pub record Walked (once : Bool) (at : ℕ) (line : List ℕ) (k : Kind) (i : ℕ) (ks : Keys) : Type 0 where
+pub record Walked (once : Bool) (at : ℕ) (line : List ℕ) (k : Kind) (i : ℕ) (ks : KeyValues) : Type 0 where
   pub here : AtField once at line i
   pub keys : keysFrom k ks (fieldsFrom at line i) ≡ keysIn k (fieldsFrom at line 3)
 
-pub walked-start : (once : Bool) (at : ℕ) (line : List ℕ) (k : Kind) (t : List ℕ) (ks : Keys) → Walkable once at line t → ks ≡ noKeys → Walked once at line k 3 ks
+pub walked-start : (once : Bool) (at : ℕ) (line : List ℕ) (k : Kind) (t : List ℕ) (ks : KeyValues) → Walkable once at line t → ks ≡ noKeyValues → Walked once at line k 3 ks
 unfolding keysIn
 walked-start once at line k t ks w e = record { here = w .start; keys = ap (λ ks. keysFrom k ks (fieldsFrom at line 3)) e }
 
@@ -46,7 +46,7 @@ same-entry : (f : fields.Field) (a b : ℕ) (v : Value) (p : Place) → f .tag�
 unfolding fieldEntry pieceAt
 same-entry f a b v p d e m n q = rw (d, e, m, n, q) refl
 
-module _ (once : Bool) (at : ℕ) (line : List ℕ) (k : Kind) (i : ℕ) (ks : Keys) (w : Walked once at line k i ks) where
+module _ (once : Bool) (at : ℕ) (line : List ℕ) (k : Kind) (i : ℕ) (ks : KeyValues) (w : Walked once at line k i ks) where
   -- nothing is left
   pub walked-end : length line ≤ i → (ks ≡ keysIn k (fieldsFrom at line 3)) × (fieldBytes k at line i ≡ [])
   unfolding fieldBytes tails firsts
@@ -56,7 +56,7 @@ module _ (once : Bool) (at : ℕ) (line : List ℕ) (k : Kind) (i : ℕ) (ks : K
 
   module _ (l : i < length line) (end : ℕ) (q : end ≡ i + 1 + upto 9 (drop (i + 1) line)) where
     -- a key is met
-    pub walked-key : isKey k (getD line (i + 1) 0) (getD line (i + 2) 0) ≡ true → (v : Value) → v ≡ valueAt at i end → (ms : Keys) → ms ≡ withKey ks (getD line (i + 1) 0) v → Walked once at line k end ms
+    pub walked-key : isKey k (getD line (i + 1) 0) (getD line (i + 2) 0) ≡ true → (v : Value) → v ≡ valueAt at i end → (ms : KeyValues) → ms ≡ withKey ks (getD line (i + 1) 0) v → Walked once at line k end ms
     walked-key t v e ms d = record {
       here = next-at once at line i (w .here) l end q;
       keys =

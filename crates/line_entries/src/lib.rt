@@ -2,7 +2,7 @@
 use entries::Entry;
 use entries::Place;
 use format::Kind;
-use heads::Keys;
+use heads::KeyValues;
 use record::Head;
 ghost use mathlib.Core.Path.{_≡_};
 ghost use mathlib.Core.Bool.{true, false};
@@ -18,7 +18,7 @@ ghost use Rattle.other_fields.specs.Run.{fieldsFrom};
 ghost use Rattle.other_fields.specs.Tables.{Walkable};
 ghost use Rattle.heads.specs.Found.{kindBy, isComment};
 ghost use Rattle.heads.specs.Keys.{keysIn};
-ghost use Rattle.entries.specs.Entries.{sizeOf, Fits};
+ghost use Rattle.entries.specs.Entries.{entrySize, FitsEntry};
 ghost use Rattle.line_entries.specs.Line.{recordBytes};
 ghost use Rattle.line_entries.specs.Parts.{ownEntry, othersOf, sizeOfHead, ownSize, fieldBytes};
 ghost use Rattle.line_entries.specs.Matched.{metIn, comparedOf, matched};
@@ -32,7 +32,7 @@ pub enum Matched {
 // Where a walk over a line met its keys, and the place after the entries of its other fields.
 struct Met {
     next: usize,
-    keys: Keys,
+    keys: KeyValues,
 }
 
 // Whether a catalogue has those entries, and then what the walk met.
@@ -57,7 +57,7 @@ fn others_of(head: Head) -> usize
 
 // An entry of the kind of a record's own, with no place in it: as long as the record's own.
 fn blank_entry(head: Head) -> Entry
-    ensures { λ r. ⌜ sizeOf r ≡ sizeOf (ownEntry head) ⌝ }
+    ensures { λ r. ⌜ entrySize r ≡ entrySize (ownEntry head) ⌝ }
 {
     let nowhere = Place { at: 0, len: 0 };
     match head {
@@ -93,7 +93,7 @@ fn narrow(at: usize, len: usize) -> Place
 
 // A record's own entry.
 fn own_entry(head: Head) -> Entry
-    requires { ⌜ Fits (ownEntry head) ⌝ }
+    requires { ⌜ FitsEntry (ownEntry head) ⌝ }
     ensures { λ r. ⌜ r ≡ ownEntry head ⌝ }
 {
     match head {
@@ -120,7 +120,7 @@ fn own_size(kind: Kind) -> usize
 }
 
 // The own entry of an accepted line, by its keys.
-fn line_entry(kind: Kind, src: &[u8], at: usize, keys: Keys) -> Entry
+fn line_entry(kind: Kind, src: &[u8], at: usize, keys: KeyValues) -> Entry
     requires { ⌜ isRead (line false (record { at = at; bytes = now src })) ≡ true ⌝ }
     requires { ⌜ kindBy (getD (now src) 1 0) ≡ kind ⌝ }
     requires { ⌜ keys ≡ keysIn kind (fieldsFrom at (now src) 3) ⌝ }
@@ -146,7 +146,7 @@ fn put_fields(
     ensures met { λ r. ⌜ r ≡ metIn kind at (now (src .entry)) o ⌝ }
     ensures wrote { λ _. ⌜ now (out .exit) ≡ over (now (out .entry)) o (fieldBytes kind at (now (src .entry)) 3) ⌝ }
 {
-    let mut keys = Keys::new();
+    let mut keys = KeyValues::new();
     let mut next = o;
     let mut i: usize = 3;
     while i < src.len() {
@@ -211,7 +211,7 @@ fn put_comment(out: &mut [u8], o: usize, src: &[u8], at: usize) -> usize
     ensures next { λ r. ⌜ r ≡ o + length (recordBytes (line false (record { at = at; bytes = now (src .entry) }))) ⌝ }
     ensures wrote { λ _. ⌜ now (out .exit) ≡ over (now (out .entry)) o (recordBytes (line false (record { at = at; bytes = now (src .entry) }))) ⌝ }
 {
-    entries_out::put_entry(out, o, line_entry(Kind::Comment, src, at, Keys::new()))
+    entries_out::put_entry(out, o, line_entry(Kind::Comment, src, at, KeyValues::new()))
 }
 
 // Writes the entries of the accepted line `src`, which starts at the offset `at`, from `o` on, and gives the place after them.
@@ -247,7 +247,7 @@ fn same_fields(
     requires { ⌜ o ≤ length (now catalogue) ⌝ }
     ensures { λ r. ⌜ r ≡ comparedOf (starts (fieldBytes kind at (now (src .entry)) 3) (drop o (now (catalogue .entry)))) (metIn kind at (now (src .entry)) o) ⌝ }
 {
-    let mut keys = Keys::new();
+    let mut keys = KeyValues::new();
     let mut next = o;
     let mut i: usize = 3;
     while i < src.len() {
@@ -320,7 +320,7 @@ fn same_comment(catalogue: &[u8], o: usize, src: &[u8], at: usize) -> Matched
     requires { ⌜ o ≤ length (now catalogue) ⌝ }
     ensures { λ r. ⌜ r ≡ matched o (drop o (now (catalogue .entry))) (recordBytes (line false (record { at = at; bytes = now (src .entry) }))) ⌝ }
 {
-    let e = line_entry(Kind::Comment, src, at, Keys::new());
+    let e = line_entry(Kind::Comment, src, at, KeyValues::new());
     if entries_same::same_entry(catalogue, o, e) {
         return Matched::Upto(o + 9);
     }

@@ -14,7 +14,7 @@ use Rattle.format.specs.Fields.{Field, tagged, repeats, later, lastOf}
 use Rattle.format.specs.Records.{Record, header, reference, group, program, comment, code, key, others}
 use Rattle.format.specs.Reading.{readText, accept, ofKind}
 use Rattle.format.specs.Catalogue.{catalogue}
-use Rattle.format.specs.Calls.{keyed, sized, valued}
+use Rattle.format.specs.Calls.{keyIfThere, lengthIfThere, valueIfThere}
 use Rattle.text.specs.Stands.{Each}
 use Rattle.accepted.specs.Sound.{Sound}
 use Rattle.accepted.proofs.Bools.{or-left, or-right, and-left, and-right, split}
@@ -23,18 +23,18 @@ use Rattle.accepted.proofs.OfKind.{ofKind-none}
 use Rattle.accepted.proofs.Text.{text-sound}
 use Rattle.entries.specs.declared.Entry.{Entry}
 use Rattle.entries.specs.declared.Entry.the-variants as entry
-use Rattle.entries.specs.Entries.{kindOf, pieceAt, headEntry, fieldEntry, entriesOf, entriesIn}
+use Rattle.entries.specs.Entries.{kindByte, pieceAt, headEntry, fieldEntry, entriesOf, entriesIn}
 use Rattle.entries.proofs.Records.{head-kind}
 use Rattle.entries.proofs.Found.{recordsFrom, first-record}
 use Rattle.lookup.specs.declared.Found.the-variants.{Nothing, At}
-use Rattle.lookup.specs.Lookup.{foundOf, sizedOf, entriesFrom, front, keyOf, lengthOf, valueIn, keyIn, lengthIn, fieldIn}
+use Rattle.lookup.specs.Lookup.{foundOf, sizedOf, entriesFrom, firstEntry, entryKey, entryLength, valueIn, keyIn, lengthIn, fieldIn}
 use Rattle.lookup.proofs.Kept.{text-entries}
 
 -- ---- a kind of records
 
 -- the entries of fields are passed
 from-fields : (k : ℕ) → k < 6 → (i : ℕ) (fs : List Field) (es : List Entry) → entriesFrom k i (map fieldEntry fs ++ es) ≡ entriesFrom k i es
-unfolding entriesFrom kindOf fieldEntry
+unfolding entriesFrom kindByte fieldEntry
 from-fields k h i [] es = refl
 from-fields k h zero (f ∷ fs) es = let n : 6 ≡ k → ⊥ = λ e. omega arith in rw (ne-eqb 6 k n) (from-fields k h zero fs es)
 from-fields k h (suc i) (f ∷ fs) es = let n : 6 ≡ k → ⊥ = λ e. omega arith in rw (ne-eqb 6 k n) (from-fields k h (suc i) fs es)
@@ -82,8 +82,8 @@ code-below (comment p) = omega arith
 no-records : (k i : ℕ) → 5 < k → (rs : List Record) → getElem? (ofKind k rs) i ≡ none
 no-records k i h rs = ap (λ qs. getElem? qs i) (ofKind-none k rs (each-all (λ r. eqb (code r) k ≡ false) (λ r. ne-eqb (code r) k (λ e. omega (arith, code-below r))) rs))
 
-no-key : (k : ℕ) → 5 < k → (e : Entry) → kindOf e ≡ k → keyOf e ≡ Nothing
-unfolding kindOf keyOf
+no-key : (k : ℕ) → 5 < k → (e : Entry) → kindByte e ≡ k → entryKey e ≡ Nothing
+unfolding kindByte entryKey
 no-key k h entry.End q = refl
 no-key k h (entry.Header v) q = refl
 no-key k h (entry.ReferenceSequence p n) q = absurd (omega arith)
@@ -92,24 +92,24 @@ no-key k h (entry.Program p) q = absurd (omega arith)
 no-key k h (entry.Comment p) q = refl
 no-key k h (entry.Field a b p) q = refl
 
-no-keys : (k i : ℕ) → 5 < k → (es : List Entry) → keyOf (front (entriesFrom k i es)) ≡ Nothing
-unfolding front entriesFrom keyOf
+no-keys : (k i : ℕ) → 5 < k → (es : List Entry) → entryKey (firstEntry (entriesFrom k i es)) ≡ Nothing
+unfolding firstEntry entriesFrom entryKey
 no-keys k i h [] = refl
-no-keys k zero h (e ∷ es) = go (eqb (kindOf e) k) refl (no-keys k zero h es)
+no-keys k zero h (e ∷ es) = go (eqb (kindByte e) k) refl (no-keys k zero h es)
   where
-    go : (t : Bool) → eqb (kindOf e) k ≡ t → keyOf (front (entriesFrom k 0 es)) ≡ Nothing → keyOf (front (cond t (e ∷ es) (entriesFrom k 0 es))) ≡ Nothing
-    go true q ih = no-key k h e (eqb-true (kindOf e) k q)
+    go : (t : Bool) → eqb (kindByte e) k ≡ t → entryKey (firstEntry (entriesFrom k 0 es)) ≡ Nothing → entryKey (firstEntry (cond t (e ∷ es) (entriesFrom k 0 es))) ≡ Nothing
+    go true q ih = no-key k h e (eqb-true (kindByte e) k q)
     go false q ih = ih
-no-keys k (suc i) h (e ∷ es) = go (eqb (kindOf e) k) (no-keys k i h es) (no-keys k (suc i) h es)
+no-keys k (suc i) h (e ∷ es) = go (eqb (kindByte e) k) (no-keys k i h es) (no-keys k (suc i) h es)
   where
-    go : (t : Bool) → keyOf (front (entriesFrom k i es)) ≡ Nothing → keyOf (front (entriesFrom k (suc i) es)) ≡ Nothing → keyOf (front (cond t (entriesFrom k i es) (entriesFrom k (suc i) es))) ≡ Nothing
+    go : (t : Bool) → entryKey (firstEntry (entriesFrom k i es)) ≡ Nothing → entryKey (firstEntry (entriesFrom k (suc i) es)) ≡ Nothing → entryKey (firstEntry (cond t (entriesFrom k i es) (entriesFrom k (suc i) es))) ≡ Nothing
     go true ih jh = ih
     go false ih jh = jh
 
 -- ---- keys and lengths
 
-first-key : (rs : List Record) → keyOf (front (entriesOf rs)) ≡ foundOf (keyed (getElem? rs 0))
-unfolding keyOf front entriesOf foundOf keyed headEntry key
+first-key : (rs : List Record) → entryKey (firstEntry (entriesOf rs)) ≡ foundOf (keyIfThere (getElem? rs 0))
+unfolding entryKey firstEntry entriesOf foundOf keyIfThere headEntry key
 first-key [] = refl
 first-key (header v fs ∷ rs) = refl
 first-key (reference p n fs ∷ rs) = refl
@@ -117,20 +117,20 @@ first-key (group p fs ∷ rs) = refl
 first-key (program p fs ∷ rs) = refl
 first-key (comment p ∷ rs) = refl
 
-pub key-records : (k i : ℕ) (rs : List Record) → keyIn k i (entriesOf rs) ≡ foundOf (keyed (getElem? (ofKind k rs) i))
+pub key-records : (k i : ℕ) (rs : List Record) → keyIn k i (entriesOf rs) ≡ foundOf (keyIfThere (getElem? (ofKind k rs) i))
 unfolding keyIn
 key-records k i rs = split (ltb 5 k) (λ q. above (ltb-true 5 k q)) (λ q. below (ltb-false 5 k q))
   where
-    above : 5 < k → keyOf (front (entriesFrom k i (entriesOf rs))) ≡ foundOf (keyed (getElem? (ofKind k rs) i))
-    above h = no-keys k i h (entriesOf rs) ∙ unfold foundOf keyed in ap (λ o. foundOf (keyed o)) (sym (no-records k i h rs))
+    above : 5 < k → entryKey (firstEntry (entriesFrom k i (entriesOf rs))) ≡ foundOf (keyIfThere (getElem? (ofKind k rs) i))
+    above h = no-keys k i h (entriesOf rs) ∙ unfold foundOf keyIfThere in ap (λ o. foundOf (keyIfThere o)) (sym (no-records k i h rs))
 
-    below : k ≤ 5 → keyOf (front (entriesFrom k i (entriesOf rs))) ≡ foundOf (keyed (getElem? (ofKind k rs) i))
+    below : k ≤ 5 → entryKey (firstEntry (entriesFrom k i (entriesOf rs))) ≡ foundOf (keyIfThere (getElem? (ofKind k rs) i))
     below h =
-        ap (λ es. keyOf (front es)) (from-records k i (omega arith) rs) ∙ first-key (recordsFrom k i rs)
-        ∙ ap (λ o. foundOf (keyed o)) (sym (first-record k i rs))
+        ap (λ es. entryKey (firstEntry es)) (from-records k i (omega arith) rs) ∙ first-key (recordsFrom k i rs)
+        ∙ ap (λ o. foundOf (keyIfThere o)) (sym (first-record k i rs))
 
-first-length : (rs : List Record) → lengthOf (front (entriesOf rs)) ≡ sizedOf (sized (getElem? rs 0))
-unfolding lengthOf front entriesOf sizedOf sized headEntry
+first-length : (rs : List Record) → entryLength (firstEntry (entriesOf rs)) ≡ sizedOf (lengthIfThere (getElem? rs 0))
+unfolding entryLength firstEntry entriesOf sizedOf lengthIfThere headEntry
 first-length [] = refl
 first-length (header v fs ∷ rs) = refl
 first-length (reference p n fs ∷ rs) = refl
@@ -138,11 +138,11 @@ first-length (group p fs ∷ rs) = refl
 first-length (program p fs ∷ rs) = refl
 first-length (comment p ∷ rs) = refl
 
-pub length-records : (i : ℕ) (rs : List Record) → lengthIn i (entriesOf rs) ≡ sizedOf (sized (getElem? (ofKind 2 rs) i))
+pub length-records : (i : ℕ) (rs : List Record) → lengthIn i (entriesOf rs) ≡ sizedOf (lengthIfThere (getElem? (ofKind 2 rs) i))
 unfolding lengthIn
 length-records i rs =
-    ap (λ es. lengthOf (front es)) (from-records 2 i (omega arith) rs) ∙ first-length (recordsFrom 2 i rs)
-    ∙ ap (λ o. sizedOf (sized o)) (sym (first-record 2 i rs))
+    ap (λ es. entryLength (firstEntry es)) (from-records 2 i (omega arith) rs) ∙ first-length (recordsFrom 2 i rs)
+    ∙ ap (λ o. sizedOf (lengthIfThere o)) (sym (first-record 2 i rs))
 
 -- ---- fields
 
@@ -189,31 +189,31 @@ value-fields a b (f ∷ fs) rs h = go (tagged a b f) refl (value-fields a b fs r
     go true q ih = ap (λ o. foundOf (later (some (f .value)) o)) (sym (once q))
     go false q ih = ih ∙ ap foundOf (sym (later-none (lastOf a b fs)))
 
-first-value : (a b : ℕ) (rs : List Record) → Each Sound rs → valueIn a b (drop 1 (entriesOf rs)) ≡ foundOf (valued a b (getElem? rs 0))
-unfolding Each entriesOf valued foundOf valueIn
+first-value : (a b : ℕ) (rs : List Record) → Each Sound rs → valueIn a b (drop 1 (entriesOf rs)) ≡ foundOf (valueIfThere a b (getElem? rs 0))
+unfolding Each entriesOf valueIfThere foundOf valueIn
 first-value a b [] h = refl
 first-value a b (r ∷ rs) h = value-fields a b (others r) rs (h .0 .once)
 
-pub field-records : (k i a b : ℕ) (rs : List Record) → Each Sound rs → fieldIn k i a b (entriesOf rs) ≡ foundOf (valued a b (getElem? (ofKind k rs) i))
+pub field-records : (k i a b : ℕ) (rs : List Record) → Each Sound rs → fieldIn k i a b (entriesOf rs) ≡ foundOf (valueIfThere a b (getElem? (ofKind k rs) i))
 unfolding fieldIn
 field-records k i a b rs s = split (ltb 5 k) (λ q. rw q (above (ltb-true 5 k q))) (λ q. rw q (below (ltb-false 5 k q)))
   where
-    above : 5 < k → Nothing ≡ foundOf (valued a b (getElem? (ofKind k rs) i))
-    above h = unfold foundOf valued in ap (λ o. foundOf (valued a b o)) (sym (no-records k i h rs))
+    above : 5 < k → Nothing ≡ foundOf (valueIfThere a b (getElem? (ofKind k rs) i))
+    above h = unfold foundOf valueIfThere in ap (λ o. foundOf (valueIfThere a b o)) (sym (no-records k i h rs))
 
-    below : k ≤ 5 → valueIn a b (drop 1 (entriesFrom k i (entriesOf rs))) ≡ foundOf (valued a b (getElem? (ofKind k rs) i))
+    below : k ≤ 5 → valueIn a b (drop 1 (entriesFrom k i (entriesOf rs))) ≡ foundOf (valueIfThere a b (getElem? (ofKind k rs) i))
     below h =
         ap (λ es. valueIn a b (drop 1 es)) (from-records k i (omega arith) rs) ∙ first-value a b (recordsFrom k i rs) (each-from Sound k i rs s)
-        ∙ ap (λ o. foundOf (valued a b o)) (sym (first-record k i rs))
+        ∙ ap (λ o. foundOf (valueIfThere a b o)) (sym (first-record k i rs))
 
 -- ---- an accepted text
 
 module _ (t : List ℕ) (rs : List Record) (h : readText t ≡ accept rs) where
-  pub text-key : (k i : ℕ) → keyIn k i (entriesIn (catalogue rs)) ≡ foundOf (keyed (getElem? (ofKind k rs) i))
+  pub text-key : (k i : ℕ) → keyIn k i (entriesIn (catalogue rs)) ≡ foundOf (keyIfThere (getElem? (ofKind k rs) i))
   text-key k i = rw (text-entries t rs h) (key-records k i rs)
 
-  pub text-ln : (i : ℕ) → lengthIn i (entriesIn (catalogue rs)) ≡ sizedOf (sized (getElem? (ofKind 2 rs) i))
+  pub text-ln : (i : ℕ) → lengthIn i (entriesIn (catalogue rs)) ≡ sizedOf (lengthIfThere (getElem? (ofKind 2 rs) i))
   text-ln i = rw (text-entries t rs h) (length-records i rs)
 
-  pub text-field : (k i a b : ℕ) → fieldIn k i a b (entriesIn (catalogue rs)) ≡ foundOf (valued a b (getElem? (ofKind k rs) i))
+  pub text-field : (k i a b : ℕ) → fieldIn k i a b (entriesIn (catalogue rs)) ≡ foundOf (valueIfThere a b (getElem? (ofKind k rs) i))
   text-field k i a b = rw (text-entries t rs h) (field-records k i a b rs (text-sound t rs h))

@@ -10,7 +10,7 @@ use Rattle.format.specs.Fields.{Field, lastOf}
 use Rattle.format.specs.Records.{Record, header, reference, group, program, comment, key, others}
 use Rattle.format.specs.Reading.{readText, accept, ofKind}
 use Rattle.format.specs.Catalogue.{catalogue}
-use Rattle.format.specs.Calls.{keyed, valued}
+use Rattle.format.specs.Calls.{keyIfThere, valueIfThere}
 use Rattle.format.specs.declared.Kind.{Kind}
 use Rattle.text.specs.Stands.{Each, Stands}
 use Rattle.accepted.specs.Pieces.{values, pieces}
@@ -22,7 +22,7 @@ use Rattle.accepted.proofs.Fields.{Of, lastOf-of}
 use Rattle.accepted.proofs.Clean.{tag-bounds}
 use Rattle.accepted.proofs.Text.{text-stand, text-small, text-sound, text-programs}
 use Rattle.entries.specs.declared.Entry.{Entry}
-use Rattle.entries.specs.Entries.{pieceAt, headEntry, fieldEntry, entriesOf, entriesIn, counted, FitsPlace, Fits}
+use Rattle.entries.specs.Entries.{pieceAt, headEntry, fieldEntry, entriesOf, entriesIn, counted, FitsPlace, FitsEntry}
 use Rattle.entries.proofs.Records.{counted-records}
 use Rattle.entries.proofs.Found.{entries-catalogue}
 
@@ -70,7 +70,7 @@ pub last-value : (P : Piece → Type 0) (a b : ℕ) (fs : List Field) (p : Piece
 last-value P a b fs p h e = let o : Of (λ f. P (f .value)) a b p = lastOf-of (λ f. P (f .value)) a b fs p h e in subst P (o .value) (o .holds)
 
 module _ (P : Piece → Type 0) (Q : Entry → Type 0)
-    (own : (r : Record) → sound.Fits r → Each P (pieces r) → Q (headEntry r))
+    (own : (r : Record) → sound.FitsRecord r → Each P (pieces r) → Q (headEntry r))
     (field : (k : Kind) (f : Field) → Other k f → P (f .value) → Q (fieldEntry f)) where
   each-fields : (k : Kind) (fs : List Field) → Each (Other k) fs → Each (λ f. P (f .value)) fs → Each Q (map fieldEntry fs)
   unfolding Each
@@ -96,16 +96,16 @@ small-fits : (p : Piece) → Small p → FitsPlace (pieceAt p)
 unfolding pieceAt
 small-fits p h = (omega arith, omega arith)
 
-own-fits : (r : Record) → sound.Fits r → Each Small (pieces r) → Fits (headEntry r)
-unfolding sound.Fits Each pieces Fits headEntry
+own-fits : (r : Record) → sound.FitsRecord r → Each Small (pieces r) → FitsEntry (headEntry r)
+unfolding sound.FitsRecord Each pieces FitsEntry headEntry
 own-fits (header v fs) h p = h
 own-fits (reference q n fs) h p = (small-fits q (p .0), omega (arith, h .1))
 own-fits (group q fs) h p = small-fits q (p .0)
 own-fits (program q fs) h p = small-fits q (p .0)
 own-fits (comment q) h p = small-fits q (p .0)
 
-field-fits : (k : Kind) (f : Field) → Other k f → Small (f .value) → Fits (fieldEntry f)
-unfolding Fits fieldEntry
+field-fits : (k : Kind) (f : Field) → Other k f → Small (f .value) → FitsEntry (fieldEntry f)
+unfolding FitsEntry fieldEntry
 field-fits k f o s =
     let t = tag-bounds (f .tag₀) (f .tag₁) (o .tag) in
     (omega (arith, t .0 .1), omega (arith, t .1 .1), small-fits (f .value) s)
@@ -113,8 +113,8 @@ field-fits k f o s =
 -- ---- an accepted text
 
 module _ (t : List ℕ) (rs : List Record) (h : readText t ≡ accept rs) where
-  pub text-fit : Each Fits (entriesOf rs)
-  text-fit = each-entries Small Fits own-fits field-fits rs (text-sound t rs h) (text-small t rs h)
+  pub text-fit : Each FitsEntry (entriesOf rs)
+  text-fit = each-entries Small FitsEntry own-fits field-fits rs (text-sound t rs h) (text-small t rs h)
 
   -- its catalogue is read back
   pub text-entries : entriesIn (catalogue rs) ≡ entriesOf rs
@@ -132,18 +132,18 @@ module _ (t : List ℕ) (rs : List Record) (h : readText t ≡ accept rs) where
     one-stands : (r : Record) → getElem? (ofKind k rs) i ≡ some r → Each (Stands t 0) (pieces r)
     one-stands r e = each-get (λ r. Each (Stands t 0) (pieces r)) (ofKind k rs) i r (each-ofKind (λ r. Each (Stands t 0) (pieces r)) k rs (text-stand t rs h)) e
 
-    pub text-keyed : (p : Piece) → keyed (getElem? (ofKind k rs) i) ≡ some p → Stands t 0 p
-    unfolding keyed
+    pub text-keyed : (p : Piece) → keyIfThere (getElem? (ofKind k rs) i) ≡ some p → Stands t 0 p
+    unfolding keyIfThere
     text-keyed p e = go (getElem? (ofKind k rs) i) refl e
       where
-        go : (o : Option Record) → getElem? (ofKind k rs) i ≡ o → keyed o ≡ some p → Stands t 0 p
+        go : (o : Option Record) → getElem? (ofKind k rs) i ≡ o → keyIfThere o ≡ some p → Stands t 0 p
         go none q e = absurd (never (cc))
         go (some r) q e = key-stands (Stands t 0) r p (one-stands r q) e
 
-    pub text-valued : (a b : ℕ) (p : Piece) → valued a b (getElem? (ofKind k rs) i) ≡ some p → Stands t 0 p
-    unfolding valued
+    pub text-valued : (a b : ℕ) (p : Piece) → valueIfThere a b (getElem? (ofKind k rs) i) ≡ some p → Stands t 0 p
+    unfolding valueIfThere
     text-valued a b p e = go (getElem? (ofKind k rs) i) refl e
       where
-        go : (o : Option Record) → getElem? (ofKind k rs) i ≡ o → valued a b o ≡ some p → Stands t 0 p
+        go : (o : Option Record) → getElem? (ofKind k rs) i ≡ o → valueIfThere a b o ≡ some p → Stands t 0 p
         go none q e = absurd (never (cc))
         go (some r) q e = last-value (Stands t 0) a b (others r) p (record-values (Stands t 0) r (one-stands r q)) e

@@ -11,26 +11,26 @@ use lib.Dec.{eqb}
 use borrow.Author.Tests.{eqb-true, eqb-false}
 use Rattle.entries.specs.declared.Entry.{Entry}
 use Rattle.entries.specs.declared.Entry.the-variants.{End}
-use Rattle.entries.specs.Entries.{kindOf, kindSize, sizeOf, entryOf, entriesIn, entriesBefore, sizes}
+use Rattle.entries.specs.Entries.{kindByte, kindSize, entrySize, entryOf, entriesIn, entriesBefore, sizes}
 use Rattle.entries.proofs.Walk.{size-end, size-within, entries-none, entries-more}
 use Rattle.entries.proofs.Written.{end-size}
-use Rattle.lookup.specs.Lookup.{entriesFrom, front}
+use Rattle.lookup.specs.Lookup.{entriesFrom, firstEntry}
 
 -- the bytes end there, or an entry stands there
-pub walk-cases : {C : Type 0} (s : List ℕ) → (entryOf s ≡ End → entriesIn s ≡ [] → C) → ((sizeOf (entryOf s) ≡ 0 → ⊥) → entriesIn s ≡ entryOf s ∷ entriesIn (drop (sizeOf (entryOf s)) s) → C) → C
-walk-cases {C} s f g = go (eqb (sizeOf (entryOf s)) 0) refl
+pub walk-cases : {C : Type 0} (s : List ℕ) → (entryOf s ≡ End → entriesIn s ≡ [] → C) → ((entrySize (entryOf s) ≡ 0 → ⊥) → entriesIn s ≡ entryOf s ∷ entriesIn (drop (entrySize (entryOf s)) s) → C) → C
+walk-cases {C} s f g = go (eqb (entrySize (entryOf s)) 0) refl
   where
-    go : (t : Bool) → eqb (sizeOf (entryOf s)) 0 ≡ t → C
-    go true q = let z : sizeOf (entryOf s) ≡ 0 = eqb-true (sizeOf (entryOf s)) 0 q in f (size-end (entryOf s) z) (entries-none s z)
-    go false q = let z : sizeOf (entryOf s) ≡ 0 → ⊥ = eqb-false (sizeOf (entryOf s)) 0 q in g z (entries-more s z)
+    go : (t : Bool) → eqb (entrySize (entryOf s)) 0 ≡ t → C
+    go true q = let z : entrySize (entryOf s) ≡ 0 = eqb-true (entrySize (entryOf s)) 0 q in f (size-end (entryOf s) z) (entries-none s z)
+    go false q = let z : entrySize (entryOf s) ≡ 0 → ⊥ = eqb-false (entrySize (entryOf s)) 0 q in g z (entries-more s z)
 
-pub front-entry : (s : List ℕ) → front (entriesIn s) ≡ entryOf s
-unfolding front
-front-entry s = walk-cases s (λ e n. ap front n ∙ sym e) (λ z m. ap front m)
+pub front-entry : (s : List ℕ) → firstEntry (entriesIn s) ≡ entryOf s
+unfolding firstEntry
+front-entry s = walk-cases s (λ e n. ap firstEntry n ∙ sym e) (λ z m. ap firstEntry m)
 
-pub rest-entries : (s : List ℕ) → drop 1 (entriesIn s) ≡ entriesIn (drop (sizeOf (entryOf s)) s)
-unfolding sizeOf kindOf kindSize
-rest-entries s = walk-cases s (λ e n. ap (drop 1) n ∙ sym n ∙ ap (λ x. entriesIn (drop (sizeOf x) s)) (sym e)) (λ z m. ap (drop 1) m)
+pub rest-entries : (s : List ℕ) → drop 1 (entriesIn s) ≡ entriesIn (drop (entrySize (entryOf s)) s)
+unfolding entrySize kindByte kindSize
+rest-entries s = walk-cases s (λ e n. ap (drop 1) n ∙ sym n ∙ ap (λ x. entriesIn (drop (entrySize x) s)) (sym e)) (λ z m. ap (drop 1) m)
 
 -- ---- from where a record's entry is found on
 
@@ -43,20 +43,20 @@ module _ (k : ℕ) (s : List ℕ) where
   ended i n = ap (λ es. entriesIn (drop (sizes (entriesBefore k i es)) s)) n ∙ n ∙ ap (entriesFrom k i) (sym n)
 
   abbrev behind : List ℕ
-  behind = drop (sizeOf (entryOf s)) s
+  behind = drop (entrySize (entryOf s)) s
 
   -- one entry is passed, and the law holds behind it
   turn : (i : ℕ) → entriesIn s ≡ entryOf s ∷ entriesIn behind → ((j : ℕ) → From k j behind) → From k i s
   unfolding entriesBefore sizes entriesFrom
-  turn i m ih = ap (λ es. entriesIn (drop (sizes (entriesBefore k i es)) s)) m ∙ go i (eqb (kindOf (entryOf s)) k) refl ∙ ap (entriesFrom k i) (sym m)
+  turn i m ih = ap (λ es. entriesIn (drop (sizes (entriesBefore k i es)) s)) m ∙ go i (eqb (kindByte (entryOf s)) k) refl ∙ ap (entriesFrom k i) (sym m)
     where
       e : Entry
       e = entryOf s
 
-      on : (j : ℕ) → entriesIn (drop (sizeOf e + sizes (entriesBefore k j (entriesIn behind))) s) ≡ entriesFrom k j (entriesIn behind)
-      on j = ap entriesIn (sym (drop-drop (sizes (entriesBefore k j (entriesIn behind))) (sizeOf e) s)) ∙ ih j
+      on : (j : ℕ) → entriesIn (drop (entrySize e + sizes (entriesBefore k j (entriesIn behind))) s) ≡ entriesFrom k j (entriesIn behind)
+      on j = ap entriesIn (sym (drop-drop (sizes (entriesBefore k j (entriesIn behind))) (entrySize e) s)) ∙ ih j
 
-      go : (i : ℕ) (t : Bool) → eqb (kindOf e) k ≡ t → entriesIn (drop (sizes (entriesBefore k i (e ∷ entriesIn behind))) s) ≡ entriesFrom k i (e ∷ entriesIn behind)
+      go : (i : ℕ) (t : Bool) → eqb (kindByte e) k ≡ t → entriesIn (drop (sizes (entriesBefore k i (e ∷ entriesIn behind))) s) ≡ entriesFrom k i (e ∷ entriesIn behind)
       go zero true q = rw q m
       go zero false q = rw q (on zero)
       go (suc i) true q = rw q (on i)
@@ -66,7 +66,7 @@ from-fuel : (n k i : ℕ) (s : List ℕ) → length s ≤ n → From k i s
 from-fuel zero k i s h = ended k s i (entries-none s (omega (arith, size-within s)))
 from-fuel (suc n) k i s h =
     walk-cases s (λ e m. ended k s i m)
-    (λ z m. turn k s i m (λ j. from-fuel n k j (behind k s) (omega (arith, z, size-within s, length-drop (sizeOf (entryOf s)) s))))
+    (λ z m. turn k s i m (λ j. from-fuel n k j (behind k s) (omega (arith, z, size-within s, length-drop (entrySize (entryOf s)) s))))
 
 pub from-entries : (k i : ℕ) (s : List ℕ) → From k i s
 from-entries k i s = from-fuel (length s) k i s (omega arith)
@@ -76,13 +76,13 @@ module _ (k i : ℕ) (s : List ℕ) (at : ℕ) (found : at ≡ sizes (entriesBef
   found-entries : entriesIn (drop at s) ≡ entriesFrom k i (entriesIn s)
   found-entries = ap (λ n. entriesIn (drop n s)) found ∙ from-entries k i s
 
-  pub found-entry : entryOf (drop at s) ≡ front (entriesFrom k i (entriesIn s))
-  found-entry = sym (front-entry (drop at s)) ∙ ap front found-entries
+  pub found-entry : entryOf (drop at s) ≡ firstEntry (entriesFrom k i (entriesIn s))
+  found-entry = sym (front-entry (drop at s)) ∙ ap firstEntry found-entries
 
-  pub found-rest : (len : ℕ) → len ≡ sizeOf (entryOf (drop at s)) → entriesIn (drop (at + len) s) ≡ drop 1 (entriesFrom k i (entriesIn s))
+  pub found-rest : (len : ℕ) → len ≡ entrySize (entryOf (drop at s)) → entriesIn (drop (at + len) s) ≡ drop 1 (entriesFrom k i (entriesIn s))
   found-rest len long =
       ap entriesIn (sym (drop-drop len at s)) ∙ ap (λ n. entriesIn (drop n (drop at s))) long ∙ sym (rest-entries (drop at s)) ∙ ap (drop 1) found-entries
 
 -- it is there, or it takes nothing
-pub found-within : (s : List ℕ) (at : ℕ) → (at + sizeOf (entryOf (drop at s)) ≤ length s) ⊎ (sizeOf (entryOf (drop at s)) ≡ 0)
-found-within s at = walk-cases (drop at s) (λ e n. inr (ap sizeOf e ∙ end-size)) (λ z m. inl (omega (arith, z, size-within (drop at s), length-drop at s)))
+pub found-within : (s : List ℕ) (at : ℕ) → (at + entrySize (entryOf (drop at s)) ≤ length s) ⊎ (entrySize (entryOf (drop at s)) ≡ 0)
+found-within s at = walk-cases (drop at s) (λ e n. inr (ap entrySize e ∙ end-size)) (λ z m. inl (omega (arith, z, size-within (drop at s), length-drop at s)))

@@ -8,7 +8,7 @@ use lib.Dec.{eqb, ltb}
 use Rattle.format.specs.Lines.{Piece}
 use Rattle.entries.specs.declared.Entry.{Entry}
 use Rattle.entries.specs.declared.Entry.the-variants.{End, Header, ReferenceSequence, ReadGroup, Program, Comment, Field}
-use Rattle.entries.specs.Entries.{kindOf, pieceAt}
+use Rattle.entries.specs.Entries.{kindByte, pieceAt}
 use Rattle.lookup.specs.declared.Found.{Found}
 use Rattle.lookup.specs.declared.Found.the-variants.{Nothing, At}
 use Rattle.lookup.specs.declared.Sized.{Sized}
@@ -31,35 +31,35 @@ sizedOf (some n) = sized.Is n
 
 -- the entries from that of kind `k` on that has `i` of that kind before it; none where there is none
 unfoldable pub entriesFrom : ℕ → ℕ → List Entry → List Entry
-unfolding kindOf
+unfolding kindByte
 entriesFrom k i [] = []
-entriesFrom k zero (e ∷ es) = cond (eqb (kindOf e) k) (e ∷ es) (entriesFrom k zero es)
-entriesFrom k (suc i) (e ∷ es) = cond (eqb (kindOf e) k) (entriesFrom k i es) (entriesFrom k (suc i) es)
+entriesFrom k zero (e ∷ es) = cond (eqb (kindByte e) k) (e ∷ es) (entriesFrom k zero es)
+entriesFrom k (suc i) (e ∷ es) = cond (eqb (kindByte e) k) (entriesFrom k i es) (entriesFrom k (suc i) es)
 
 -- the first of them
-unfoldable pub front : List Entry → Entry
-front [] = End
-front (e ∷ es) = e
+unfoldable pub firstEntry : List Entry → Entry
+firstEntry [] = End
+firstEntry (e ∷ es) = e
 
 -- the key that an entry says: SN of SQ, ID of RG and PG
-unfoldable pub keyOf : Entry → Found
-keyOf End = Nothing
-keyOf (Header v) = Nothing
-keyOf (ReferenceSequence p n) = At p
-keyOf (ReadGroup p) = At p
-keyOf (Program p) = At p
-keyOf (Comment p) = Nothing
-keyOf (Field a b p) = Nothing
+unfoldable pub entryKey : Entry → Found
+entryKey End = Nothing
+entryKey (Header v) = Nothing
+entryKey (ReferenceSequence p n) = At p
+entryKey (ReadGroup p) = At p
+entryKey (Program p) = At p
+entryKey (Comment p) = Nothing
+entryKey (Field a b p) = Nothing
 
 -- the LN that an entry says
-unfoldable pub lengthOf : Entry → Sized
-lengthOf End = sized.Nothing
-lengthOf (Header v) = sized.Nothing
-lengthOf (ReferenceSequence p n) = sized.Is n
-lengthOf (ReadGroup p) = sized.Nothing
-lengthOf (Program p) = sized.Nothing
-lengthOf (Comment p) = sized.Nothing
-lengthOf (Field a b p) = sized.Nothing
+unfoldable pub entryLength : Entry → Sized
+entryLength End = sized.Nothing
+entryLength (Header v) = sized.Nothing
+entryLength (ReferenceSequence p n) = sized.Is n
+entryLength (ReadGroup p) = sized.Nothing
+entryLength (Program p) = sized.Nothing
+entryLength (Comment p) = sized.Nothing
+entryLength (Field a b p) = sized.Nothing
 
 -- the value of the field entry with the tag `a`, `b`, before the next record's entry
 unfoldable pub valueIn : ℕ → ℕ → List Entry → Found
@@ -75,12 +75,12 @@ valueIn a b (Field x y p ∷ es) = cond (eqb x a && eqb y b) (At p) (valueIn a b
 -- ---- the record of kind `k` with `i` of that kind before it
 
 unfoldable pub keyIn : ℕ → ℕ → List Entry → Found
-unfolding keyOf front entriesFrom
-keyIn k i es = keyOf (front (entriesFrom k i es))
+unfolding entryKey firstEntry entriesFrom
+keyIn k i es = entryKey (firstEntry (entriesFrom k i es))
 
 unfoldable pub lengthIn : ℕ → List Entry → Sized
-unfolding lengthOf front entriesFrom
-lengthIn i es = lengthOf (front (entriesFrom 2 i es))
+unfolding entryLength firstEntry entriesFrom
+lengthIn i es = entryLength (firstEntry (entriesFrom 2 i es))
 
 -- a field entry belongs to the record before it; a field is no record
 unfoldable pub fieldIn : ℕ → ℕ → ℕ → ℕ → List Entry → Found

@@ -4,7 +4,7 @@ use entries::Place;
 ghost use mathlib.Core.Path.{_≡_};
 ghost use lib.ListN.{drop};
 ghost use Rattle.entries.specs.Entries.{entriesIn};
-ghost use Rattle.lookup.specs.Lookup.{keyOf, lengthOf, valueIn, keyIn, lengthIn, fieldIn};
+ghost use Rattle.lookup.specs.Lookup.{entryKey, entryLength, valueIn, keyIn, lengthIn, fieldIn};
 
 // A place of the text, if there is one.
 pub enum Found {
@@ -20,7 +20,7 @@ pub enum Sized {
 
 // The key that an entry says: SN of SQ, ID of RG and PG.
 fn key_of(e: Entry) -> Found
-    ensures { λ r. ⌜ r ≡ keyOf e ⌝ }
+    ensures { λ r. ⌜ r ≡ entryKey e ⌝ }
 {
     match e {
         Entry::ReferenceSequence(p, _) => Found::At(p),
@@ -32,7 +32,7 @@ fn key_of(e: Entry) -> Found
 
 // The LN that an entry says.
 fn length_of(e: Entry) -> Sized
-    ensures { λ r. ⌜ r ≡ lengthOf e ⌝ }
+    ensures { λ r. ⌜ r ≡ entryLength e ⌝ }
 {
     match e {
         Entry::ReferenceSequence(_, n) => Sized::Is(n),

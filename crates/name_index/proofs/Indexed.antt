@@ -10,7 +10,7 @@ use Rattle.format.specs.Bytes.{same}
 use Rattle.format.specs.Slots.{seat, filled, pick, Held}
 use Rattle.format.proofs.Slots.{filled-around, held-none, held-enter}
 use Rattle.text.proofs.Equal.{same-equal}
-use Rattle.name_index.specs.Index.{ordinalFrom, ordinalIn, slotCount, hashFrom, first, path, enter, enterFrom, index, ordinalOf, nameOf, tells, looked, looks}
+use Rattle.name_index.specs.Index.{nameOrdinalFrom, nameOrdinal, slotCount, hashFrom, first, path, enter, enterFrom, index, ordinalOf, nameOf, tellsName, looked, looks}
 use Rattle.name_index.specs.Indexed.{Indexed}
 use Rattle.name_index.proofs.SlotCount.{slots-power, slots-enough, slots-smallest, slots-some}
 
@@ -79,13 +79,13 @@ index-held xs =
 
 -- ---- the plain search
 
-pick-ordinal : (xs : List (List ℕ)) (x : List ℕ) (k : ℕ) (ys : List (List ℕ)) → From xs k ys → ordinalOf (pick (tells xs x) (values k ys)) ≡ ordinalFrom k ys x
-unfolding ordinalFrom ordinalOf pick values tells nameOf
+pick-ordinal : (xs : List (List ℕ)) (x : List ℕ) (k : ℕ) (ys : List (List ℕ)) → From xs k ys → ordinalOf (pick (tellsName xs x) (values k ys)) ≡ nameOrdinalFrom k ys x
+unfolding nameOrdinalFrom ordinalOf pick values tellsName nameOf
 pick-ordinal xs x k [] a = refl
 pick-ordinal xs x k (y ∷ ys) a = rw (from-first xs k y ys a) (go (same x (getD xs k [])) (pick-ordinal xs x (k + 1) ys (from-next xs k y ys a)))
   where
-    go : (t : Bool) → ordinalOf (pick (tells xs x) (values (k + 1) ys)) ≡ ordinalFrom (k + 1) ys x
-        → ordinalOf (cond t (suc k) (pick (tells xs x) (values (k + 1) ys))) ≡ cond t k (ordinalFrom (k + 1) ys x)
+    go : (t : Bool) → ordinalOf (pick (tellsName xs x) (values (k + 1) ys)) ≡ nameOrdinalFrom (k + 1) ys x
+        → ordinalOf (cond t (suc k) (pick (tellsName xs x) (values (k + 1) ys))) ≡ cond t k (nameOrdinalFrom (k + 1) ys x)
     go true ih = refl
     go false ih = ih
 
@@ -110,22 +110,22 @@ pub looks-few : (xs : List (List ℕ)) (x : List ℕ) → looks xs x ≤ length 
 unfolding looks path
 looks-few xs x =
     let slots : List ℕ = index xs in
-    omega (arith, looked-filled (tells xs x) (path x slots), filled-around (first (length slots) x) slots, index-held xs .few, values-length 0 xs)
+    omega (arith, looked-filled (tellsName xs x) (path x slots), filled-around (first (length slots) x) slots, index-held xs .few, values-length 0 xs)
 
 pub indexed : (xs : List (List ℕ)) → Indexed xs
-unfolding ordinalIn path first tells begins
+unfolding nameOrdinal path first tellsName begins
 indexed xs =
     let m : ℕ = length xs in
     record {
       power = (slots-power m .0, index-length xs ∙ slots-power m .1);
       enough = omega (arith, slots-enough m, index-length xs);
       smallest = λ e h. omega (arith, index-length xs, slots-smallest m e h);
-      finds = λ x. ap ordinalOf (index-held xs .finds (tells xs x) (first (length (index xs)) x) (below x) (starts x)) ∙ pick-ordinal xs x 0 xs (from-start xs);
+      finds = λ x. ap ordinalOf (index-held xs .finds (tellsName xs x) (first (length (index xs)) x) (below x) (starts x)) ∙ pick-ordinal xs x 0 xs (from-start xs);
       soon = looks-few xs;
     }
   where
     below : (x : List ℕ) → first (length (index xs)) x < length (index xs)
     below x = mod-lt _ (omega (arith, index-length xs, slots-some (length xs)))
 
-    starts : (x : List ℕ) (v : ℕ) → tells xs x v ≡ true → begins xs (slotCount (length xs)) v ≡ first (length (index xs)) x
+    starts : (x : List ℕ) (v : ℕ) → tellsName xs x v ≡ true → begins xs (slotCount (length xs)) v ≡ first (length (index xs)) x
     starts x v e = ap₂ (λ m w. first m w) (sym (index-length xs)) (sym (same-equal x (nameOf xs v) e))

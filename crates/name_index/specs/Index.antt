@@ -15,14 +15,14 @@ unfoldable pub absent : ℕ
 absent = 4294967295
 
 -- the ordinal of the first of the names that is `x`: the first of them all has the ordinal `k`
-unfoldable pub ordinalFrom : ℕ → List (List ℕ) → List ℕ → ℕ
+unfoldable pub nameOrdinalFrom : ℕ → List (List ℕ) → List ℕ → ℕ
 unfolding absent same
-ordinalFrom k [] x = absent
-ordinalFrom k (y ∷ ys) x = cond (same x y) k (ordinalFrom (k + 1) ys x)
+nameOrdinalFrom k [] x = absent
+nameOrdinalFrom k (y ∷ ys) x = cond (same x y) k (nameOrdinalFrom (k + 1) ys x)
 
-unfoldable pub ordinalIn : List (List ℕ) → List ℕ → ℕ
-unfolding ordinalFrom
-ordinalIn xs x = ordinalFrom 0 xs x
+unfoldable pub nameOrdinal : List (List ℕ) → List ℕ → ℕ
+unfolding nameOrdinalFrom
+nameOrdinal xs x = nameOrdinalFrom 0 xs x
 
 -- ---- how many slots
 
@@ -83,9 +83,9 @@ nameOf xs zero = []
 nameOf xs (suc k) = getD xs k []
 
 -- is it `x`?
-unfoldable pub tells : List (List ℕ) → List ℕ → ℕ → Bool
+unfoldable pub tellsName : List (List ℕ) → List ℕ → ℕ → Bool
 unfolding same nameOf
-tells xs x v = same x (nameOf xs v)
+tellsName xs x v = same x (nameOf xs v)
 
 -- ---- how much is looked at
 
@@ -97,5 +97,5 @@ looked hit (suc k ∷ ss) = cond (hit (suc k)) 1 (suc (looked hit ss))
 
 -- the slots that are looked at for a name: from its first slot up to and including the one with the name, or the first empty one
 unfoldable pub looks : List (List ℕ) → List ℕ → ℕ
-unfolding looked tells path index
-looks xs x = looked (tells xs x) (path x (index xs))
+unfolding looked tellsName path index
+looks xs x = looked (tellsName xs x) (path x (index xs))

@@ -4,7 +4,7 @@ use mathlib.Core.Path.{_≡_}
 use mathlib.Core.List.{List}
 use lib.ListN.{length}
 use Rattle.format.specs.Slots.{seek}
-use Rattle.name_index.specs.Index.{ordinalIn, path, index, ordinalOf, tells, looks}
+use Rattle.name_index.specs.Index.{nameOrdinal, path, index, ordinalOf, tellsName, looks}
 
 -- for every list of names
 pub record Indexed (xs : List (List ℕ)) : Type 0 where
@@ -13,6 +13,6 @@ pub record Indexed (xs : List (List ℕ)) : Type 0 where
   pub enough : 2 * length xs ≤ length (index xs)
   pub smallest : (e : ℕ) → 2 * length xs ≤ 2 ^ suc e → length (index xs) ≤ 2 ^ suc e
   -- the first slot of the path that tells the name, if none before it is empty, has the ordinal that the plain search finds
-  pub finds : (x : List ℕ) → ordinalOf (seek (tells xs x) (path x (index xs))) ≡ ordinalIn xs x
+  pub finds : (x : List ℕ) → ordinalOf (seek (tellsName xs x) (path x (index xs))) ≡ nameOrdinal xs x
   -- at most one slot more is looked at than there are names
   pub soon : (x : List ℕ) → looks xs x ≤ length xs + 1

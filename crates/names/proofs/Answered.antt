@@ -8,7 +8,7 @@ use lib.ListN.{length, replicate, length-map, drop-of-length-le}
 use Rattle.text.specs.Over.{over}
 use Rattle.text.specs.Stands.{Each}
 use Rattle.entries.specs.Entries.{entriesIn}
-use Rattle.name_index.specs.Index.{ordinalIn, slotCount, index, looks}
+use Rattle.name_index.specs.Index.{nameOrdinal, slotCount, index, looks}
 use Rattle.sq_index.specs.Filled.{namesIn, Told, entering, slotOf, looksOf, ordinalAt}
 use Rattle.sq_index.proofs.Found.{filled-index, places-length, found-ordinal, found-looks}
 use Rattle.names.specs.Batch.{asked, summed}
@@ -48,10 +48,10 @@ module _ (t c slots₀ slots₁ : List ℕ) (size : length slots₀ ≡ slotCoun
     index-told = second-fill ∙ ap (λ n. entering true t 0 (entriesIn c) (replicate n 0)) long₁ ∙ filled-index t c
 
     pub found-told : Each (Told t) (entriesIn c) → length names ≤ 16777216 → (list out₀ out₁ out₂ : List ℕ) → length out₀ ≡ length (asked list)
-        → out₁ ≡ over out₀ 0 (map (slotOf t slots₁) (asked list)) → out₂ ≡ map (ordinalAt slots₂) out₁ → out₂ ≡ map (ordinalIn names) (asked list)
+        → out₁ ≡ over out₀ 0 (map (slotOf t slots₁) (asked list)) → out₂ ≡ map (ordinalAt slots₂) out₁ → out₂ ≡ map (nameOrdinal names) (asked list)
     found-told told few list out₀ out₁ out₂ room wrote read =
         let ys : List (List ℕ) = asked list in
         read
         ∙ ap₂ (λ s o. map (ordinalAt s) o) index-told (wrote ∙ over-whole out₀ (map (slotOf t slots₁) ys) (room ∙ sym (length-map ys (slotOf t slots₁))))
         ∙ ap (λ s. map (ordinalAt (index names)) (map (slotOf t s) ys)) by-places
-        ∙ all-found (slotOf t (entering false t 0 (entriesIn c) (replicate (slotCount (length names)) 0))) (ordinalIn names) (ordinalAt (index names)) (found-ordinal t c told few) ys
+        ∙ all-found (slotOf t (entering false t 0 (entriesIn c) (replicate (slotCount (length names)) 0))) (nameOrdinal names) (ordinalAt (index names)) (found-ordinal t c told few) ys

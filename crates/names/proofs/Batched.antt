@@ -6,7 +6,7 @@ use native.Mathlib.Omega.{arith}
 use lib.ListN.{length, drop, length-map}
 use borrow.Author.Tests.{lt-ltb, le-ltb}
 use Rattle.format.specs.Reading.{longest}
-use Rattle.format.specs.Calls.{Answer, no, yes, then, fresh}
+use Rattle.format.specs.Calls.{Answer, refused, yes, then, fresh}
 use Rattle.text.specs.Stands.{Each}
 use Rattle.format.specs.declared.LineNo.{LineNo}
 use Rattle.accepted.specs.Read.{recordsOf}
@@ -14,7 +14,7 @@ use Rattle.entries.specs.Entries.{entriesIn, counted}
 use Rattle.parser.specs.Answers.{outputOf}
 use Rattle.calls.proofs.Fresh.{Current, goes-on, stops}
 use Rattle.calls.proofs.Chained.{too-short, fits}
-use Rattle.name_index.specs.Index.{ordinalIn, slotCount, index, looks}
+use Rattle.name_index.specs.Index.{nameOrdinal, slotCount, index, looks}
 use Rattle.name_index.proofs.Indexed.{index-length}
 use Rattle.sq_index.specs.Filled.{namesIn, Told}
 use Rattle.sq_index.proofs.Named.{names-counted}
@@ -26,7 +26,7 @@ use Rattle.names.proofs.Told.{text-told}
 use Rattle.names.proofs.Short.{text-short}
 
 -- a refusal of the check
-pub batch-refused : (t c list : List ℕ) (work room n l : ℕ) → fresh t c ≡ no n l → batching t c list work room ≡ no n l
+pub batch-refused : (t c list : List ℕ) (work room n l : ℕ) → fresh t c ≡ refused n l → batching t c list work room ≡ refused n l
 unfolding batching
 batch-refused t c list work room n l e = stops t c (λ rs. batched (references rs) list work room) n l e
 
@@ -56,40 +56,40 @@ module _ (t c : List ℕ) (own : Current t c) where
     unfolding batching
     is-batched = goes-on t c (λ rs. batched (references rs) list work room) own ∙ ap (λ xs. batched xs list work room) (sym are)
 
-    pub batch-long : 16777216 < length list → batching t c list work room ≡ no 1 0
+    pub batch-long : 16777216 < length list → batching t c list work room ≡ refused 1 0
     unfolding batched longest
     batch-long h = is-batched ∙ rw (lt-ltb 16777216 (length list) h) refl
 
     module _ (h : length list ≤ 16777216) where
-      pub batch-work : work < slotCount (length names) → batching t c list work room ≡ no 20 0
+      pub batch-work : work < slotCount (length names) → batching t c list work room ≡ refused 20 0
       unfolding batched longest then
       batch-work l = is-batched ∙ rw (le-ltb 16777216 (length list) h, too-short work (index names) (omega (arith, l, index-length names))) refl
 
       module _ (w : slotCount (length names) ≤ work) where
-        pub batch-room : room < length (asked list) → batching t c list work room ≡ no 20 0
+        pub batch-room : room < length (asked list) → batching t c list work room ≡ refused 20 0
         unfolding batched longest then
         batch-room l =
             is-batched
             ∙ rw (
               le-ltb 16777216 (length list) h,
               fits work (index names) (omega (arith, w, index-length names)),
-              too-short room (map (ordinalIn names) (asked list)) (omega (arith, l, length-map (asked list) (ordinalIn names))),
+              too-short room (map (nameOrdinal names) (asked list)) (omega (arith, l, length-map (asked list) (nameOrdinal names))),
             ) refl
 
-        pub batch-all : length (asked list) ≤ room → batching t c list work room ≡ yes (map (ordinalIn names) (asked list), index names, summed (looks names) (asked list))
+        pub batch-all : length (asked list) ≤ room → batching t c list work room ≡ yes (map (nameOrdinal names) (asked list), index names, summed (looks names) (asked list))
         unfolding batched longest then
         batch-all l =
             is-batched
             ∙ rw (
               le-ltb 16777216 (length list) h,
               fits work (index names) (omega (arith, w, index-length names)),
-              fits room (map (ordinalIn names) (asked list)) (omega (arith, l, length-map (asked list) (ordinalIn names))),
+              fits room (map (nameOrdinal names) (asked list)) (omega (arith, l, length-map (asked list) (nameOrdinal names))),
             ) refl
 
 -- ---- what an answer says, and leaves in the work area and in the result list
 
 module _ (b : Answer (List ℕ × List ℕ × ℕ)) (work out : List ℕ) where
-  pub told-refusal : (n : ℕ) (l : LineNo) → b ≡ no n (l .0) → (Refused n l ≡ namesOf b) × ((work ≡ outputOf (slotsOf b) work) × (out ≡ outputOf (resultsOf b) out))
+  pub told-refusal : (n : ℕ) (l : LineNo) → b ≡ refused n (l .0) → (Refused n l ≡ namesOf b) × ((work ≡ outputOf (slotsOf b) work) × (out ≡ outputOf (resultsOf b) out))
   unfolding namesOf slotsOf resultsOf outputOf
   told-refusal n l e = (sym (ap namesOf e), (sym (ap (λ a. outputOf (slotsOf a) work) e), sym (ap (λ a. outputOf (resultsOf a) out) e)))
 

@@ -10,10 +10,10 @@ use lib.Dec.{eqb, ltb}
 use borrow.Author.Tests.{ltb-false}
 use Rattle.format.specs.Lines.{onto}
 use Rattle.format.specs.Reading.{longest}
-use Rattle.format.specs.Calls.{Answer, no, yes, then, fitting}
+use Rattle.format.specs.Calls.{Answer, refused, yes, then, fitting}
 use Rattle.accepted.specs.Read.{recordsOf}
-use Rattle.calls.proofs.Fresh.{Current, refused, passed, goes-on}
-use Rattle.name_index.specs.Index.{ordinalIn, index, looks}
+use Rattle.calls.proofs.Fresh.{Current, refused-is-no-answer, passed, goes-on}
+use Rattle.name_index.specs.Index.{nameOrdinal, index, looks}
 use Rattle.name_index.proofs.Indexed.{indexed}
 use Rattle.names.specs.Batch.{references, asked, summed, batched, batching}
 use Rattle.names.proofs.References.{few-names}
@@ -47,33 +47,33 @@ pub record Bounded (m : ℕ) (a : List ℕ × List ℕ × ℕ) : Type 0 where
   pub most : a .2 ≤ length (a .0) * (m + 1)
 
 unfoldable toldOf : List ℕ × List ℕ × ℕ → Answer (List ℕ × List ℕ × ℕ) → List ℕ × List ℕ × ℕ
-toldOf z (no n l) = z
+toldOf z (refused n l) = z
 toldOf z (yes a) = a
 
 answer-bound : (xs : List (List ℕ)) (list : List ℕ) (work room : ℕ) (a : List ℕ × List ℕ × ℕ) → batched xs list work room ≡ yes a → Bounded (length xs) a
 unfolding batched then fitting longest toldOf
-answer-bound xs list work room a is = go (ltb longest (length list)) refl (ltb work (length (index xs))) (ltb room (length (map (ordinalIn xs) (asked list)))) is
+answer-bound xs list work room a is = go (ltb longest (length list)) refl (ltb work (length (index xs))) (ltb room (length (map (nameOrdinal xs) (asked list)))) is
   where
     found : List ℕ
-    found = map (ordinalIn xs) (asked list)
+    found = map (nameOrdinal xs) (asked list)
 
     sum : ℕ
     sum = summed (looks xs) (asked list)
 
     own : length list ≤ longest → Bounded (length xs) (found, index xs, sum)
     own h =
-        let n : length found ≡ length (asked list) = length-map (asked list) (ordinalIn xs) in
+        let n : length found ≡ length (asked list) = length-map (asked list) (nameOrdinal xs) in
         record {
           few = omega (arith, n, asked-few list, h);
           most = subst (λ k. sum ≤ k * (length xs + 1)) (sym n) (summed-most (looks xs) (length xs + 1) (indexed xs .soon) (asked list));
         }
 
     go : (b : Bool) → ltb longest (length list) ≡ b → (d e : Bool)
-        → cond b (no 1 0) (then (cond d (no 20 0) (yes (index xs))) (λ slots. then (cond e (no 20 0) (yes found)) (λ r. yes (r, slots, sum)))) ≡ yes a
+        → cond b (refused 1 0) (then (cond d (refused 20 0) (yes (index xs))) (λ slots. then (cond e (refused 20 0) (yes found)) (λ r. yes (r, slots, sum)))) ≡ yes a
         → Bounded (length xs) a
-    go true q d e h = absurd (refused 1 0 a h)
-    go false q true e h = absurd (refused 20 0 a h)
-    go false q false true h = absurd (refused 20 0 a h)
+    go true q d e h = absurd (refused-is-no-answer 1 0 a h)
+    go false q true e h = absurd (refused-is-no-answer 20 0 a h)
+    go false q false true h = absurd (refused-is-no-answer 20 0 a h)
     go false q false false h = subst (Bounded (length xs)) (ap (toldOf a) h) (own (ltb-false longest (length list) q))
 
 -- ---- whatever the text, the catalogue and the list are

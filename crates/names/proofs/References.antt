@@ -16,14 +16,14 @@ use Rattle.text.specs.Stands.{Each, Stands}
 use Rattle.accepted.specs.Pieces.{pieces}
 use Rattle.accepted.proofs.Text.{text-stand, text-count, text-fits}
 use Rattle.entries.specs.declared.Entry.{Entry}
-use Rattle.entries.specs.Entries.{kindOf, pieceAt, headEntry, fieldEntry, entriesOf, entriesIn}
+use Rattle.entries.specs.Entries.{kindByte, pieceAt, headEntry, fieldEntry, entriesOf, entriesIn}
 use Rattle.lookup.proofs.Kept.{text-entries}
 use Rattle.sq_index.specs.Filled.{nameIn, namesIn}
 use Rattle.names.specs.Batch.{references}
 
 -- the entries of fields are passed
 names-fields : (t : List ℕ) (fs : List Field) (es : List Entry) → namesIn t (map fieldEntry fs ++ es) ≡ namesIn t es
-unfolding namesIn kindOf fieldEntry
+unfolding namesIn kindByte fieldEntry
 names-fields t [] es = refl
 names-fields t (f ∷ fs) es = names-fields t fs es
 
@@ -32,7 +32,7 @@ pub stands-bytes : (t : List ℕ) (p : Piece) → Stands t 0 p → take (length 
 stands-bytes t p s = let z : p .at - 0 ≡ p .at = omega arith in sym (s .bytes ∙ ap (λ n. take (length (p .bytes)) (drop n t)) z)
 
 names-records : (t : List ℕ) (rs : List Record) → Each (λ r. Each (Stands t 0) (pieces r)) rs → namesIn t (entriesOf rs) ≡ references rs
-unfolding Each pieces namesIn nameIn kindOf pieceAt entriesOf headEntry others references ofKind code key bytesOf
+unfolding Each pieces namesIn nameIn kindByte pieceAt entriesOf headEntry others references ofKind code key bytesOf
 names-records t [] h = refl
 names-records t (header v fs ∷ rs) h = names-fields t fs (entriesOf rs) ∙ names-records t rs (h .1)
 names-records t (reference p n fs ∷ rs) h = ap₂ (λ x xs. x ∷ xs) (stands-bytes t p (h .0 .0)) (names-fields t fs (entriesOf rs) ∙ names-records t rs (h .1))

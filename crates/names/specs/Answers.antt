@@ -2,21 +2,21 @@
 use Prim.Native.Nat.{ℕ}
 use mathlib.Core.List.{List}
 use lib.ListN.{length}
-use Rattle.format.specs.Calls.{Answer, no, yes}
+use Rattle.format.specs.Calls.{Answer, refused, yes}
 use Rattle.names.specs.declared.NamesAnswer.{NamesAnswer}
 use Rattle.names.specs.declared.NamesAnswer.the-variants.{Refused, Counted}
 
 -- a refusal and its line, or how many names are answered, and the slots that were looked at
 unfoldable pub namesOf : Answer (List ℕ × List ℕ × ℕ) → NamesAnswer
-namesOf (no n l) = Refused n (record { 0 = l })
+namesOf (refused n l) = Refused n (record { 0 = l })
 namesOf (yes a) = Counted (length (a .0)) (a .2)
 
 -- the ordinals that are answered
 unfoldable pub resultsOf : Answer (List ℕ × List ℕ × ℕ) → Answer (List ℕ)
-resultsOf (no n l) = no n l
+resultsOf (refused n l) = refused n l
 resultsOf (yes a) = yes (a .0)
 
 -- the index
 unfoldable pub slotsOf : Answer (List ℕ × List ℕ × ℕ) → Answer (List ℕ)
-slotsOf (no n l) = no n l
+slotsOf (refused n l) = refused n l
 slotsOf (yes a) = yes (a .1)

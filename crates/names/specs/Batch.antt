@@ -10,8 +10,8 @@ use Rattle.format.specs.Lines.{onto}
 use Rattle.format.specs.Records.{Record, key}
 use Rattle.format.specs.Reading.{ofKind, longest}
 use Rattle.format.specs.Programs.{bytesOf}
-use Rattle.format.specs.Calls.{Answer, no, yes, then, fresh, fitting}
-use Rattle.name_index.specs.Index.{ordinalIn, index, looks}
+use Rattle.format.specs.Calls.{Answer, refused, yes, then, fresh, fitting}
+use Rattle.name_index.specs.Index.{nameOrdinal, index, looks}
 
 -- the names of the SQ records, in order: a name's place here is its ordinal
 unfoldable pub references : List Record → List (List ℕ)
@@ -33,11 +33,11 @@ summed f (x ∷ xs) = f x + summed f xs
 -- counted. 1 for a list that is too long, then 20 where the work area takes fewer slots than the index has or the result list fewer ordinals
 -- than there are names; `work` and `room` are how many they take
 unfoldable pub batched : List (List ℕ) → List ℕ → ℕ → ℕ → Answer (List ℕ × List ℕ × ℕ)
-unfolding then fitting longest asked ordinalIn index summed looks
+unfolding then fitting longest asked nameOrdinal index summed looks
 batched xs list work room =
-    cond (ltb longest (length list)) (no 1 0)
+    cond (ltb longest (length list)) (refused 1 0)
     (then (fitting work (index xs)) (λ slots.
-    then (fitting room (map (ordinalIn xs) (asked list))) (λ found. yes (found, slots, summed (looks xs) (asked list)))))
+    then (fitting room (map (nameOrdinal xs) (asked list))) (λ found. yes (found, slots, summed (looks xs) (asked list)))))
 
 -- a batch: after reading and 21
 unfoldable pub batching : List ℕ → List ℕ → List ℕ → ℕ → ℕ → Answer (List ℕ × List ℕ × ℕ)

@@ -9,7 +9,7 @@ ghost use Rattle.text.specs.Over.{over};
 ghost use Rattle.text.specs.Stands.{Each};
 ghost use Rattle.entries.specs.Entries.{entriesIn};
 ghost use Rattle.parser.specs.Answers.{outputOf};
-ghost use Rattle.name_index.specs.Index.{ordinalIn, slotCount, index, looks};
+ghost use Rattle.name_index.specs.Index.{nameOrdinal, slotCount, index, looks};
 ghost use Rattle.sq_index.specs.Filled.{namesIn, Told, slotOf, looksOf};
 ghost use Rattle.names.specs.Ends.{ends};
 ghost use Rattle.names.specs.Batch.{asked, summed, batching};
@@ -86,7 +86,7 @@ fn answer(text: &[u8], kept: &[u8], list: &[u8], slots: &mut [u32], out: &mut [u
     requires { ⌜ length (now out) ≡ length (asked (now list)) ⌝ }
     requires { ⌜ Each (Told (now text)) (entriesIn (now kept)) ⌝ }
     ensures slots { λ _. ⌜ now (slots .exit) ≡ index (namesIn (now (text .entry)) (entriesIn (now (kept .entry)))) ⌝ }
-    ensures found { λ _. ⌜ now (out .exit) ≡ map (ordinalIn (namesIn (now (text .entry)) (entriesIn (now (kept .entry))))) (asked (now (list .entry))) ⌝ }
+    ensures found { λ _. ⌜ now (out .exit) ≡ map (nameOrdinal (namesIn (now (text .entry)) (entriesIn (now (kept .entry))))) (asked (now (list .entry))) ⌝ }
     ensures looks { λ r. ⌜ r ≡ summed (looks (namesIn (now (text .entry)) (entriesIn (now (kept .entry))))) (asked (now (list .entry))) ⌝ }
 {
     sq_index::fill(text, kept, slots, false);

@@ -13,13 +13,13 @@ use Rattle.format.specs.Bytes.{any, none?}
 use Rattle.format.specs.Decimal.{worth, digits, written}
 use Rattle.format.specs.Lines.{Piece}
 use Rattle.format.specs.Fields.{Field, tagged, repeats, later, lastOf}
-use Rattle.format.specs.Records.{Record, header, reference, group, program, comment, Line, refused, read, line, made, versioned, announcing, measured, keyed}
+use Rattle.format.specs.Records.{Record, header, reference, group, program, comment, Line, refusedLine, read, line, made, versioned, announcing, measured, keyed}
 use Rattle.format.specs.Tidy.{fieldText, fieldsText, recordText}
 use Rattle.format.specs.declared.Kind.{Kind}
 use Rattle.format.specs.declared.Kind.the-variants.{Header, ReferenceSequence, ReadGroup, Program, Comment}
 use Rattle.text.specs.Upto.{upto}
 use Rattle.accepted.specs.Spelled as sp
-use Rattle.accepted.specs.Spelled.{Made, Spelled, Accepted, kind₀, kind₁}
+use Rattle.accepted.specs.Spelled.{Made, Spelled, AcceptedLine, kind₀, kind₁}
 use Rattle.accepted.proofs.Bools.{never, and-left, and-right, or-left, or-right}
 use Rattle.accepted.proofs.Spelled.{line-accepted}
 use Rattle.other_fields.specs.Run.{fieldsFrom, AtField}
@@ -251,7 +251,7 @@ module _ (at : ℕ) (s : List ℕ) (r : Record) (a : Spelled true at s r) where
 
 -- ---- any accepted line
 
-pub neat-text : (at : ℕ) (s : List ℕ) (r : Record) → Accepted true at s r → neat (kindBy (getD s 1 0)) s ≡ true → recordText r ≡ s ++ (10 ∷ [])
+pub neat-text : (at : ℕ) (s : List ℕ) (r : Record) → AcceptedLine true at s r → neat (kindBy (getD s 1 0)) s ≡ true → recordText r ≡ s ++ (10 ∷ [])
 unfolding recordText
 neat-text at s r (sp.of-remark t) h = refl
 neat-text at s r (sp.of-fields a) h = fields-text at s r a (ap (λ k. neat k s) (sym (ap (λ l. kindBy (getD l 1 0)) (a .spells) ∙ first-byte (a .kind))) ∙ h)

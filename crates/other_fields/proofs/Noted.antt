@@ -21,8 +21,8 @@ use Rattle.tag_number.proofs.Apart.{tag-below, tag-apart}
 use Rattle.accepted.proofs.Bools.{never, or-left, or-right, split}
 use Rattle.accepted.proofs.Tags.{later-assoc}
 use Rattle.other_fields.specs.Run.{fieldsOf, Runs, fieldsTo, fieldsFrom, AtField}
-use Rattle.other_fields.specs.Next.{isFirst, standing, orValue, nowhere, lastIn, valueAt, keptAt, fieldLength}
-use Rattle.other_fields.specs.Tables.{numberOf, HasTag, marked, noted, Blank, Noted}
+use Rattle.other_fields.specs.Next.{isFirst, valueOfPiece, orValue, noValue, lastIn, valueAt, keptAt, fieldLength}
+use Rattle.other_fields.specs.Tables.{fieldNumber, HasTag, marked, noted, Blank, Noted}
 use Rattle.other_fields.specs.declared.Value.{Value}
 use Rattle.other_fields.proofs.Runs.{bytesOf, runs-append}
 use Rattle.other_fields.proofs.Here.{Here, here, Found, found}
@@ -90,7 +90,7 @@ module _ (t : List ℕ) (m p : ℕ) where
 noted-length : (t : List ℕ) (p : ℕ) (fs : List Field) → length (noted t p fs) ≡ length t
 unfolding noted
 noted-length t p [] = refl
-noted-length t p (f ∷ fs) = noted-length (marked t (numberOf f) p) (p + fieldLength f) fs ∙ marked-length t (numberOf f) p
+noted-length t p (f ∷ fs) = noted-length (marked t (fieldNumber f) p) (p + fieldLength f) fs ∙ marked-length t (fieldNumber f) p
 
 text-more : (f : Field) (fs : List Field) → length (fieldsText (f ∷ fs)) ≡ fieldLength f + length (fieldsText fs)
 unfolding fieldsText fieldLength
@@ -100,11 +100,11 @@ noted-append : (t : List ℕ) (p : ℕ) (ds gs : List Field) → noted t p (ds +
 unfolding noted fieldsText
 noted-append t p [] gs = ap (λ q. noted t q gs) (omega arith)
 noted-append t p (d ∷ ds) gs =
-    noted-append (marked t (numberOf d) p) (p + fieldLength d) ds gs
-    ∙ ap (λ q. noted (noted (marked t (numberOf d) p) (p + fieldLength d) ds) q gs) (omega (arith, text-more d ds))
+    noted-append (marked t (fieldNumber d) p) (p + fieldLength d) ds gs
+    ∙ ap (λ q. noted (noted (marked t (fieldNumber d) p) (p + fieldLength d) ds) q gs) (omega (arith, text-more d ds))
 
-pub number-below : (f : Field) → HasTag f → numberOf f < 3224
-unfolding HasTag numberOf
+pub number-below : (f : Field) → HasTag f → fieldNumber f < 3224
+unfolding HasTag fieldNumber
 number-below f h = tag-below (f .tag₀) (f .tag₁) h
 
 module _ (a b : ℕ) (tag : isTag a b ≡ true) where
@@ -116,8 +116,8 @@ module _ (a b : ℕ) (tag : isTag a b ≡ true) where
   small = tag-below a b tag
 
   -- another tag has another number
-  other-number : (f : Field) → HasTag f → tagged a b f ≡ false → number ≡ numberOf f → ⊥
-  unfolding HasTag numberOf tagged number
+  other-number : (f : Field) → HasTag f → tagged a b f ≡ false → number ≡ fieldNumber f → ⊥
+  unfolding HasTag fieldNumber tagged number
   other-number f h t e =
       let q = tag-apart (f .tag₀) (f .tag₁) a b h tag (sym e) in
       never (let z : true ≡ false = sym (rw (eq-eqb (f .tag₀) a (q .0), eq-eqb (f .tag₁) b (q .1)) refl) ∙ t in cc)
@@ -128,16 +128,16 @@ module _ (a b : ℕ) (tag : isTag a b ≡ true) where
   unfolding noted
   first-after t p [] z = refl
   first-after t p (g ∷ gs) z =
-      let s = first-stays t (numberOf g) p number small z in
-      first-after (marked t (numberOf g) p) (p + fieldLength g) gs (λ q. z (sym s ∙ q)) ∙ s
+      let s = first-stays t (fieldNumber g) p number small z in
+      first-after (marked t (fieldNumber g) p) (p + fieldLength g) gs (λ q. z (sym s ∙ q)) ∙ s
 
   -- no field has the tag
   first-none : (t : List ℕ) (p : ℕ) (ds : List Field) → Each HasTag ds → getD t number 0 ≡ 0 → any (tagged a b) ds ≡ false → getD (noted t p ds) number 0 ≡ 0
   unfolding noted any Each
   first-none t p [] h z n = z
   first-none t p (d ∷ ds) h z n =
-      first-none (marked t (numberOf d) p) (p + fieldLength d) ds (h .1)
-      (first-other t (numberOf d) p number small (other-number d (h .0) (or-left (tagged a b d) (any (tagged a b) ds) n)) ∙ z)
+      first-none (marked t (fieldNumber d) p) (p + fieldLength d) ds (h .1)
+      (first-other t (fieldNumber d) p number small (other-number d (h .0) (or-left (tagged a b d) (any (tagged a b) ds) n)) ∙ z)
       (or-right (tagged a b d) (any (tagged a b) ds) n)
 
   -- one has it: its place is none after them
@@ -146,18 +146,18 @@ module _ (a b : ℕ) (tag : isTag a b ≡ true) where
   unfolding noted any Each number fieldLength fieldText
   first-some t p [] h l i z n = absurd (never (cc))
   first-some t p (d ∷ ds) h l i z n =
-      go (tagged a b d) refl n (λ u. first-some (marked t (numberOf d) p) (p + fieldLength d) ds (h .1) (marked-length t (numberOf d) p ∙ l) (omega arith) (first-other t (numberOf d) p number small (other-number d (h .0) u) ∙ z))
+      go (tagged a b d) refl n (λ u. first-some (marked t (fieldNumber d) p) (p + fieldLength d) ds (h .1) (marked-length t (fieldNumber d) p ∙ l) (omega arith) (first-other t (fieldNumber d) p number small (other-number d (h .0) u) ∙ z))
     where
       next : List ℕ
-      next = noted (marked t (numberOf d) p) (p + fieldLength d) ds
+      next = noted (marked t (fieldNumber d) p) (p + fieldLength d) ds
 
       go : (u : Bool) → tagged a b d ≡ u → u || any (tagged a b) ds ≡ true
           → (tagged a b d ≡ false → any (tagged a b) ds ≡ true → (0 < getD next number 0) × (getD next number 0 < p + fieldLength d + length (fieldsText ds)))
           → (0 < getD next number 0) × (getD next number 0 < p + length (fieldsText (d ∷ ds)))
       go true u n ih =
-          let m : numberOf d ≡ number = same-number a b d u in
-          let s : getD (marked t (numberOf d) p) number 0 ≡ p = ap (λ k. getD (marked t (numberOf d) p) k 0) (sym m) ∙ first-own t (numberOf d) p l (number-below d (h .0)) (ap (λ k. getD t k 0) m ∙ z) in
-          let k : getD next number 0 ≡ p = first-after (marked t (numberOf d) p) (p + fieldLength d) ds (λ q. omega arith) ∙ s in
+          let m : fieldNumber d ≡ number = same-number a b d u in
+          let s : getD (marked t (fieldNumber d) p) number 0 ≡ p = ap (λ k. getD (marked t (fieldNumber d) p) k 0) (sym m) ∙ first-own t (fieldNumber d) p l (number-below d (h .0)) (ap (λ k. getD t k 0) m ∙ z) in
+          let k : getD next number 0 ≡ p = first-after (marked t (fieldNumber d) p) (p + fieldLength d) ds (λ q. omega arith) ∙ s in
           (omega arith, omega (arith, text-more d ds))
       go false u n ih = let r = ih u n in (r .0, omega (arith, r .1, text-more d ds))
 
@@ -179,7 +179,7 @@ module _ (a b : ℕ) (tag : isTag a b ≡ true) where
   module _ (at : ℕ) (line : List ℕ) where
     module _ (from : ℕ) (h : AtField false at line from) (f : Field) (w : Here false at line from f) (t : List ℕ) (p : ℕ) where
       -- what the fields after one say of those from it on
-      last-further : HasTag f → length t ≡ 6448 → from < length line → Last at line (from + fieldLength f) (getD (marked t (numberOf f) (at + from)) (3224 + number) 0) p
+      last-further : HasTag f → length t ≡ 6448 → from < length line → Last at line (from + fieldLength f) (getD (marked t (fieldNumber f) (at + from)) (3224 + number) 0) p
           → Last at line from (getD t (3224 + number) 0) p
       unfolding lastOf later orValue number
       last-further g l i (present q) = present (record {
@@ -192,17 +192,17 @@ module _ (a b : ℕ) (tag : isTag a b ≡ true) where
       last-further g l i (absent n e) =
           split (tagged a b f)
           (λ u.
-          let m : numberOf f ≡ tagNumber a b = same-number a b f u in
+          let m : fieldNumber f ≡ tagNumber a b = same-number a b f u in
           present (record {
             place = from;
-            is = e ∙ ap (λ k. getD (marked t (numberOf f) (at + from)) (3224 + k) 0) (sym m) ∙ last-own t (numberOf f) (at + from) l (number-below f g);
+            is = e ∙ ap (λ k. getD (marked t (fieldNumber f) (at + from)) (3224 + k) 0) (sym m) ∙ last-own t (fieldNumber f) (at + from) l (number-below f g);
             here = h;
             within = i;
             value = λ v. last-same false at line from h f w a b v u ∙ ap (orValue (valueAt at from (from + fieldLength f))) n ∙ ap (valueAt at from) (sym (w .end));
           }))
           (λ u.
           absent (ap (lastOf a b) (w .rest) ∙ rw (u, n) refl)
-          (e ∙ last-kept t (numberOf f) (at + from) number small (number-below f g) (other-number f g u)))
+          (e ∙ last-kept t (fieldNumber f) (at + from) number small (number-below f g) (other-number f g u)))
 
     last-noted : (gs : List Field) (from : ℕ) (t : List ℕ) → AtField false at line from → fieldsFrom at line from ≡ gs → Each HasTag gs → length t ≡ 6448
         → Last at line from (getD t (3224 + number) 0) (getD (noted t (at + from) gs) (3224 + number) 0)
@@ -211,11 +211,11 @@ module _ (a b : ℕ) (tag : isTag a b ≡ true) where
     last-noted (f ∷ fs) from t h e g l =
         let w : Here false at line from f = here false at line from h f fs e in
         let r : f ∷ fieldsFrom at line (from + fieldLength f) ≡ f ∷ fs = sym (w .rest) ∙ e in
-        let t' : List ℕ = marked t (numberOf f) (at + from) in
+        let t' : List ℕ = marked t (fieldNumber f) (at + from) in
         let p : ℕ = getD (noted t' (at + from + fieldLength f) fs) (3224 + number) 0 in
         last-further from h f w t p (g .0) l (omega (arith, w .size, w .next .within))
         (subst (λ q. Last at line (from + fieldLength f) (getD t' (3224 + number) 0) (getD (noted t' q fs) (3224 + number) 0)) (sym (add-assoc at from (fieldLength f)))
-        (last-noted fs (from + fieldLength f) t' (w .next) (cc) (g .1) (marked-length t (numberOf f) (at + from) ∙ l)))
+        (last-noted fs (from + fieldLength f) t' (w .next) (cc) (g .1) (marked-length t (fieldNumber f) (at + from) ∙ l)))
 
 -- ---- a field of the line in the line's tables
 
@@ -236,7 +236,7 @@ lastOf-append a b (d ∷ ds) gs =
     ap (later o) (lastOf-append a b ds gs) ∙ later-assoc o (lastOf a b ds) (lastOf a b gs)
 
 -- a value that comes later is the last one
-or-last : (v : Value) (o q : Option Piece) (p : Piece) → orValue v (later o (later (some p) q)) ≡ orValue (standing p) q
+or-last : (v : Value) (o q : Option Piece) (p : Piece) → orValue v (later o (later (some p) q)) ≡ orValue (valueOfPiece p) q
 unfolding orValue later
 or-last v none none p = refl
 or-last v (some x) none p = refl
@@ -275,7 +275,7 @@ module _ (once : Bool) (at : ℕ) (line : List ℕ) (i : ℕ) (h : AtField once 
         ap o (fields-split ∙ ap (λ l. fieldsTo at line i ++ l) (w .rest))
         ∙ lastOf-append (f .tag₀) (f .tag₁) (fieldsTo at line i) (f ∷ fs)
         ∙ rw (eq-eqb (f .tag₀) (f .tag₀) refl, eq-eqb (f .tag₁) (f .tag₁) refl) refl in
-        rw (w .tag-0, w .tag-1, own once at line i h f w) (sym (ap (orValue nowhere) all ∙ or-last nowhere (o (fieldsTo at line i)) (o fs) (f .value)))
+        rw (w .tag-0, w .tag-1, own once at line i h f w) (sym (ap (orValue noValue) all ∙ or-last noValue (o (fieldsTo at line i)) (o fs) (f .value)))
 
     module _ (t : List ℕ) (n : Noted at line t) where
       mid : List ℕ
@@ -285,7 +285,7 @@ module _ (once : Bool) (at : ℕ) (line : List ℕ) (i : ℕ) (h : AtField once 
       unfolding mid
       mid-length = noted-length (n .blank) (at + 3) (fieldsTo at line i) ∙ n .start .size
 
-      pub number-here : numberOf f < 3224
+      pub number-here : fieldNumber f < 3224
       number-here = number-below f (tags-here (n .tags) .1)
 
       split-noted : t ≡ noted mid (at + i) (f ∷ fieldsFrom at line (i + fieldLength f))
@@ -296,8 +296,8 @@ module _ (once : Bool) (at : ℕ) (line : List ℕ) (i : ℕ) (h : AtField once 
           ∙ noted-append (n .blank) (at + 3) (fieldsTo at line i) (f ∷ fieldsFrom at line (i + fieldLength f))
           ∙ ap (λ p. noted mid p (f ∷ fieldsFrom at line (i + fieldLength f))) (omega (arith, done-length, h .from))
 
-      tells : (u : Bool) → any (tagged (f .tag₀) (f .tag₁)) (fieldsTo at line i) ≡ u → eqb (getD t (numberOf f) 0) (at + i) ≡ not u
-      unfolding mid noted HasTag numberOf number
+      tells : (u : Bool) → any (tagged (f .tag₀) (f .tag₁)) (fieldsTo at line i) ≡ u → eqb (getD t (fieldNumber f) 0) (at + i) ≡ not u
+      unfolding mid noted HasTag fieldNumber number
       tells true e =
           let g = tags-here (n .tags) in
           let m = tagNumber (f .tag₀) (f .tag₁) in
@@ -313,7 +313,7 @@ module _ (once : Bool) (at : ℕ) (line : List ℕ) (i : ℕ) (h : AtField once 
           eq-eqb (getD t m 0) (at + i) k
 
       -- the tables tell whether it stands at its tag's first place
-      pub first-noted : eqb (getD t (numberOf f) 0) (at + i) ≡ isFirst at line i
+      pub first-noted : eqb (getD t (fieldNumber f) 0) (at + i) ≡ isFirst at line i
       first-noted = tells (any (tagged (f .tag₀) (f .tag₁)) (fieldsTo at line i)) refl ∙ sym (first-here once at line i h f w)
 
 -- ---- a tag in the line's tables
@@ -336,12 +336,12 @@ module _ (at : ℕ) (line : List ℕ) (a b : ℕ) (tag : isTag a b ≡ true) (h 
       (subst (λ l. Last a b tag at line 3 (getD (n .blank) (3224 + tagNumber a b) 0) (getD l (3224 + tagNumber a b) 0)) (sym (n .is))
       (last-noted a b tag at line (fieldsFrom at line 3) 3 (n .blank) h refl (n .tags) (n .start .size)))
 
-  pub noted-nowhere : getD t (3224 + tagNumber a b) 0 ≡ 0 → nowhere ≡ lastIn at line a b
+  pub noted-nowhere : getD t (3224 + tagNumber a b) 0 ≡ 0 → noValue ≡ lastIn at line a b
   unfolding lastIn orValue
   noted-nowhere z = go told
     where
-      go : Last a b tag at line 3 0 (getD t (3224 + tagNumber a b) 0) → nowhere ≡ orValue nowhere (lastOf a b (fieldsFrom at line 3))
-      go (absent e q) = sym (ap (orValue nowhere) e)
+      go : Last a b tag at line 3 0 (getD t (3224 + tagNumber a b) 0) → noValue ≡ orValue noValue (lastOf a b (fieldsFrom at line 3))
+      go (absent e q) = sym (ap (orValue noValue) e)
       go (present q) = absurd (omega (arith, q .is, q .here .from))
 
   pub noted-there : (getD t (3224 + tagNumber a b) 0 ≡ 0 → ⊥) → There at line a b (getD t (3224 + tagNumber a b) 0)
@@ -352,4 +352,4 @@ module _ (at : ℕ) (line : List ℕ) (a b : ℕ) (tag : isTag a b ≡ true) (h 
       go (absent e q) = absurd (z q)
       go (present q) =
           let e : getD t (3224 + tagNumber a b) 0 - at ≡ q .place = omega (arith, q .is) in
-          record { from = omega (arith, q .is); here = rw e (q .here); within = omega (arith, q .within); value = rw e (sym (q .value nowhere)) }
+          record { from = omega (arith, q .is); here = rw e (q .here); within = omega (arith, q .within); value = rw e (sym (q .value noValue)) }

@@ -15,7 +15,7 @@ use Rattle.accepted.specs.Sound.{isKey}
 use Rattle.tags.specs.Others.{firsts}
 use Rattle.other_fields.specs.Run.{fieldsTo, fieldsFrom, AtField}
 use Rattle.other_fields.specs.Next.{isFirst, orValue, lastIn, valueAt, keptAt, fieldLength}
-use Rattle.other_fields.specs.Tables.{numberOf, HasTag, spread, marked, noted, Noted}
+use Rattle.other_fields.specs.Tables.{fieldNumber, HasTag, spread, marked, noted, Noted}
 use Rattle.other_fields.specs.declared.Value.{Value}
 use Rattle.other_fields.proofs.Here.{Found, found}
 use Rattle.other_fields.proofs.Turn.{first-once, last-same, last-other, kept-own}
@@ -63,8 +63,8 @@ module _ (strict : Bool) (at : ℕ) (line : List ℕ) (i : ℕ) (h : AtField str
 
   -- ---- by the number of its tag
 
-  number-at : tagNumber (getD line (i + 1) 0) (getD line (i + 2) 0) ≡ numberOf (own .field)
-  unfolding numberOf
+  number-at : tagNumber (getD line (i + 1) 0) (getD line (i + 2) 0) ≡ fieldNumber (own .field)
+  unfolding fieldNumber
   number-at = rw (own .here .tag-0, own .here .tag-1) refl
 
   rest-at : fieldsFrom at line i ≡ own .field ∷ fieldsFrom at line end

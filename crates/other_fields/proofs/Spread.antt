@@ -13,18 +13,18 @@ use Rattle.format.specs.Bytes.{any}
 use Rattle.format.specs.Fields.{Field, tagged, repeats}
 use Rattle.tag_number.specs.Number.{tagNumber}
 use Rattle.accepted.proofs.Bools.{never, and-left, and-right}
-use Rattle.other_fields.specs.Tables.{numberOf, spread}
+use Rattle.other_fields.specs.Tables.{fieldNumber, spread}
 
 -- the mark that a field takes
 abbrev slot : Field → ℕ
-slot f = numberOf f % 1024
+slot f = fieldNumber f % 1024
 
 pub slot-below : (n : ℕ) → n % 1024 < 1024
 slot-below n = mod-lt n {m = 1024} (omega arith)
 
 -- a tag has one number
-pub same-number : (a b : ℕ) (g : Field) → tagged a b g ≡ true → numberOf g ≡ tagNumber a b
-unfolding tagged numberOf
+pub same-number : (a b : ℕ) (g : Field) → tagged a b g ≡ true → fieldNumber g ≡ tagNumber a b
+unfolding tagged fieldNumber
 same-number a b g t =
     let x : Bool = eqb (g .tag₀) a in
     let y : Bool = eqb (g .tag₁) b in
@@ -32,7 +32,7 @@ same-number a b g t =
 
 -- the mark of `f` is taken: none of the others has its tag
 apart : (f : Field) (seen : List Bool) (gs : List Field) → getD seen (slot f) false ≡ true → spread seen gs ≡ true → any (tagged (f .tag₀) (f .tag₁)) gs ≡ false
-unfolding spread any numberOf
+unfolding spread any fieldNumber
 apart f seen [] m h = refl
 apart f seen (g ∷ gs) m h = go (getD seen (slot g) false) refl h (tagged (f .tag₀) (f .tag₁) g) refl (λ n. apart f (set seen (slot g) true) gs (getD-set-other seen (slot g) (slot f) true false n ∙ m))
   where
@@ -52,4 +52,4 @@ spread-once seen (f ∷ fs) l h = go (getD seen (slot f) false) h (spread-once (
     go : (t : Bool) → cond t false (spread (set seen (slot f) true) fs) ≡ true → (spread (set seen (slot f) true) fs ≡ true → repeats fs ≡ false)
         → any (tagged (f .tag₀) (f .tag₁)) fs || repeats fs ≡ false
     go true h ih = absurd (never (cc))
-    go false h ih = ap₂ (λ t u. t || u) (apart f (set seen (slot f) true) fs (getD-set-same seen (slot f) true false (omega (arith, slot-below (numberOf f)))) h) (ih h)
+    go false h ih = ap₂ (λ t u. t || u) (apart f (set seen (slot f) true) fs (getD-set-same seen (slot f) true false (omega (arith, slot-below (fieldNumber f)))) h) (ih h)

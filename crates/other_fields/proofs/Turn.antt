@@ -15,7 +15,7 @@ use Rattle.accepted.proofs.Bools.{or-left, or-right, any-append}
 use Rattle.accepted.proofs.Tags.{tagged-sym}
 use Rattle.tags.specs.Others.{orLast, latest, firsts}
 use Rattle.other_fields.specs.Run.{fieldsTo, fieldsFrom, AtField}
-use Rattle.other_fields.specs.Next.{isFirst, standing, orValue, valueAt, keptAt, fieldLength}
+use Rattle.other_fields.specs.Next.{isFirst, valueOfPiece, orValue, valueAt, keptAt, fieldLength}
 use Rattle.other_fields.specs.declared.Value.{Value}
 use Rattle.other_fields.proofs.Here.{Here}
 
@@ -44,7 +44,7 @@ lastOf-none a b (f ∷ fs) h =
 
 -- ---- a value, or else another
 
-or-same : (v : Value) (p : Piece) (o : Option Piece) → orValue v (later (some p) o) ≡ orValue (standing p) o
+or-same : (v : Value) (p : Piece) (o : Option Piece) → orValue v (later (some p) o) ≡ orValue (valueOfPiece p) o
 unfolding orValue later
 or-same v p none = refl
 or-same v p (some q) = refl
@@ -54,7 +54,7 @@ unfolding orValue later
 or-later v none = refl
 or-later v (some q) = refl
 
-or-latest : (p : Piece) (o : Option Piece) → orValue (standing p) o ≡ standing (orLast p o)
+or-latest : (p : Piece) (o : Option Piece) → orValue (valueOfPiece p) o ≡ valueOfPiece (orLast p o)
 unfolding orValue orLast
 or-latest p none = refl
 or-latest p (some q) = refl
@@ -93,7 +93,7 @@ module _ (strict : Bool) (at : ℕ) (line : List ℕ) (pos : ℕ) (h : AtField s
 
   -- ---- the last value
 
-  pub own : valueAt at pos (pos + fieldLength f) ≡ standing (f .value)
+  pub own : valueAt at pos (pos + fieldLength f) ≡ valueOfPiece (f .value)
   unfolding fieldLength
   own =
       let l : pos + fieldLength f - (pos + 4) ≡ length (f .value .bytes) = omega (arith, e .size) in
@@ -120,6 +120,6 @@ module _ (strict : Bool) (at : ℕ) (line : List ℕ) (pos : ℕ) (h : AtField s
   kept-own s = rw (e .tag-0, e .tag-1, lastOf-none (f .tag₀) (f .tag₁) (fieldsFrom at line (pos + fieldLength f)) (alone s .1)) refl
 
   -- the last value, as the walk finds it
-  pub kept-latest : keptAt at line pos (pos + fieldLength f) ≡ standing (latest (fieldsFrom at line (pos + fieldLength f)) f .value)
+  pub kept-latest : keptAt at line pos (pos + fieldLength f) ≡ valueOfPiece (latest (fieldsFrom at line (pos + fieldLength f)) f .value)
   unfolding keptAt latest
   kept-latest = rw (e .tag-0, e .tag-1, own) (or-latest (f .value) (lastOf (f .tag₀) (f .tag₁) (fieldsFrom at line (pos + fieldLength f))))

@@ -22,22 +22,22 @@ unfolding any tagged fieldsOf
 isFirst at line i = not (any (tagged (getD line (i + 1) 0) (getD line (i + 2) 0)) (fieldsTo at line i))
 
 -- where a piece stands
-abbrev pub standing : Piece → Value
-standing p = record { at = p .at; len = length (p .bytes) }
+abbrev pub valueOfPiece : Piece → Value
+valueOfPiece p = record { at = p .at; len = length (p .bytes) }
 
 -- or else `v`
 unfoldable pub orValue : Value → Option Piece → Value
 orValue v none = v
-orValue v (some p) = standing p
+orValue v (some p) = valueOfPiece p
 
 -- no value
-abbrev pub nowhere : Value
-nowhere = record { at = 0; len = 0 }
+abbrev pub noValue : Value
+noValue = record { at = 0; len = 0 }
 
 -- the last value that a tag has in a line
 unfoldable pub lastIn : ℕ → List ℕ → ℕ → ℕ → Value
 unfolding orValue lastOf fieldsOf
-lastIn at line a b = orValue nowhere (lastOf a b (fieldsFrom at line 3))
+lastIn at line a b = orValue noValue (lastOf a b (fieldsFrom at line 3))
 
 -- the value of the field from the tab at `i` up to `end`
 abbrev pub valueAt : ℕ → ℕ → ℕ → Value

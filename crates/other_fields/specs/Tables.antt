@@ -11,9 +11,9 @@ use Rattle.tag_number.specs.Number.{tagNumber}
 use Rattle.other_fields.specs.Run.{fieldsOf, fieldsFrom, AtField}
 use Rattle.other_fields.specs.Next.{fieldLength}
 
-unfoldable pub numberOf : Field → ℕ
+unfoldable pub fieldNumber : Field → ℕ
 unfolding tagNumber
-numberOf f = tagNumber (f .tag₀) (f .tag₁)
+fieldNumber f = tagNumber (f .tag₀) (f .tag₁)
 
 -- its tag is a letter, then a letter or digit
 unfoldable pub HasTag : Field → Type 0
@@ -24,9 +24,9 @@ HasTag f = isTag (f .tag₀) (f .tag₁) ≡ true
 
 -- do all fields take different places of 1,024, none of them marked before?
 unfoldable pub spread : List Bool → List Field → Bool
-unfolding numberOf
+unfolding fieldNumber
 spread seen [] = true
-spread seen (f ∷ fs) = cond (getD seen (numberOf f % 1024) false) false (spread (set seen (numberOf f % 1024) true) fs)
+spread seen (f ∷ fs) = cond (getD seen (fieldNumber f % 1024) false) false (spread (set seen (fieldNumber f % 1024) true) fs)
 
 -- ---- two tables in one list: 3,224 first places, then 3,224 last ones, 0 for a tag that was not met
 
@@ -36,9 +36,9 @@ marked t n p = set (cond (eqb (getD t n 0) 0) (set t n p) t) (3224 + n) p
 
 -- the fields from the offset `p` on
 unfoldable pub noted : List ℕ → ℕ → List Field → List ℕ
-unfolding marked numberOf fieldLength
+unfolding marked fieldNumber fieldLength
 noted t p [] = t
-noted t p (f ∷ fs) = noted (marked t (numberOf f) p) (p + fieldLength f) fs
+noted t p (f ∷ fs) = noted (marked t (fieldNumber f) p) (p + fieldLength f) fs
 
 -- no tag is met yet
 pub record Blank (t : List ℕ) : Type 0 where

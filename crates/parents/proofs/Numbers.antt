@@ -16,13 +16,13 @@ use Rattle.format.specs.Programs.{Program, Link, root, dangling, child, ordinal
 use Rattle.text.specs.Stands.{Each}
 use Rattle.accepted.proofs.Bools.{never, or-true, or-false, any-snoc}
 use Rattle.accepted.proofs.Pairs.{each-at}
-use Rattle.chains.specs.Parents.{nobody, linksOf, within, inArray}
+use Rattle.chains.specs.Parents.{nobody, linksOf, areParents, inArray}
 use Rattle.chains.specs.Listed.{named}
 use Rattle.chains.proofs.Arrays.{array-push}
 use Rattle.chains.proofs.Bound.{within-below}
 use Rattle.chains.proofs.Walks.{map-at, link-none, link-some}
 use Rattle.parents.specs.declared.Parents.{Parents}
-use Rattle.parents.specs.Parents.{stranger, numberOf, parentsOf}
+use Rattle.parents.specs.Parents.{stranger, linkNumber, parentsOf}
 
 -- ---- a child's parent is one of the programs
 
@@ -58,28 +58,28 @@ links-below ps = each-below ps ps
 
 module _ (n : ℕ) (small : n ≤ 1024) where
   -- a link is a stranger's exactly if it dangles
-  number-stray : (l : Link) → Below n l → eqb 4294967294 (numberOf l) ≡ isDangling l
-  unfolding Below isDangling stranger numberOf nobody
+  number-stray : (l : Link) → Below n l → eqb 4294967294 (linkNumber l) ≡ isDangling l
+  unfolding Below isDangling stranger linkNumber nobody
   number-stray root h = refl
   number-stray dangling h = refl
   number-stray (child k) h = ne-eqb 4294967294 k (λ e. omega arith)
 
-  same-links : (ls : List Link) → Each (Below n) ls → any isDangling ls ≡ false → linksOf (map numberOf ls) ≡ ls
-  unfolding Each Below any isDangling linksOf numberOf nobody
+  same-links : (ls : List Link) → Each (Below n) ls → any isDangling ls ≡ false → linksOf (map linkNumber ls) ≡ ls
+  unfolding Each Below any isDangling linksOf linkNumber nobody
   same-links [] h d = refl
   same-links (root ∷ ls) h d = ap₂ (λ x xs. x ∷ xs) (link-none 4294967295 refl) (same-links ls (h .1) d)
   same-links (dangling ∷ ls) h d = absurd (never (cc))
   same-links (child k ∷ ls) h d = ap₂ (λ x xs. x ∷ xs) (link-some k (λ e. omega (arith, h .0))) (same-links ls (h .1) d)
 
-  all-within : (ls : List Link) → Each (Below n) ls → any isDangling ls ≡ false → within n (map numberOf ls) ≡ true
-  unfolding Each Below any all isDangling within numberOf nobody
+  all-within : (ls : List Link) → Each (Below n) ls → any isDangling ls ≡ false → areParents n (map linkNumber ls) ≡ true
+  unfolding Each Below any all isDangling areParents linkNumber nobody
   all-within [] h d = refl
   all-within (root ∷ ls) h d = all-within ls (h .1) d
   all-within (dangling ∷ ls) h d = absurd (never (cc))
   all-within (child k ∷ ls) h d = rw (lt-ltb k n (h .0), or-true (eqb k 4294967295)) (all-within ls (h .1) d)
 
-  same-roots : (i : ℕ) (ls : List Link) → Each (Below n) ls → rootsFrom i (linksOf (map numberOf ls)) ≡ rootsFrom i ls
-  unfolding Each Below rootsFrom linksOf numberOf nobody stranger
+  same-roots : (i : ℕ) (ls : List Link) → Each (Below n) ls → rootsFrom i (linksOf (map linkNumber ls)) ≡ rootsFrom i ls
+  unfolding Each Below rootsFrom linksOf linkNumber nobody stranger
   same-roots i [] h = refl
   same-roots i (root ∷ ls) h = ap (λ xs. i ∷ xs) (same-roots (i + 1) ls (h .1))
   same-roots i (dangling ∷ ls) h = same-roots (i + 1) ls (h .1)
@@ -88,17 +88,17 @@ module _ (n : ℕ) (small : n ≤ 1024) where
 -- ---- the links of some programs
 
 abbrev pub numbers : List Program → List ℕ
-numbers ps = map numberOf (links ps)
+numbers ps = map linkNumber (links ps)
 
 pub links-count : (ps : List Program) → length (links ps) ≡ length ps
 unfolding links
 links-count ps = length-map ps (λ p. link ps (p .previous))
 
 pub numbers-count : (ps : List Program) → length (numbers ps) ≡ length ps
-numbers-count ps = length-map (links ps) numberOf ∙ links-count ps
+numbers-count ps = length-map (links ps) linkNumber ∙ links-count ps
 
 module _ (ps : List Program) (few : length ps ≤ 1024) where
-  pub numbers-stray : (i : ℕ) → i < length ps → eqb 4294967294 (numberOf (getD (links ps) i root)) ≡ isDangling (getD (links ps) i root)
+  pub numbers-stray : (i : ℕ) → i < length ps → eqb 4294967294 (linkNumber (getD (links ps) i root)) ≡ isDangling (getD (links ps) i root)
   numbers-stray i h =
       let l : i < length (links ps) = omega (arith, links-count ps) in
       number-stray (length ps) few (getD (links ps) i root) (each-at (Below (length ps)) (links ps) i root (links-below ps) l)
@@ -112,8 +112,8 @@ module _ (ps : List Program) (few : length ps ≤ 1024) where
     pub numbers-links : linksOf (numbers ps) ≡ links ps
     numbers-links = same-links (length ps) few (links ps) (links-below ps) d
 
-    pub numbers-within : within (length (numbers ps)) (numbers ps) ≡ true
-    numbers-within = ap (λ n. within n (numbers ps)) (numbers-count ps) ∙ all-within (length ps) few (links ps) (links-below ps) d
+    pub numbers-within : areParents (length (numbers ps)) (numbers ps) ≡ true
+    numbers-within = ap (λ n. areParents n (numbers ps)) (numbers-count ps) ∙ all-within (length ps) few (links ps) (links-below ps) d
 
     -- each parent is one of the programs
     pub links-named : (k : ℕ) → named k (links ps) ≡ true → k < length ps
@@ -137,7 +137,7 @@ found-all ps list stray i count f e m =
     let b : take i (links ps) ≡ links ps = take-all i (links ps) (omega (arith, links-count ps)) in
     rw (f .0, f .1, a, b, m, ← links-count ps) refl
 
-module _ (ps : List Program) (few : length ps ≤ 1024) (list : List ℕ) (stray : Bool) (i : ℕ) (f : Found ps list stray i) (h : i < length ps) (parent : ℕ) (is : parent ≡ numberOf (getD (links ps) i root)) where
+module _ (ps : List Program) (few : length ps ≤ 1024) (list : List ℕ) (stray : Bool) (i : ℕ) (f : Found ps list stray i) (h : i < length ps) (parent : ℕ) (is : parent ≡ linkNumber (getD (links ps) i root)) where
   one-more : set list i parent ≡ inArray (take (i + 1) (numbers ps))
   one-more =
       let l : i < length (numbers ps) = omega (arith, numbers-count ps) in
@@ -145,7 +145,7 @@ module _ (ps : List Program) (few : length ps ≤ 1024) (list : List ℕ) (stray
       let k : i < length (links ps) = omega (arith, links-count ps) in
       ap₂ (λ xs n. set xs n parent) (f .0) (sym m)
       ∙ array-push (take i (numbers ps)) parent (omega arith)
-      ∙ ap (λ v. inArray (take i (numbers ps) ++ (v ∷ []))) (is ∙ sym (map-at numberOf (links ps) i root 0 k))
+      ∙ ap (λ v. inArray (take i (numbers ps) ++ (v ∷ []))) (is ∙ sym (map-at linkNumber (links ps) i root 0 k))
       ∙ ap inArray (sym (take-suc (numbers ps) i 0 l) ∙ ap (λ n. take n (numbers ps)) (sym (add-one i)))
 
   -- does the PP of this one dangle?

@@ -21,29 +21,29 @@ use Rattle.chains.proofs.Walks.{map-at}
 use Rattle.entries.specs.declared.Place.{Place}
 use Rattle.entries.specs.Entries.{entriesIn}
 use Rattle.programs.specs.declared.Programs.{Programs}
-use Rattle.id_search.specs.Places.{Inside, bytesAt, nowhere, placesOf, idsAt, Placed}
-use Rattle.programs.specs.Gathered.{Noted, notedIn, arraysOf, gatheredOf}
-use Rattle.parents.specs.Parents.{Somewhere, numberOf, parentOf}
+use Rattle.id_search.specs.Places.{InsideText, bytesAt, nowhere, placesOf, idsAt, PlacesInText}
+use Rattle.programs.specs.Gathered.{ProgramPlaces, notedIn, arraysOf, gatheredOf}
+use Rattle.parents.specs.Parents.{Somewhere, linkNumber, parentOf}
 use Rattle.id_search.specs.Search.{idsOf}
 use Rattle.parents.proofs.Says.{Says, says-ids, says-inside, before-inside, before-parent, text-says}
 
 -- ---- numbers in arrays
 
 -- the places whose numbers are in arrays
-places-back : (f : Noted → Place) (ns : List Noted) → placesOf (map (λ n. f n .at) ns) (map (λ n. f n .len) ns) ≡ map f ns
+places-back : (f : ProgramPlaces → Place) (ns : List ProgramPlaces) → placesOf (map (λ n. f n .at) ns) (map (λ n. f n .len) ns) ≡ map f ns
 unfolding placesOf
 places-back f [] = refl
 places-back f (n ∷ ns) = ap (λ ps. f n ∷ ps) (places-back f ns)
 
 -- one number of each program, as it is lent and read
-module _ (f : Noted → ℕ) (ns : List Noted) (xs : List ℕ) (count : ℕ) (e : xs ≡ inArray (map f ns)) (m : count ≡ length ns) where
+module _ (f : ProgramPlaces → ℕ) (ns : List ProgramPlaces) (xs : List ℕ) (count : ℕ) (e : xs ≡ inArray (map f ns)) (m : count ≡ length ns) where
   same-count : count ≡ length (map f ns)
   same-count = m ∙ sym (length-map ns f)
 
   kept-front : take count xs ≡ map f ns
   kept-front = front (map f ns) xs count e same-count
 
-  kept-at : (i : ℕ) (d : Noted) → i < count → getD xs i 0 ≡ f (getD ns i d)
+  kept-at : (i : ℕ) (d : ProgramPlaces) → i < count → getD xs i 0 ≡ f (getD ns i d)
   kept-at i d h = front-at (map f ns) xs count e same-count i h ∙ map-at f ns i d 0 (omega arith)
 
 -- ---- of an accepted text
@@ -53,7 +53,7 @@ unfolding programs
 few-programs t accepted = rw (length-map (ofKind 4 (recordsOf t)) programOf) (text-programs t (recordsOf t) (accepted-reads t accepted))
 
 module _ (t : List ℕ) (accepted : isAccepted (readText t) ≡ true) (p : Programs) (e : p ≡ gatheredOf (notedIn (entriesIn (catalogue (recordsOf t))))) where
-  abbrev ns : List Noted
+  abbrev ns : List ProgramPlaces
   ns = notedIn (entriesIn (catalogue (recordsOf t)))
 
   abbrev ps : List Program
@@ -110,11 +110,11 @@ module _ (t : List ℕ) (accepted : isAccepted (readText t) ≡ true) (p : Progr
   pub lens-inside : p .count ≤ length (p .id .len)
   lens-inside = omega (arith, own-lens, length-take (p .count) (p .id .len))
 
-  pub own-placed : Placed t ats lens
+  pub own-placed : PlacesInText t ats lens
   own-placed = record {
     even = own-ats ∙ sym own-lens;
     few = omega (arith, own-ats, own-few);
-    inside = subst (Each (Inside (length t))) (sym places-are) (says-inside t ns ps says);
+    inside = subst (Each (InsideText (length t))) (sym places-are) (says-inside t ns ps says);
   }
 
   pub own-ids : idsAt t ats lens ≡ idsOf ps
@@ -127,7 +127,7 @@ module _ (t : List ℕ) (accepted : isAccepted (readText t) ≡ true) (p : Progr
   place i = record { at = getD (p .previous .at) i 0; len = getD (p .previous .len) i 0 }
 
   module _ (i : ℕ) (h : i < p .count) where
-    none-noted : Noted
+    none-noted : ProgramPlaces
     none-noted = record { id = nowhere; previous = nowhere }
 
     place-is : place i ≡ getD ns i none-noted .previous
@@ -146,9 +146,9 @@ module _ (t : List ℕ) (accepted : isAccepted (readText t) ≡ true) (p : Progr
     pub own-somewhere : Somewhere (length t) (place i)
     own-somewhere = subst (Somewhere (length t)) (sym place-is) (before-inside t _ _ (said .previous))
 
-    pub own-parent : parentOf t (idsAt t ats lens) (place i) ≡ numberOf (getD (links ps) i root)
+    pub own-parent : parentOf t (idsAt t ats lens) (place i) ≡ linkNumber (getD (links ps) i root)
     unfolding links
     own-parent =
         ap₂ (parentOf t) own-ids place-is
         ∙ before-parent t (text-fits t (recordsOf t) (accepted-reads t accepted)) ps _ _ (said .previous)
-        ∙ ap numberOf (sym (map-at (λ q. link ps (q .previous)) ps i none-there root (omega (arith, own-count))))
+        ∙ ap linkNumber (sym (map-at (λ q. link ps (q .previous)) ps i none-there root (omega (arith, own-count))))

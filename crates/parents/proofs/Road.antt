@@ -11,7 +11,7 @@ use Rattle.format.specs.Programs.{Program, Link, links, isDangling, loopsFrom, 
 use Rattle.chains.specs.declared.Ordinals.{Ordinals}
 use Rattle.chains.proofs.Arrays.{front, front-count, front-inside}
 use Rattle.chains.proofs.Some.{leaves-some}
-use Rattle.chains.specs.Parents.{linksOf, within, inArray}
+use Rattle.chains.specs.Parents.{linksOf, areParents, inArray}
 use Rattle.parents.specs.declared.Parents.{Parents}
 use Rattle.parents.specs.declared.Graph.{Graph}
 use Rattle.parents.specs.Parents.{parentsOf, leavesIn, ordinalsOf, graphOf}
@@ -94,8 +94,8 @@ module _ (ps : List Program) (few : length ps ≤ 1024) (q : Parents) (is : q �
 
   -- where nothing dangles
   module _ (d : q .dangling ≡ false) where
-    pub lent-within : within (length lent) lent ≡ true
-    lent-within = subst (λ xs. within (length xs) xs ≡ true) (sym lent-is) (numbers-within ps few (sym dangling-is ∙ d))
+    pub lent-within : areParents (length lent) lent ≡ true
+    lent-within = subst (λ xs. areParents (length xs) xs ≡ true) (sym lent-is) (numbers-within ps few (sym dangling-is ∙ d))
 
     pub lent-links : linksOf lent ≡ links ps
     lent-links = ap linksOf lent-is ∙ numbers-links ps few (sym dangling-is ∙ d)

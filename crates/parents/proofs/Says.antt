@@ -23,16 +23,16 @@ use Rattle.entries.specs.Entries.{pieceAt, headEntry, fieldEntry, entriesOf, en
 use Rattle.lookup.specs.Lookup.{foundOf, valueIn}
 use Rattle.lookup.proofs.Kept.{record-values, last-value, text-entries}
 use Rattle.lookup.proofs.Answers.{value-fields}
-use Rattle.id_search.specs.Places.{Inside, bytesAt, nowhere}
-use Rattle.programs.specs.Gathered.{Noted, orNowhere, notedIn}
-use Rattle.parents.specs.Parents.{Somewhere, numberOf, orStranger, parentOf}
-use Rattle.id_search.specs.Search.{idsOf, ordinalIn}
+use Rattle.id_search.specs.Places.{InsideText, bytesAt, nowhere}
+use Rattle.programs.specs.Gathered.{ProgramPlaces, orNowhere, notedIn}
+use Rattle.parents.specs.Parents.{Somewhere, linkNumber, orStranger, parentOf}
+use Rattle.id_search.specs.Search.{idsOf, idOrdinalFrom}
 use Rattle.id_search.proofs.Search.{ordinal-ids}
 
 -- ---- places
 
 module _ (t : List ℕ) where
-  stands-inside : (p : Piece) → Stands t 0 p → Inside (length t) (pieceAt p)
+  stands-inside : (p : Piece) → Stands t 0 p → InsideText (length t) (pieceAt p)
   unfolding pieceAt
   stands-inside p s = omega (arith, s .within)
 
@@ -49,8 +49,8 @@ unfolding pieceAt nowhere
 Before t q none = q ≡ nowhere
 Before t q (some p) = (q ≡ pieceAt p) × Stands t 0 p
 
-pub record Says (t : List ℕ) (n : Noted) (p : Program) : Type 0 where
-  pub inside : Inside (length t) (n .id)
+pub record Says (t : List ℕ) (n : ProgramPlaces) (p : Program) : Type 0 where
+  pub inside : InsideText (length t) (n .id)
   pub bytes : bytesAt t (n .id) ≡ p .id
   pub previous : Before t (n .previous) (p .previous)
 
@@ -93,24 +93,24 @@ module _ (t : List ℕ) where
 
 -- ---- IDs and parents
 
-number-found : (o : Option ℕ) → orStranger o ≡ numberOf (found o)
-unfolding orStranger numberOf found
+number-found : (o : Option ℕ) → orStranger o ≡ linkNumber (found o)
+unfolding orStranger linkNumber found
 number-found none = refl
 number-found (some k) = refl
 
-parent-some : (t : List ℕ) (ids : List (List ℕ)) (q : Place) → (q .at ≡ 4294967295 → ⊥) → parentOf t ids q ≡ orStranger (ordinalIn (bytesAt t q) 0 ids)
+parent-some : (t : List ℕ) (ids : List (List ℕ)) (q : Place) → (q .at ≡ 4294967295 → ⊥) → parentOf t ids q ≡ orStranger (idOrdinalFrom (bytesAt t q) 0 ids)
 unfolding parentOf
 parent-some t ids q h = rw (ne-eqb (q .at) 4294967295 h) refl
 
 module _ (t : List ℕ) where
-  pub says-ids : (ns : List Noted) (ps : List Program) → Pairs (Says t) ns ps → map (bytesAt t) (map (λ n. n .id) ns) ≡ idsOf ps
+  pub says-ids : (ns : List ProgramPlaces) (ps : List Program) → Pairs (Says t) ns ps → map (bytesAt t) (map (λ n. n .id) ns) ≡ idsOf ps
   unfolding Pairs
   says-ids [] [] h = refl
   says-ids [] (p ∷ ps) h = absurd h
   says-ids (n ∷ ns) [] h = absurd h
   says-ids (n ∷ ns) (p ∷ ps) h = ap₂ (λ x xs. x ∷ xs) (h .0 .bytes) (says-ids ns ps (h .1))
 
-  pub says-inside : (ns : List Noted) (ps : List Program) → Pairs (Says t) ns ps → Each (Inside (length t)) (map (λ n. n .id) ns)
+  pub says-inside : (ns : List ProgramPlaces) (ps : List Program) → Pairs (Says t) ns ps → Each (InsideText (length t)) (map (λ n. n .id) ns)
   unfolding Pairs Each
   says-inside [] [] h = tt
   says-inside [] (p ∷ ps) h = absurd h
@@ -121,17 +121,17 @@ module _ (t : List ℕ) where
   pub before-inside : (q : Place) (o : Option Piece) → Before t q o → Somewhere (length t) q
   unfolding Before nowhere
   before-inside q none b n = absurd (n (ap (λ p. p .at) b))
-  before-inside q (some p) b n = subst (Inside (length t)) (sym (b .0)) (stands-inside t p (b .1))
+  before-inside q (some p) b n = subst (InsideText (length t)) (sym (b .0)) (stands-inside t p (b .1))
 
   -- and it names the program that the definitions say
   module _ (fits : length t ≤ 16777216) where
-    pub before-parent : (ps : List Program) (q : Place) (o : Option Piece) → Before t q o → parentOf t (idsOf ps) q ≡ numberOf (link ps o)
-    unfolding Before nowhere pieceAt parentOf numberOf link nobody
+    pub before-parent : (ps : List Program) (q : Place) (o : Option Piece) → Before t q o → parentOf t (idsOf ps) q ≡ linkNumber (link ps o)
+    unfolding Before nowhere pieceAt parentOf linkNumber link nobody
     before-parent ps q none b = ap (parentOf t (idsOf ps)) b
     before-parent ps q (some p) b =
         ap (parentOf t (idsOf ps)) (b .0)
         ∙ parent-some t (idsOf ps) (pieceAt p) (λ e. omega (arith, b .1 .within, fits))
-        ∙ ap (λ s. orStranger (ordinalIn s 0 (idsOf ps))) (stands-bytes t p (b .1))
+        ∙ ap (λ s. orStranger (idOrdinalFrom s 0 (idsOf ps))) (stands-bytes t p (b .1))
         ∙ ap orStranger (ordinal-ids (p .bytes) 0 ps)
         ∙ number-found (ordinalFrom 0 (p .bytes) ps)
 

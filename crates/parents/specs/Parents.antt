@@ -11,8 +11,8 @@ use Rattle.format.specs.Programs.{Link, root, dangling, child, isDangling, tang
 use Rattle.chains.specs.Parents.{nobody, inArray}
 use Rattle.chains.specs.declared.Ordinals.{Ordinals}
 use Rattle.entries.specs.declared.Place.{Place}
-use Rattle.id_search.specs.Places.{Inside, bytesAt}
-use Rattle.id_search.specs.Search.{ordinalIn}
+use Rattle.id_search.specs.Places.{InsideText, bytesAt}
+use Rattle.id_search.specs.Search.{idOrdinalFrom}
 use Rattle.parents.specs.declared.Parents.{Parents}
 use Rattle.parents.specs.declared.Graph.{Graph}
 
@@ -23,11 +23,11 @@ unfoldable pub stranger : ℕ
 stranger = 4294967294
 
 -- a link as a parent's number
-unfoldable pub numberOf : Link → ℕ
+unfoldable pub linkNumber : Link → ℕ
 unfolding nobody stranger
-numberOf root = nobody
-numberOf dangling = stranger
-numberOf (child k) = k
+linkNumber root = nobody
+linkNumber dangling = stranger
+linkNumber (child k) = k
 
 unfoldable pub orStranger : Option ℕ → ℕ
 unfolding stranger
@@ -36,17 +36,17 @@ orStranger (some k) = k
 
 -- by the place of its PP: nobody without PP, the ordinal of the program that it names, a stranger where it names none
 unfoldable pub parentOf : List ℕ → List (List ℕ) → Place → ℕ
-unfolding nobody orStranger ordinalIn bytesAt
-parentOf t ids p = cond (eqb (p .at) 4294967295) nobody (orStranger (ordinalIn (bytesAt t p) 0 ids))
+unfolding nobody orStranger idOrdinalFrom bytesAt
+parentOf t ids p = cond (eqb (p .at) 4294967295) nobody (orStranger (idOrdinalFrom (bytesAt t p) 0 ids))
 
 -- a PP that is there is within `n` bytes
 abbrev pub Somewhere : ℕ → Place → Type 0
-Somewhere n p = (p .at ≡ 4294967295 → ⊥) → Inside n p
+Somewhere n p = (p .at ≡ 4294967295 → ⊥) → InsideText n p
 
 -- the parents that links say, in an array
 unfoldable pub parentsOf : List Link → Parents
-unfolding inArray numberOf any isDangling
-parentsOf ls = record { list = inArray (map numberOf ls); count = length ls; dangling = any isDangling ls }
+unfolding inArray linkNumber any isDangling
+parentsOf ls = record { list = inArray (map linkNumber ls); count = length ls; dangling = any isDangling ls }
 
 -- ---- leaves
 

@@ -13,7 +13,7 @@ ghost use Rattle.format.specs.Programs.{programs, links};
 ghost use Rattle.accepted.specs.Read.{isAccepted, recordsOf};
 ghost use Rattle.entries.specs.Entries.{entriesIn};
 ghost use Rattle.programs.specs.Gathered.{notedIn, gatheredOf};
-ghost use Rattle.id_search.specs.Places.{idsAt, Placed};
+ghost use Rattle.id_search.specs.Places.{idsAt, PlacesInText};
 ghost use Rattle.parents.specs.Parents.{Somewhere, parentOf, parentsOf, ordinalsOf, graphOf};
 
 // The parent of a program whose PP equals no ID: no ordinal, and not nobody.
@@ -21,7 +21,7 @@ pub const STRANGER: u32 = 4294967294;
 
 // The parent of a program by the place of its PP: nobody without PP, a stranger where PP equals no ID.
 fn find_parent(text: &[u8], ats: &[u32], lens: &[u32], previous: Place) -> u32
-    requires { ⌜ Placed (now text) (now ats) (now lens) ⌝ }
+    requires { ⌜ PlacesInText (now text) (now ats) (now lens) ⌝ }
     requires { ⌜ Somewhere (length (now text)) previous ⌝ }
     ensures { λ r. ⌜ r ≡ parentOf (now (text .entry)) (idsAt (now (text .entry)) (now (ats .entry)) (now (lens .entry))) previous ⌝ }
 {

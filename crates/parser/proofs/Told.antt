@@ -9,18 +9,18 @@ use lib.Dec.{eqb, ltb}
 use borrow.Author.Tests.{lt-ltb, le-ltb}
 use Rattle.format.specs.Bytes.{same}
 use Rattle.format.specs.Records.{Record}
-use Rattle.format.specs.Reading.{refuse, accept, readText}
+use Rattle.format.specs.Reading.{refusedText, accept, readText}
 use Rattle.format.specs.Catalogue.{catalogue}
-use Rattle.format.specs.Calls.{Answer, no, yes, then, readAnswer, records, fitting, reading, current, fresh}
+use Rattle.format.specs.Calls.{Answer, refused, yes, then, readAnswer, records, fitting, reading, current, fresh}
 use Rattle.format.specs.declared.LineNo.{LineNo}
 use Rattle.text.specs.Over.{over}
-use Rattle.parser.specs.declared.Answer.the-variants as answer
+use Rattle.parser.specs.declared.CountAnswer.the-variants as answer
 use Rattle.parser.specs.Answers.{answerOf, outputOf}
 
 -- ---- what the calls then answer
 
 module _ (t : List ℕ) where
-  pub read-refused : (room n l : ℕ) → readText t ≡ refuse n l → reading t room ≡ no n l
+  pub read-refused : (room n l : ℕ) → readText t ≡ refusedText n l → reading t room ≡ refused n l
   unfolding reading then records readAnswer
   read-refused room n l e = rw e refl
 
@@ -28,7 +28,7 @@ module _ (t : List ℕ) where
   unfolding reading then records readAnswer
   reads room rs e = rw e refl
 
-  pub read-short : (room : ℕ) (rs : List Record) → readText t ≡ accept rs → room < length (catalogue rs) → reading t room ≡ no 20 0
+  pub read-short : (room : ℕ) (rs : List Record) → readText t ≡ accept rs → room < length (catalogue rs) → reading t room ≡ refused 20 0
   unfolding fitting
   read-short room rs e h = reads room rs e ∙ rw (lt-ltb _ _ h) refl
 
@@ -36,18 +36,18 @@ module _ (t : List ℕ) where
   unfolding fitting
   read-fits room rs e h = reads room rs e ∙ rw (le-ltb _ _ h) refl
 
-  pub fresh-refused : (c : List ℕ) (n l : ℕ) → readText t ≡ refuse n l → fresh t c ≡ no n l
+  pub fresh-refused : (c : List ℕ) (n l : ℕ) → readText t ≡ refusedText n l → fresh t c ≡ refused n l
   unfolding fresh then records readAnswer
   fresh-refused c n l e = rw e refl
 
-  pub fresh-reads : (c : List ℕ) (rs : List Record) → readText t ≡ accept rs → fresh t c ≡ cond (same c (catalogue rs)) (yes rs) (no 21 0)
+  pub fresh-reads : (c : List ℕ) (rs : List Record) → readText t ≡ accept rs → fresh t c ≡ cond (same c (catalogue rs)) (yes rs) (refused 21 0)
   unfolding fresh then records readAnswer current
   fresh-reads c rs e = rw e refl
 
 -- ---- the answers in the code's numbers
 
 module _ (a : Answer (List ℕ)) (out : List ℕ) where
-  pub refused-answer : (n : ℕ) (l : LineNo) → a ≡ no n (l .0) → (answer.Refused n l ≡ answerOf a) × (out ≡ outputOf a out)
+  pub refused-answer : (n : ℕ) (l : LineNo) → a ≡ refused n (l .0) → (answer.Refused n l ≡ answerOf a) × (out ≡ outputOf a out)
   unfolding answerOf outputOf
   refused-answer n l e = (sym (ap answerOf e), sym (ap (λ x. outputOf x out) e))
 

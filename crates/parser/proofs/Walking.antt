@@ -8,7 +8,7 @@ use lib.ListN.{length, take, drop, length-take, length-drop, drop-of-length-le}
 use lib.Seq.{drop-drop}
 use Rattle.format.specs.Lines.{Piece, lines, linesFrom}
 use Rattle.format.specs.Records as records
-use Rattle.format.specs.Records.{Record, Line, refused, read}
+use Rattle.format.specs.Records.{Record, Line, refusedLine, read}
 use Rattle.format.specs.Reading.{accept, readText}
 use Rattle.text.specs.First.{firstLine}
 use Rattle.text.specs.declared.Cut.{Cut}
@@ -19,7 +19,7 @@ use Rattle.accepted.specs.Pieces.{Pairs}
 use Rattle.accepted.specs.Admits.{strictly}
 use Rattle.accepted.proofs.Text.{text-lines, text-fits}
 use Rattle.accepted.specs.Read.{isRead, recordsOf}
-use Rattle.parser.specs.Accepted.{Accepted}
+use Rattle.parser.specs.Accepted.{AcceptedText}
 
 -- at the line that starts at `at`
 pub record Walking (strict : Bool) (t : List ℕ) (at : ℕ) : Type 0 where
@@ -29,10 +29,10 @@ pub record Walking (strict : Bool) (t : List ℕ) (at : ℕ) : Type 0 where
   pub ahead : Pairs (λ p r. records.line strict p ≡ read r) (linesFrom at (drop at t)) rest
   pub inside : at ≤ length t
 
-text-size : (strict : Bool) (t : List ℕ) → Accepted strict t → length t ≤ 16777216
+text-size : (strict : Bool) (t : List ℕ) → AcceptedText strict t → length t ≤ 16777216
 text-size strict t a = text-fits t (recordsOf t) (a .reads)
 
-unfoldable pub walking-start : (strict : Bool) (t : List ℕ) → Accepted strict t → Walking strict t 0
+unfoldable pub walking-start : (strict : Bool) (t : List ℕ) → AcceptedText strict t → Walking strict t 0
 unfolding lines strictly
 walking-start strict t a =
     record {
@@ -109,7 +109,7 @@ pub record Lent (strict : Bool) (t : List ℕ) (at : ℕ) (w : Walking strict t 
   pub accepted : isRead (records.line strict (record { at = at; bytes = take (at + cut .len - at) (drop at t) })) ≡ true
   pub fits : at + length (take (at + cut .len - at) (drop at t)) ≤ 16777216
 
-pub lent : (strict : Bool) (t : List ℕ) (at : ℕ) (w : Walking strict t at) (h : at < length t) (cut : Cut) → Accepted strict t → cut ≡ firstLine (take (length t - at) (drop at t)) → Lent strict t at w h cut
+pub lent : (strict : Bool) (t : List ℕ) (at : ℕ) (w : Walking strict t at) (h : at < length t) (cut : Cut) → AcceptedText strict t → cut ≡ firstLine (take (length t - at) (drop at t)) → Lent strict t at w h cut
 unfolding isRead
 lent strict t at w h cut a e =
     let told : cut ≡ firstLine (drop at t) = e ∙ ap firstLine (rest at t) in

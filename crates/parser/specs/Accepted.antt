@@ -8,6 +8,6 @@ use Rattle.format.specs.Reading.{accept, readText, announced, isStrict}
 use Rattle.accepted.specs.Read.{recordsOf}
 
 -- reading accepts `t`, whose rule for repeated tags is `strict`
-pub record Accepted (strict : Bool) (t : List ℕ) : Type 0 where
+pub record AcceptedText (strict : Bool) (t : List ℕ) : Type 0 where
   pub rule : strict ≡ isStrict (announced (lines t))
   pub reads : readText t ≡ accept (recordsOf t)

@@ -10,11 +10,11 @@ ghost use Rattle.format.specs.Catalogue.{catalogue};
 ghost use Rattle.format.specs.Calls.{reading, fresh};
 ghost use Rattle.text.specs.Over.{over};
 ghost use Rattle.accepted.specs.Read.{recordsOf};
-ghost use Rattle.parser.specs.Accepted.{Accepted};
+ghost use Rattle.parser.specs.Accepted.{AcceptedText};
 ghost use Rattle.parser.specs.Answers.{answerOf, outputOf, checkedOf};
 
 // A refusal and its line, or how many bytes or ordinals are written.
-pub enum Answer {
+pub enum CountAnswer {
     Refused(u8, LineNo),
     Count(usize),
 }
@@ -27,7 +27,7 @@ pub enum Checked {
 
 // Writes the catalogue of an accepted text to the front of `out`.
 fn put_catalogue(text: &[u8], strict: bool, out: &mut [u8])
-    requires { ⌜ Accepted strict (now text) ⌝ }
+    requires { ⌜ AcceptedText strict (now text) ⌝ }
     requires { ⌜ length (catalogue (recordsOf (now text))) ≤ length (now out) ⌝ }
     ensures { λ _. ⌜ now (out .exit) ≡ over (now (out .entry)) 0 (catalogue (recordsOf (now (text .entry)))) ⌝ }
 {
@@ -43,7 +43,7 @@ fn put_catalogue(text: &[u8], strict: bool, out: &mut [u8])
 
 // Whether `kept` is the catalogue of an accepted text: nothing is read out of it that has not been compared.
 fn is_catalogue(text: &[u8], strict: bool, kept: &[u8]) -> bool
-    requires { ⌜ Accepted strict (now text) ⌝ }
+    requires { ⌜ AcceptedText strict (now text) ⌝ }
     ensures { λ r. ⌜ r ≡ same (now (kept .entry)) (catalogue (recordsOf (now (text .entry)))) ⌝ }
 {
     let mut at: usize = 0;
@@ -61,18 +61,18 @@ fn is_catalogue(text: &[u8], strict: bool, kept: &[u8]) -> bool
 }
 
 // Reads `text`: its catalogue at the front of `kept`, or the first refusal, which changes nothing.
-pub fn read(text: &[u8], kept: &mut [u8]) -> Answer
+pub fn read(text: &[u8], kept: &mut [u8]) -> CountAnswer
     ensures answer { λ r. ⌜ r ≡ answerOf (reading (now (text .entry)) (length (now (kept .entry)))) ⌝ }
     ensures wrote { λ _. ⌜ now (kept .exit) ≡ outputOf (reading (now (text .entry)) (length (now (kept .entry)))) (now (kept .entry)) ⌝ }
 {
     match judging::judge(text) {
-        Judged::Refused(n, line) => Answer::Refused(n, line),
+        Judged::Refused(n, line) => CountAnswer::Refused(n, line),
         Judged::Accepted(size) => {
             if kept.len() < size {
-                return Answer::Refused(20, LineNo(0));
+                return CountAnswer::Refused(20, LineNo(0));
             }
             put_catalogue(text, repeat_rule::is_strict(text), kept);
-            Answer::Count(size)
+            CountAnswer::Count(size)
         }
     }
 }

@@ -7,12 +7,12 @@ use Rattle.format.specs.declared.Kind.the-variants.{Header, ReferenceSequence, 
 use Rattle.per_kind.specs.declared.PerKind.{PerKind}
 
 -- as `code` numbers the records
-unfoldable pub numberOf : Kind → ℕ
-numberOf Header = 1
-numberOf ReferenceSequence = 2
-numberOf ReadGroup = 3
-numberOf Program = 4
-numberOf Comment = 5
+unfoldable pub kindNumber : Kind → ℕ
+kindNumber Header = 1
+kindNumber ReferenceSequence = 2
+kindNumber ReadGroup = 3
+kindNumber Program = 4
+kindNumber Comment = 5
 
 -- the same function of every kind
 abbrev pub each : (Kind → ℕ) → PerKind
@@ -30,8 +30,8 @@ noBytes = each (λ k. 0)
 
 -- `n` more for the kind `j`
 unfoldable pub plus : Kind → ℕ → PerKind → PerKind
-unfolding get numberOf
-plus j n s = each (λ k. cond (eqb (numberOf j) (numberOf k)) (get k s + n) (get k s))
+unfolding get kindNumber
+plus j n s = each (λ k. cond (eqb (kindNumber j) (kindNumber k)) (get k s + n) (get k s))
 
 unfoldable pub front : PerKind → ℕ
 front s = s .hd + s .sq + s .rg + s .pg
@@ -41,6 +41,6 @@ unfolding front
 total s = front s + s .co
 
 -- one kind behind the other, and `gap` bytes before the comments
-unfoldable pub starts : ℕ → PerKind → PerKind
+unfoldable pub kindStarts : ℕ → PerKind → PerKind
 unfolding front
-starts gap s = record { hd = 0; sq = s .hd; rg = s .hd + s .sq; pg = s .hd + s .sq + s .rg; co = front s + gap }
+kindStarts gap s = record { hd = 0; sq = s .hd; rg = s .hd + s .sq; pg = s .hd + s .sq + s .rg; co = front s + gap }

@@ -2,7 +2,7 @@
 use format::Kind;
 ghost use mathlib.Core.Path.{_≡_};
 ghost use Prim.Native.Nat.{_≤_, _+_};
-ghost use Rattle.per_kind.specs.Numbers.{noBytes, get, plus, front, total, starts};
+ghost use Rattle.per_kind.specs.Numbers.{noBytes, get, plus, front, total, kindStarts};
 
 // A number for each kind of record: how many bytes its records have, or where its next one goes.
 pub struct PerKind {
@@ -84,7 +84,7 @@ impl PerKind {
     // Where the records of each kind start, with `gap` bytes before the comments.
     pub fn starts(self, gap: usize) -> PerKind
         requires { ⌜ front self + gap ≤ 18446744073709551615 ⌝ }
-        ensures { λ r. ⌜ r ≡ starts gap self ⌝ }
+        ensures { λ r. ⌜ r ≡ kindStarts gap self ⌝ }
     {
         let sq = self.hd;
         let rg = sq + self.sq;

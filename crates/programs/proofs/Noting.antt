@@ -14,16 +14,16 @@ use Rattle.entries.proofs.Walk.{turn-end, turn-on}
 use Rattle.entries.specs.declared.Place.{Place}
 use Rattle.entries.specs.declared.Entry.{Entry}
 use Rattle.entries.specs.declared.Entry.the-variants.{End, Header, ReferenceSequence, ReadGroup, Program, Comment, Field}
-use Rattle.entries.specs.Entries.{kindOf, sizeOf, entryOf, entriesIn, counted}
+use Rattle.entries.specs.Entries.{kindByte, entrySize, entryOf, entriesIn, counted}
 use Rattle.lookup.specs.Lookup.{valueIn}
 use Rattle.programs.specs.declared.Programs.{Programs}
-use Rattle.programs.specs.Gathered.{Noted, orNowhere, notedIn, arraysOf, gatheredOf}
+use Rattle.programs.specs.Gathered.{ProgramPlaces, orNowhere, notedIn, arraysOf, gatheredOf}
 
 -- ---- the first of some entries
 
 -- it is no program
 other-first : (e : Entry) (es : List Entry) → OneOf (0 ∷ 1 ∷ 2 ∷ 3 ∷ 5 ∷ 6 ∷ []) (tagOf the-type e) → (notedIn (e ∷ es) ≡ notedIn es) × (counted 4 (e ∷ es) ≡ counted 4 es)
-unfolding notedIn counted kindOf
+unfolding notedIn counted kindByte
 other-first End es h = (refl, refl)
 other-first (Header v) es h = (refl, refl)
 other-first (ReferenceSequence p n) es h = (refl, refl)
@@ -34,13 +34,13 @@ other-first (Field a b p) es h = (refl, refl)
 
 program-first : (p : Place) (es : List Entry)
     → (notedIn (Program p ∷ es) ≡ record { id = p; previous = orNowhere (valueIn 80 80 es) } ∷ notedIn es) × (counted 4 (Program p ∷ es) ≡ suc (counted 4 es))
-unfolding notedIn counted kindOf
+unfolding notedIn counted kindByte
 program-first p es = (refl, refl)
 
 -- ---- arrays
 
 -- one number of each program is in an array
-abbrev pub Kept : (Noted → ℕ) → List Noted → List ℕ → Type 0
+abbrev pub Kept : (ProgramPlaces → ℕ) → List ProgramPlaces → List ℕ → Type 0
 Kept f ns xs = xs ≡ inArray (map f ns)
 
 map-snoc : {A B : Type 0} (f : A → B) (xs : List A) (x : A) → map f xs ++ (f x ∷ []) ≡ map f (xs ++ (x ∷ []))
@@ -48,7 +48,7 @@ map-snoc f [] x = refl
 map-snoc f (y ∷ xs) x = ap (λ zs. f y ∷ zs) (map-snoc f xs x)
 
 -- and that of one program more
-kept-more : (f : Noted → ℕ) (ns : List Noted) (n : Noted) (xs : List ℕ) (count v : ℕ) → Kept f ns xs → length ns ≡ count → count < 1024 → v ≡ f n → Kept f (ns ++ (n ∷ [])) (set xs count v)
+kept-more : (f : ProgramPlaces → ℕ) (ns : List ProgramPlaces) (n : ProgramPlaces) (xs : List ℕ) (count v : ℕ) → Kept f ns xs → length ns ≡ count → count < 1024 → v ≡ f n → Kept f (ns ++ (n ∷ [])) (set xs count v)
 kept-more f ns n xs count v k l h e =
     let m : length (map f ns) ≡ count = length-map ns f ∙ l in
     rw (k, ← m, e) (array-push (map f ns) (f n) (omega arith) ∙ ap inArray (map-snoc f ns n))
@@ -57,7 +57,7 @@ kept-more f ns n xs count v k l h e =
 
 -- the programs before `at` are in the arrays, and those from there on are all the others
 pub record Listed (c ats lens from widths : List ℕ) (count at : ℕ) : Type 0 where
-  pub ns : List Noted
+  pub ns : List ProgramPlaces
   pub id-at : Kept (λ n. n .id .at) ns ats
   pub id-len : Kept (λ n. n .id .len) ns lens
   pub previous-at : Kept (λ n. n .previous .at) ns from
@@ -71,13 +71,13 @@ unfolding inArray
 listed-none c h = record { ns = []; id-at = refl; id-len = refl; previous-at = refl; previous-len = refl; counts = refl; joined = refl; room = omega arith }
 
 -- the whole
-whole : (ns : List Noted) (ats lens from widths : List ℕ) (count : ℕ)
+whole : (ns : List ProgramPlaces) (ats lens from widths : List ℕ) (count : ℕ)
     → Kept (λ n. n .id .at) ns ats → Kept (λ n. n .id .len) ns lens → Kept (λ n. n .previous .at) ns from → Kept (λ n. n .previous .len) ns widths → count ≡ length ns
     → _≡_ {A = Programs} (record { id = record { at = ats; len = lens }; previous = record { at = from; len = widths }; count = count }) (gatheredOf ns)
 unfolding gatheredOf arraysOf
 whole ns ats lens from widths count a b d e m = rw (a, b, d, e, m) refl
 
-module _ (c ats lens from widths : List ℕ) (count at len : ℕ) (e : Entry) (found : e ≡ entryOf (drop at c)) (long : len ≡ sizeOf e) (x : Listed c ats lens from widths count at) where
+module _ (c ats lens from widths : List ℕ) (count at len : ℕ) (e : Entry) (found : e ≡ entryOf (drop at c)) (long : len ≡ entrySize e) (x : Listed c ats lens from widths count at) where
   pub listed-all : len ≡ 0
       → _≡_ {A = Programs} (record { id = record { at = ats; len = lens }; previous = record { at = from; len = widths }; count = count }) (gatheredOf (notedIn (entriesIn c)))
   unfolding notedIn
@@ -117,7 +117,7 @@ module _ (c ats lens from widths : List ℕ) (count at len : ℕ) (e : Entry) (f
       pub listed-more : (q : Place) → q ≡ orNowhere (valueIn 80 80 rest)
           → Listed c (set ats count (p .at)) (set lens count (p .len)) (set from count (q .at)) (set widths count (q .len)) (count + 1) (at + len)
       listed-more q k =
-          let n : Noted = record { id = p; previous = q } in
+          let n : ProgramPlaces = record { id = p; previous = q } in
           let o : notedIn (entriesIn (drop at c)) ≡ n ∷ notedIn rest =
           ap notedIn (opened (Program p) is) ∙ program-first p rest .0 ∙ ap (λ r. record { id = p; previous = r } ∷ notedIn rest) (sym k) in
           record {

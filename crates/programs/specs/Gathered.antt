@@ -13,7 +13,7 @@ use Rattle.programs.specs.declared.Places.{Places}
 use Rattle.programs.specs.declared.Programs.{Programs}
 
 -- where the ID of a program stands, and its PP
-pub record Noted : Type 0 where
+pub record ProgramPlaces : Type 0 where
   pub id : Place
   pub previous : Place
 
@@ -24,7 +24,7 @@ orNowhere Nothing = nowhere
 orNowhere (At p) = p
 
 -- each PG entry, in order, with the PP among the field entries behind it
-unfoldable pub notedIn : List Entry → List Noted
+unfoldable pub notedIn : List Entry → List ProgramPlaces
 unfolding orNowhere valueIn
 notedIn [] = []
 notedIn (End ∷ es) = notedIn es
@@ -36,10 +36,10 @@ notedIn (Comment p ∷ es) = notedIn es
 notedIn (Field a b p ∷ es) = notedIn es
 
 -- one of their places in arrays
-unfoldable pub arraysOf : (Noted → Place) → List Noted → Places
+unfoldable pub arraysOf : (ProgramPlaces → Place) → List ProgramPlaces → Places
 unfolding inArray
 arraysOf f ns = record { at = inArray (map (λ n. f n .at) ns); len = inArray (map (λ n. f n .len) ns) }
 
-unfoldable pub gatheredOf : List Noted → Programs
+unfoldable pub gatheredOf : List ProgramPlaces → Programs
 unfolding arraysOf
 gatheredOf ns = record { id = arraysOf (λ n. n .id) ns; previous = arraysOf (λ n. n .previous) ns; count = length ns }

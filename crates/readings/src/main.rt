@@ -11,7 +11,7 @@
 // `fresh` that `parser::check` takes the catalogue and refuses it with 21 when its last byte is another.
 use format::LineNo;
 use libc::STDOUT_FILENO;
-use parser::Answer;
+use parser::CountAnswer;
 use parser::Checked;
 ghost use mathlib.Core.Path.{_≡_};
 ghost use Prim.Native.Nat.{_≤_};
@@ -94,8 +94,8 @@ fn answer(text: &[u8], kept: &mut [u8], room: usize)
     requires { ⌜ room ≤ length (now kept) ⌝ }
 {
     match parser::read(text, &mut kept[..room]) {
-        Answer::Refused(n, line) => print_refusal(n, line, kept),
-        Answer::Count(size) => print_read(text, kept, size),
+        CountAnswer::Refused(n, line) => print_refusal(n, line, kept),
+        CountAnswer::Count(size) => print_read(text, kept, size),
     }
     io::write_all(STDOUT_FILENO, b"\n");
 }

@@ -9,13 +9,13 @@ use lib.ListN.{length, drop, getD}
 use lib.Seq.{drop-cons, drop-drop}
 use lib.Dec.{eqb}
 use Rattle.format.specs.Bytes.{any}
-use Rattle.format.specs.Records.{Record, header, reference, group, program, comment, code, Line, refused, read, prefixed, kinded, bodied, body, fielded, kindOf, line, breaks}
+use Rattle.format.specs.Records.{Record, header, reference, group, program, comment, code, Line, refusedLine, read, prefixed, kinded, bodied, body, fielded, kindOf, line, breaks}
 use Rattle.format.specs.declared.Kind.{Kind}
 use Rattle.format.specs.declared.Kind.the-variants.{Header, ReferenceSequence, ReadGroup, Program, Comment}
 use Rattle.text.specs.Upto.{leads}
 use Rattle.kind.specs.declared.ParsedKind.{ParsedKind}
 use Rattle.kind.specs.declared.ParsedKind.the-variants.{Empty, Invalid, Is}
-use Rattle.kind.specs.Kind.{known, kindAt}
+use Rattle.kind.specs.Kind.{parsedKindOf, kindAt}
 use Rattle.accepted.proofs.Bools.{split}
 use Rattle.accepted.proofs.Clean.{unbroken}
 use Rattle.record.specs.declared.Head.{Head}
@@ -24,7 +24,7 @@ use Rattle.record.specs.Head.{headOf, recordHead, hasFields}
 -- ---- the `@`
 
 module _ (strict : Bool) (at : ℕ) where
-  pub prefix-missing : (s : List ℕ) → leads 64 s ≡ false → prefixed strict at s ≡ refused 3
+  pub prefix-missing : (s : List ℕ) → leads 64 s ≡ false → prefixed strict at s ≡ refusedLine 3
   unfolding leads prefixed
   prefix-missing [] h = refl
   prefix-missing (b ∷ s) h = rw h refl
@@ -37,8 +37,8 @@ module _ (strict : Bool) (at : ℕ) where
   -- ---- the kind
 
   pub byKind : List ℕ → ParsedKind → Line
-  byKind s Empty = refused 4
-  byKind s Invalid = refused 5
+  byKind s Empty = refusedLine 4
+  byKind s Invalid = refusedLine 5
   byKind s (Is k) = body strict k (at + 2) s
 
   pub kinded-at : (s : List ℕ) → kinded strict at s ≡ byKind (drop 2 s) (kindAt s)
@@ -47,15 +47,15 @@ module _ (strict : Bool) (at : ℕ) where
   kinded-at (a ∷ []) = refl
   kinded-at (a ∷ b ∷ s) = go (kindOf a b)
     where
-      go : (o : Option Kind) → bodied strict (at + 2) s o ≡ byKind s (known o)
+      go : (o : Option Kind) → bodied strict (at + 2) s o ≡ byKind s (parsedKindOf o)
       go none = refl
       go (some k) = refl
 
-  pub kind-empty : (s : List ℕ) → kindAt s ≡ Empty → kinded strict at s ≡ refused 4
+  pub kind-empty : (s : List ℕ) → kindAt s ≡ Empty → kinded strict at s ≡ refusedLine 4
   unfolding byKind
   kind-empty s e = kinded-at s ∙ ap (byKind (drop 2 s)) e
 
-  pub kind-invalid : (s : List ℕ) → kindAt s ≡ Invalid → kinded strict at s ≡ refused 5
+  pub kind-invalid : (s : List ℕ) → kindAt s ≡ Invalid → kinded strict at s ≡ refusedLine 5
   unfolding byKind
   kind-invalid s e = kinded-at s ∙ ap (byKind (drop 2 s)) e
 
@@ -85,7 +85,7 @@ unfolding headOf hasFields
 fields-unbroken strict at s h = go (prefixed strict at s) refl h
   where
     go : (l : Line) → prefixed strict at s ≡ l → hasFields (headOf l) ≡ true → any breaks s ≡ false
-    go (refused n) e h = absurd (let z : _≡_ {A = ℕ} 0 1 = cc in omega arith)
+    go (refusedLine n) e h = absurd (let z : _≡_ {A = ℕ} 0 1 = cc in omega arith)
     go (read r) e h = unbroken strict at s r e (record-fields r h)
 
 module _ (strict : Bool) (at : ℕ) (s : List ℕ) where
@@ -93,7 +93,7 @@ module _ (strict : Bool) (at : ℕ) (s : List ℕ) where
   unfolding line
   line-unbroken h = rw h refl
 
-  pub line-broken : any breaks s ≡ true → line strict (record { at = at; bytes = s }) ≡ refused 2
+  pub line-broken : any breaks s ≡ true → line strict (record { at = at; bytes = s }) ≡ refusedLine 2
   unfolding line
   line-broken h = rw h refl
 

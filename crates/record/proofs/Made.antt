@@ -19,17 +19,17 @@ use Rattle.format.specs.declared.Version.{Version}
 use Rattle.format.specs.declared.Kind.{Kind}
 use Rattle.format.specs.declared.Kind.the-variants.{Header, ReferenceSequence, ReadGroup, Program, Comment}
 use Rattle.text.specs.Stands.{Each}
-use Rattle.field.specs.Parsed.{isVersion, isLength, valued, versionedBy}
+use Rattle.field.specs.Parsed.{isVersion, isLength, fieldNumbers, versionedBy}
 use Rattle.field.proofs.Answer.{Told}
 use Rattle.field.proofs.Shown.{valued-length, valued-kept, told-version, valued-version}
 use Rattle.record.specs.declared.Keys.{Keys}
-use Rattle.record.specs.declared.Place.{Place}
+use Rattle.record.specs.declared.Stretch.{Stretch}
 use Rattle.record.specs.declared.Head.{Head}
 use Rattle.record.specs.declared.Head.the-variants as head
-use Rattle.record.specs.Head.{placeOf, headOf}
+use Rattle.record.specs.Head.{stretchOf, headOf}
 use Rattle.accepted.specs.Sound.{isKey}
 use Rattle.tags.specs.Others.{unkeyed}
-use Rattle.record.specs.Keys.{keyOf, spelt, versionOf, sized, lengthOf, placed, there, numbers, plainly, keysOf, withField, headFrom, keyedHead}
+use Rattle.record.specs.Keys.{keyAmong, spelt, versionAmong, worthIfThere, lengthAmong, stretchIfThere, isThere, numbers, plainly, keysOf, withField, headFrom, keyedHead}
 use Rattle.accepted.proofs.Bools.{or-true, split, and-left}
 use Rattle.accepted.proofs.Tags.{lastOf-snoc, settled-snoc, any-settled, length-put}
 use Rattle.accepted.proofs.Fields.{lastOf-of}
@@ -94,23 +94,23 @@ plain-path a b c d = λ i. plainly (a i) (b i) (c i) (d i)
 module _ (k : Kind) (fs : List Field) (f : Field) where
   -- a field that is no key is neither VN nor LN
   module _ (n : isKey k (f .tag₀) (f .tag₁) ≡ false) (l : isLength k (f .tag₀) (f .tag₁) ≡ false) (v : isVersion k (f .tag₀) (f .tag₁) ≡ false) where
-    other-snoc : keyOf k (fs ++ (f ∷ [])) ≡ keyOf k fs → versionOf k (fs ++ (f ∷ [])) ≡ versionOf k fs → lengthOf k (fs ++ (f ∷ [])) ≡ lengthOf k fs
-        → keysOf k (fs ++ (f ∷ [])) ≡ withField k (valued k f) (f .value .at) (any (tagged (f .tag₀) (f .tag₁)) fs) (keysOf k fs)
+    other-snoc : keyAmong k (fs ++ (f ∷ [])) ≡ keyAmong k fs → versionAmong k (fs ++ (f ∷ [])) ≡ versionAmong k fs → lengthAmong k (fs ++ (f ∷ [])) ≡ lengthAmong k fs
+        → keysOf k (fs ++ (f ∷ [])) ≡ withField k (fieldNumbers k f) (f .value .at) (any (tagged (f .tag₀) (f .tag₁)) fs) (keysOf k fs)
     unfolding keysOf withField
     other-snoc p q r = plain-path p q r (others-field k fs f n) ∙ rw (valued-kept k f l v, n) refl
 
   module _ (y : isKey k (f .tag₀) (f .tag₁) ≡ true) where
     -- a key that is kept by its place
     place-snoc : isLength k (f .tag₀) (f .tag₁) ≡ false → isVersion k (f .tag₀) (f .tag₁) ≡ false
-        → keyOf k (fs ++ (f ∷ [])) ≡ some (f .value) → versionOf k (fs ++ (f ∷ [])) ≡ versionOf k fs → lengthOf k (fs ++ (f ∷ [])) ≡ lengthOf k fs
-        → keysOf k (fs ++ (f ∷ [])) ≡ withField k (valued k f) (f .value .at) (any (tagged (f .tag₀) (f .tag₁)) fs) (keysOf k fs)
+        → keyAmong k (fs ++ (f ∷ [])) ≡ some (f .value) → versionAmong k (fs ++ (f ∷ [])) ≡ versionAmong k fs → lengthAmong k (fs ++ (f ∷ [])) ≡ lengthAmong k fs
+        → keysOf k (fs ++ (f ∷ [])) ≡ withField k (fieldNumbers k f) (f .value .at) (any (tagged (f .tag₀) (f .tag₁)) fs) (keysOf k fs)
     unfolding keysOf withField
     place-snoc l v p q r = plain-path p q r (others-key k fs f y) ∙ rw (valued-kept k f l v, y, v, l) refl
 
 -- VN of HD
 version-snoc : (fs : List Field) (f : Field) → Told Header f → tagged 86 78 f ≡ true
-    → keysOf Header (fs ++ (f ∷ [])) ≡ withField Header (valued Header f) (f .value .at) (any (tagged (f .tag₀) (f .tag₁)) fs) (keysOf Header fs)
-unfolding keysOf withField keyOf versionOf lengthOf isKey isVersion isLength versionedBy tagged
+    → keysOf Header (fs ++ (f ∷ [])) ≡ withField Header (fieldNumbers Header f) (f .value .at) (any (tagged (f .tag₀) (f .tag₁)) fs) (keysOf Header fs)
+unfolding keysOf withField keyAmong versionAmong lengthAmong isKey isVersion isLength versionedBy tagged
 version-snoc fs f t y =
     plain-path {p = none} {l = 0} refl (ap spelt (last-yes 86 78 fs f y) ∙ told-version Header f t y .1) refl (others-key Header fs f y)
     ∙ rw (valued-version Header f t y) refl
@@ -118,10 +118,10 @@ version-snoc fs f t y =
 -- LN of SQ
 length-snoc : (fs : List Field) (f : Field) → tagged 83 78 f ≡ false → tagged 76 78 f ≡ true
     → keysOf ReferenceSequence (fs ++ (f ∷ []))
-    ≡ withField ReferenceSequence (valued ReferenceSequence f) (f .value .at) (any (tagged (f .tag₀) (f .tag₁)) fs) (keysOf ReferenceSequence fs)
-unfolding keysOf withField keyOf versionOf lengthOf isKey isVersion isLength tagged
+    ≡ withField ReferenceSequence (fieldNumbers ReferenceSequence f) (f .value .at) (any (tagged (f .tag₀) (f .tag₁)) fs) (keysOf ReferenceSequence fs)
+unfolding keysOf withField keyAmong versionAmong lengthAmong isKey isVersion isLength tagged
 length-snoc fs f n y =
-    plain-path {v = none} (last-no 83 78 fs f n) refl (ap sized (last-yes 76 78 fs f y)) (others-key ReferenceSequence fs f (ap (λ u. tagged 83 78 f || u) y ∙ or-true (tagged 83 78 f)))
+    plain-path {v = none} (last-no 83 78 fs f n) refl (ap worthIfThere (last-yes 76 78 fs f y)) (others-key ReferenceSequence fs f (ap (λ u. tagged 83 78 f || u) y ∙ or-true (tagged 83 78 f)))
     ∙ rw (valued-length ReferenceSequence f y) refl
 
 -- a tag is one tag alone
@@ -136,8 +136,8 @@ not-both f t =
 module _ (fs : List Field) (f : Field) where
   -- one field more, whatever the kind
   pub keys-snoc : (k : Kind) → Told k f
-      → keysOf k (fs ++ (f ∷ [])) ≡ withField k (valued k f) (f .value .at) (any (tagged (f .tag₀) (f .tag₁)) fs) (keysOf k fs)
-  unfolding keyOf versionOf lengthOf isKey isVersion isLength tagged
+      → keysOf k (fs ++ (f ∷ [])) ≡ withField k (fieldNumbers k f) (f .value .at) (any (tagged (f .tag₀) (f .tag₁)) fs) (keysOf k fs)
+  unfolding keyAmong versionAmong lengthAmong isKey isVersion isLength tagged
   keys-snoc Header t =
       split (tagged 86 78 f)
       (version-snoc fs f t)
@@ -147,8 +147,8 @@ module _ (fs : List Field) (f : Field) where
       (λ y. length-snoc fs f (not-both f y) y)
       (λ n.
       split (tagged 83 78 f)
-      (λ y. place-snoc ReferenceSequence fs f (ap (λ u. u || tagged 76 78 f) y) n refl (last-yes 83 78 fs f y) refl (ap sized (last-no 76 78 fs f n)))
-      (λ m. other-snoc ReferenceSequence fs f (ap (λ u. u || tagged 76 78 f) m ∙ n) n refl (last-no 83 78 fs f m) refl (ap sized (last-no 76 78 fs f n))))
+      (λ y. place-snoc ReferenceSequence fs f (ap (λ u. u || tagged 76 78 f) y) n refl (last-yes 83 78 fs f y) refl (ap worthIfThere (last-no 76 78 fs f n)))
+      (λ m. other-snoc ReferenceSequence fs f (ap (λ u. u || tagged 76 78 f) m ∙ n) n refl (last-no 83 78 fs f m) refl (ap worthIfThere (last-no 76 78 fs f n))))
   keys-snoc ReadGroup t =
       split (tagged 73 68 f)
       (λ y. place-snoc ReadGroup fs f y refl refl (last-yes 73 68 fs f y) refl refl)
@@ -184,20 +184,20 @@ some-bytes : (k : Kind) (fs : List Field) → Each (Told k) fs → (a b : ℕ) (
 some-bytes k fs h a b p e = let o = lastOf-of (Told k) a b fs p h e in rw (o .value) at (o .holds .some)
 
 header-made : (fs : List Field) → Each (Told Header) fs → headFrom Header (keysOf Header fs) ≡ headOf (made Header fs)
-unfolding headFrom keysOf versionOf headOf made isKey tagged records.versioned records.announcing isVersion
+unfolding headFrom keysOf versionAmong headOf made isKey tagged records.versioned records.announcing isVersion
 header-made fs h = go (lastOf 86 78 fs) refl ∙ ap (λ l. headOf (records.versioned (settled l) (lastOf 86 78 fs))) (sym (without-unkeyed Header 86 78 (λ f. refl) fs))
   where
     n : ℕ
     n = length (settled (unkeyed Header fs))
 
     spell : (o : Option Version) (v : Version) → o ≡ some v
-        → cond (there o) (head.Header (record { major = numbers o .major; minor = numbers o .minor }) (length (settled (unkeyed Header fs)))) (head.Refused 15)
+        → cond (isThere o) (head.Header (record { major = numbers o .major; minor = numbers o .minor }) (length (settled (unkeyed Header fs)))) (head.Refused 15)
         ≡ headOf (records.announcing (settled (unkeyed Header fs)) o)
     spell none v e = absurd (let z : _≡_ {A = ℕ} 0 1 = cc in omega arith)
     spell (some w) v e = refl
 
     go : (o : Option Piece) → lastOf 86 78 fs ≡ o
-        → cond (there (spelt o)) (head.Header (record { major = numbers (spelt o) .major; minor = numbers (spelt o) .minor }) (length (settled (unkeyed Header fs)))) (head.Refused 15)
+        → cond (isThere (spelt o)) (head.Header (record { major = numbers (spelt o) .major; minor = numbers (spelt o) .minor }) (length (settled (unkeyed Header fs)))) (head.Refused 15)
         ≡ headOf (records.versioned (settled (unkeyed Header fs)) o)
     go none e = refl
     go (some p) e =
@@ -205,19 +205,19 @@ header-made fs h = go (lastOf 86 78 fs) refl ∙ ap (λ l. headOf (records.versi
         let w = told-version Header (o .field) (o .holds) (o .tag) in
         spell (version (p .bytes)) (w .0) (ap (λ q. version (q .bytes)) (sym (o .value)) ∙ w .1)
 
-keyed-made : (k : Kind) (a b : ℕ) (fs : List Field) → Each (Told k) fs → (h : Place → Head) (r : Piece → records.Record) → ((p : Piece) → h (placeOf p) ≡ headOf (records.read (r p)))
-    → (keys : Keys) → keys .«key_at» ≡ placed (lastOf a b fs) .at → keys .«key_len» ≡ placed (lastOf a b fs) .len
+keyed-made : (k : Kind) (a b : ℕ) (fs : List Field) → Each (Told k) fs → (h : Stretch → Head) (r : Piece → records.Record) → ((p : Piece) → h (stretchOf p) ≡ headOf (records.read (r p)))
+    → (keys : Keys) → keys .«key_at» ≡ stretchIfThere (lastOf a b fs) .at → keys .«key_len» ≡ stretchIfThere (lastOf a b fs) .len
     → keyedHead h keys ≡ headOf (records.keyed r (lastOf a b fs))
-unfolding keyedHead records.keyed headOf placed placeOf
+unfolding keyedHead records.keyed headOf stretchIfThere stretchOf
 keyed-made k a b fs w h r q keys e d = go (lastOf a b fs) refl e d
   where
-    go : (o : Option Piece) → lastOf a b fs ≡ o → keys .«key_at» ≡ placed o .at → keys .«key_len» ≡ placed o .len
+    go : (o : Option Piece) → lastOf a b fs ≡ o → keys .«key_at» ≡ stretchIfThere o .at → keys .«key_len» ≡ stretchIfThere o .len
         → cond (eqb (keys .«key_len») 0) (head.Refused 15) (h (record { at = keys .«key_at»; len = keys .«key_len» })) ≡ headOf (records.keyed r o)
     go none c e d = rw d refl
     go (some p) c e d = rw (e, d, ne-eqb _ _ (some-bytes k fs w a b p c)) (q p)
 
 reference-made : (fs : List Field) → Each (Told ReferenceSequence) fs → headFrom ReferenceSequence (keysOf ReferenceSequence fs) ≡ headOf (made ReferenceSequence fs)
-unfolding headFrom keysOf keyOf lengthOf headOf made records.measured placeOf keyedHead sized placed isLength
+unfolding headFrom keysOf keyAmong lengthAmong headOf made records.measured stretchOf keyedHead worthIfThere stretchIfThere isLength
 reference-made fs h =
     go (lastOf 83 78 fs) refl (lastOf 76 78 fs) refl
     ∙ ap (λ l. headOf (records.measured (settled l) (lastOf 83 78 fs) (lastOf 76 78 fs))) (sym (without-both fs))
@@ -226,22 +226,22 @@ reference-made fs h =
     some-length q e = let o = lastOf-of (Told ReferenceSequence) 76 78 fs q h e in rw (o .value) at (o .holds .sized (o .tag))
 
     go : (o : Option Piece) → lastOf 83 78 fs ≡ o → (q : Option Piece) → lastOf 76 78 fs ≡ q
-        → cond (eqb (placed o .len) 0) (head.Refused 15)
-        (cond (eqb (sized q) 0) (head.Refused 16)
-        (head.ReferenceSequence (record { at = placed o .at; len = placed o .len }) (sized q) (length (settled (unkeyed ReferenceSequence fs)))))
+        → cond (eqb (stretchIfThere o .len) 0) (head.Refused 15)
+        (cond (eqb (worthIfThere q) 0) (head.Refused 16)
+        (head.ReferenceSequence (record { at = stretchIfThere o .at; len = stretchIfThere o .len }) (worthIfThere q) (length (settled (unkeyed ReferenceSequence fs)))))
         ≡ headOf (records.measured (settled (unkeyed ReferenceSequence fs)) o q)
     go none e q d = refl
     go (some p) e none d = rw (ne-eqb _ _ (some-bytes ReferenceSequence fs h 83 78 p e)) refl
     go (some p) e (some q) d = rw (ne-eqb _ _ (some-bytes ReferenceSequence fs h 83 78 p e), ne-eqb _ _ (some-length q d)) refl
 
 group-made : (fs : List Field) → Each (Told ReadGroup) fs → headFrom ReadGroup (keysOf ReadGroup fs) ≡ headOf (made ReadGroup fs)
-unfolding headFrom keysOf keyOf headOf made isKey tagged
+unfolding headFrom keysOf keyAmong headOf made isKey tagged
 group-made fs h =
     keyed-made ReadGroup 73 68 fs h (λ p. head.ReadGroup p (length (settled (unkeyed ReadGroup fs)))) (λ p. records.group p (settled (unkeyed ReadGroup fs))) (λ p. refl) (keysOf ReadGroup fs) refl refl
     ∙ ap (λ l. headOf (records.keyed (λ p. records.group p (settled l)) (lastOf 73 68 fs))) (sym (without-unkeyed ReadGroup 73 68 (λ f. refl) fs))
 
 program-made : (fs : List Field) → Each (Told Program) fs → headFrom Program (keysOf Program fs) ≡ headOf (made Program fs)
-unfolding headFrom keysOf keyOf headOf made isKey tagged
+unfolding headFrom keysOf keyAmong headOf made isKey tagged
 program-made fs h =
     keyed-made Program 73 68 fs h (λ p. head.Program p (length (settled (unkeyed Program fs)))) (λ p. records.program p (settled (unkeyed Program fs))) (λ p. refl) (keysOf Program fs) refl refl
     ∙ ap (λ l. headOf (records.keyed (λ p. records.program p (settled l)) (lastOf 73 68 fs))) (sym (without-unkeyed Program 73 68 (λ f. refl) fs))

@@ -11,7 +11,7 @@ use borrow.Author.Tests.{ne-eqb}
 use Rattle.format.specs.Bytes.{any}
 use Rattle.format.specs.Lines.{cut, placed}
 use Rattle.format.specs.Fields.{Field, tagged, isTag, repeats, Scan, scan}
-use Rattle.format.specs.Records.{refused, judged, fielded}
+use Rattle.format.specs.Records.{refusedLine, judged, fielded}
 use Rattle.format.specs.Tidy.{fieldText, fieldsText}
 use Rattle.format.specs.declared.Kind.{Kind}
 use Rattle.format.specs.declared.Kind.the-variants.{Header, ReferenceSequence, ReadGroup, Program, Comment}
@@ -20,7 +20,7 @@ use Rattle.text.specs.Stands.{Each}
 use Rattle.text.proofs.Lines.{upto-le}
 use Rattle.text.proofs.Before.{upto-take}
 use Rattle.text.proofs.Run.{upto-onward}
-use Rattle.field.specs.declared.Field as code
+use Rattle.field.specs.declared.ParsedField as code
 use Rattle.field.specs.Parsed.{isVersion, isLength}
 use Rattle.field.proofs.Answer.{Told}
 use Rattle.field.proofs.Shown.{Shown, shown}
@@ -31,7 +31,7 @@ use Rattle.tags.proofs.Region.{Clean, occurs-fields}
 use Rattle.record.specs.declared.Keys.{Keys}
 use Rattle.record.specs.Head.{headOf}
 use Rattle.record.specs.Keys.{keysOf, noKeys, withField, headFrom}
-use Rattle.record.specs.Marks.{placeOf, marksOf}
+use Rattle.record.specs.Marks.{markPlace, marksOf}
 use Rattle.record.proofs.Marks.{marked-none, marked-again, marked-more, place-below}
 use Rattle.record.proofs.Turn.{tailScan, prepend, fielded-tail, judged-stop, judged-twice, judged-end, prepend-prepend, upto-not}
 use Rattle.record.proofs.Made.{keys-snoc, head-made}
@@ -57,7 +57,7 @@ three (a ∷ []) n h = absurd (omega arith)
 three (a ∷ b ∷ []) n h = absurd (omega arith)
 three (a ∷ b ∷ c ∷ s) n h = ap (λ k. take k (a ∷ b ∷ c ∷ s)) (let e : 3 + n ≡ suc (suc (suc n)) = omega arith in e)
 
-module _ (kind : Kind) (at : ℕ) (s : List ℕ) (g : code.Field) (t : Turned kind at s g) where
+module _ (kind : Kind) (at : ℕ) (s : List ℕ) (g : code.ParsedField) (t : Turned kind at s g) where
   f : Field
   f = t .field
 
@@ -84,11 +84,11 @@ module _ (kind : Kind) (at : ℕ) (s : List ℕ) (g : code.Field) (t : Turned ki
       ∙ rw (t .colon, ← t .kept .first, ← t .kept .second, ← t .kept .bytes) refl
 
 -- what was answered is the field's
-pub turn-shown : (kind : Kind) (at : ℕ) (s : List ℕ) (g : code.Field) (t : Turned kind at s g) → Shown (t .field) g
+pub turn-shown : (kind : Kind) (at : ℕ) (s : List ℕ) (g : code.ParsedField) (t : Turned kind at s g) → Shown (t .field) g
 turn-shown kind at s g t = rw (t .answer) (shown kind (t .field) (t .told))
 
 -- one field more is at most one other field more
-pub with-few : (k : Kind) (g : code.Field) (at : ℕ) (again : Bool) (keys : Keys) → withField k g at again keys .others ≤ suc (keys .others)
+pub with-few : (k : Kind) (g : code.ParsedField) (at : ℕ) (again : Bool) (keys : Keys) → withField k g at again keys .others ≤ suc (keys .others)
 unfolding withField
 with-few k g at again keys = go (isKey k (g .«tag_0») (g .«tag_1»)) refl (isVersion k (g .«tag_0») (g .«tag_1»)) refl (isLength k (g .«tag_0») (g .«tag_1»)) refl again
   where
@@ -134,7 +134,7 @@ walked-start kind src at strict exact seen keys h c e =
 
 module _ (kind : Kind) (src : List ℕ) (at : ℕ) (strict exact : Bool) (seen : List Bool) (keys : Keys) (pos : ℕ) (w : Walked kind src at strict exact seen keys pos) where
   -- a byte that is no tab stands where one is due
-  pub turn-six : pos < length src → (getD src pos 0 ≡ 9 → ⊥) → fielded strict kind (at + 3) (drop 3 src) ≡ refused 6
+  pub turn-six : pos < length src → (getD src pos 0 ≡ 9 → ⊥) → fielded strict kind (at + 3) (drop 3 src) ≡ refusedLine 6
   unfolding tailScan
   turn-six h n =
       w .left
@@ -163,14 +163,14 @@ module _ (kind : Kind) (src : List ℕ) (at : ℕ) (strict exact : Bool) (seen :
 
   -- a field is refused: nothing stood twice before it
   pub turn-refused : (n : ℕ) → tailScan kind (at + pos) (9 ∷ drop (pos + 1) src) ≡ record { fields = []; stop = n } → (n ≡ 0 → ⊥)
-      → fielded strict kind (at + 3) (drop 3 src) ≡ refused n
+      → fielded strict kind (at + 3) (drop 3 src) ≡ refusedLine n
   turn-refused n e m =
       w .left
       ∙ ap (λ l. judged strict kind (prepend (w .fields) (tailScan kind (at + pos) l))) open-tail
       ∙ ap (λ l. judged strict kind (prepend (w .fields) l)) e
       ∙ judged-stop kind (w .fields) strict n (w .once) m
 
-  module _ (g : code.Field) (t : Turned kind (at + pos) (drop (pos + 1) src) g) where
+  module _ (g : code.ParsedField) (t : Turned kind (at + pos) (drop (pos + 1) src) g) where
     more : List Field
     more = w .fields ++ (t .field ∷ [])
 
@@ -187,11 +187,11 @@ module _ (kind : Kind) (src : List ℕ) (at : ℕ) (strict exact : Bool) (seen :
     pub turn-tag : isTag (g .«tag_0») (g .«tag_1») ≡ true
     turn-tag = let s = turn-shown kind (at + pos) (drop (pos + 1) src) g t in rw (s .first, s .second) (t .tag)
 
-    pub turn-place : placeOf exact (g .«tag_0») (g .«tag_1») < length seen
+    pub turn-place : markPlace exact (g .«tag_0») (g .«tag_1») < length seen
     turn-place = omega (arith, w .marked .size, place-below exact (g .«tag_0») (g .«tag_1») turn-tag)
 
     -- what the loop is told of the tag: exactly whether it stood before
-    pub told-again : getD seen (placeOf exact (g .«tag_0») (g .«tag_1»)) false && (exact || occurs (g .«tag_0») (g .«tag_1») (take (pos - 3) (drop 3 src)))
+    pub told-again : getD seen (markPlace exact (g .«tag_0») (g .«tag_1»)) false && (exact || occurs (g .«tag_0») (g .«tag_1») (take (pos - 3) (drop 3 src)))
         ≡ any (tagged (t .field .tag₀) (t .field .tag₁)) (w .fields)
     told-again =
         let s = turn-shown kind (at + pos) (drop (pos + 1) src) g t in
@@ -212,7 +212,7 @@ module _ (kind : Kind) (src : List ℕ) (at : ℕ) (strict exact : Bool) (seen :
         ∙ rw (a, b) refl
 
     -- a tag stands twice where that is forbidden
-    pub turn-twice : strict ≡ true → any (tagged (t .field .tag₀) (t .field .tag₁)) (w .fields) ≡ true → fielded strict kind (at + 3) (drop 3 src) ≡ refused 14
+    pub turn-twice : strict ≡ true → any (tagged (t .field .tag₀) (t .field .tag₁)) (w .fields) ≡ true → fielded strict kind (at + 3) (drop 3 src) ≡ refusedLine 14
     turn-twice s y =
         let m : Scan = tailScan kind (at + (pos + 4 + g .len)) (drop (pos + 4 + g .len) src) in
         left
@@ -241,7 +241,7 @@ module _ (kind : Kind) (src : List ℕ) (at : ℕ) (strict exact : Bool) (seen :
 
     -- a field more
     pub walked : strict && any (tagged (t .field .tag₀) (t .field .tag₁)) (w .fields) ≡ false
-        → Walked kind src at strict exact (set seen (placeOf exact (g .«tag_0») (g .«tag_1»)) true)
+        → Walked kind src at strict exact (set seen (markPlace exact (g .«tag_0») (g .«tag_1»)) true)
         (withField kind g (at + pos + 4) (any (tagged (t .field .tag₀) (t .field .tag₁)) (w .fields)) keys) (pos + 4 + g .len)
     walked n =
         let a : at + pos + 1 + 3 ≡ at + pos + 4 = omega arith in

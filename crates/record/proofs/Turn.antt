@@ -13,8 +13,8 @@ use lib.Dec.{eqb}
 use borrow.Author.Tests.{eq-eqb, ne-eqb, eqb-false}
 use Rattle.format.specs.Bytes.{any}
 use Rattle.format.specs.Lines.{Piece, cut, placed}
-use Rattle.format.specs.Fields.{Field, tagged, repeats, Judged, bad, good, goodThen, Scan, scan, onward, field}
-use Rattle.format.specs.Records.{Line, refused, read, made, stopped, judged, fielded}
+use Rattle.format.specs.Fields.{Field, tagged, repeats, JudgedPiece, refusedPiece, good, goodThen, Scan, scan, onward, field}
+use Rattle.format.specs.Records.{Line, refusedLine, read, made, stopped, judged, fielded}
 use Rattle.format.specs.declared.Kind.{Kind}
 use Rattle.format.specs.declared.Kind.the-variants.{Header, ReferenceSequence, ReadGroup, Program, Comment}
 use Rattle.text.specs.Upto.{upto, before}
@@ -38,7 +38,7 @@ pub fielded-tail : (strict : Bool) (k : Kind) (at : ℕ) (s : List ℕ) → fiel
 unfolding fielded tailScan judged
 fielded-tail strict k at [] = go strict k
   where
-    go : (t : Bool) (k : Kind) → refused 15 ≡ cond (t && repeats []) (refused 14) (made k [])
+    go : (t : Bool) (k : Kind) → refusedLine 15 ≡ cond (t && repeats []) (refusedLine 14) (made k [])
     go true Header = refl
     go true ReferenceSequence = refl
     go true ReadGroup = refl
@@ -51,11 +51,11 @@ fielded-tail strict k at [] = go strict k
     go false Comment = refl
 fielded-tail strict k at (b ∷ s) = go (eqb b 9)
   where
-    six : (u : Bool) → refused 6 ≡ cond (u && repeats []) (refused 14) (refused 6)
+    six : (u : Bool) → refusedLine 6 ≡ cond (u && repeats []) (refusedLine 14) (refusedLine 6)
     six true = refl
     six false = refl
 
-    go : (t : Bool) → cond t (judged strict k (scan k (placed (at + 1) (cut 9 s)))) (refused 6) ≡ judged strict k (cond t (scan k (placed (at + 1) (cut 9 s))) (record { fields = []; stop = 6 }))
+    go : (t : Bool) → cond t (judged strict k (scan k (placed (at + 1) (cut 9 s)))) (refusedLine 6) ≡ judged strict k (cond t (scan k (placed (at + 1) (cut 9 s))) (record { fields = []; stop = 6 }))
     go true = refl
     go false = six strict
 
@@ -89,7 +89,7 @@ upto-not d (b ∷ s) i h e = go (eqb b d) refl h i h e (upto-not d s)
     go false q m (suc j) h e ih = ih j (omega arith) e
 
 module _ (k : Kind) (at : ℕ) (s : List ℕ) where
-  pub turn-bad : (n : ℕ) → field k (at + 1) (before 9 s) ≡ bad n → tailScan k at (9 ∷ s) ≡ record { fields = []; stop = n }
+  pub turn-bad : (n : ℕ) → field k (at + 1) (before 9 s) ≡ refusedPiece n → tailScan k at (9 ∷ s) ≡ record { fields = []; stop = n }
   unfolding tailScan onward
   turn-bad n e = scan-first k (at + 1) s ∙ ap (λ j. onward j (tail k (at + 1) s)) e
 
@@ -111,13 +111,13 @@ module _ (k : Kind) (at : ℕ) (s : List ℕ) where
 module _ (k : Kind) (fs : List Field) where
   -- nothing stands twice, and reading stops
   pub judged-stop : (strict : Bool) (n : ℕ) → strict && repeats fs ≡ false → (n ≡ 0 → ⊥)
-      → judged strict k (prepend fs (record { fields = []; stop = n })) ≡ refused n
+      → judged strict k (prepend fs (record { fields = []; stop = n })) ≡ refusedLine n
   unfolding judged prepend stopped
   judged-stop strict zero h m = absurd (m refl)
   judged-stop strict (suc n) h m = rw (append-nil fs, h) refl
 
   -- a tag stands twice, whatever follows
-  pub judged-twice : (gs : List Field) (n : ℕ) → repeats fs ≡ true → judged true k (prepend fs (record { fields = gs; stop = n })) ≡ refused 14
+  pub judged-twice : (gs : List Field) (n : ℕ) → repeats fs ≡ true → judged true k (prepend fs (record { fields = gs; stop = n })) ≡ refusedLine 14
   unfolding judged prepend
   judged-twice gs n h = rw (repeats-more fs gs h) refl
 

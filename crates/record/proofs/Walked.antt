@@ -8,15 +8,15 @@ use native.Mathlib.Omega.{arith}
 use lib.ListN.{length, take, drop, getD}
 use lib.Dec.{eqb}
 use borrow.Author.Tests.{eqb-true, eqb-false}
-use Rattle.format.specs.Fields.{Field, repeats, bad, good, goodThen, isTag, field}
+use Rattle.format.specs.Fields.{Field, repeats, refusedPiece, good, goodThen, isTag, field}
 use Rattle.format.specs.Records.{judged, fielded}
 use Rattle.format.specs.Tidy.{fieldsText}
 use Rattle.format.specs.declared.Kind.{Kind}
 use Rattle.text.specs.Upto.{upto, before}
 use Rattle.text.specs.Stands.{Each}
 use Rattle.text.proofs.Lines.{upto-le}
-use Rattle.field.specs.declared.Field as code
-use Rattle.field.specs.Parsed.{parsedOf, valued}
+use Rattle.field.specs.declared.ParsedField as code
+use Rattle.field.specs.Parsed.{parsedOf, fieldNumbers}
 use Rattle.field.proofs.Anywhere.{field-anywhere}
 use Rattle.field.proofs.Answer.{Told, Found, parsed-bad, parsed-found}
 use Rattle.field.proofs.Next.{Kept, good-onward, then-onward}
@@ -45,7 +45,7 @@ pub record Walked (kind : Kind) (src : List ℕ) (at : ℕ) (strict exact : Bool
 -- ---- a field's own bytes
 
 -- a piece that is a field has its tag and its colon
-module _ (k : Kind) (at : ℕ) (s : List ℕ) (h : 3 ≤ length s) (n : (m : ℕ) → field k at (before 9 s) ≡ bad m → ⊥) where
+module _ (k : Kind) (at : ℕ) (s : List ℕ) (h : 3 ≤ length s) (n : (m : ℕ) → field k at (before 9 s) ≡ refusedPiece m → ⊥) where
   has-tag : isTag (getD s 0 0) (getD s 1 0) ≡ true
   has-tag = split (isTag (getD s 0 0) (getD s 1 0)) (λ t. t) (λ t. absurd (n 8 (field-in-place k at s ∙ place-tag k at s (omega arith) t)))
 
@@ -60,9 +60,9 @@ kept-tag {b = b} {f = f} k t = ap (λ x. isTag x (f .tag₁)) (k .first) ∙ ap 
 -- ---- what the answer to a field says
 
 -- a field that was answered, where the tab before it has the offset `at` and `s` follows that tab
-pub record Turned (kind : Kind) (at : ℕ) (s : List ℕ) (g : code.Field) : Type 0 where
+pub record Turned (kind : Kind) (at : ℕ) (s : List ℕ) (g : code.ParsedField) : Type 0 where
   pub field : Field
-  pub answer : g ≡ valued kind field
+  pub answer : g ≡ fieldNumbers kind field
   pub told : Told kind field
   pub kept : Kept (getD s 0 0) (getD s 1 0) (at + 1 + 3) (drop 3 s) field
   pub tag : isTag (field .tag₀) (field .tag₁) ≡ true
@@ -71,7 +71,7 @@ pub record Turned (kind : Kind) (at : ℕ) (s : List ℕ) (g : code.Field) : Typ
   pub onward : tailScan kind at (9 ∷ s)
       ≡ prepend (field ∷ []) (tailScan kind (at + 1 + (3 + length (field .value .bytes))) (drop (3 + length (field .value .bytes)) s))
 
-module _ (kind : Kind) (at : ℕ) (s : List ℕ) (g : code.Field) (e : g ≡ parsedOf kind (field kind 0 (before 9 s))) where
+module _ (kind : Kind) (at : ℕ) (s : List ℕ) (g : code.ParsedField) (e : g ≡ parsedOf kind (field kind 0 (before 9 s))) where
   -- wherever the line stands
   answered : g ≡ parsedOf kind (field kind (at + 1) (before 9 s))
   answered = e ∙ sym (field-anywhere kind (at + 1) (before 9 s))
@@ -79,7 +79,7 @@ module _ (kind : Kind) (at : ℕ) (s : List ℕ) (g : code.Field) (e : g ≡ par
   pub refused-here : (g .stop ≡ 0 → ⊥) → tailScan kind at (9 ∷ s) ≡ record { fields = []; stop = g .stop }
   refused-here n =
       let b = parsed-bad kind (at + 1) (before 9 s) (λ z. n (ap (λ f. f .stop) answered ∙ z)) in
-      turn-bad kind at s (g .stop) (b ∙ ap (λ f. bad (f .stop)) (sym answered))
+      turn-bad kind at s (g .stop) (b ∙ ap (λ f. refusedPiece (f .stop)) (sym answered))
 
   pub turned : g .stop ≡ 0 → Turned kind at s g
   unfolding parsedOf
@@ -95,7 +95,7 @@ module _ (kind : Kind) (at : ℕ) (s : List ℕ) (g : code.Field) (e : g ≡ par
           yes b =
               let o = good-onward kind (at + 1) s f b in
               let l : 3 ≤ length s = omega (arith, o .1, upto-le 9 s) in
-              let n : (m : ℕ) → field kind (at + 1) (before 9 s) ≡ bad m → ⊥ = λ m c. never (let q : good f ≡ bad m = sym b ∙ c in cc) in
+              let n : (m : ℕ) → field kind (at + 1) (before 9 s) ≡ refusedPiece m → ⊥ = λ m c. never (let q : good f ≡ refusedPiece m = sym b ∙ c in cc) in
               record {
                 field = f;
                 answer = answered ∙ ap (parsedOf kind) b;
@@ -111,7 +111,7 @@ module _ (kind : Kind) (at : ℕ) (s : List ℕ) (g : code.Field) (e : g ≡ par
           onward b =
               let o = then-onward kind (at + 1) s f 6 b in
               let l : 3 ≤ length s = omega (arith, o .2, upto-le 9 s) in
-              let n : (m : ℕ) → field kind (at + 1) (before 9 s) ≡ bad m → ⊥ = λ m c. never (let q : goodThen f 6 ≡ bad m = sym b ∙ c in cc) in
+              let n : (m : ℕ) → field kind (at + 1) (before 9 s) ≡ refusedPiece m → ⊥ = λ m c. never (let q : goodThen f 6 ≡ refusedPiece m = sym b ∙ c in cc) in
               record {
                 field = f;
                 answer = answered ∙ ap (parsedOf kind) b;

@@ -7,30 +7,30 @@ use lib.ListN.{length}
 use Rattle.format.specs.Lines.{Piece}
 use Rattle.format.specs.Decimal.{worth}
 use Rattle.format.specs.Fields.{Field, lastOf, settled}
-use Rattle.format.specs.Records.{Record, header, reference, group, program, comment, Line, refused, read}
+use Rattle.format.specs.Records.{Record, header, reference, group, program, comment, Line, refusedLine, read}
 use Rattle.format.specs.Version.{version}
 use Rattle.format.specs.declared.Version.{Version}
 use Rattle.format.specs.declared.Kind.{Kind}
 use Rattle.format.specs.declared.Kind.the-variants as kind
-use Rattle.record.specs.declared.Place.{Place}
+use Rattle.record.specs.declared.Stretch.{Stretch}
 use Rattle.record.specs.declared.Head.{Head}
 use Rattle.record.specs.declared.Head.the-variants as head
 
-unfoldable pub placeOf : Piece → Place
-placeOf p = record { at = p .at; len = length (p .bytes) }
+unfoldable pub stretchOf : Piece → Stretch
+stretchOf p = record { at = p .at; len = length (p .bytes) }
 
 -- a record's kind, its version or key, its length, and how many other fields it has
 unfoldable pub recordHead : Record → Head
-unfolding placeOf
+unfolding stretchOf
 recordHead (header v fs) = head.Header v (length fs)
-recordHead (reference p n fs) = head.ReferenceSequence (placeOf p) n (length fs)
-recordHead (group p fs) = head.ReadGroup (placeOf p) (length fs)
-recordHead (program p fs) = head.Program (placeOf p) (length fs)
-recordHead (comment p) = head.Comment (placeOf p)
+recordHead (reference p n fs) = head.ReferenceSequence (stretchOf p) n (length fs)
+recordHead (group p fs) = head.ReadGroup (stretchOf p) (length fs)
+recordHead (program p fs) = head.Program (stretchOf p) (length fs)
+recordHead (comment p) = head.Comment (stretchOf p)
 
 unfoldable pub headOf : Line → Head
 unfolding recordHead
-headOf (refused n) = head.Refused n
+headOf (refusedLine n) = head.Refused n
 headOf (read r) = recordHead r
 
 -- is it a record of fields?

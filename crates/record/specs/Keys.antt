@@ -12,9 +12,9 @@ use Rattle.format.specs.Version.{version}
 use Rattle.format.specs.declared.Version.{Version}
 use Rattle.format.specs.declared.Kind.{Kind}
 use Rattle.format.specs.declared.Kind.the-variants.{Header, ReferenceSequence, ReadGroup, Program, Comment}
-use Rattle.field.specs.declared.Field as field
+use Rattle.field.specs.declared.ParsedField as field
 use Rattle.field.specs.Parsed.{isVersion, isLength}
-use Rattle.record.specs.declared.Place.{Place}
+use Rattle.record.specs.declared.Stretch.{Stretch}
 use Rattle.record.specs.declared.Keys.{Keys}
 use Rattle.record.specs.declared.Head.{Head}
 use Rattle.record.specs.declared.Head.the-variants as head
@@ -24,13 +24,13 @@ use Rattle.tags.specs.Others.{unkeyed}
 -- ---- what the fields say
 
 -- SN of SQ, ID of RG and PG
-unfoldable pub keyOf : Kind → List Field → Option Piece
+unfoldable pub keyAmong : Kind → List Field → Option Piece
 unfolding lastOf
-keyOf Header fs = none
-keyOf ReferenceSequence fs = lastOf 83 78 fs
-keyOf ReadGroup fs = lastOf 73 68 fs
-keyOf Program fs = lastOf 73 68 fs
-keyOf Comment fs = none
+keyAmong Header fs = none
+keyAmong ReferenceSequence fs = lastOf 83 78 fs
+keyAmong ReadGroup fs = lastOf 73 68 fs
+keyAmong Program fs = lastOf 73 68 fs
+keyAmong Comment fs = none
 
 unfoldable pub spelt : Option Piece → Option Version
 unfolding version
@@ -38,52 +38,52 @@ spelt none = none
 spelt (some p) = version (p .bytes)
 
 -- VN of HD
-unfoldable pub versionOf : Kind → List Field → Option Version
+unfoldable pub versionAmong : Kind → List Field → Option Version
 unfolding spelt lastOf
-versionOf Header fs = spelt (lastOf 86 78 fs)
-versionOf ReferenceSequence fs = none
-versionOf ReadGroup fs = none
-versionOf Program fs = none
-versionOf Comment fs = none
+versionAmong Header fs = spelt (lastOf 86 78 fs)
+versionAmong ReferenceSequence fs = none
+versionAmong ReadGroup fs = none
+versionAmong Program fs = none
+versionAmong Comment fs = none
 
-unfoldable pub sized : Option Piece → ℕ
+unfoldable pub worthIfThere : Option Piece → ℕ
 unfolding worth
-sized none = 0
-sized (some p) = worth (p .bytes)
+worthIfThere none = 0
+worthIfThere (some p) = worth (p .bytes)
 
 -- LN of SQ
-unfoldable pub lengthOf : Kind → List Field → ℕ
-unfolding sized lastOf
-lengthOf Header fs = 0
-lengthOf ReferenceSequence fs = sized (lastOf 76 78 fs)
-lengthOf ReadGroup fs = 0
-lengthOf Program fs = 0
-lengthOf Comment fs = 0
+unfoldable pub lengthAmong : Kind → List Field → ℕ
+unfolding worthIfThere lastOf
+lengthAmong Header fs = 0
+lengthAmong ReferenceSequence fs = worthIfThere (lastOf 76 78 fs)
+lengthAmong ReadGroup fs = 0
+lengthAmong Program fs = 0
+lengthAmong Comment fs = 0
 
 -- ---- in plain numbers
 
-unfoldable pub placed : Option Piece → Place
-placed none = record { at = 0; len = 0 }
-placed (some p) = record { at = p .at; len = length (p .bytes) }
+unfoldable pub stretchIfThere : Option Piece → Stretch
+stretchIfThere none = record { at = 0; len = 0 }
+stretchIfThere (some p) = record { at = p .at; len = length (p .bytes) }
 
-unfoldable pub there : Option Version → Bool
-there none = false
-there (some v) = true
+unfoldable pub isThere : Option Version → Bool
+isThere none = false
+isThere (some v) = true
 
 unfoldable pub numbers : Option Version → Version
 numbers none = record { major = 0; minor = 0 }
 numbers (some v) = v
 
 unfoldable pub plainly : Option Piece → Option Version → ℕ → ℕ → Keys
-unfolding placed there numbers
+unfolding stretchIfThere isThere numbers
 plainly p v l n =
     record {
-      «key_at» = placed p .at;
-      «key_len» = placed p .len;
+      «key_at» = stretchIfThere p .at;
+      «key_len» = stretchIfThere p .len;
       length = l;
       major = numbers v .major;
       minor = numbers v .minor;
-      versioned = there v;
+      versioned = isThere v;
       others = n;
     }
 
@@ -93,8 +93,8 @@ noKeys = record { «key_at» = 0; «key_len» = 0; length = 0; major = 0; minor 
 
 -- of the fields read so far: a repeated tag counts once
 unfoldable pub keysOf : Kind → List Field → Keys
-unfolding plainly keyOf versionOf lengthOf unkeyed settled
-keysOf k fs = plainly (keyOf k fs) (versionOf k fs) (lengthOf k fs) (length (settled (unkeyed k fs)))
+unfolding plainly keyAmong versionAmong lengthAmong unkeyed settled
+keysOf k fs = plainly (keyAmong k fs) (versionAmong k fs) (lengthAmong k fs) (length (settled (unkeyed k fs)))
 
 -- ---- one field more
 
@@ -149,7 +149,7 @@ withOther again keys =
     }
 
 -- a field whose value stands at the offset `at`; `again` says that its tag was there before
-unfoldable pub withField : Kind → field.Field → ℕ → Bool → Keys → Keys
+unfoldable pub withField : Kind → field.ParsedField → ℕ → Bool → Keys → Keys
 unfolding isKey isVersion isLength withPlace withVersion withLength withOther
 withField k f at again keys =
     cond (isKey k (f .«tag_0») (f .«tag_1»))
@@ -161,7 +161,7 @@ withField k f at again keys =
 -- ---- the line ends
 
 -- RG and PG need ID
-unfoldable pub keyedHead : (Place → Head) → Keys → Head
+unfoldable pub keyedHead : (Stretch → Head) → Keys → Head
 keyedHead h keys = cond (eqb (keys .«key_len») 0) (head.Refused 15) (h (record { at = keys .«key_at»; len = keys .«key_len» }))
 
 -- HD needs VN; SQ needs SN, then LN

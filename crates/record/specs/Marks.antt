@@ -3,9 +3,9 @@ use Prim.Native.Nat.{ℕ, _+_, _-_, _*_, _%_}
 use mathlib.Core.Bool.{Bool, true, false}
 
 -- exact: each tag its own place; else one of 64
-unfoldable pub placeOf : Bool → ℕ → ℕ → ℕ
-placeOf true a b = (a - 65) * 75 + (b - 48)
-placeOf false a b = (a * 4 + b) % 64
+unfoldable pub markPlace : Bool → ℕ → ℕ → ℕ
+markPlace true a b = (a - 65) * 75 + (b - 48)
+markPlace false a b = (a * 4 + b) % 64
 
 unfoldable pub marksOf : Bool → ℕ
 marksOf true = 4350

@@ -1,5 +1,5 @@
 // One line of a header: the record that it is, or the refusal that it gets.
-use field::Field;
+use field::ParsedField;
 use format::Kind;
 use format::Version;
 use kind::ParsedKind;
@@ -13,10 +13,10 @@ ghost use Rattle.format.specs.Records.{line, prefixed, body, fielded, remark, b
 ghost use Rattle.record.specs.Head.{headOf, hasFields};
 ghost use Rattle.record.specs.Keys.{noKeys, withField, headFrom};
 ghost use Rattle.tags.specs.Occurs.{occurs};
-ghost use Rattle.record.specs.Marks.{placeOf, marksOf};
+ghost use Rattle.record.specs.Marks.{markPlace, marksOf};
 
 // Where a piece of the text stands.
-pub struct Place {
+pub struct Stretch {
     pub at: usize,
     pub len: usize,
 }
@@ -25,16 +25,16 @@ pub struct Place {
 pub enum Head {
     Refused(u8),
     Header(Version, usize),
-    ReferenceSequence(Place, u64, usize),
-    ReadGroup(Place, usize),
-    Program(Place, usize),
-    Comment(Place),
+    ReferenceSequence(Stretch, u64, usize),
+    ReadGroup(Stretch, usize),
+    Program(Stretch, usize),
+    Comment(Stretch),
 }
 
 // Where a key stands, where there is one.
 pub enum KeyPlace {
     Missing,
-    At(Place),
+    At(Stretch),
 }
 
 // What the fields read so far give, in plain numbers: a key has at least one byte and LN is at least 1, so 0 says that there was none yet.
@@ -52,7 +52,7 @@ pub struct Keys {
 // 64 places, and tags of the specification that stand in one record have different ones.
 fn mark_of(a: u8, b: u8, exact: bool) -> usize
     requires { ⌜ isTag a b ≡ true ⌝ }
-    ensures { λ r. ⌜ r ≡ placeOf exact a b ⌝ }
+    ensures { λ r. ⌜ r ≡ markPlace exact a b ⌝ }
 {
     if exact {
         return (a as usize - 65) * 75 + (b as usize - 48);
@@ -89,7 +89,7 @@ impl Keys {
     }
 
     // One field more, whose value stands at `at`: the last value of a key stands, and a tag that comes `again` is no field more.
-    fn with(mut self, kind: Kind, f: Field, at: usize, again: bool) -> Keys
+    fn with(mut self, kind: Kind, f: ParsedField, at: usize, again: bool) -> Keys
         requires { ⌜ self .others + 1 ≤ 18446744073709551615 ⌝ }
         ensures { λ r. ⌜ r ≡ withField kind f at again self ⌝ }
     {
@@ -119,7 +119,7 @@ impl Keys {
     fn head(self, kind: Kind) -> Head
         ensures { λ r. ⌜ r ≡ headFrom kind self ⌝ }
     {
-        let place = Place {
+        let place = Stretch {
             at: self.key_at,
             len: self.key_len,
         };
@@ -248,7 +248,7 @@ fn parse_comment(src: &[u8], at: usize) -> Head
     if src[3] != b'\t' {
         return Head::Refused(6);
     }
-    let place = Place {
+    let place = Stretch {
         at: at + 4,
         len: src.len() - 4,
     };

@@ -1,12 +1,12 @@
 // The rule for repeated tags: a header that announces 1.6 or a later version may not repeat a tag in a line, and any other header may.
-use field::Spelled;
+use field::ParsedVersion;
 use format::Version;
 ghost use mathlib.Core.Path.{_≡_};
 ghost use mathlib.Core.List.{[], _∷_};
 ghost use Rattle.format.specs.Bytes.{starts};
 ghost use Rattle.format.specs.Lines.{lines, cut};
 ghost use Rattle.format.specs.Reading.{firstVersion, announced, isStrict};
-ghost use Rattle.field.specs.Parsed.{spelledOf};
+ghost use Rattle.field.specs.Parsed.{parsedVersionOf};
 
 // Whether a piece starts `VN:`.
 fn is_version(piece: &[u8]) -> bool
@@ -16,8 +16,8 @@ fn is_version(piece: &[u8]) -> bool
 }
 
 // The version of the first tab-parted piece of `src` that starts `VN:`, also where it can't be read: the search ends with that piece.
-fn first_version(src: &[u8]) -> Spelled
-    ensures { λ r. ⌜ r ≡ spelledOf (firstVersion (cut 9 (now (src .entry)))) ⌝ }
+fn first_version(src: &[u8]) -> ParsedVersion
+    ensures { λ r. ⌜ r ≡ parsedVersionOf (firstVersion (cut 9 (now (src .entry)))) ⌝ }
 {
     let mut at: usize = 0;
     let mut from = src.len();
@@ -37,13 +37,13 @@ fn first_version(src: &[u8]) -> Spelled
 }
 
 // The version that line 0, without its ending, announces.
-fn announced(line: &[u8]) -> Spelled
-    ensures { λ r. ⌜ r ≡ spelledOf (announced (record { at = 0; bytes = now (line .entry) } ∷ [])) ⌝ }
+fn announced(line: &[u8]) -> ParsedVersion
+    ensures { λ r. ⌜ r ≡ parsedVersionOf (announced (record { at = 0; bytes = now (line .entry) } ∷ [])) ⌝ }
 {
     if text::starts(b"@HD\t", line) {
         return first_version(&line[4..]);
     }
-    Spelled::Invalid
+    ParsedVersion::Invalid
 }
 
 // Whether a tag that comes twice in a line is refused: never where no version is announced.
@@ -53,7 +53,7 @@ pub fn is_strict(text: &[u8]) -> bool
     let line = text::first_line(text);
     let len = line.len;
     match announced(&text[..len]) {
-        Spelled::Invalid => false,
-        Spelled::Is(version) => !version.is_below(Version::default()),
+        ParsedVersion::Invalid => false,
+        ParsedVersion::Is(version) => !version.is_below(Version::default()),
     }
 }

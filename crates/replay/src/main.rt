@@ -33,7 +33,7 @@ use calls::LengthAnswer;
 use format::LineNo;
 use libc::STDOUT_FILENO;
 use names::NamesAnswer;
-use parser::Answer;
+use parser::CountAnswer;
 ghost use mathlib.Core.Path.{_≡_};
 ghost use Prim.Native.Nat.{_<_, _≤_, _+_};
 ghost use lib.ListN.{length, take};
@@ -216,8 +216,8 @@ fn is_list(word: &[u8], out: &[u32], n: usize, width: usize) -> bool {
 // Whether the count is the line's.
 fn is_count(line: &[u8], text: &[u8], kept: &[u8]) -> bool {
     match calls::count(text, kept, byte_of(stored_cases::word(line, 3))) {
-        Answer::Refused(n, no) => is_refusal(line, 4, n, no),
-        Answer::Count(n) => is_ok(line, 4, 1) && is_number(stored_cases::word(line, 5), n as u64),
+        CountAnswer::Refused(n, no) => is_refusal(line, 4, n, no),
+        CountAnswer::Count(n) => is_ok(line, 4, 1) && is_number(stored_cases::word(line, 5), n as u64),
     }
 }
 
@@ -258,8 +258,8 @@ fn is_field(line: &[u8], text: &[u8], kept: &[u8]) -> bool {
 fn is_roots(line: &[u8], text: &[u8], kept: &[u8], out: &mut [u32]) -> bool {
     let room = stored_cases::least(stored_cases::number(stored_cases::word(line, 3)), out.len());
     match calls::roots(text, kept, &mut out[..room]) {
-        Answer::Refused(n, no) => is_refusal(line, 4, n, no) && stored_cases::is_unlisted(out),
-        Answer::Count(n) => is_ok(line, 4, 1) && is_list(stored_cases::word(line, 5), out, n, 4),
+        CountAnswer::Refused(n, no) => is_refusal(line, 4, n, no) && stored_cases::is_unlisted(out),
+        CountAnswer::Count(n) => is_ok(line, 4, 1) && is_list(stored_cases::word(line, 5), out, n, 4),
     }
 }
 
@@ -284,8 +284,8 @@ fn is_added(line: &[u8], text: &[u8], kept: &[u8], out: &mut [u8]) -> bool {
     let f = stored_cases::decode(stored_cases::word(line, 5), &mut fields);
     let room = stored_cases::least(stored_cases::number(stored_cases::word(line, 3)), out.len());
     match add::add(text, kept, &prefix[..p], &fields[..f], &mut out[..room]) {
-        Answer::Refused(n, no) => is_refusal(line, 6, n, no) && stored_cases::is_untouched(out),
-        Answer::Count(n) => is_ok(line, 6, 1) && is_text(stored_cases::word(line, 7), out, n),
+        CountAnswer::Refused(n, no) => is_refusal(line, 6, n, no) && stored_cases::is_untouched(out),
+        CountAnswer::Count(n) => is_ok(line, 6, 1) && is_text(stored_cases::word(line, 7), out, n),
     }
 }
 
@@ -333,8 +333,8 @@ fn keep(word: &[u8], text: &[u8], kept: &mut [u8]) -> usize
         return stored_cases::decode(word, kept);
     }
     match parser::read(text, kept) {
-        Answer::Refused(_, _) => 0,
-        Answer::Count(n) => stored_cases::least(n, kept.len()),
+        CountAnswer::Refused(_, _) => 0,
+        CountAnswer::Count(n) => stored_cases::least(n, kept.len()),
     }
 }
 
@@ -368,7 +368,7 @@ fn is_answer(line: &[u8], asked: usize, text: &[u8]) -> bool {
 }
 
 // The tidy call, named in this place alone.
-fn tidied(text: &[u8], out: &mut [u8]) -> Answer
+fn tidied(text: &[u8], out: &mut [u8]) -> CountAnswer
     ensures { λ _. ⌜ length (now (out .exit)) ≡ length (now (out .entry)) ⌝ }
 {
     tidy::tidy(text, out)
@@ -378,8 +378,8 @@ fn tidied(text: &[u8], out: &mut [u8]) -> Answer
 fn is_tidied(line: &[u8], text: &[u8], out: &mut [u8]) -> bool {
     let room = stored_cases::least(stored_cases::number(stored_cases::word(line, 2)), out.len());
     match tidied(text, &mut out[..room]) {
-        Answer::Refused(n, no) => is_refusal(line, 3, n, no) && stored_cases::is_untouched(out),
-        Answer::Count(n) => is_ok(line, 3, 1) && is_text(stored_cases::word(line, 4), out, n),
+        CountAnswer::Refused(n, no) => is_refusal(line, 3, n, no) && stored_cases::is_untouched(out),
+        CountAnswer::Count(n) => is_ok(line, 3, 1) && is_text(stored_cases::word(line, 4), out, n),
     }
 }
 
@@ -395,16 +395,16 @@ fn is_written(line: &[u8], asked: usize, text: &[u8]) -> bool {
 // Whether reading refuses a text as the crate does, and writes nothing.
 fn is_read_refused(line: &[u8], text: &[u8], out: &mut [u8]) -> bool {
     match parser::read(text, out) {
-        Answer::Refused(n, no) => is_refusal(line, 1, n, no) && stored_cases::is_untouched(out),
-        Answer::Count(_) => false,
+        CountAnswer::Refused(n, no) => is_refusal(line, 1, n, no) && stored_cases::is_untouched(out),
+        CountAnswer::Count(_) => false,
     }
 }
 
 // Whether tidying refuses a text as reading does, and writes nothing.
 fn is_tidy_refused(line: &[u8], text: &[u8], out: &mut [u8]) -> bool {
     match tidied(text, out) {
-        Answer::Refused(n, no) => is_refusal(line, 1, n, no) && stored_cases::is_untouched(out),
-        Answer::Count(_) => false,
+        CountAnswer::Refused(n, no) => is_refusal(line, 1, n, no) && stored_cases::is_untouched(out),
+        CountAnswer::Count(_) => false,
     }
 }
 
@@ -419,26 +419,26 @@ fn is_text(word: &[u8], out: &[u8], n: usize) -> bool {
 // Whether the tidy text is the crate's.
 fn is_tidy(word: &[u8], text: &[u8], out: &mut [u8]) -> bool {
     match tidied(text, out) {
-        Answer::Refused(_, _) => false,
-        Answer::Count(n) => is_text(word, out, n),
+        CountAnswer::Refused(_, _) => false,
+        CountAnswer::Count(n) => is_text(word, out, n),
     }
 }
 
 // Whether tidying refuses a name, on this line, and writes nothing.
 fn is_unwritable(word: &[u8], text: &[u8], out: &mut [u8]) -> bool {
     match tidied(text, out) {
-        Answer::Refused(n, no) => {
+        CountAnswer::Refused(n, no) => {
             n == 24 && is_number(word, no.0 as u64) && stored_cases::is_untouched(out)
         }
-        Answer::Count(_) => false,
+        CountAnswer::Count(_) => false,
     }
 }
 
 // Whether the roots are the crate's.
 fn are_roots(word: &[u8], text: &[u8], kept: &[u8], out: &mut [u32]) -> bool {
     match calls::roots(text, kept, out) {
-        Answer::Refused(_, _) => false,
-        Answer::Count(n) => is_list(word, out, n, 4),
+        CountAnswer::Refused(_, _) => false,
+        CountAnswer::Count(n) => is_list(word, out, n, 4),
     }
 }
 
@@ -468,8 +468,8 @@ fn is_graph(line: &[u8], text: &[u8], kept: &[u8], n: usize) -> bool {
 // Whether a text is read, and its roots and leaves are the line's.
 fn is_read(line: &[u8], text: &[u8], kept: &mut [u8]) -> bool {
     match parser::read(text, kept) {
-        Answer::Refused(_, _) => false,
-        Answer::Count(n) => is_graph(line, text, kept, n),
+        CountAnswer::Refused(_, _) => false,
+        CountAnswer::Count(n) => is_graph(line, text, kept, n),
     }
 }
 

@@ -11,7 +11,7 @@ use Rattle.format.specs.Reading.{accept, readText}
 use Rattle.format.specs.declared.Kind.{Kind}
 use Rattle.text.specs.Stands.{Each}
 use Rattle.accepted.specs.Spelled as sp
-use Rattle.accepted.specs.Spelled.{Made, Accepted}
+use Rattle.accepted.specs.Spelled.{Made, AcceptedLine}
 use Rattle.accepted.specs.Admits.{strictly}
 use Rattle.accepted.proofs.Pairs.{pairs-right, each-all}
 use Rattle.accepted.proofs.Spelled.{line-prefixed, line-accepted}
@@ -26,7 +26,7 @@ made-unbroken fs k r (sp.of-reference p n e g) = tt
 made-unbroken fs k r (sp.of-group p e) = tt
 made-unbroken fs k r (sp.of-program p e) = tt
 
-accepted-unbroken : (strict : Bool) (at : ℕ) (s : List ℕ) (r : Record) → Accepted strict at s r → any breaks s ≡ false → Unbroken r
+accepted-unbroken : (strict : Bool) (at : ℕ) (s : List ℕ) (r : Record) → AcceptedLine strict at s r → any breaks s ≡ false → Unbroken r
 unfolding Unbroken any breaks
 accepted-unbroken strict at s r (sp.of-remark t) h = h
 accepted-unbroken strict at s r (sp.of-fields a) h = made-unbroken (a .fields) (a .kind) r (a .made)

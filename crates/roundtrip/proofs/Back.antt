@@ -8,13 +8,13 @@ use lib.Seq.{append-snoc}
 use borrow.Author.Tests.{le-ltb}
 use Rattle.format.specs.Lines.{Piece, linesFrom}
 use Rattle.format.specs.Records.{Record, read, line}
-use Rattle.format.specs.Reading.{Reading, accept, barred, unless, following, admitted, taken, readFrom, readText, longest}
+use Rattle.format.specs.Reading.{Reading, accept, barred, unless, following, admitted, readOn, readFrom, readText, longest}
 use Rattle.format.specs.Tidy.{recordText, text}
 use Rattle.text.specs.Stands.{Each}
 use Rattle.text.proofs.Lines.{lines-none}
 use Rattle.accepted.specs.Sound.{Sound}
 use Rattle.roundtrip.specs.Bare.{bare}
-use Rattle.roundtrip.specs.Line.{lineText, Unbroken}
+use Rattle.roundtrip.specs.Line.{recordLine, Unbroken}
 use Rattle.accepted.specs.Admits.{Unbarred}
 use Rattle.roundtrip.proofs.Line.{Reads, line-back}
 use Rattle.roundtrip.proofs.Lines.{lines-record}
@@ -29,7 +29,7 @@ pub record Back (rs : List Record) (g : Reading) : Type 0 where
 -- a line that is read, and may follow, is taken
 taken-on : (strict : Bool) (l : ℕ) (before : List Record) (p : Piece) (ps : List Piece) (r : Record) → line strict p ≡ read r → barred before r ≡ 0
     → readFrom strict l before (p ∷ ps) ≡ readFrom strict (l + 1) (before ++ (r ∷ [])) ps
-unfolding readFrom taken admitted following unless
+unfolding readFrom readOn admitted following unless
 taken-on strict l before p ps r e b = rw (e, b) refl
 
 back : (strict : Bool) (l at : ℕ) (now before rs : List Record) → map bare now ≡ map bare before → Unbarred before rs → Each Sound rs → Each Unbroken rs
@@ -37,7 +37,7 @@ back : (strict : Bool) (l at : ℕ) (now before rs : List Record) → map bare n
 unfolding Unbarred Each text readFrom
 back strict l at now before [] e a s u = record { found = now; reads = ap (readFrom strict l now) (lines-none at); same = rw (append-nil before) e }
 back strict l at now before (r ∷ rs) e a s u =
-    let here : Reads strict at (lineText r) r = line-back strict at r (s .0) (u .0) in
+    let here : Reads strict at (recordLine r) r = line-back strict at r (s .0) (u .0) in
     let b : barred now (here .found) ≡ 0 = sym (barred-bare now (here .found)) ∙ rw (e, here .same) (barred-bare before r ∙ a .0) in
     let on : map bare (now ++ (here .found ∷ [])) ≡ map bare (before ++ (r ∷ [])) = rw (map-append bare now (here .found ∷ []), map-append bare before (r ∷ []), e, here .same) refl in
     let next : Back (before ++ (r ∷ []) ++ rs) (readFrom strict (l + 1) (now ++ (here .found ∷ [])) (linesFrom (at + length (recordText r)) (text rs))) =
@@ -45,7 +45,7 @@ back strict l at now before (r ∷ rs) e a s u =
     record {
       found = next .found;
       reads = ap (readFrom strict l now) (lines-record at r (text rs) (s .0) (u .0))
-          ∙ taken-on strict l now (record { at = at; bytes = lineText r }) (linesFrom (at + length (recordText r)) (text rs)) (here .found) (here .reads) b
+          ∙ taken-on strict l now (record { at = at; bytes = recordLine r }) (linesFrom (at + length (recordText r)) (text rs)) (here .found) (here .reads) b
           ∙ next .reads;
       same = next .same ∙ ap (map bare) (append-snoc before r rs);
     }

@@ -8,7 +8,7 @@ use Rattle.format.specs.Fields.{Field}
 use Rattle.format.specs.Records.{Record, header, reference, group, program, comment, code}
 use Rattle.format.specs.Reading.{ofKind}
 use Rattle.format.specs.Tidy.{fieldText, fieldsText, recordText, text, inOrder, tidy}
-use Rattle.roundtrip.specs.Bare.{nowhere, bareField, bare, bares, Equal}
+use Rattle.roundtrip.specs.Bare.{bareBytes, bareField, bare, bares, Equal}
 
 -- ---- the kind
 
@@ -33,12 +33,12 @@ kind-bare k (r ∷ rs) = rw (code-bare r) (go (eqb (code r) k) (kind-bare k rs))
 -- ---- the tidy text
 
 pub fields-bare : (fs : List Field) → fieldsText (map bareField fs) ≡ fieldsText fs
-unfolding fieldsText bareField nowhere
+unfolding fieldsText bareField bareBytes
 fields-bare [] = refl
 fields-bare (f ∷ fs) = ap (λ l. fieldText (f .tag₀) (f .tag₁) (f .value .bytes) ++ l) (fields-bare fs)
 
 pub record-bare : (r : Record) → recordText (bare r) ≡ recordText r
-unfolding recordText bare nowhere
+unfolding recordText bare bareBytes
 record-bare (header v fs) = rw (fields-bare fs) refl
 record-bare (reference p n fs) = rw (fields-bare fs) refl
 record-bare (group p fs) = rw (fields-bare fs) refl

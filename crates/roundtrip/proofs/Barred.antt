@@ -7,12 +7,12 @@ use Rattle.format.specs.Bytes.{any, none?}
 use Rattle.format.specs.Lines.{Piece}
 use Rattle.format.specs.Records.{Record, header, reference, group, program, comment, key}
 use Rattle.format.specs.Reading.{sameKeys, clash, ofKind, barred}
-use Rattle.roundtrip.specs.Bare.{nowhere, bare}
+use Rattle.roundtrip.specs.Bare.{bareBytes, bare}
 use Rattle.roundtrip.proofs.Bare.{code-bare, kind-bare}
 
 bareKey : Option Piece → Option Piece
 bareKey none = none
-bareKey (some p) = some (nowhere (p .bytes))
+bareKey (some p) = some (bareBytes (p .bytes))
 
 key-bare : (r : Record) → key (bare r) ≡ bareKey (key r)
 unfolding key bare bareKey
@@ -23,7 +23,7 @@ key-bare (program p fs) = refl
 key-bare (comment p) = refl
 
 same-bare : (p q : Option Piece) → sameKeys (bareKey p) (bareKey q) ≡ sameKeys p q
-unfolding sameKeys bareKey nowhere
+unfolding sameKeys bareKey bareBytes
 same-bare none q = refl
 same-bare (some p) none = refl
 same-bare (some p) (some q) = refl

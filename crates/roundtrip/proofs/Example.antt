@@ -7,7 +7,7 @@ use mathlib.Core.List.{List, [], _∷_}
 use native.Mathlib.Omega.{arith}
 use Rattle.format.specs.Records.{Record}
 use Rattle.format.specs.Tidy.{unwritable}
-use Rattle.format.specs.Calls.{Answer, no, yes, records}
+use Rattle.format.specs.Calls.{Answer, refused, yes, records}
 use Rattle.roundtrip.specs.Faithful.{Allowed, tidied}
 
 unfoldable pub ascii : String → List ℕ
@@ -20,7 +20,7 @@ given = ascii "@HD\tSO:unsorted\tVN:01.6\n@PG\tID:a\n@SQ\tLN:08\tSN:s1\n@CO\tx"
 
 -- the records that are answered
 pub answered : Answer (List Record) → List Record
-answered (no n l) = []
+answered (refused n l) = []
 answered (yes rs) = rs
 
 pub example-allowed : Allowed given (answered (records given))

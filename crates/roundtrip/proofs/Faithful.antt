@@ -8,7 +8,7 @@ use native.Mathlib.Omega.{arith}
 use lib.ListN.{length}
 use borrow.Author.Tests.{le-ltb}
 use Rattle.format.specs.Records.{Record}
-use Rattle.format.specs.Reading.{Reading, refuse, accept, readText, longest}
+use Rattle.format.specs.Reading.{Reading, refusedText, accept, readText, longest}
 use Rattle.format.specs.Tidy.{inOrder, tidy, unwritable}
 use Rattle.format.specs.Calls.{Answer, yes, then, readAnswer, records, fitting, writing, tidying}
 use Rattle.accepted.proofs.Bools.{never}
@@ -25,7 +25,7 @@ unfolding records readAnswer
 read-of t rs e = go (readText t) e
   where
     go : (g : Reading) → readAnswer g ≡ yes rs → g ≡ accept rs
-    go (refuse n l) e = absurd (never (cc))
+    go (refusedText n l) e = absurd (never (cc))
     go (accept qs) e = let q : qs ≡ rs = cc in ap accept q
 
 -- a header that can be written

@@ -19,18 +19,18 @@ use Rattle.format.specs.declared.Kind.the-variants.{Header, ReferenceSequence, 
 use Rattle.text.specs.Stands.{Each}
 use Rattle.text.proofs.Stands.{each-map}
 use Rattle.decimal.proofs.ReadBack.{reads-back}
-use Rattle.accepted.specs.Sound.{isKey, kind, Fits, Named, Other, Sound}
+use Rattle.accepted.specs.Sound.{isKey, kind, FitsRecord, KeyIsValue, Other, Sound}
 use Rattle.accepted.proofs.Bools.{or-left, or-right}
-use Rattle.roundtrip.specs.Bare.{nowhere, bare}
-use Rattle.roundtrip.specs.Line.{own, keys, lineText, pieceText, put-at, located, Unbroken}
+use Rattle.roundtrip.specs.Bare.{bareBytes, bare}
+use Rattle.roundtrip.specs.Line.{own, keys, recordLine, pieceText, put-at, located, Unbroken}
 use Rattle.roundtrip.proofs.Once.{tags-located, repeats-located, bare-located}
 use Rattle.roundtrip.proofs.Pieces.{Fine, scan-fields, fields-unbroken}
 use Rattle.roundtrip.proofs.Fine.{fine-other, fine-key, fine-length, fine-version, version-back}
 use Rattle.roundtrip.proofs.Made.{made-header, made-reference, made-group, made-program}
 
 -- the record's text is this line and its LF
-pub record-line : (r : Record) → recordText r ≡ lineText r ++ (10 ∷ [])
-unfolding recordText lineText keys own fieldsText nowhere
+pub record-line : (r : Record) → recordText r ≡ recordLine r ++ (10 ∷ [])
+unfolding recordText recordLine keys own fieldsText bareBytes
 record-line (header v fs) = refl
 record-line (reference p n fs) = ap (λ l. 64 ∷ 83 ∷ 81 ∷ 9 ∷ 83 ∷ 78 ∷ 58 ∷ (l ++ (10 ∷ []))) (append-assoc (p .bytes) (fieldText 76 78 (written n)) (fieldsText fs))
 record-line (group p fs) = refl
@@ -49,7 +49,7 @@ fine-others : (k : Kind) (fs : List Field) → Each (Other k) fs → Each (Fine 
 fine-others k fs h = each-map (Other k) (Fine k) (fine-other k) fs h
 
 fine-all : (r : Record) → Sound r → Each (Fine (kind r)) (keys r ++ others r)
-unfolding kind keys others Each Fits Named key isTag valueField allows isWide
+unfolding kind keys others Each FitsRecord KeyIsValue key isTag valueField allows isWide
 fine-all (header v fs) s = (fine-version v (s .fits .0) (s .fits .1), fine-others Header fs (s .other))
 fine-all (reference p n fs) s =
     (fine-key ReferenceSequence 83 78 (p .bytes) refl (λ at. refl) (s .named), (fine-length n (s .fits .0) (s .fits .1), fine-others ReferenceSequence fs (s .other)))
@@ -58,8 +58,8 @@ fine-all (program p fs) s = (fine-key Program 73 68 (p .bytes) refl (λ at. refl
 fine-all (comment p) s = tt
 
 -- it holds neither LF nor CR
-pub line-unbroken : (r : Record) → Sound r → Unbroken r → any breaks (lineText r) ≡ false
-unfolding lineText any breaks Unbroken kind others
+pub line-unbroken : (r : Record) → Sound r → Unbroken r → any breaks (recordLine r) ≡ false
+unfolding recordLine any breaks Unbroken kind others
 line-unbroken (header v fs) s u = fields-unbroken Header (keys (header v fs) ++ fs) (fine-all (header v fs) s)
 line-unbroken (reference p n fs) s u = fields-unbroken ReferenceSequence (keys (reference p n fs) ++ fs) (fine-all (reference p n fs) s)
 line-unbroken (group p fs) s u = fields-unbroken ReadGroup (keys (group p fs) ++ fs) (fine-all (group p fs) s)
@@ -87,8 +87,8 @@ unfolding line prefixed kinded bodied
 line-open strict at a b k t u e = rw (u, e) refl
 
 module _ (strict : Bool) (at : ℕ) where
-  line-header : (v : Version) (fs : List Field) → Sound (header v fs) → Reads strict at (lineText (header v fs)) (header v fs)
-  unfolding kindOf body lineText keys own nowhere kind others located put-at bare Fits repeats isKey Unbroken
+  line-header : (v : Version) (fs : List Field) → Sound (header v fs) → Reads strict at (recordLine (header v fs)) (header v fs)
+  unfolding kindOf body recordLine keys own bareBytes kind others located put-at bare FitsRecord repeats isKey Unbroken
   line-header v fs s =
       let w : List ℕ = written (v .major) ++ (46 ∷ written (v .minor)) in
       let to : ℕ = at + 1 + 2 + 1 + length (pieceText (own 86 78 w)) + 1 in
@@ -101,8 +101,8 @@ module _ (strict : Bool) (at : ℕ) where
         same = rw (bare-located to fs) refl;
       }
 
-  line-reference : (p : Piece) (n : ℕ) (fs : List Field) → Sound (reference p n fs) → Reads strict at (lineText (reference p n fs)) (reference p n fs)
-  unfolding kindOf body lineText keys own nowhere kind others located put-at bare Fits repeats any isKey Unbroken
+  line-reference : (p : Piece) (n : ℕ) (fs : List Field) → Sound (reference p n fs) → Reads strict at (recordLine (reference p n fs)) (reference p n fs)
+  unfolding kindOf body recordLine keys own bareBytes kind others located put-at bare FitsRecord repeats any isKey Unbroken
   line-reference p n fs s =
       let w : List ℕ = written n in
       let to : ℕ = at + 1 + 2 + 1 + length (pieceText (own 83 78 (p .bytes))) + 1 + length (pieceText (own 76 78 w)) + 1 in
@@ -117,8 +117,8 @@ module _ (strict : Bool) (at : ℕ) where
         same = rw (bare-located to fs) refl;
       }
 
-  line-group : (p : Piece) (fs : List Field) → Sound (group p fs) → Reads strict at (lineText (group p fs)) (group p fs)
-  unfolding kindOf body lineText keys own nowhere kind others located put-at bare Fits repeats isKey Unbroken
+  line-group : (p : Piece) (fs : List Field) → Sound (group p fs) → Reads strict at (recordLine (group p fs)) (group p fs)
+  unfolding kindOf body recordLine keys own bareBytes kind others located put-at bare FitsRecord repeats isKey Unbroken
   line-group p fs s =
       let to : ℕ = at + 1 + 2 + 1 + length (pieceText (own 73 68 (p .bytes))) + 1 in
       let n : any (tagged 73 68) fs ≡ false = no-tag ReadGroup 73 68 (λ x y e. e) fs (s .other) in
@@ -130,8 +130,8 @@ module _ (strict : Bool) (at : ℕ) where
         same = rw (bare-located to fs) refl;
       }
 
-  line-program : (p : Piece) (fs : List Field) → Sound (program p fs) → Reads strict at (lineText (program p fs)) (program p fs)
-  unfolding kindOf body lineText keys own nowhere kind others located put-at bare Fits repeats isKey Unbroken
+  line-program : (p : Piece) (fs : List Field) → Sound (program p fs) → Reads strict at (recordLine (program p fs)) (program p fs)
+  unfolding kindOf body recordLine keys own bareBytes kind others located put-at bare FitsRecord repeats isKey Unbroken
   line-program p fs s =
       let to : ℕ = at + 1 + 2 + 1 + length (pieceText (own 73 68 (p .bytes))) + 1 in
       let n : any (tagged 73 68) fs ≡ false = no-tag Program 73 68 (λ x y e. e) fs (s .other) in
@@ -143,8 +143,8 @@ module _ (strict : Bool) (at : ℕ) where
         same = rw (bare-located to fs) refl;
       }
 
-  line-comment : (p : Piece) → Unbroken (comment p) → Reads strict at (lineText (comment p)) (comment p)
-  unfolding kindOf body remark lineText bare Unbroken any breaks
+  line-comment : (p : Piece) → Unbroken (comment p) → Reads strict at (recordLine (comment p)) (comment p)
+  unfolding kindOf body remark recordLine bare Unbroken any breaks
   line-comment p u =
       record {
         found = comment (record { at = at + 1 + 2 + 1; bytes = p .bytes });
@@ -153,7 +153,7 @@ module _ (strict : Bool) (at : ℕ) where
       }
 
 -- whatever the rule for repeated tags, and wherever the line stands
-pub line-back : (strict : Bool) (at : ℕ) (r : Record) → Sound r → Unbroken r → Reads strict at (lineText r) r
+pub line-back : (strict : Bool) (at : ℕ) (r : Record) → Sound r → Unbroken r → Reads strict at (recordLine r) r
 line-back strict at (header v fs) s u = line-header strict at v fs s
 line-back strict at (reference p n fs) s u = line-reference strict at p n fs s
 line-back strict at (group p fs) s u = line-group strict at p fs s

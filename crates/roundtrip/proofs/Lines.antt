@@ -12,7 +12,7 @@ use Rattle.format.specs.Records.{Record, breaks}
 use Rattle.format.specs.Tidy.{recordText}
 use Rattle.accepted.specs.Sound.{Sound}
 use Rattle.accepted.proofs.Bools.{or-left, or-right}
-use Rattle.roundtrip.specs.Line.{lineText, Unbroken}
+use Rattle.roundtrip.specs.Line.{recordLine, Unbroken}
 use Rattle.roundtrip.proofs.Line.{record-line, line-unbroken}
 
 -- a byte that is neither LF nor CR, and bytes behind it that are neither
@@ -48,5 +48,5 @@ unfolding linesFrom
 lines-line at l s h = rw (broken-line l s h, chomp-line l h) refl
 
 pub lines-record : (at : ℕ) (r : Record) (s : List ℕ) → Sound r → Unbroken r
-    → linesFrom at (recordText r ++ s) ≡ record { at = at; bytes = lineText r } ∷ linesFrom (at + length (recordText r)) s
-lines-record at r s h u = rw (record-line r, append-snoc (lineText r) 10 s) (lines-line at (lineText r) s (line-unbroken r h u))
+    → linesFrom at (recordText r ++ s) ≡ record { at = at; bytes = recordLine r } ∷ linesFrom (at + length (recordText r)) s
+lines-record at r s h u = rw (record-line r, append-snoc (recordLine r) 10 s) (lines-line at (recordLine r) s (line-unbroken r h u))

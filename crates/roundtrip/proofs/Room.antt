@@ -16,7 +16,7 @@ use Rattle.format.specs.declared.Kind.the-variants.{Header, ReferenceSequence, 
 use Rattle.text.specs.Stands.{Each}
 use Rattle.accepted.specs.Sound.{kind, Other, Sound}
 use Rattle.accepted.proofs.Text.{text-sound}
-use Rattle.roundtrip.specs.Line.{own, keys, lineText}
+use Rattle.roundtrip.specs.Line.{own, keys, recordLine}
 use Rattle.roundtrip.proofs.Length.{one-more}
 use Rattle.roundtrip.proofs.Total.{record-length, order-length, tidy-length}
 
@@ -38,7 +38,7 @@ fields-room k (f ∷ fs) h = omega (arith, one-more f fs, value-some k (f .tag�
 
 -- a record's entries, and its line
 record-room : (r : Record) → Sound r → 5 * (length (head r) + length (tails (others r))) ≤ 11 * length (recordText r)
-unfolding head place little others tails lineText keys own kind
+unfolding head place little others tails recordLine keys own kind
 record-room (header v fs) h =
     omega (arith, record-length (header v fs), one-more (own 86 78 (written (v .major) ++ (46 ∷ written (v .minor)))) fs, fields-room Header fs (h .other))
 record-room (reference p n fs) h =

@@ -12,7 +12,7 @@ use Rattle.text.specs.Stands.{Each}
 use Rattle.accepted.specs.Sound.{Sound}
 use Rattle.accepted.proofs.Bools.{never}
 use Rattle.accepted.proofs.Text.{text-sound, text-unbarred}
-use Rattle.roundtrip.specs.Bare.{nowhere, bare, Equal}
+use Rattle.roundtrip.specs.Bare.{bareBytes, bare, Equal}
 use Rattle.roundtrip.specs.Line.{Unbroken}
 use Rattle.roundtrip.proofs.Bare.{tidy-equal}
 use Rattle.roundtrip.proofs.Unbarred.{unbarred-order}
@@ -51,7 +51,7 @@ tidy-tells t u rs qs e f h q =
 -- ---- reference names
 
 writable-bare : (r : Record) → isWritable (bare r) ≡ isWritable r
-unfolding isWritable bare nowhere
+unfolding isWritable bare bareBytes
 writable-bare (header v fs) = refl
 writable-bare (reference p n fs) = refl
 writable-bare (group p fs) = refl

@@ -28,14 +28,14 @@ use Rattle.text.proofs.Stands.{by-parts}
 use Rattle.decimal.proofs.ReadBack.{written-fewest}
 use Rattle.accepted.specs.Pieces.{Pairs}
 use Rattle.accepted.specs.Spelled as sp
-use Rattle.accepted.specs.Spelled.{Sized, Good, Made, Spelled, Accepted}
+use Rattle.accepted.specs.Spelled.{LengthInRange, Good, Made, Spelled, AcceptedLine}
 use Rattle.accepted.specs.Admits.{strictly}
 use Rattle.accepted.proofs.Bools.{and-left}
 use Rattle.accepted.proofs.Fields.{Of, lastOf-of}
 use Rattle.accepted.proofs.Pairs.{pairs-right, each-all}
 use Rattle.accepted.proofs.Spelled.{line-accepted}
 use Rattle.accepted.proofs.Text.{text-lines}
-use Rattle.roundtrip.specs.Line.{own, keys, lineText}
+use Rattle.roundtrip.specs.Line.{own, keys, recordLine}
 use Rattle.roundtrip.proofs.Line.{record-line}
 use Rattle.roundtrip.proofs.Length.{one-more, settled-length, key-length, last-without, version-length}
 
@@ -66,14 +66,14 @@ good-tabbed k at (p ∷ ps) (f ∷ fs) h =
 
 -- ---- the record that the fields make
 
-pub record-length : (r : Record) → length (recordText r) ≡ suc (length (lineText r))
-record-length r = rw (record-line r) (omega (arith, length-append (lineText r) (10 ∷ [])))
+pub record-length : (r : Record) → length (recordText r) ≡ suc (length (recordLine r))
+record-length r = rw (record-line r) (omega (arith, length-append (recordLine r) (10 ∷ [])))
 
 -- an LN's digits
-last-digits : (fs : List Field) (n : Piece) → Each (Sized ReferenceSequence) fs → lastOf 76 78 fs ≡ some n → digits (n .bytes) ≡ true
-unfolding Sized
+last-digits : (fs : List Field) (n : Piece) → Each (LengthInRange ReferenceSequence) fs → lastOf 76 78 fs ≡ some n → digits (n .bytes) ≡ true
+unfolding LengthInRange
 last-digits fs n h e =
-    let o : Of (Sized ReferenceSequence) 76 78 n = lastOf-of (Sized ReferenceSequence) 76 78 fs n h e in
+    let o : Of (LengthInRange ReferenceSequence) 76 78 n = lastOf-of (LengthInRange ReferenceSequence) 76 78 fs n h e in
     rw (← o .value) (o .holds (o .tag) .2)
 
 -- LN is not SN
@@ -81,8 +81,8 @@ not-name : (f : Field) → tagged 76 78 f ≡ true → tagged 83 78 f ≡ false
 unfolding tagged
 not-name f h = let q : f .tag₀ ≡ 76 = eqb-true (f .tag₀) 76 (and-left (eqb (f .tag₀) 76) (eqb (f .tag₁) 78) h) in rw q refl
 
-made-length : (fs : List Field) (k : Kind) (r : Record) → Each (Sized k) fs → Made fs k r → length (lineText r) ≤ 3 + length (fieldsText fs)
-unfolding lineText keys own
+made-length : (fs : List Field) (k : Kind) (r : Record) → Each (LengthInRange k) fs → Made fs k r → length (recordLine r) ≤ 3 + length (fieldsText fs)
+unfolding recordLine keys own
 made-length fs k r h (sp.of-header p v e g) =
     let gs : List Field = without 86 78 fs in
     let w : List ℕ = written (v .major) ++ (46 ∷ written (v .minor)) in
@@ -109,10 +109,10 @@ made-length fs k r h (sp.of-program p e) =
 
 -- ---- one line
 
-spelled-length : (strict : Bool) (at : ℕ) (s : List ℕ) (r : Record) → Spelled strict at s r → length (lineText r) ≤ length s
+spelled-length : (strict : Bool) (at : ℕ) (s : List ℕ) (r : Record) → Spelled strict at s r → length (recordLine r) ≤ length s
 spelled-length strict at s r a =
-    let sized : Each (Sized (a .kind)) (a .fields) =
-    pairs-right (λ p f. Good (a .kind) (p .at) (p .bytes) f) (λ p. Unit {0}) (Sized (a .kind)) (λ p f u g. g .sized)
+    let sized : Each (LengthInRange (a .kind)) (a .fields) =
+    pairs-right (λ p f. Good (a .kind) (p .at) (p .bytes) f) (λ p. Unit {0}) (LengthInRange (a .kind)) (λ p f u g. g .sized)
     (placed (at + 4) (cut 9 (a .rest))) (a .fields) (each-all (λ p. Unit {0}) (λ p. tt) (placed (at + 4) (cut 9 (a .rest)))) (a .each) in
     omega (
       arith,
@@ -122,8 +122,8 @@ spelled-length strict at s r a =
       ap length (a .spells),
     )
 
-accepted-length : (strict : Bool) (at : ℕ) (s : List ℕ) (r : Record) → Accepted strict at s r → length (lineText r) ≤ length s
-unfolding lineText
+accepted-length : (strict : Bool) (at : ℕ) (s : List ℕ) (r : Record) → AcceptedLine strict at s r → length (recordLine r) ≤ length s
+unfolding recordLine
 accepted-length strict at s r (sp.of-remark t) = omega arith
 accepted-length strict at s r (sp.of-fields a) = spelled-length strict at s r a
 

@@ -15,7 +15,7 @@ use Rattle.format.specs.Tidy.{inOrder}
 use Rattle.accepted.proofs.Bools.{never, eqb-sym}
 use Rattle.accepted.proofs.OfKind.{ofKind-append}
 use Rattle.accepted.proofs.Admits.{barred-clear}
-use Rattle.accepted.specs.Admits.{Unbarred, Clear}
+use Rattle.accepted.specs.Admits.{Unbarred, MayFollow}
 
 -- ---- the records of a kind
 
@@ -62,7 +62,7 @@ record Stand (k : ℕ) (a b : List Record) : Type 0 where
 barred-kind : (a b : List Record) (r : Record) → Stand (code r) a b → barred a r ≡ 0 → barred b r ≡ 0
 unfolding barred
 barred-kind a b r s h =
-    let f : Clear a r = barred-clear a r h in
+    let f : MayFollow a r = barred-clear a r h in
     rw (alone (eqb (code r) 1) refl (f .leading), others (f .apart), few (eqb (code r) 4) refl (f .room)) refl
   where
     alone : (t : Bool) → eqb (code r) 1 ≡ t → t && not (none? a) ≡ false → t && not (none? b) ≡ false

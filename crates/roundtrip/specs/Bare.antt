@@ -8,21 +8,21 @@ use Rattle.format.specs.Records.{Record, header, reference, group, program, com
 use Rattle.format.specs.Reading.{ofKind}
 
 -- bytes at no place
-unfoldable pub nowhere : List ℕ → Piece
-nowhere s = record { at = 0; bytes = s }
+unfoldable pub bareBytes : List ℕ → Piece
+bareBytes s = record { at = 0; bytes = s }
 
 unfoldable pub bareField : Field → Field
-unfolding nowhere
-bareField f = record { tag₀ = f .tag₀; tag₁ = f .tag₁; value = nowhere (f .value .bytes) }
+unfolding bareBytes
+bareField f = record { tag₀ = f .tag₀; tag₁ = f .tag₁; value = bareBytes (f .value .bytes) }
 
 -- a record without its offsets: two records are equal if these are
 unfoldable pub bare : Record → Record
-unfolding bareField nowhere
+unfolding bareField bareBytes
 bare (header v fs) = header v (map bareField fs)
-bare (reference p n fs) = reference (nowhere (p .bytes)) n (map bareField fs)
-bare (group p fs) = group (nowhere (p .bytes)) (map bareField fs)
-bare (program p fs) = program (nowhere (p .bytes)) (map bareField fs)
-bare (comment p) = comment (nowhere (p .bytes))
+bare (reference p n fs) = reference (bareBytes (p .bytes)) n (map bareField fs)
+bare (group p fs) = group (bareBytes (p .bytes)) (map bareField fs)
+bare (program p fs) = program (bareBytes (p .bytes)) (map bareField fs)
+bare (comment p) = comment (bareBytes (p .bytes))
 
 -- the records of a kind, for equality
 unfoldable pub bares : ℕ → List Record → List Record

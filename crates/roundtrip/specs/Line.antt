@@ -9,12 +9,12 @@ use Rattle.format.specs.Decimal.{written}
 use Rattle.format.specs.Fields.{Field}
 use Rattle.format.specs.Records.{Record, header, reference, group, program, comment, breaks}
 use Rattle.format.specs.Tidy.{fieldsText}
-use Rattle.roundtrip.specs.Bare.{nowhere}
+use Rattle.roundtrip.specs.Bare.{bareBytes}
 
 -- a field with its value at no place
 unfoldable pub own : ℕ → ℕ → List ℕ → Field
-unfolding nowhere
-own a b v = record { tag₀ = a; tag₁ = b; value = nowhere v }
+unfolding bareBytes
+own a b v = record { tag₀ = a; tag₁ = b; value = bareBytes v }
 
 -- what comes first in a line: VN; SN and LN; ID
 unfoldable pub keys : Record → List Field
@@ -26,12 +26,12 @@ keys (program p fs) = own 73 68 (p .bytes) ∷ []
 keys (comment p) = []
 
 -- a record's line without its LF
-unfoldable pub lineText : Record → List ℕ
-lineText (header v fs) = 64 ∷ 72 ∷ 68 ∷ fieldsText (keys (header v fs) ++ fs)
-lineText (reference p n fs) = 64 ∷ 83 ∷ 81 ∷ fieldsText (keys (reference p n fs) ++ fs)
-lineText (group p fs) = 64 ∷ 82 ∷ 71 ∷ fieldsText (keys (group p fs) ++ fs)
-lineText (program p fs) = 64 ∷ 80 ∷ 71 ∷ fieldsText (keys (program p fs) ++ fs)
-lineText (comment p) = 64 ∷ 67 ∷ 79 ∷ 9 ∷ p .bytes
+unfoldable pub recordLine : Record → List ℕ
+recordLine (header v fs) = 64 ∷ 72 ∷ 68 ∷ fieldsText (keys (header v fs) ++ fs)
+recordLine (reference p n fs) = 64 ∷ 83 ∷ 81 ∷ fieldsText (keys (reference p n fs) ++ fs)
+recordLine (group p fs) = 64 ∷ 82 ∷ 71 ∷ fieldsText (keys (group p fs) ++ fs)
+recordLine (program p fs) = 64 ∷ 80 ∷ 71 ∷ fieldsText (keys (program p fs) ++ fs)
+recordLine (comment p) = 64 ∷ 67 ∷ 79 ∷ 9 ∷ p .bytes
 
 -- what stands between two tabs: a tag, a colon, a value
 unfoldable pub pieceText : Field → List ℕ

@@ -8,7 +8,7 @@ use native.Mathlib.Omega.{arith}
 use lib.ListN.{length, replicate, length-map}
 use Rattle.text.specs.Stands.{Each}
 use Rattle.entries.specs.Entries.{entriesIn}
-use Rattle.name_index.specs.Index.{absent, ordinalIn, slotCount, path, index, tells, looked, looks}
+use Rattle.name_index.specs.Index.{absent, nameOrdinal, slotCount, path, index, tellsName, looked, looks}
 use Rattle.sq_index.specs.Filled.{namesIn, Told, says, entering, landed, slotOf, looksOf, ordinalAt}
 use Rattle.name_index.proofs.SlotCount.{slots-some, slots-few}
 use Rattle.name_index.proofs.Indexed.{indexed, index-length}
@@ -45,17 +45,17 @@ module _ (t c : List ℕ) where
 
   module _ (told : Each (Told t) (entriesIn c)) where
     -- the slot in which a name is found holds the name's ordinal
-    pub found-ordinal : length names ≤ 16777216 → (x : List ℕ) → ordinalAt (index names) (slotOf t places x) ≡ ordinalIn names x
+    pub found-ordinal : length names ≤ 16777216 → (x : List ℕ) → ordinalAt (index names) (slotOf t places x) ≡ nameOrdinal names x
     unfolding slotOf
     found-ordinal few x =
         let n : ℕ = length names in
         ap (λ s. ordinalAt (index names) (landed (says t x) s x)) same-places
-        ∙ ap (ordinalAt (index names)) (landed-recode (code t c) (says t x) (tells names x) (code-tells t c told x) (index names) x)
-        ∙ landed-holds (tells names x) x (index names) (omega (arith, index-length names, slots-some n)) (below-absent (length (index names)) (omega (arith, index-length names, slots-few n few)))
+        ∙ ap (ordinalAt (index names)) (landed-recode (code t c) (says t x) (tellsName names x) (code-tells t c told x) (index names) x)
+        ∙ landed-holds (tellsName names x) x (index names) (omega (arith, index-length names, slots-some n)) (below-absent (length (index names)) (omega (arith, index-length names, slots-few n few)))
         ∙ indexed names .finds x
 
     -- as many slots are looked at as in the index
     pub found-looks : (x : List ℕ) → looksOf t places x ≡ looks names x
     unfolding looksOf looks
     found-looks x =
-        ap (λ s. looked (says t x) (path x s)) same-places ∙ looks-recode (code t c) (says t x) (tells names x) (code-tells t c told x) (index names) x
+        ap (λ s. looked (says t x) (path x s)) same-places ∙ looks-recode (code t c) (says t x) (tellsName names x) (code-tells t c told x) (index names) x

@@ -15,9 +15,9 @@ use Rattle.text.proofs.Equal.{same-equal}
 use Rattle.key_index.specs.Word.{word}
 use Rattle.entries.specs.declared.Entry.{Entry}
 use Rattle.entries.specs.declared.Entry.the-variants.{End, Header, ReferenceSequence, ReadGroup, Program, Comment, Field}
-use Rattle.entries.specs.Entries.{kindOf, entriesIn, counted}
-use Rattle.lookup.specs.Lookup.{entriesFrom, front}
-use Rattle.name_index.specs.Index.{hashFrom, enter, enterFrom, nameOf, tells}
+use Rattle.entries.specs.Entries.{kindByte, entriesIn, counted}
+use Rattle.lookup.specs.Lookup.{entriesFrom, firstEntry}
+use Rattle.name_index.specs.Index.{hashFrom, enter, enterFrom, nameOf, tellsName}
 use Rattle.sq_index.specs.Filled.{nameIn, namesIn, startIn, Told, markOf, says, valueOf, entering}
 use Rattle.sq_index.proofs.Recoded.{recode, enter-recode}
 
@@ -29,7 +29,7 @@ module _ (t : List ℕ) where
   pub names-counted : (es : List Entry) → length (namesIn t es) ≡ counted 2 es
   unfolding namesIn counted
   names-counted [] = refl
-  names-counted (e ∷ es) = go (eqb (kindOf e) 2) (names-counted es)
+  names-counted (e ∷ es) = go (eqb (kindByte e) 2) (names-counted es)
     where
       go : (b : Bool) → length (namesIn t es) ≡ counted 2 es → length (cond b (nameIn t e ∷ namesIn t es) (namesIn t es)) ≡ cond b (suc (counted 2 es)) (counted 2 es)
       go true ih = ap suc ih
@@ -40,7 +40,7 @@ module _ (t : List ℕ) where
   pub with-ordinals : (k : ℕ) (es : List Entry) (slots : List ℕ) → entering true t k es slots ≡ enterFrom k (namesIn t es) slots
   unfolding entering enterFrom namesIn valueOf
   with-ordinals k [] slots = refl
-  with-ordinals k (e ∷ es) slots = go (eqb (kindOf e) 2) (with-ordinals (k + 1) es (enter (suc k) (nameIn t e) slots)) (with-ordinals k es slots)
+  with-ordinals k (e ∷ es) slots = go (eqb (kindByte e) 2) (with-ordinals (k + 1) es (enter (suc k) (nameIn t e) slots)) (with-ordinals k es slots)
     where
       go : (b : Bool) → entering true t (k + 1) es (enter (suc k) (nameIn t e) slots) ≡ enterFrom (k + 1) (namesIn t es) (enter (suc k) (nameIn t e) slots)
           → entering true t k es slots ≡ enterFrom k (namesIn t es) slots
@@ -56,30 +56,30 @@ module _ (t : List ℕ) where
 
   -- `f` gives those of the SQ entries of `es`, the first SQ with the ordinal `k`
   abbrev Codes : (ℕ → ℕ) → ℕ → List Entry → Type 0
-  Codes f k es = (r : ℕ) → f (k + r) ≡ codeOf (front (entriesFrom 2 r es))
+  Codes f k es = (r : ℕ) → f (k + r) ≡ codeOf (firstEntry (entriesFrom 2 r es))
 
   module _ (f : ℕ → ℕ) (k : ℕ) (e : Entry) (es : List Entry) (h : Codes f k (e ∷ es)) where
-    here : eqb (kindOf e) 2 ≡ true → f k ≡ codeOf e
-    unfolding entriesFrom front
-    here q = let y : k ≡ k + 0 = omega arith in ap f y ∙ h 0 ∙ ap (λ b. codeOf (front (cond b (e ∷ es) (entriesFrom 2 0 es)))) q
+    here : eqb (kindByte e) 2 ≡ true → f k ≡ codeOf e
+    unfolding entriesFrom firstEntry
+    here q = let y : k ≡ k + 0 = omega arith in ap f y ∙ h 0 ∙ ap (λ b. codeOf (firstEntry (cond b (e ∷ es) (entriesFrom 2 0 es)))) q
 
-    behind : eqb (kindOf e) 2 ≡ true → Codes f (k + 1) es
+    behind : eqb (kindByte e) 2 ≡ true → Codes f (k + 1) es
     unfolding entriesFrom
-    behind q r = let y : k + 1 + r ≡ k + suc r = omega arith in ap f y ∙ h (suc r) ∙ ap (λ b. codeOf (front (cond b (entriesFrom 2 r es) (entriesFrom 2 (suc r) es)))) q
+    behind q r = let y : k + 1 + r ≡ k + suc r = omega arith in ap f y ∙ h (suc r) ∙ ap (λ b. codeOf (firstEntry (cond b (entriesFrom 2 r es) (entriesFrom 2 (suc r) es)))) q
 
-    beside : eqb (kindOf e) 2 ≡ false → Codes f k es
+    beside : eqb (kindByte e) 2 ≡ false → Codes f k es
     unfolding entriesFrom
-    beside q zero = h 0 ∙ ap (λ b. codeOf (front (cond b (e ∷ es) (entriesFrom 2 0 es)))) q
-    beside q (suc r) = h (suc r) ∙ ap (λ b. codeOf (front (cond b (entriesFrom 2 r es) (entriesFrom 2 (suc r) es)))) q
+    beside q zero = h 0 ∙ ap (λ b. codeOf (firstEntry (cond b (e ∷ es) (entriesFrom 2 0 es)))) q
+    beside q (suc r) = h (suc r) ∙ ap (λ b. codeOf (firstEntry (cond b (entriesFrom 2 r es) (entriesFrom 2 (suc r) es)))) q
 
   pub with-codes : (f : ℕ → ℕ) (k : ℕ) (es : List Entry) (slots : List ℕ) → Codes f k es
       → entering false t k es (map (recode f) slots) ≡ map (recode f) (enterFrom k (namesIn t es) slots)
   unfolding entering enterFrom namesIn valueOf codeOf
   with-codes f k [] slots h = refl
   with-codes f k (e ∷ es) slots h =
-      go (eqb (kindOf e) 2) refl (λ g. with-codes f (k + 1) es (enter (suc k) (nameIn t e) slots) g) (λ g. with-codes f k es slots g)
+      go (eqb (kindByte e) 2) refl (λ g. with-codes f (k + 1) es (enter (suc k) (nameIn t e) slots) g) (λ g. with-codes f k es slots g)
     where
-      go : (b : Bool) → eqb (kindOf e) 2 ≡ b
+      go : (b : Bool) → eqb (kindByte e) 2 ≡ b
           → (Codes f (k + 1) es → entering false t (k + 1) es (map (recode f) (enter (suc k) (nameIn t e) slots)) ≡ map (recode f) (enterFrom (k + 1) (namesIn t es) (enter (suc k) (nameIn t e) slots)))
           → (Codes f k es → entering false t k es (map (recode f) slots) ≡ map (recode f) (enterFrom k (namesIn t es) slots))
           → cond b (entering false t (k + 1) es (enter (suc (codeOf e)) (nameIn t e) (map (recode f) slots))) (entering false t k es (map (recode f) slots))
@@ -126,46 +126,46 @@ module _ (t : List ℕ) where
       ∙ ap (λ w. eqb (markOf (hashFrom 0 x)) m && same x w) (told-word e h)
       ∙ mark-same x (nameIn t e)
 
-  front-told : (k : ℕ) (es : List Entry) → Each (Told t) es → Told t (front (entriesFrom 2 k es))
-  unfolding Each Told front entriesFrom
+  front-told : (k : ℕ) (es : List Entry) → Each (Told t) es → Told t (firstEntry (entriesFrom 2 k es))
+  unfolding Each Told firstEntry entriesFrom
   front-told k [] h = tt
-  front-told zero (e ∷ es) h = go (eqb (kindOf e) 2) (front-told zero es (h .1))
+  front-told zero (e ∷ es) h = go (eqb (kindByte e) 2) (front-told zero es (h .1))
     where
-      go : (b : Bool) → Told t (front (entriesFrom 2 0 es)) → Told t (front (cond b (e ∷ es) (entriesFrom 2 0 es)))
+      go : (b : Bool) → Told t (firstEntry (entriesFrom 2 0 es)) → Told t (firstEntry (cond b (e ∷ es) (entriesFrom 2 0 es)))
       go true ih = h .0
       go false ih = ih
-  front-told (suc k) (e ∷ es) h = go (eqb (kindOf e) 2) (front-told k es (h .1)) (front-told (suc k) es (h .1))
+  front-told (suc k) (e ∷ es) h = go (eqb (kindByte e) 2) (front-told k es (h .1)) (front-told (suc k) es (h .1))
     where
-      go : (b : Bool) → Told t (front (entriesFrom 2 k es)) → Told t (front (entriesFrom 2 (suc k) es)) → Told t (front (cond b (entriesFrom 2 k es) (entriesFrom 2 (suc k) es)))
+      go : (b : Bool) → Told t (firstEntry (entriesFrom 2 k es)) → Told t (firstEntry (entriesFrom 2 (suc k) es)) → Told t (firstEntry (cond b (entriesFrom 2 k es) (entriesFrom 2 (suc k) es)))
       go true ih jh = ih
       go false ih jh = jh
 
-  name-from : (k : ℕ) (es : List Entry) → nameIn t (front (entriesFrom 2 k es)) ≡ getD (namesIn t es) k []
-  unfolding nameIn front entriesFrom namesIn
+  name-from : (k : ℕ) (es : List Entry) → nameIn t (firstEntry (entriesFrom 2 k es)) ≡ getD (namesIn t es) k []
+  unfolding nameIn firstEntry entriesFrom namesIn
   name-from k [] = refl
-  name-from zero (e ∷ es) = go (eqb (kindOf e) 2) (name-from zero es)
+  name-from zero (e ∷ es) = go (eqb (kindByte e) 2) (name-from zero es)
     where
-      go : (b : Bool) → nameIn t (front (entriesFrom 2 0 es)) ≡ getD (namesIn t es) 0 []
-          → nameIn t (front (cond b (e ∷ es) (entriesFrom 2 0 es))) ≡ getD (cond b (nameIn t e ∷ namesIn t es) (namesIn t es)) 0 []
+      go : (b : Bool) → nameIn t (firstEntry (entriesFrom 2 0 es)) ≡ getD (namesIn t es) 0 []
+          → nameIn t (firstEntry (cond b (e ∷ es) (entriesFrom 2 0 es))) ≡ getD (cond b (nameIn t e ∷ namesIn t es) (namesIn t es)) 0 []
       go true ih = refl
       go false ih = ih
-  name-from (suc k) (e ∷ es) = go (eqb (kindOf e) 2) (name-from k es) (name-from (suc k) es)
+  name-from (suc k) (e ∷ es) = go (eqb (kindByte e) 2) (name-from k es) (name-from (suc k) es)
     where
-      go : (b : Bool) → nameIn t (front (entriesFrom 2 k es)) ≡ getD (namesIn t es) k [] → nameIn t (front (entriesFrom 2 (suc k) es)) ≡ getD (namesIn t es) (suc k) []
-          → nameIn t (front (cond b (entriesFrom 2 k es) (entriesFrom 2 (suc k) es))) ≡ getD (cond b (nameIn t e ∷ namesIn t es) (namesIn t es)) (suc k) []
+      go : (b : Bool) → nameIn t (firstEntry (entriesFrom 2 k es)) ≡ getD (namesIn t es) k [] → nameIn t (firstEntry (entriesFrom 2 (suc k) es)) ≡ getD (namesIn t es) (suc k) []
+          → nameIn t (firstEntry (cond b (entriesFrom 2 k es) (entriesFrom 2 (suc k) es))) ≡ getD (cond b (nameIn t e ∷ namesIn t es) (namesIn t es)) (suc k) []
       go true ih jh = ih
       go false ih jh = jh
 
 -- what a slot tells the name of the SQ with an ordinal by, less one
 unfoldable pub code : List ℕ → List ℕ → ℕ → ℕ
-unfolding codeOf front entriesFrom entriesIn
-code t c k = codeOf t (front (entriesFrom 2 k (entriesIn c)))
+unfolding codeOf firstEntry entriesFrom entriesIn
+code t c k = codeOf t (firstEntry (entriesFrom 2 k (entriesIn c)))
 
 module _ (t c : List ℕ) where
   -- it tells the name that the ordinal tells
-  pub code-tells : Each (Told t) (entriesIn c) → (x : List ℕ) (k : ℕ) → says t x (suc (code t c k)) ≡ tells (namesIn t (entriesIn c)) x (suc k)
-  unfolding tells nameOf code
-  code-tells h x k = code-says t x (front (entriesFrom 2 k (entriesIn c))) (front-told t k (entriesIn c) h) ∙ ap (same x) (name-from t k (entriesIn c))
+  pub code-tells : Each (Told t) (entriesIn c) → (x : List ℕ) (k : ℕ) → says t x (suc (code t c k)) ≡ tellsName (namesIn t (entriesIn c)) x (suc k)
+  unfolding tellsName nameOf code
+  code-tells h x k = code-says t x (firstEntry (entriesFrom 2 k (entriesIn c))) (front-told t k (entriesIn c) h) ∙ ap (same x) (name-from t k (entriesIn c))
 
   pub filled-codes : (slots : List ℕ) → entering false t 0 (entriesIn c) (map (recode (code t c)) slots) ≡ map (recode (code t c)) (enterFrom 0 (namesIn t (entriesIn c)) slots)
   unfolding code

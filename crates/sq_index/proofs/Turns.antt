@@ -9,9 +9,9 @@ use lib.ListN.{length, getD, drop, length-drop}
 use lib.Seq.{drop-drop, drop-cons}
 use lib.Dec.{eqb}
 use Rattle.entries.specs.declared.Entry.{Entry}
-use Rattle.entries.specs.Entries.{kindOf, kindSize, sizeOf, bodied, entryOf, entriesIn, entriesBefore, sizes, counted}
+use Rattle.entries.specs.Entries.{kindByte, kindSize, entrySize, entryWith, entryOf, entriesIn, entriesBefore, sizes, counted}
 use Rattle.entries.proofs.Walk.{turn-end, turn-on, turn-within}
-use Rattle.lookup.specs.Lookup.{entriesFrom, front}
+use Rattle.lookup.specs.Lookup.{entriesFrom, firstEntry}
 use Rattle.lookup.proofs.Walks.{front-entry, from-entries}
 use Rattle.name_index.specs.Index.{hashFrom, enter}
 use Rattle.sq_index.specs.Filled.{nameIn, startIn, valueOf, entering}
@@ -23,56 +23,56 @@ abbrev pub next : List ℕ → ℕ → ℕ
 next c at = at + sizes (entriesBefore 2 0 (entriesIn (drop at c)))
 
 -- a turn of a walk that is at `at` and found `e` there, `len` bytes long
-module _ (c : List ℕ) (at len : ℕ) (e : Entry) (found : e ≡ entryOf (drop at c)) (long : len ≡ sizeOf e) where
+module _ (c : List ℕ) (at len : ℕ) (e : Entry) (found : e ≡ entryOf (drop at c)) (long : len ≡ entrySize e) where
   pub next-end : len ≡ 0 → next c at ≡ at
   unfolding entriesBefore sizes
   next-end h = ap (λ es. at + sizes (entriesBefore 2 0 es)) (turn-end c at len e found long h) ∙ omega arith
 
   module _ (h : len ≡ 0 → ⊥) where
-    opened : next c at ≡ at + sizes (cond (eqb (kindOf e) 2) [] (e ∷ entriesBefore 2 0 (entriesIn (drop (at + len) c))))
+    opened : next c at ≡ at + sizes (cond (eqb (kindByte e) 2) [] (e ∷ entriesBefore 2 0 (entriesIn (drop (at + len) c))))
     unfolding entriesBefore
     opened = ap (λ es. at + sizes (entriesBefore 2 0 es)) (turn-on c at len e found long h)
 
-    pub next-here : kindOf e ≡ 2 → next c at ≡ at
+    pub next-here : kindByte e ≡ 2 → next c at ≡ at
     unfolding sizes
-    next-here q = opened ∙ ap (λ b. at + sizes (cond b [] (e ∷ entriesBefore 2 0 (entriesIn (drop (at + len) c))))) (eq-eqb (kindOf e) 2 q) ∙ omega arith
+    next-here q = opened ∙ ap (λ b. at + sizes (cond b [] (e ∷ entriesBefore 2 0 (entriesIn (drop (at + len) c))))) (eq-eqb (kindByte e) 2 q) ∙ omega arith
 
-    pub next-on : (kindOf e ≡ 2 → ⊥) → next c at ≡ next c (at + len)
+    pub next-on : (kindByte e ≡ 2 → ⊥) → next c at ≡ next c (at + len)
     unfolding sizes
-    next-on q = opened ∙ ap (λ b. at + sizes (cond b [] (e ∷ entriesBefore 2 0 (entriesIn (drop (at + len) c))))) (ne-eqb (kindOf e) 2 q) ∙ omega (arith, long)
+    next-on q = opened ∙ ap (λ b. at + sizes (cond b [] (e ∷ entriesBefore 2 0 (entriesIn (drop (at + len) c))))) (ne-eqb (kindByte e) 2 q) ∙ omega (arith, long)
 
 -- an entry of a field is passed
-field-entry : (c : List ℕ) (at : ℕ) → at + 11 ≤ length c → getD c at 0 ≡ 6 → entryOf (drop at c) ≡ bodied 6 (drop (suc at) c)
+field-entry : (c : List ℕ) (at : ℕ) → at + 11 ≤ length c → getD c at 0 ≡ 6 → entryOf (drop at c) ≡ entryWith 6 (drop (suc at) c)
 unfolding entryOf kindSize
 field-entry c at h q =
     let l : 11 ≤ suc (length (drop (suc at) c)) = omega (arith, h, length-drop (suc at) c) in
     rw (drop-cons c at 0 (omega (arith, h)), q, le-leb 11 (suc (length (drop (suc at) c))) l) refl
 
-field-kind : (s : List ℕ) → kindOf (bodied 6 s) ≡ 6
-unfolding kindOf bodied
+field-kind : (s : List ℕ) → kindByte (entryWith 6 s) ≡ 6
+unfolding kindByte entryWith
 field-kind s = refl
 
 pub next-field : (c : List ℕ) (at : ℕ) → at + 11 ≤ length c → getD c at 0 ≡ 6 → next c at ≡ next c (at + 11)
-unfolding sizeOf kindSize
+unfolding entrySize kindSize
 next-field c at h q =
-    let k : kindOf (entryOf (drop at c)) ≡ 6 = ap kindOf (field-entry c at h q) ∙ field-kind (drop (suc at) c) in
+    let k : kindByte (entryOf (drop at c)) ≡ 6 = ap kindByte (field-entry c at h q) ∙ field-kind (drop (suc at) c) in
     next-on c at 11 (entryOf (drop at c)) refl (sym (ap kindSize k)) (λ z. omega (arith, z)) (λ z. omega (arith, k, z))
 
 -- ---- what stands there
 
 -- the first SQ entry, if there is one, is of that kind
-from-none : (es : List Entry) → (kindOf (front (entriesFrom 2 0 es)) ≡ 2 → ⊥) → entriesFrom 2 0 es ≡ []
-unfolding entriesFrom front
+from-none : (es : List Entry) → (kindByte (firstEntry (entriesFrom 2 0 es)) ≡ 2 → ⊥) → entriesFrom 2 0 es ≡ []
+unfolding entriesFrom firstEntry
 from-none [] h = refl
-from-none (e ∷ es) h = go (eqb (kindOf e) 2) refl h (from-none es)
+from-none (e ∷ es) h = go (eqb (kindByte e) 2) refl h (from-none es)
   where
-    go : (b : Bool) → eqb (kindOf e) 2 ≡ b → (kindOf (front (cond b (e ∷ es) (entriesFrom 2 0 es))) ≡ 2 → ⊥)
-        → ((kindOf (front (entriesFrom 2 0 es)) ≡ 2 → ⊥) → entriesFrom 2 0 es ≡ []) → cond b (e ∷ es) (entriesFrom 2 0 es) ≡ []
-    go true q h ih = absurd (h (eqb-true (kindOf e) 2 q))
+    go : (b : Bool) → eqb (kindByte e) 2 ≡ b → (kindByte (firstEntry (cond b (e ∷ es) (entriesFrom 2 0 es))) ≡ 2 → ⊥)
+        → ((kindByte (firstEntry (entriesFrom 2 0 es)) ≡ 2 → ⊥) → entriesFrom 2 0 es ≡ []) → cond b (e ∷ es) (entriesFrom 2 0 es) ≡ []
+    go true q h ih = absurd (h (eqb-true (kindByte e) 2 q))
     go false q h ih = ih h
 
-pub sq-size : (e : Entry) → kindOf e ≡ 2 → 17 ≡ sizeOf e
-unfolding sizeOf kindSize
+pub sq-size : (e : Entry) → kindByte e ≡ 2 → 17 ≡ entrySize e
+unfolding entrySize kindSize
 sq-size e q = sym (ap kindSize q)
 
 module _ (c : List ℕ) (at r : ℕ) (is : r ≡ next c at) (e : Entry) (found : e ≡ entryOf (drop r c)) where
@@ -82,12 +82,12 @@ module _ (c : List ℕ) (at r : ℕ) (is : r ≡ next c at) (e : Entry) (found :
       ∙ ap entriesIn (sym (drop-drop (sizes (entriesBefore 2 0 (entriesIn (drop at c)))) at c))
       ∙ from-entries 2 0 (drop at c)
 
-  no-more : (kindOf e ≡ 2 → ⊥) → entriesFrom 2 0 (entriesIn (drop at c)) ≡ []
+  no-more : (kindByte e ≡ 2 → ⊥) → entriesFrom 2 0 (entriesIn (drop at c)) ≡ []
   no-more q =
-      let f : e ≡ front (entriesFrom 2 0 (entriesIn (drop at c))) = found ∙ sym (front-entry (drop r c)) ∙ ap front from in
-      from-none (entriesIn (drop at c)) (λ z. q (ap kindOf f ∙ z))
+      let f : e ≡ firstEntry (entriesFrom 2 0 (entriesIn (drop at c))) = found ∙ sym (front-entry (drop r c)) ∙ ap firstEntry from in
+      from-none (entriesIn (drop at c)) (λ z. q (ap kindByte f ∙ z))
 
-  module _ (q : kindOf e ≡ 2) where
+  module _ (q : kindByte e ≡ 2) where
     some : _≡_ {A = ℕ} 17 0 → ⊥
     some z = omega (arith, z)
 
@@ -102,22 +102,22 @@ module _ (c : List ℕ) (at r : ℕ) (is : r ≡ next c at) (e : Entry) (found :
   counted-from : (es : List Entry) → counted 2 (entriesFrom 2 0 es) ≡ counted 2 es
   unfolding counted entriesFrom
   counted-from [] = refl
-  counted-from (x ∷ es) = go (eqb (kindOf x) 2) refl (counted-from es)
+  counted-from (x ∷ es) = go (eqb (kindByte x) 2) refl (counted-from es)
     where
-      go : (b : Bool) → eqb (kindOf x) 2 ≡ b → counted 2 (entriesFrom 2 0 es) ≡ counted 2 es
+      go : (b : Bool) → eqb (kindByte x) 2 ≡ b → counted 2 (entriesFrom 2 0 es) ≡ counted 2 es
           → counted 2 (cond b (x ∷ es) (entriesFrom 2 0 es)) ≡ cond b (suc (counted 2 es)) (counted 2 es)
       go true q ih = ap (λ b. cond b (suc (counted 2 es)) (counted 2 es)) q
       go false q ih = ih
 
-  pub count-none : (kindOf e ≡ 2 → ⊥) → counted 2 (entriesIn (drop at c)) ≡ 0
+  pub count-none : (kindByte e ≡ 2 → ⊥) → counted 2 (entriesIn (drop at c)) ≡ 0
   unfolding counted
   count-none q = sym (counted-from (entriesIn (drop at c))) ∙ ap (counted 2) (no-more q)
 
-  pub count-on : kindOf e ≡ 2 → counted 2 (entriesIn (drop at c)) ≡ suc (counted 2 (entriesIn (drop (r + 17) c)))
+  pub count-on : kindByte e ≡ 2 → counted 2 (entriesIn (drop at c)) ≡ suc (counted 2 (entriesIn (drop (r + 17) c)))
   unfolding counted
   count-on q =
       let es : List Entry = entriesIn (drop (r + 17) c) in
-      sym (counted-from (entriesIn (drop at c))) ∙ ap (counted 2) (one-more q) ∙ ap (λ b. cond b (suc (counted 2 es)) (counted 2 es)) (eq-eqb (kindOf e) 2 q)
+      sym (counted-from (entriesIn (drop at c))) ∙ ap (counted 2) (one-more q) ∙ ap (λ b. cond b (suc (counted 2 es)) (counted 2 es)) (eq-eqb (kindByte e) 2 q)
 
   -- ---- filling
 
@@ -125,22 +125,22 @@ module _ (c : List ℕ) (at r : ℕ) (is : r ≡ next c at) (e : Entry) (found :
     entering-from : (es : List Entry) → entering b t k (entriesFrom 2 0 es) slots ≡ entering b t k es slots
     unfolding entering entriesFrom
     entering-from [] = refl
-    entering-from (x ∷ es) = go (eqb (kindOf x) 2) refl (entering-from es)
+    entering-from (x ∷ es) = go (eqb (kindByte x) 2) refl (entering-from es)
       where
-        go : (w : Bool) → eqb (kindOf x) 2 ≡ w → entering b t k (entriesFrom 2 0 es) slots ≡ entering b t k es slots
+        go : (w : Bool) → eqb (kindByte x) 2 ≡ w → entering b t k (entriesFrom 2 0 es) slots ≡ entering b t k es slots
             → entering b t k (cond w (x ∷ es) (entriesFrom 2 0 es)) slots
             ≡ cond w (entering b t (k + 1) es (enter (valueOf b k (hashFrom 0 (nameIn t x)) (startIn t x)) (nameIn t x) slots)) (entering b t k es slots)
         go true q ih = ap (λ w. cond w (entering b t (k + 1) es (enter (valueOf b k (hashFrom 0 (nameIn t x)) (startIn t x)) (nameIn t x) slots)) (entering b t k es slots)) q
         go false q ih = ih
 
-    pub entered-all : (kindOf e ≡ 2 → ⊥) → entering b t k (entriesIn (drop at c)) slots ≡ slots
+    pub entered-all : (kindByte e ≡ 2 → ⊥) → entering b t k (entriesIn (drop at c)) slots ≡ slots
     unfolding entering
     entered-all q = sym (entering-from (entriesIn (drop at c))) ∙ ap (λ es. entering b t k es slots) (no-more q)
 
-    pub entered : kindOf e ≡ 2
+    pub entered : kindByte e ≡ 2
         → entering b t k (entriesIn (drop at c)) slots ≡ entering b t (k + 1) (entriesIn (drop (r + 17) c)) (enter (valueOf b k (hashFrom 0 (nameIn t e)) (startIn t e)) (nameIn t e) slots)
     unfolding entering
     entered q =
         let es : List Entry = entriesIn (drop (r + 17) c) in
         sym (entering-from (entriesIn (drop at c))) ∙ ap (λ es. entering b t k es slots) (one-more q)
-        ∙ ap (λ w. cond w (entering b t (k + 1) es (enter (valueOf b k (hashFrom 0 (nameIn t e)) (startIn t e)) (nameIn t e) slots)) (entering b t k es slots)) (eq-eqb (kindOf e) 2 q)
+        ∙ ap (λ w. cond w (entering b t (k + 1) es (enter (valueOf b k (hashFrom 0 (nameIn t e)) (startIn t e)) (nameIn t e) slots)) (entering b t k es slots)) (eq-eqb (kindByte e) 2 q)

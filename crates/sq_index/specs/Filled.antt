@@ -9,7 +9,7 @@ use lib.Dec.{eqb}
 use Rattle.format.specs.Bytes.{same}
 use Rattle.entries.specs.declared.Entry.{Entry}
 use Rattle.entries.specs.declared.Entry.the-variants.{End, Header, ReferenceSequence, ReadGroup, Program, Comment, Field}
-use Rattle.entries.specs.Entries.{kindOf}
+use Rattle.entries.specs.Entries.{kindByte}
 use Rattle.key_index.specs.Word.{word}
 use Rattle.name_index.specs.Index.{absent, hashFrom, first, path, enter, ordinalOf, looked}
 
@@ -27,9 +27,9 @@ nameIn t (Field a b p) = []
 
 -- the names that the SQ entries say, in order
 unfoldable pub namesIn : List ℕ → List Entry → List (List ℕ)
-unfolding kindOf nameIn
+unfolding kindByte nameIn
 namesIn t [] = []
-namesIn t (e ∷ es) = cond (eqb (kindOf e) 2) (nameIn t e ∷ namesIn t es) (namesIn t es)
+namesIn t (e ∷ es) = cond (eqb (kindByte e) 2) (nameIn t e ∷ namesIn t es) (namesIn t es)
 
 -- where that name starts: behind the text where there is none
 unfoldable pub startIn : List ℕ → Entry → ℕ
@@ -73,10 +73,10 @@ says t x v = eqb (markOf (hashFrom 0 x)) ((v - 1) % 128) && same x (word (drop (
 
 -- the names of the SQ entries enter in order: the first SQ has the ordinal `k`
 unfoldable pub entering : Bool → List ℕ → ℕ → List Entry → List ℕ → List ℕ
-unfolding kindOf nameIn startIn valueOf hashFrom enter
+unfolding kindByte nameIn startIn valueOf hashFrom enter
 entering ordinals t k [] slots = slots
 entering ordinals t k (e ∷ es) slots =
-    cond (eqb (kindOf e) 2)
+    cond (eqb (kindByte e) 2)
     (entering ordinals t (k + 1) es (enter (valueOf ordinals k (hashFrom 0 (nameIn t e)) (startIn t e)) (nameIn t e) slots))
     (entering ordinals t k es slots)
 

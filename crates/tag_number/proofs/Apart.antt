@@ -9,7 +9,7 @@ use Rattle.format.specs.Bytes.{between, letter, digit}
 use Rattle.format.specs.Fields.{isTag}
 use Rattle.accepted.proofs.Bools.{and-left, and-right, or-split}
 use Rattle.accepted.proofs.Clean.{between-bounds}
-use Rattle.tag_number.specs.Number.{placeOf, tagNumber}
+use Rattle.tag_number.specs.Number.{byteNumber, tagNumber}
 
 -- the byte with a place
 byteAt : ℕ → ℕ
@@ -17,17 +17,17 @@ byteAt p = cond (ltb p 26) (p + 65) (cond (ltb p 52) (p + 71) (p - 4))
 
 -- a byte's place, and the byte from it again
 abbrev Placed : ℕ → ℕ → Type 0
-Placed b most = (placeOf b < most) × (byteAt (placeOf b) ≡ b)
+Placed b most = (byteNumber b < most) × (byteAt (byteNumber b) ≡ b)
 
 module _ (b : ℕ) where
   upper : between 65 90 b ≡ true → Placed b 52
-  unfolding placeOf byteAt
+  unfolding byteNumber byteAt
   upper h =
       let x = between-bounds 65 90 b h in
       rw (lt-leb 97 b (omega arith), le-leb 65 b (x .0)) ((omega arith, rw (lt-ltb (b - 65) 26 (omega arith)) (omega arith)))
 
   lower : between 97 122 b ≡ true → Placed b 52
-  unfolding placeOf byteAt
+  unfolding byteNumber byteAt
   lower h =
       let x = between-bounds 97 122 b h in
       rw (le-leb 97 b (x .0)) ((omega arith, rw (le-ltb (b - 71) 26 (omega arith), lt-ltb (b - 71) 52 (omega arith)) (omega arith)))
@@ -37,7 +37,7 @@ module _ (b : ℕ) where
   letter-place h = or-split (between 65 90 b) (between 97 122 b) h upper lower
 
   digit-place : digit b ≡ true → Placed b 62
-  unfolding digit placeOf byteAt
+  unfolding digit byteNumber byteAt
   digit-place h =
       let x = between-bounds 48 57 b h in
       rw (lt-leb 97 b (omega arith), lt-leb 65 b (omega arith)) ((omega arith, rw (le-ltb (b + 4) 26 (omega arith), le-ltb (b + 4) 52 (omega arith)) (omega arith)))
@@ -66,6 +66,6 @@ tag-apart a b c d h k e =
     let q = second a b h in
     let r = first c d k in
     let s = second c d k in
-    let x : placeOf a ≡ placeOf c = omega (arith, q .0, s .0) in
-    let y : placeOf b ≡ placeOf d = omega (arith, q .0, s .0) in
+    let x : byteNumber a ≡ byteNumber c = omega (arith, q .0, s .0) in
+    let y : byteNumber b ≡ byteNumber d = omega (arith, q .0, s .0) in
     (sym (p .1) ∙ ap byteAt x ∙ r .1, sym (q .1) ∙ ap byteAt y ∙ s .1)

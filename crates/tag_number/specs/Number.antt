@@ -4,10 +4,10 @@ use mathlib.Core.Bool.{cond}
 use lib.Dec.{leb}
 
 -- the place of a byte of a tag among 62: A to Z, a to z, 0 to 9
-unfoldable pub placeOf : ℕ → ℕ
-placeOf b = cond (leb 97 b) (b - 71) (cond (leb 65 b) (b - 65) (b + 4))
+unfoldable pub byteNumber : ℕ → ℕ
+byteNumber b = cond (leb 97 b) (b - 71) (cond (leb 65 b) (b - 65) (b + 4))
 
 -- 62 for each letter before the first
 unfoldable pub tagNumber : ℕ → ℕ → ℕ
-unfolding placeOf
-tagNumber a b = placeOf a * 62 + placeOf b
+unfolding byteNumber
+tagNumber a b = byteNumber a * 62 + byteNumber b

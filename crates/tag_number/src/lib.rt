@@ -1,10 +1,10 @@
 // A number for each tag, a letter and a letter or digit: 3,224 of them, and no two tags have one number.
 ghost use mathlib.Core.Path.{_≡_};
-ghost use Rattle.tag_number.specs.Number.{placeOf, tagNumber};
+ghost use Rattle.tag_number.specs.Number.{byteNumber, tagNumber};
 
 // The place of a byte of a tag among 62: A to Z, a to z, 0 to 9.
 fn place_of(b: u8) -> u8
-    ensures { λ r. ⌜ r ≡ placeOf b ⌝ }
+    ensures { λ r. ⌜ r ≡ byteNumber b ⌝ }
 {
     if b'a' <= b {
         return b - 71;

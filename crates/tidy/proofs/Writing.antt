@@ -7,19 +7,19 @@ use mathlib.Core.Option.{Option, none, some}
 use native.Mathlib.Omega.{arith}
 use lib.ListN.{length}
 use borrow.Author.Tests.{lt-ltb, le-ltb}
-use Rattle.format.specs.Reading.{Reading, refuse, accept, readText, longest}
+use Rattle.format.specs.Reading.{Reading, refusedText, accept, readText, longest}
 use Rattle.format.specs.Tidy.{tidy, unwritable}
-use Rattle.format.specs.Calls.{Answer, no, yes, then, readAnswer, records, fitting, writing, tidying}
+use Rattle.format.specs.Calls.{Answer, refused, yes, then, readAnswer, records, fitting, writing, tidying}
 use Rattle.format.specs.declared.LineNo.{LineNo}
 use Rattle.accepted.proofs.Read.{accepted-reads}
 use Rattle.accepted.specs.Read.{isAccepted, recordsOf}
 use Rattle.tidy_text.specs.Accepted.{measuredOf}
 use Rattle.per_kind.specs.declared.PerKind.{PerKind}
-use Rattle.tidy_text.specs.declared.Measured.the-variants.{Bad, Is}
+use Rattle.tidy_text.specs.declared.Measured.the-variants.{Unwritable, Is}
 
 -- ---- by what was measured
 
-pub measured-bad : (o : Option ℕ) (n : PerKind) (l : LineNo) → measuredOf o n ≡ Bad l → o ≡ some (l .0)
+pub measured-bad : (o : Option ℕ) (n : PerKind) (l : LineNo) → measuredOf o n ≡ Unwritable l → o ≡ some (l .0)
 unfolding measuredOf
 measured-bad none n l e = absurd (let z : _≡_ {A = ℕ} 0 1 = cc in omega arith)
 measured-bad (some k) n l e =
@@ -34,11 +34,11 @@ measured-is (some k) n m e = absurd (let z : _≡_ {A = ℕ} 0 1 = cc in omega a
 -- ---- 24, then 1, then 20
 
 module _ (room : ℕ) (o : Option ℕ) (t : List ℕ) where
-  pub write-bad : (l : ℕ) → o ≡ some l → writing room o t ≡ no 24 l
+  pub write-bad : (l : ℕ) → o ≡ some l → writing room o t ≡ refused 24 l
   unfolding writing
   write-bad l e = rw e refl
 
-  pub write-long : o ≡ none → 16777216 < length t → writing room o t ≡ no 1 0
+  pub write-long : o ≡ none → 16777216 < length t → writing room o t ≡ refused 1 0
   unfolding writing longest
   write-long e h = rw (e, lt-ltb _ _ h) refl
 
@@ -46,7 +46,7 @@ module _ (room : ℕ) (o : Option ℕ) (t : List ℕ) where
   unfolding writing longest
   fits e h = rw (e, le-ltb _ _ h) refl
 
-  pub write-short : o ≡ none → length t ≤ 16777216 → room < length t → writing room o t ≡ no 20 0
+  pub write-short : o ≡ none → length t ≤ 16777216 → room < length t → writing room o t ≡ refused 20 0
   unfolding fitting
   write-short e h s = fits e h ∙ rw (lt-ltb _ _ s) refl
 
@@ -57,7 +57,7 @@ module _ (room : ℕ) (o : Option ℕ) (t : List ℕ) where
 -- ---- by what was judged
 
 module _ (t : List ℕ) (room : ℕ) where
-  pub tidy-refused : (n l : ℕ) → readText t ≡ refuse n l → tidying t room ≡ no n l
+  pub tidy-refused : (n l : ℕ) → readText t ≡ refusedText n l → tidying t room ≡ refused n l
   unfolding tidying then records readAnswer
   tidy-refused n l e = rw e refl
 

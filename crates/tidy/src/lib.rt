@@ -1,7 +1,7 @@
 // Tidying: the text of the same records with the keys first, one LF after each line, kind by kind.
 use format::LineNo;
 use judging::Judged;
-use parser::Answer;
+use parser::CountAnswer;
 use tidy_text::Measured;
 ghost use mathlib.Core.Path.{_≡_};
 ghost use mathlib.Core.Bool.{true};
@@ -14,35 +14,35 @@ ghost use Rattle.accepted.specs.Read.{isAccepted, recordsOf};
 ghost use Rattle.parser.specs.Answers.{answerOf, outputOf};
 
 // Writes the tidy text of an accepted text: 24, then 1, then 20.
-fn write_accepted(text: &[u8], strict: bool, out: &mut [u8]) -> Answer
+fn write_accepted(text: &[u8], strict: bool, out: &mut [u8]) -> CountAnswer
     requires { ⌜ isAccepted (readText (now text)) ≡ true ⌝ }
     requires { ⌜ strict ≡ isStrict (announced (lines (now text))) ⌝ }
     ensures answer { λ r. ⌜ r ≡ answerOf (writing (length (now (out .entry))) (unwritable 0 (recordsOf (now (text .entry)))) (tidy (recordsOf (now (text .entry))))) ⌝ }
     ensures wrote { λ _. ⌜ now (out .exit) ≡ outputOf (writing (length (now (out .entry))) (unwritable 0 (recordsOf (now (text .entry)))) (tidy (recordsOf (now (text .entry))))) (now (out .entry)) ⌝ }
 {
     match tidy_text::measure(text, strict) {
-        Measured::Bad(line) => Answer::Refused(24, line),
+        Measured::Unwritable(line) => CountAnswer::Refused(24, line),
         Measured::Is(sizes) => {
             let n = sizes.total();
             if format::LONGEST < n {
-                return Answer::Refused(1, LineNo(0));
+                return CountAnswer::Refused(1, LineNo(0));
             }
             if out.len() < n {
-                return Answer::Refused(20, LineNo(0));
+                return CountAnswer::Refused(20, LineNo(0));
             }
             let n = tidy_text::put_tidy(text, strict, sizes, out);
-            Answer::Count(n)
+            CountAnswer::Count(n)
         }
     }
 }
 
 // Tidies `text` into the front of `out`, or answers the first refusal, which changes nothing.
-pub fn tidy(text: &[u8], out: &mut [u8]) -> Answer
+pub fn tidy(text: &[u8], out: &mut [u8]) -> CountAnswer
     ensures answer { λ r. ⌜ r ≡ answerOf (tidying (now (text .entry)) (length (now (out .entry)))) ⌝ }
     ensures wrote { λ _. ⌜ now (out .exit) ≡ outputOf (tidying (now (text .entry)) (length (now (out .entry)))) (now (out .entry)) ⌝ }
 {
     match judging::judge(text) {
-        Judged::Refused(n, line) => Answer::Refused(n, line),
+        Judged::Refused(n, line) => CountAnswer::Refused(n, line),
         Judged::Accepted(_) => write_accepted(text, repeat_rule::is_strict(text), out),
     }
 }

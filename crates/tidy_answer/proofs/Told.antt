@@ -8,11 +8,11 @@ use native.Mathlib.Omega.{arith}
 use lib.ListN.{length, drop}
 use lib.Dec.{ltb}
 use borrow.Author.Tests.{lt-ltb, le-ltb, ltb-false}
-use Rattle.format.specs.Reading.{Reading, refuse, accept, readText, longest}
+use Rattle.format.specs.Reading.{Reading, refusedText, accept, readText, longest}
 use Rattle.format.specs.Tidy.{tidy, unwritable}
-use Rattle.format.specs.Calls.{Answer, no, yes, then, readAnswer, records, fitting, writing, tidying}
+use Rattle.format.specs.Calls.{Answer, refused, yes, then, readAnswer, records, fitting, writing, tidying}
 use Rattle.format.specs.declared.LineNo.{LineNo}
-use Rattle.parser.specs.declared.Answer.the-variants.{Refused, Count}
+use Rattle.parser.specs.declared.CountAnswer.the-variants.{Refused, Count}
 use Rattle.parser.specs.Answers.{answerOf, outputOf}
 use Rattle.text.specs.Over.{over}
 use Rattle.text.proofs.Over.{over-length}
@@ -43,7 +43,7 @@ unfolding tidying then records readAnswer longest
 room-enough t h = go (readText t) refl
   where
     go : (r : Reading) → readText t ≡ r → then (readAnswer r) (λ rs. writing 16777216 (unwritable 0 rs) (tidy rs)) ≡ then (readAnswer r) (λ rs. writing 65536 (unwritable 0 rs) (tidy rs))
-    go (refuse n l) e = refl
+    go (refusedText n l) e = refl
     go (accept rs) e = fits 16777216 (unwritable 0 rs) (tidy rs) (omega (arith, tidy-length t rs e)) (omega arith)
 
 pub program-taken : (t : List ℕ) → length t ≤ 65535 → program t ≡ said (tidying t 65536)
@@ -55,7 +55,7 @@ unfolding writing fitting said
 within room (some l) t h = refusal-fits 24 l room h
 within room none t h = go (ltb longest (length t)) (ltb room (length t)) refl
   where
-    go : (a b : Bool) → ltb room (length t) ≡ b → length (said (cond a (no 1 0) (cond b (no 20 0) (yes t)))) ≤ room
+    go : (a b : Bool) → ltb room (length t) ≡ b → length (said (cond a (refused 1 0) (cond b (refused 20 0) (yes t)))) ≤ room
     go true b e = refusal-fits 1 0 room h
     go false true e = refusal-fits 20 0 room h
     go false false e = ltb-false room (length t) e
@@ -65,7 +65,7 @@ unfolding tidying then records readAnswer said
 tidied t = go (readText t)
   where
     go : (r : Reading) → length (said (then (readAnswer r) (λ rs. writing 65536 (unwritable 0 rs) (tidy rs)))) ≤ 65536
-    go (refuse n l) = refusal-fits n l 65536 (omega arith)
+    go (refusedText n l) = refusal-fits n l 65536 (omega arith)
     go (accept rs) = within 65536 (unwritable 0 rs) (tidy rs) (omega arith)
 
 program-fits : (t : List ℕ) → length (program t) ≤ 65536
@@ -90,7 +90,7 @@ program-within t out last n e w h = omega (arith, program-fits t, program-length
 
 pub told-refused : (x : Answer (List ℕ)) (n : ℕ) (l : LineNo) → answerOf x ≡ Refused n l → (said x ≡ refusal n (l .0)) × ((out : List ℕ) → outputOf x out ≡ out)
 unfolding answerOf outputOf said
-told-refused (no m k) n l e =
+told-refused (refused m k) n l e =
     let p : m ≡ n = cc in
     let q : _≡_ {A = LineNo} (record { 0 = k }) l = cc in
     (ap (λ m. refusal m k) p ∙ ap (λ l. refusal n (l .0)) q, λ out. refl)
@@ -98,7 +98,7 @@ told-refused (yes xs) n l e = absurd (never cc)
 
 pub told-count : (x : Answer (List ℕ)) (n : ℕ) → answerOf x ≡ Count n → (n ≡ length (said x)) × ((out : List ℕ) → outputOf x out ≡ over out 0 (said x))
 unfolding answerOf outputOf said over
-told-count (no m k) n e = absurd (never cc)
+told-count (refused m k) n e = absurd (never cc)
 told-count (yes xs) n e =
     let p : length xs ≡ n = cc in
     let z : length xs ≡ 0 + length xs = omega arith in

@@ -6,7 +6,7 @@ use lib.ListN.{length}
 use lib.Dec.{ltb}
 use Rattle.format.specs.Decimal.{written}
 use Rattle.format.specs.Reading.{longest}
-use Rattle.format.specs.Calls.{Answer, no, yes, tidying}
+use Rattle.format.specs.Calls.{Answer, refused, yes, tidying}
 
 -- `refused `
 unfoldable pub refusedWord : List ℕ
@@ -24,7 +24,7 @@ refusal n l = refusedWord ++ written n ++ lineWord ++ written l ++ (10 ∷ [])
 -- an answer as a text
 unfoldable pub said : Answer (List ℕ) → List ℕ
 unfolding refusal
-said (no n l) = refusal n l
+said (refused n l) = refusal n l
 said (yes t) = t
 
 -- at most 65,535 bytes are taken; what is written has no limit of its own

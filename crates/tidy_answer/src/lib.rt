@@ -1,6 +1,6 @@
 // What the program on standard input writes: the tidy text, or the refusal as a line.
 use format::LineNo;
-use parser::Answer;
+use parser::CountAnswer;
 ghost use mathlib.Core.Path.{_≡_};
 ghost use Prim.Native.Nat.{_≤_};
 ghost use lib.ListN.{length};
@@ -30,7 +30,7 @@ pub fn answer(text: &[u8], out: &mut [u8; 65536]) -> usize
         return put_refusal(out, 1, LineNo(0));
     }
     match tidy::tidy(text, out) {
-        Answer::Count(n) => n,
-        Answer::Refused(n, line) => put_refusal(out, n as u32, line),
+        CountAnswer::Count(n) => n,
+        CountAnswer::Refused(n, line) => put_refusal(out, n as u32, line),
     }
 }

@@ -8,7 +8,7 @@ use lib.ListN.{length, take, drop, length-drop, drop-of-length-le}
 use lib.Seq.{take-all, drop-drop, length-take-le}
 use Rattle.format.specs.Lines.{Piece, lines, linesFrom}
 use Rattle.format.specs.Records.{Record, read, line}
-use Rattle.format.specs.Reading.{Reading, refuse, accept, announced, isStrict, readText}
+use Rattle.format.specs.Reading.{Reading, refusedText, accept, announced, isStrict, readText}
 use Rattle.text.specs.First.{firstLine}
 use Rattle.text.specs.declared.Cut.{Cut}
 use Rattle.text.proofs.Lines.{lines-none}
@@ -19,12 +19,12 @@ use Rattle.accepted.proofs.Bools.{never, and-left, and-right}
 use Rattle.accepted.proofs.Text.{text-fits, text-lines}
 use Rattle.accepted.proofs.Read.{accepted-reads}
 use Rattle.accepted.specs.Read.{isAccepted, isRead, recordsOf}
-use Rattle.tidy_text.specs.Accepted.{onto, lineRecords, allRead, recordsFrom}
+use Rattle.tidy_text.specs.Accepted.{withRecord, lineRecords, allRead, recordsFrom}
 
 -- ---- all lines
 
 pairs-records : (strict : Bool) (ps : List Piece) (rs : List Record) → Pairs (λ p r. line strict p ≡ read r) ps rs → (lineRecords strict ps ≡ rs) × (allRead strict ps ≡ true)
-unfolding Pairs lineRecords allRead onto isRead
+unfolding Pairs lineRecords allRead withRecord isRead
 pairs-records strict [] [] h = (refl, refl)
 pairs-records strict [] (r ∷ rs) h = absurd h
 pairs-records strict (p ∷ ps) [] h = absurd h
@@ -59,7 +59,7 @@ pub record Turn (strict : Bool) (t : List ℕ) (at : ℕ) (c : Cut) : Type 0 whe
   pub within : at + c .next ≤ length t
   pub size : length (lent t at (c .len)) ≡ c .len
   pub read : isRead (line strict (record { at = at; bytes = lent t at (c .len) })) ≡ true
-  pub records : recordsFrom strict t at ≡ onto (line strict (record { at = at; bytes = lent t at (c .len) })) (recordsFrom strict t (at + c .next))
+  pub records : recordsFrom strict t at ≡ withRecord (line strict (record { at = at; bytes = lent t at (c .len) })) (recordsFrom strict t (at + c .next))
   pub rest : allRead strict (linesFrom (at + c .next) (drop (at + c .next) t)) ≡ true
 
 pub turn : (strict : Bool) (t : List ℕ) (at : ℕ) → at < length t → allRead strict (linesFrom at (drop at t)) ≡ true

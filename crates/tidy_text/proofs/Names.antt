@@ -5,13 +5,13 @@ use mathlib.Core.Bool.{Bool, true, false, cond}
 use mathlib.Core.List.{List}
 use mathlib.Core.Option.{none, some}
 use lib.ListN.{length}
-use Rattle.format.specs.Records.{Record, Line, refused, read, line}
+use Rattle.format.specs.Records.{Record, Line, refusedLine, read, line}
 use Rattle.format.specs.Tidy.{unwritable}
 use Rattle.accepted.proofs.Bools.{never}
-use Rattle.writer.specs.Line.{lineText, lineWritable, sizeOf}
+use Rattle.writer.specs.Line.{lineText, lineWritable, lineSize}
 use Rattle.writer.specs.declared.Size.the-variants.{Unwritable, Is}
 use Rattle.format.specs.declared.Kind.{Kind}
-use Rattle.tidy_text.specs.Accepted.{onto, recordsFrom}
+use Rattle.tidy_text.specs.Accepted.{withRecord, recordsFrom}
 use Rattle.per_kind.specs.Numbers.{plus}
 use Rattle.tidy_text.specs.Sizes.{grownBy}
 use Rattle.per_kind.specs.declared.PerKind.{PerKind}
@@ -24,9 +24,9 @@ use Rattle.accepted.specs.Read.{isRead}
 pub cond-is : {A : Type 0} (b d : Bool) (x y : A) → b ≡ d → cond b x y ≡ cond d x y
 cond-is b d x y e = ap (λ b. cond b x y) e
 
-unwritable-onto : (l : ℕ) (p : Line) (rs : List Record) → isRead p ≡ true → unwritable l (onto p rs) ≡ cond (lineWritable p) (unwritable (l + 1) rs) (some l)
-unfolding unwritable onto isRead lineWritable
-unwritable-onto l (refused n) rs h = absurd (never (cc))
+unwritable-onto : (l : ℕ) (p : Line) (rs : List Record) → isRead p ≡ true → unwritable l (withRecord p rs) ≡ cond (lineWritable p) (unwritable (l + 1) rs) (some l)
+unfolding unwritable withRecord isRead lineWritable
+unwritable-onto l (refusedLine n) rs h = absurd (never (cc))
 unwritable-onto l (read r) rs h = refl
 
 pub unwritable-turn : (strict : Bool) (t : List ℕ) (at : ℕ) (c : Cut) → Turn strict t at c → (l : ℕ)
@@ -43,16 +43,16 @@ unwritable-ended strict t at h l = ap (unwritable l) (ended strict t at h)
 
 -- ---- by a line's size
 
-size-bad : (p : Line) → sizeOf p ≡ Unwritable → lineWritable p ≡ false
-unfolding sizeOf
+size-bad : (p : Line) → lineSize p ≡ Unwritable → lineWritable p ≡ false
+unfolding lineSize
 size-bad p e = go (lineWritable p) refl e
   where
     go : (b : Bool) → lineWritable p ≡ b → cond b (Is (length (lineText p))) Unwritable ≡ Unwritable → lineWritable p ≡ false
     go true q e = absurd (never (cc))
     go false q e = q
 
-pub size-is : (p : Line) (k : ℕ) → sizeOf p ≡ Is k → (lineWritable p ≡ true) × (length (lineText p) ≡ k)
-unfolding sizeOf
+pub size-is : (p : Line) (k : ℕ) → lineSize p ≡ Is k → (lineWritable p ≡ true) × (length (lineText p) ≡ k)
+unfolding lineSize
 size-is p k e = go (lineWritable p) refl e
   where
     go : (b : Bool) → lineWritable p ≡ b → cond b (Is (length (lineText p))) Unwritable ≡ Is k → (lineWritable p ≡ true) × (length (lineText p) ≡ k)
@@ -62,11 +62,11 @@ size-is p k e = go (lineWritable p) refl e
 -- ---- by the sizes with it
 
 module _ (j : Kind) (p : Line) (s : PerKind) where
-  pub grown-bad : sizeOf p ≡ Unwritable → grownBy j p s ≡ grown.Unwritable
+  pub grown-bad : lineSize p ≡ Unwritable → grownBy j p s ≡ grown.Unwritable
   unfolding grownBy
   grown-bad e = cond-is (lineWritable p) false _ _ (size-bad p e)
 
-  pub grown-is : (n : ℕ) → sizeOf p ≡ Is n → grownBy j p s ≡ grown.Is (plus j n s)
+  pub grown-is : (n : ℕ) → lineSize p ≡ Is n → grownBy j p s ≡ grown.Is (plus j n s)
   unfolding grownBy
   grown-is n e = cond-is (lineWritable p) true _ _ (size-is p n e .0) ∙ ap (λ n. grown.Is (plus j n s)) (size-is p n e .1)
 

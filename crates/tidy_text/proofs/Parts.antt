@@ -12,11 +12,11 @@ use Rattle.text.specs.Over.{over}
 use Rattle.text.proofs.Over.{over-none, over-length, over-over}
 use Rattle.writer.specs.Line.{lineText}
 use Rattle.parts.proofs.Wrote.{Wrote, wrote-then}
-use Rattle.tidy_text.specs.Accepted.{onto}
-use Rattle.per_kind.specs.Numbers.{numberOf, get, plus, front, starts}
+use Rattle.tidy_text.specs.Accepted.{withRecord}
+use Rattle.per_kind.specs.Numbers.{kindNumber, get, plus, front, kindStarts}
 use Rattle.tidy_text.specs.Kinds.{kindText, textOfKind, frontText}
 use Rattle.tidy_text.specs.Sizes.{sizesOf}
-use Rattle.tidy_text.specs.Placed.{Part, placed, begins, Apart, parts}
+use Rattle.tidy_text.specs.Placed.{Part, withParts, begins, Apart, parts}
 use Rattle.per_kind.specs.declared.PerKind.{PerKind}
 use Rattle.tidy_text.proofs.OfKind.{only, kind-turn}
 use Rattle.tidy_text.proofs.Sizes.{size-none, front-size}
@@ -41,7 +41,7 @@ spread-same c f g h = rw (h Header, h ReferenceSequence, h ReadGroup, h Program,
 split-kind : (j : Kind) (out xs : List ℕ) (n : ℕ) (c : PerKind) (rs : List Record) → n ≤ length out
     → Apart (spread c (λ k. only j xs k ++ textOfKind k rs)) n
     → Split out n (get j c) xs (spread c (λ k. only j xs k ++ textOfKind k rs)) (parts (plus j (length xs) c) rs)
-unfolding get plus parts numberOf
+unfolding get plus parts kindNumber
 split-kind Header out xs n c rs m h =
     split [] out n (c .hd) xs (textOfKind Header rs) (part ReferenceSequence c rs ∷ part ReadGroup c rs ∷ part Program c rs ∷ part Comment c rs ∷ []) m h
 split-kind ReferenceSequence out xs n c rs m h =
@@ -55,17 +55,17 @@ split-kind Comment out xs n c rs m h =
 
 -- a line's record is written at the place of its kind
 pub split-turn : (j : Kind) (out : List ℕ) (n : ℕ) (c : PerKind) (l : Line) (rs : List Record) → ((k : Kind) → kindText k l ≡ only j (lineText l) k) → n ≤ length out
-    → Apart (parts c (onto l rs)) n → Split out n (get j c) (lineText l) (parts c (onto l rs)) (parts (plus j (length (lineText l)) c) rs)
+    → Apart (parts c (withRecord l rs)) n → Split out n (get j c) (lineText l) (parts c (withRecord l rs)) (parts (plus j (length (lineText l)) c) rs)
 unfolding parts
 split-turn j out n c l rs e m h =
     let xs : List ℕ = lineText l in
-    let q : parts c (onto l rs) ≡ spread c (λ k. only j xs k ++ textOfKind k rs) =
-    spread-same c (λ k. textOfKind k (onto l rs)) (λ k. only j xs k ++ textOfKind k rs) (λ k. kind-turn j k l rs (e k)) in
+    let q : parts c (withRecord l rs) ≡ spread c (λ k. only j xs k ++ textOfKind k rs) =
+    spread-same c (λ k. textOfKind k (withRecord l rs)) (λ k. only j xs k ++ textOfKind k rs) (λ k. kind-turn j k l rs (e k)) in
     subst (λ ps. Split out n (get j c) xs ps (parts (plus j (length xs) c) rs)) (sym q) (split-kind j out xs n c rs m (subst (λ ps. Apart ps n) q h))
 
 -- after the last line
-pub placed-none : (out : List ℕ) (c : PerKind) → placed out (parts c []) ≡ out
-unfolding placed parts
+pub placed-none : (out : List ℕ) (c : PerKind) → withParts out (parts c []) ≡ out
+unfolding withParts parts
 placed-none out c =
     rw (size-none Header, size-none ReferenceSequence, size-none ReadGroup, size-none Program, size-none Comment)
     (rw (over-none out (get Header c), over-none out (get ReferenceSequence c), over-none out (get ReadGroup c), over-none out (get Program c), over-none out (get Comment c)) refl)
@@ -73,15 +73,15 @@ placed-none out c =
 -- ---- the whole
 
 module _ (out : List ℕ) (gap : ℕ) (rs : List Record) (h : length (tidy rs) + gap ≤ length out) where
-  pub starts-apart : Apart (parts (starts gap (sizesOf rs)) rs) (length out)
-  unfolding Apart begins parts starts front sizesOf get
+  pub starts-apart : Apart (parts (kindStarts gap (sizesOf rs)) rs) (length out)
+  unfolding Apart begins parts kindStarts front sizesOf get
   starts-apart =
       let f = front-sizes rs in
       let t = tidy-sizes rs in
       (omega arith, (omega arith, (omega arith, (omega arith, (omega (arith, h, t), tt)))))
 
-  pub starts-placed : placed out (parts (starts gap (sizesOf rs)) rs) ≡ over (over out 0 (frontText rs)) (length (frontText rs) + gap) (textOfKind Comment rs)
-  unfolding placed parts starts front sizesOf get frontText
+  pub starts-placed : withParts out (parts (kindStarts gap (sizesOf rs)) rs) ≡ over (over out 0 (frontText rs)) (length (frontText rs) + gap) (textOfKind Comment rs)
+  unfolding withParts parts kindStarts front sizesOf get frontText
   starts-placed =
       let a = textOfKind Header rs in
       let b = textOfKind ReferenceSequence rs in

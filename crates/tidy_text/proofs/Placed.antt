@@ -7,7 +7,7 @@ use lib.ListN.{length, set, length-append}
 use lib.Seq.{set-comm, sets, sets-eq, length-sets}
 use Rattle.text.specs.Over.{over}
 use Rattle.text.proofs.Over.{over-length, over-over}
-use Rattle.tidy_text.specs.Placed.{Part, placed, begins, Apart}
+use Rattle.tidy_text.specs.Placed.{Part, withParts, begins, Apart}
 
 -- ---- two writes
 
@@ -65,22 +65,22 @@ apart-split (q ∷ r ∷ qs) n at xs ys ss h = (h .0, apart-split (r ∷ qs) n a
 -- and that front may be written before all
 placed-split : (qs : List Part) (out : List ℕ) (n at : ℕ) (xs ys : List ℕ) (ss : List Part) → n ≤ length out
     → Apart (qs ++ (record { at = at; bytes = xs ++ ys } ∷ ss)) n
-    → placed out (qs ++ (record { at = at; bytes = xs ++ ys } ∷ ss)) ≡ placed (over out at xs) (qs ++ (record { at = at + length xs; bytes = ys } ∷ ss))
-unfolding placed Apart
+    → withParts out (qs ++ (record { at = at; bytes = xs ++ ys } ∷ ss)) ≡ withParts (over out at xs) (qs ++ (record { at = at + length xs; bytes = ys } ∷ ss))
+unfolding withParts Apart
 placed-split [] out n at xs ys ss m h =
-    ap (λ l. placed l ss) (sym (over-over out at xs ys (omega (arith, length-append xs ys, m, ends [] (record { at = at; bytes = xs ++ ys }) ss n h))))
+    ap (λ l. withParts l ss) (sym (over-over out at xs ys (omega (arith, length-append xs ys, m, ends [] (record { at = at; bytes = xs ++ ys }) ss n h))))
 placed-split (q ∷ qs) out n at xs ys ss m h =
     let p : Part = record { at = at; bytes = xs ++ ys } in
     let e : at + length xs ≤ n = omega (arith, length-append xs ys, ends (q ∷ qs) p ss n h) in
     let b : q .at + length (q .bytes) ≤ at = before q qs p ss n h in
     placed-split qs (over out (q .at) (q .bytes)) n at xs ys ss (omega (arith, m, over-length out (q .at) (q .bytes) (omega arith))) (h .1)
-    ∙ ap (λ l. placed l (qs ++ (record { at = at + length xs; bytes = ys } ∷ ss))) (over-apart out (q .at) (q .bytes) at xs b (omega arith))
+    ∙ ap (λ l. withParts l (qs ++ (record { at = at + length xs; bytes = ys } ∷ ss))) (over-apart out (q .at) (q .bytes) at xs b (omega arith))
 
 -- the parts `ps` of which `xs` is written at `at`: the parts `qs` are left
 pub record Split (out : List ℕ) (n at : ℕ) (xs : List ℕ) (ps qs : List Part) : Type 0 where
   pub room : at + length xs ≤ n
   pub apart : Apart qs n
-  pub same : placed out ps ≡ placed (over out at xs) qs
+  pub same : withParts out ps ≡ withParts (over out at xs) qs
 
 pub split : (qs : List Part) (out : List ℕ) (n at : ℕ) (xs ys : List ℕ) (ss : List Part) → n ≤ length out
     → Apart (qs ++ (record { at = at; bytes = xs ++ ys } ∷ ss)) n

@@ -12,15 +12,15 @@ use Rattle.format.specs.Reading.{ofKind}
 use Rattle.format.specs.declared.Kind.{Kind}
 use Rattle.format.specs.declared.Kind.the-variants.{Header, ReferenceSequence, ReadGroup, Program, Comment}
 use Rattle.writer.specs.Line.{lineText}
-use Rattle.tidy_text.specs.Accepted.{onto}
-use Rattle.per_kind.specs.Numbers.{numberOf, each, get, noBytes, plus, front, total}
+use Rattle.tidy_text.specs.Accepted.{withRecord}
+use Rattle.per_kind.specs.Numbers.{kindNumber, each, get, noBytes, plus, front, total}
 use Rattle.tidy_text.specs.Kinds.{kindText, textOfKind, frontText}
 use Rattle.tidy_text.specs.Sizes.{sizesOf}
 use Rattle.per_kind.specs.declared.PerKind.{PerKind}
 use Rattle.tidy_text.proofs.OfKind.{only, kind-turn}
 use Rattle.tidy_text.proofs.Total.{size, front-sizes, tidy-sizes}
 
-pub get-plus : (k j : Kind) (n : ℕ) (s : PerKind) → get k (plus j n s) ≡ cond (eqb (numberOf j) (numberOf k)) (get k s + n) (get k s)
+pub get-plus : (k j : Kind) (n : ℕ) (s : PerKind) → get k (plus j n s) ≡ cond (eqb (kindNumber j) (kindNumber k)) (get k s + n) (get k s)
 unfolding get plus
 get-plus Header j n s = refl
 get-plus ReferenceSequence j n s = refl
@@ -30,10 +30,10 @@ get-plus Comment j n s = refl
 
 -- the number of a kind and what is still to come, before a line and after it
 pub size-turn : (j k : Kind) (l : Line) (rs : List Record) (s : PerKind) → kindText k l ≡ only j (lineText l) k
-    → get k s + size k (onto l rs) ≡ get k (plus j (length (lineText l)) s) + size k rs
+    → get k s + size k (withRecord l rs) ≡ get k (plus j (length (lineText l)) s) + size k rs
 size-turn j k l rs s e =
     ap (λ xs. get k s + length xs) (kind-turn j k l rs e)
-    ∙ go (eqb (numberOf j) (numberOf k))
+    ∙ go (eqb (kindNumber j) (kindNumber k))
     ∙ ap (λ n. n + size k rs) (sym (get-plus k j (length (lineText l)) s))
   where
     go : (t : Bool) → get k s + length (cond t (lineText l) [] ++ textOfKind k rs) ≡ cond t (get k s + length (lineText l)) (get k s) + size k rs
@@ -41,8 +41,8 @@ size-turn j k l rs s e =
     go false = refl
 
 -- of a line's own kind
-pub own-size : (j : Kind) (l : Line) (rs : List Record) → kindText j l ≡ only j (lineText l) j → size j (onto l rs) ≡ length (lineText l) + size j rs
-unfolding numberOf
+pub own-size : (j : Kind) (l : Line) (rs : List Record) → kindText j l ≡ only j (lineText l) j → size j (withRecord l rs) ≡ length (lineText l) + size j rs
+unfolding kindNumber
 own-size j l rs e = ap length (kind-turn j j l rs e) ∙ go j
   where
     go : (j : Kind) → length (only j (lineText l) j ++ textOfKind j rs) ≡ length (lineText l) + size j rs

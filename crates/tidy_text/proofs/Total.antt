@@ -5,23 +5,23 @@ use mathlib.Core.Path.{_≡_, refl, sym, ap, _∙_}
 use mathlib.Core.List.{List, [], _∷_, _++_, append-assoc}
 use native.Mathlib.Omega.{arith}
 use lib.ListN.{length, length-append}
-use Rattle.format.specs.Records.{Record, Line, refused, read, line}
+use Rattle.format.specs.Records.{Record, Line, refusedLine, read, line}
 use Rattle.format.specs.Reading.{ofKind, readText}
 use Rattle.format.specs.Tidy.{recordText, text, inOrder, tidy}
 use Rattle.format.specs.declared.Kind.{Kind}
 use Rattle.format.specs.declared.Kind.the-variants.{Header, ReferenceSequence, ReadGroup, Program, Comment}
 use Rattle.writer.specs.Line.{lineText}
-use Rattle.tidy_text.specs.Accepted.{onto, recordsFrom}
-use Rattle.per_kind.specs.Numbers.{numberOf}
+use Rattle.tidy_text.specs.Accepted.{withRecord, recordsFrom}
+use Rattle.per_kind.specs.Numbers.{kindNumber}
 use Rattle.tidy_text.specs.Kinds.{textOfKind, frontText}
 use Rattle.tidy_text.proofs.Lines.{Opened, lent, Turn, ended}
 use Rattle.text.specs.declared.Cut.{Cut}
 use Rattle.accepted.specs.Read.{recordsOf}
 use Rattle.roundtrip.proofs.Total.{order-length, tidy-length}
 
-pub text-onto : (l : Line) (rs : List Record) → text (onto l rs) ≡ lineText l ++ text rs
-unfolding text onto lineText
-text-onto (refused n) rs = refl
+pub text-onto : (l : Line) (rs : List Record) → text (withRecord l rs) ≡ lineText l ++ text rs
+unfolding text withRecord lineText
+text-onto (refusedLine n) rs = refl
 text-onto (read r) rs = refl
 
 pub text-append : (rs qs : List Record) → text (rs ++ qs) ≡ text rs ++ text qs
@@ -31,7 +31,7 @@ text-append (r ∷ rs) qs = ap (λ l. recordText r ++ l) (text-append rs qs) ∙
 
 -- the comments come last
 pub tidy-kinds : (rs : List Record) → tidy rs ≡ frontText rs ++ textOfKind Comment rs
-unfolding tidy inOrder textOfKind numberOf frontText
+unfolding tidy inOrder textOfKind kindNumber frontText
 tidy-kinds rs =
     rw (
       text-append (ofKind 1 rs ++ ofKind 2 rs ++ ofKind 3 rs ++ ofKind 4 rs) (ofKind 5 rs),

@@ -5,7 +5,7 @@ use mathlib.Core.List.{List, [], _∷_}
 use mathlib.Core.Option.{Option, none, some}
 use lib.ListN.{drop}
 use Rattle.format.specs.Lines.{Piece, linesFrom}
-use Rattle.format.specs.Records.{Record, Line, refused, read, line}
+use Rattle.format.specs.Records.{Record, Line, refusedLine, read, line}
 use Rattle.accepted.specs.Read.{isRead}
 use Rattle.per_kind.specs.declared.PerKind.{PerKind}
 use Rattle.tidy_text.specs.declared.Measured.{Measured}
@@ -14,19 +14,19 @@ use Rattle.tidy_text.specs.declared.Measured.the-variants as measured
 -- the sizes of the tidy text, or the line of the first SQ whose name can't be written
 unfoldable pub measuredOf : Option ℕ → PerKind → Measured
 measuredOf none n = measured.Is n
-measuredOf (some l) n = measured.Bad (record { 0 = l })
+measuredOf (some l) n = measured.Unwritable (record { 0 = l })
 
 -- ---- line by line
 
 -- a line's record before those of the lines after it
-unfoldable pub onto : Line → List Record → List Record
-onto (refused n) rs = rs
-onto (read r) rs = r ∷ rs
+unfoldable pub withRecord : Line → List Record → List Record
+withRecord (refusedLine n) rs = rs
+withRecord (read r) rs = r ∷ rs
 
 unfoldable pub lineRecords : Bool → List Piece → List Record
-unfolding onto line
+unfolding withRecord line
 lineRecords strict [] = []
-lineRecords strict (p ∷ ps) = onto (line strict p) (lineRecords strict ps)
+lineRecords strict (p ∷ ps) = withRecord (line strict p) (lineRecords strict ps)
 
 unfoldable pub allRead : Bool → List Piece → Bool
 unfolding isRead line

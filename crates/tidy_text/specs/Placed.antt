@@ -15,10 +15,10 @@ pub record Part : Type 0 where
   pub bytes : List ℕ
 
 -- each part written over `out` at its place
-unfoldable pub placed : List ℕ → List Part → List ℕ
+unfoldable pub withParts : List ℕ → List Part → List ℕ
 unfolding over
-placed out [] = out
-placed out (p ∷ ps) = placed (over out (p .at) (p .bytes)) ps
+withParts out [] = out
+withParts out (p ∷ ps) = withParts (over out (p .at) (p .bytes)) ps
 
 -- where the first part starts, or `n`
 unfoldable pub begins : List Part → ℕ → ℕ

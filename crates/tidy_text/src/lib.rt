@@ -20,11 +20,11 @@ ghost use Rattle.tidy_text.specs.Accepted.{measuredOf};
 ghost use Rattle.tidy_text.specs.Kinds.{textOfKind, frontText};
 ghost use Rattle.per_kind.specs.Numbers.{get, plus};
 ghost use Rattle.tidy_text.specs.Sizes.{grownBy, sizesOf};
-ghost use Rattle.tidy_text.specs.Placed.{placed, parts, Apart};
+ghost use Rattle.tidy_text.specs.Placed.{withParts, parts, Apart};
 
 // How many bytes each kind has in the tidy text, or the line of the first SQ whose name can't be written.
 pub enum Measured {
-    Bad(LineNo),
+    Unwritable(LineNo),
     Is(PerKind),
 }
 
@@ -62,7 +62,7 @@ pub fn measure(text: &[u8], strict: bool) -> Measured
         let cut = text::first_line(&text[at..]);
         let grown = with_line(sizes, &text[at..at + cut.len], at, strict);
         let Grown::Is(next) = grown else {
-            return Measured::Bad(LineNo(l));
+            return Measured::Unwritable(LineNo(l));
         };
         l += 1;
         sizes = next;
@@ -90,7 +90,7 @@ fn put_lines(text: &[u8], strict: bool, places: PerKind, out: &mut [u8])
     requires { ⌜ isAccepted (readText (now text)) ≡ true ⌝ }
     requires { ⌜ strict ≡ isStrict (announced (lines (now text))) ⌝ }
     requires { ⌜ Apart (parts places (recordsOf (now text))) (length (now out)) ⌝ }
-    ensures { λ _. ⌜ now (out .exit) ≡ placed (now (out .entry)) (parts places (recordsOf (now (text .entry)))) ⌝ }
+    ensures { λ _. ⌜ now (out .exit) ≡ withParts (now (out .entry)) (parts places (recordsOf (now (text .entry)))) ⌝ }
 {
     let mut next = places;
     let mut at: usize = 0; // from the first line on

@@ -9,7 +9,7 @@ use lib.Dec.{leb}
 use borrow.Author.Tests.{le-leb, lt-leb}
 use Rattle.format.specs.Utf8.{within, forms, due, characters}
 use Rattle.text.specs.Stands.{Each}
-use Rattle.utf8.specs.Pending.{pendingOf, trails, ranges, dueOf, after}
+use Rattle.utf8.specs.Pending.{pendingOf, trails, ranges, dueOf, dueAfter}
 use Rattle.utf8.specs.declared.Pending.{Pending}
 
 -- ---- a byte and a range
@@ -45,8 +45,8 @@ due-each P b n (f ∷ fs) h = go (within (f .0) b) (due-each P b n fs (h .1))
     go true ih = h .0
     go false ih = ih
 
-characters-after : (rs : List (ℕ × ℕ)) (b : ℕ) (s : List ℕ) → characters rs (b ∷ s) ≡ characters (after rs b) s
-unfolding characters after
+characters-after : (rs : List (ℕ × ℕ)) (b : ℕ) (s : List ℕ) → characters rs (b ∷ s) ≡ characters (dueAfter rs b) s
+unfolding characters dueAfter
 characters-after [] b s = refl
 characters-after (r ∷ rs) b s = go (within r b)
   where
@@ -84,39 +84,39 @@ unfolding Told dueOf ranges trails pendingOf
 next-told true n = trails-told n
 next-told false n = refl
 
-after-told : (p : Pending) (b : ℕ) → Told (after (dueOf p) b)
-unfolding after dueOf ranges
+after-told : (p : Pending) (b : ℕ) → Told (dueAfter (dueOf p) b)
+unfolding dueAfter dueOf ranges
 after-told p b = go (p .left)
   where
-    go : (n : ℕ) → Told (after (ranges n (p .lo) (p .hi)) b)
+    go : (n : ℕ) → Told (dueAfter (ranges n (p .lo) (p .hi)) b)
     go zero = due-told b
     go (suc n) = next-told (within (p .lo, p .hi) b) n
 
 -- one byte more
-pub step : (p : Pending) (b : ℕ) (s : List ℕ) → characters (dueOf p) (b ∷ s) ≡ characters (dueOf (pendingOf (after (dueOf p) b))) s
+pub step : (p : Pending) (b : ℕ) (s : List ℕ) → characters (dueOf p) (b ∷ s) ≡ characters (dueOf (pendingOf (dueAfter (dueOf p) b))) s
 unfolding Told
 step p b s = characters-after (dueOf p) b s ∙ ap (λ rs. characters rs s) (sym (after-told p b))
 
 -- ---- the first byte of a character, and a later one
 
 module _ (p : Pending) (b : ℕ) where
-  pub after-none : p .left ≡ 0 → after (dueOf p) b ≡ due b forms
-  unfolding after dueOf ranges
+  pub after-none : p .left ≡ 0 → dueAfter (dueOf p) b ≡ due b forms
+  unfolding dueAfter dueOf ranges
   after-none e = rw e refl
 
   module _ (h : p .left ≡ 0 → ⊥) where
-    pub after-miss : within (p .lo, p .hi) b ≡ false → after (dueOf p) b ≡ (1, 0) ∷ []
-    unfolding after dueOf ranges
+    pub after-miss : within (p .lo, p .hi) b ≡ false → dueAfter (dueOf p) b ≡ (1, 0) ∷ []
+    unfolding dueAfter dueOf ranges
     after-miss e = go (p .left) refl
       where
-        go : (n : ℕ) → p .left ≡ n → after (ranges n (p .lo) (p .hi)) b ≡ (1, 0) ∷ []
+        go : (n : ℕ) → p .left ≡ n → dueAfter (ranges n (p .lo) (p .hi)) b ≡ (1, 0) ∷ []
         go zero q = absurd (h q)
         go (suc n) q = rw e refl
 
-    pub after-next : within (p .lo, p .hi) b ≡ true → pendingOf (after (dueOf p) b) ≡ record { left = p .left - 1; lo = 128; hi = 191 }
-    unfolding after dueOf ranges
+    pub after-next : within (p .lo, p .hi) b ≡ true → pendingOf (dueAfter (dueOf p) b) ≡ record { left = p .left - 1; lo = 128; hi = 191 }
+    unfolding dueAfter dueOf ranges
     after-next e = go (p .left) refl
       where
-        go : (n : ℕ) → p .left ≡ n → pendingOf (after (ranges n (p .lo) (p .hi)) b) ≡ record { left = n - 1; lo = 128; hi = 191 }
+        go : (n : ℕ) → p .left ≡ n → pendingOf (dueAfter (ranges n (p .lo) (p .hi)) b) ≡ record { left = n - 1; lo = 128; hi = 191 }
         go zero q = absurd (h q)
         go (suc n) q = let d : suc n - 1 ≡ n = omega arith in rw (e, d) (trails-pending n)

@@ -26,7 +26,7 @@ unfolding ranges
 dueOf p = ranges (p .left) (p .lo) (p .hi)
 
 -- what is due after one byte more, where `rs` were: a range that no byte is in, if it does not fit
-unfoldable pub after : List (ℕ × ℕ) → ℕ → List (ℕ × ℕ)
+unfoldable pub dueAfter : List (ℕ × ℕ) → ℕ → List (ℕ × ℕ)
 unfolding due forms within
-after [] b = due b forms
-after (r ∷ rs) b = cond (within r b) rs ((1, 0) ∷ [])
+dueAfter [] b = due b forms
+dueAfter (r ∷ rs) b = cond (within r b) rs ((1, 0) ∷ [])

@@ -2,7 +2,7 @@
 ghost use mathlib.Core.Path.{_≡_};
 ghost use mathlib.Core.List.{[]};
 ghost use Rattle.format.specs.Utf8.{due, forms, characters};
-ghost use Rattle.utf8.specs.Pending.{pendingOf, dueOf, after};
+ghost use Rattle.utf8.specs.Pending.{pendingOf, dueOf, dueAfter};
 
 // What is due of a character that is begun: `left` bytes, the next of them from `lo` to `hi`.
 struct Pending {
@@ -57,7 +57,7 @@ impl Pending {
 
     // After the byte `b`: the first of a character, or the next one of that which is begun.
     fn with(self, b: u8) -> Self
-        ensures { λ r. ⌜ r ≡ pendingOf (after (dueOf self) b) ⌝ }
+        ensures { λ r. ⌜ r ≡ pendingOf (dueAfter (dueOf self) b) ⌝ }
     {
         if self.left == 0 {
             return Pending::first(b);

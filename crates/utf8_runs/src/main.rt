@@ -6,7 +6,7 @@
 // answer to a line: those of 3 and 4 bytes around each edge of the table of RFC 3629, and some cut short by a tab. What is expected
 // was made by `oracle/characters`, with python's decoder: none of it by this program.
 use libc::STDOUT_FILENO;
-use parser::Answer;
+use parser::CountAnswer;
 ghost use Prim.Native.Nat.{_≤_};
 ghost use lib.ListN.{length};
 
@@ -19,8 +19,8 @@ fn ask(value: &[u8]) -> u8
     text::put_bytes(&mut text, 0, b"@SQ\tSN:s\tLN:1\tDS:");
     text::put_bytes(&mut text, 17, value);
     match parser::read(&text[..17 + value.len()], &mut kept) {
-        Answer::Refused(n, _) => n,
-        Answer::Count(_) => 0,
+        CountAnswer::Refused(n, _) => n,
+        CountAnswer::Count(_) => 0,
     }
 }
 

@@ -1,7 +1,7 @@
 -- Answers as one number: what is counted; or bit 63, the refusal number shifted left by 32, and the line.
 use Prim.Native.Nat.{ℕ, _+_, _*_, _^_}
-use Rattle.parser.specs.declared.Answer.{Answer}
-use Rattle.parser.specs.declared.Answer.the-variants.{Refused, Count}
+use Rattle.parser.specs.declared.CountAnswer.{CountAnswer}
+use Rattle.parser.specs.declared.CountAnswer.the-variants.{Refused, Count}
 use Rattle.parser.specs.declared.Checked.{Checked}
 use Rattle.parser.specs.declared.Checked.the-variants as checked
 use Rattle.calls.specs.declared.KeyAnswer.{KeyAnswer}
@@ -18,7 +18,7 @@ use Rattle.names.specs.declared.NamesAnswer.the-variants as names
 unfoldable pub refusalWord : ℕ → ℕ → ℕ
 refusalWord n l = 2 ^ 63 + n * 2 ^ 32 + l
 
-unfoldable pub answerWord : Answer → ℕ
+unfoldable pub answerWord : CountAnswer → ℕ
 unfolding refusalWord
 answerWord (Refused n l) = refusalWord n (l .0)
 answerWord (Count n) = n

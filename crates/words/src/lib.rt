@@ -2,7 +2,7 @@
 use calls::KeyAnswer;
 use calls::ValuePlace;
 use format::LineNo;
-use parser::Answer;
+use parser::CountAnswer;
 use parser::Checked;
 ghost use mathlib.Core.Path.{_≡_};
 ghost use Rattle.words.specs.Words.{refusalWord, answerWord, checkedWord, pairWord, keyWord, fieldWord};
@@ -15,12 +15,12 @@ pub fn refusal_word(n: u8, line: LineNo) -> u64
 }
 
 // How many bytes or ordinals are written, or records are counted.
-pub fn answer_word(answer: Answer) -> u64
+pub fn answer_word(answer: CountAnswer) -> u64
     ensures { λ r. ⌜ r ≡ answerWord answer ⌝ }
 {
     match answer {
-        Answer::Refused(n, line) => refusal_word(n, line),
-        Answer::Count(n) => n as u64,
+        CountAnswer::Refused(n, line) => refusal_word(n, line),
+        CountAnswer::Count(n) => n as u64,
     }
 }
 

@@ -14,12 +14,12 @@ use Rattle.text.specs.Stands.{Stands, Each}
 use Rattle.accepted.specs.Pieces.{pieces}
 use Rattle.accepted.specs.Sound.{kind}
 use Rattle.accepted.specs.Spelled as sp
-use Rattle.accepted.specs.Spelled.{Spelled, Accepted, kind₀, kind₁}
+use Rattle.accepted.specs.Spelled.{Spelled, AcceptedLine, kind₀, kind₁}
 use Rattle.accepted.specs.Read.{isRead}
 use Rattle.accepted.proofs.Bools.{never}
 use Rattle.accepted.proofs.Spelled.{line-accepted}
 use Rattle.accepted.proofs.Stands.{line-stand}
-use Rattle.record.specs.Head.{placeOf, recordHead, headOf}
+use Rattle.record.specs.Head.{stretchOf, recordHead, headOf}
 use Rattle.record.specs.declared.Head.{Head}
 use Rattle.other_fields.proofs.Start.{accepted-others}
 use Rattle.heads.specs.Found.{kindBy, isComment, uncounted}
@@ -27,7 +27,7 @@ use Rattle.heads.proofs.Finds.{accepted-byte, by-record}
 use Rattle.writer.specs.Line.{lineText, lineWritable}
 use Rattle.parts.specs.Parts.{prefixText, versionText}
 use Rattle.other_fields_out.specs.Others.{othersText}
-use Rattle.writer.specs.Texts.{Inside, placeText, headerText, sequenceText, mapText}
+use Rattle.writer.specs.Texts.{InsideLine, placeText, headerText, sequenceText, mapText}
 use Rattle.writer.specs.Heads.{headText, headWritable, Holds}
 use Rattle.writer.proofs.Sizes.{kindOfHead}
 
@@ -40,17 +40,17 @@ pub record Told (at : ℕ) (s : List ℕ) (k : Kind) (d : Head) : Type 0 where
 
 -- ---- a piece of the line
 
-inside : (at : ℕ) (s : List ℕ) (p : Piece) → Stands s at p → Inside at s (placeOf p)
-unfolding placeOf
+inside : (at : ℕ) (s : List ℕ) (p : Piece) → Stands s at p → InsideLine at s (stretchOf p)
+unfolding stretchOf
 inside at s p h = record { from = h .from; within = h .within }
 
-pub place-bytes : (at : ℕ) (s : List ℕ) (p : Piece) → Stands s at p → placeText at s (placeOf p) ≡ p .bytes
-unfolding placeOf placeText
+pub place-bytes : (at : ℕ) (s : List ℕ) (p : Piece) → Stands s at p → placeText at s (stretchOf p) ≡ p .bytes
+unfolding stretchOf placeText
 place-bytes at s p h = sym (h .bytes)
 
 -- ---- a line of fields
 
-pub spelled : (at : ℕ) (s : List ℕ) (r : Record) → isComment (kind r) ≡ false → Accepted false at s r → Spelled false at s r
+pub spelled : (at : ℕ) (s : List ℕ) (r : Record) → isComment (kind r) ≡ false → AcceptedLine false at s r → Spelled false at s r
 unfolding kind
 spelled at s r n (sp.of-remark t) = absurd (never (cc))
 spelled at s r n (sp.of-fields a) = a
@@ -90,13 +90,13 @@ module _ (at : ℕ) (s : List ℕ) where
   record-text (header v fs) e n = behind (header v fs) e n (prefixText kinds.Header ++ fieldText 86 78 (versionText v))
   record-text (reference p l fs) e n =
       ap (λ x. prefixText kinds.ReferenceSequence ++ fieldText 83 78 x ++ fieldText 76 78 (written l) ++ fieldsText fs ++ (10 ∷ [])) (sym (place-bytes at s p (stand (reference p l fs) e .0)))
-      ∙ behind (reference p l fs) e n (prefixText kinds.ReferenceSequence ++ fieldText 83 78 (placeText at s (placeOf p)) ++ fieldText 76 78 (written l))
+      ∙ behind (reference p l fs) e n (prefixText kinds.ReferenceSequence ++ fieldText 83 78 (placeText at s (stretchOf p)) ++ fieldText 76 78 (written l))
   record-text (group p fs) e n =
       ap (λ x. prefixText kinds.ReadGroup ++ fieldText 73 68 x ++ fieldsText fs ++ (10 ∷ [])) (sym (place-bytes at s p (stand (group p fs) e .0)))
-      ∙ behind (group p fs) e n (prefixText kinds.ReadGroup ++ fieldText 73 68 (placeText at s (placeOf p)))
+      ∙ behind (group p fs) e n (prefixText kinds.ReadGroup ++ fieldText 73 68 (placeText at s (stretchOf p)))
   record-text (program p fs) e n =
       ap (λ x. prefixText kinds.Program ++ fieldText 73 68 x ++ fieldsText fs ++ (10 ∷ [])) (sym (place-bytes at s p (stand (program p fs) e .0)))
-      ∙ behind (program p fs) e n (prefixText kinds.Program ++ fieldText 73 68 (placeText at s (placeOf p)))
+      ∙ behind (program p fs) e n (prefixText kinds.Program ++ fieldText 73 68 (placeText at s (stretchOf p)))
   record-text (comment p) e n = absurd (never (cc))
 
   record-writable : (r : Record) → line false (record { at = at; bytes = s }) ≡ read r → isWritable r ≡ headWritable at s (uncounted (recordHead r))

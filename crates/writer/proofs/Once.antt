@@ -17,7 +17,7 @@ use Rattle.format.specs.declared.Kind.{Kind}
 use Rattle.accepted.specs.Read.{isRead}
 use Rattle.accepted.specs.Sound.{kind}
 use Rattle.accepted.specs.Spelled as sp
-use Rattle.accepted.specs.Spelled.{Made, Spelled, Accepted}
+use Rattle.accepted.specs.Spelled.{Made, Spelled, AcceptedLine}
 use Rattle.accepted.proofs.Bools.{never, or-left, or-right, and-left, and-right}
 use Rattle.accepted.proofs.Sound.{made-kind}
 use Rattle.accepted.proofs.Spelled.{line-accepted}

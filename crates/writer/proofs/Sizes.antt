@@ -11,14 +11,14 @@ use Rattle.format.specs.declared.Version.{Version}
 use Rattle.format.specs.declared.Kind.{Kind}
 use Rattle.format.specs.declared.Kind.the-variants as kind
 use Rattle.format.specs.declared.Kind.the-variants.{Header, ReferenceSequence}
-use Rattle.record.specs.declared.Place.{Place}
+use Rattle.record.specs.declared.Stretch.{Stretch}
 use Rattle.record.specs.declared.Head.{Head}
 use Rattle.record.specs.declared.Head.the-variants as head
 use Rattle.record.specs.declared.Head.the-variants.{Refused, ReadGroup, Program, Comment}
 use Rattle.writer.specs.Heads.{headText, Holds, placeLength, headLength}
 use Rattle.parts.specs.Parts.{prefixText, versionText}
 use Rattle.other_fields_out.specs.Others.{othersText}
-use Rattle.writer.specs.Texts.{Inside, placeText, headerText, sequenceText, mapText}
+use Rattle.writer.specs.Texts.{InsideLine, placeText, headerText, sequenceText, mapText}
 
 -- the kind of a head's fields
 unfoldable pub kindOfHead : Head → Kind
@@ -37,7 +37,7 @@ pub header-size : (v : Version) (at : ℕ) (s : List ℕ) → length (headerText
 unfolding headerText prefixText fieldText
 header-size v at s = omega (arith, ends (prefixText Header) (fieldText 86 78 (versionText v)) (othersText Header at s))
 
-module _ (at : ℕ) (s : List ℕ) (p : Place) (i : Inside at s p) where
+module _ (at : ℕ) (s : List ℕ) (p : Stretch) (i : InsideLine at s p) where
   pub place-size : length (placeText at s p) ≡ p .len
   unfolding placeText
   place-size = length-take-le (p .len) (drop (p .at - at) s) (omega (arith, length-drop (p .at - at) s, i .within))

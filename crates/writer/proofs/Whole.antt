@@ -11,7 +11,7 @@ use Rattle.format.specs.declared.Kind.{Kind}
 use Rattle.format.specs.declared.Kind.the-variants.{Comment}
 use Rattle.accepted.specs.Read.{isRead}
 use Rattle.accepted.specs.Spelled as sp
-use Rattle.accepted.specs.Spelled.{Made, Spelled, Accepted}
+use Rattle.accepted.specs.Spelled.{Made, Spelled, AcceptedLine}
 use Rattle.accepted.specs.Sound.{kind}
 use Rattle.accepted.proofs.Bools.{never}
 use Rattle.accepted.proofs.Spelled.{line-accepted}
@@ -36,7 +36,7 @@ once-spelled at s r a h = record {
   made = a .made;
 }
 
-once-accepted : (at : ℕ) (s : List ℕ) (r : Record) → Accepted false at s r → AtField true at s 3 → Accepted true at s r
+once-accepted : (at : ℕ) (s : List ℕ) (r : Record) → AcceptedLine false at s r → AtField true at s 3 → AcceptedLine true at s r
 once-accepted at s r (sp.of-remark t) h = sp.of-remark t
 once-accepted at s r (sp.of-fields a) h = sp.of-fields (once-spelled at s r a h)
 
@@ -48,7 +48,7 @@ no-comment fs k r (sp.of-reference p n e g) q = never (cc)
 no-comment fs k r (sp.of-group p e) q = never (cc)
 no-comment fs k r (sp.of-program p e) q = never (cc)
 
-remark-text : (at : ℕ) (s : List ℕ) (r : Record) → Accepted false at s r → kind r ≡ Comment → (recordText r ≡ s ++ (10 ∷ [])) × (isWritable r ≡ true)
+remark-text : (at : ℕ) (s : List ℕ) (r : Record) → AcceptedLine false at s r → kind r ≡ Comment → (recordText r ≡ s ++ (10 ∷ [])) × (isWritable r ≡ true)
 unfolding recordText isWritable
 remark-text at s r (sp.of-remark t) q = (refl, refl)
 remark-text at s r (sp.of-fields a) q = absurd (no-comment (a .fields) (a .kind) r (a .made) q)

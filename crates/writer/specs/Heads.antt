@@ -9,9 +9,9 @@ use Rattle.format.specs.declared.Kind.{Kind}
 use Rattle.format.specs.declared.Kind.the-variants as kind
 use Rattle.record.specs.declared.Head.{Head}
 use Rattle.record.specs.declared.Head.the-variants.{Refused, Header, ReferenceSequence, ReadGroup, Program, Comment}
-use Rattle.heads.specs.declared.Keys.{Keys}
+use Rattle.heads.specs.declared.KeyValues.{KeyValues}
 use Rattle.parts.specs.Parts.{versionText}
-use Rattle.writer.specs.Texts.{Inside, placeText, headerText, sequenceText, mapText}
+use Rattle.writer.specs.Texts.{InsideLine, placeText, headerText, sequenceText, mapText}
 
 -- neither a refusal nor a comment is written part by part
 unfoldable pub headText : ℕ → List ℕ → Head → List ℕ
@@ -36,9 +36,9 @@ headWritable at s (Comment p) = true
 unfoldable pub Holds : ℕ → List ℕ → Head → Type 0
 Holds at s (Refused n) = ⊥
 Holds at s (Header v n) = Unit
-Holds at s (ReferenceSequence p l n) = Inside at s p
-Holds at s (ReadGroup p n) = Inside at s p
-Holds at s (Program p n) = Inside at s p
+Holds at s (ReferenceSequence p l n) = InsideLine at s p
+Holds at s (ReadGroup p n) = InsideLine at s p
+Holds at s (Program p n) = InsideLine at s p
 Holds at s (Comment p) = ⊥
 
 -- how long its key is
@@ -61,7 +61,7 @@ headLength (Program p n) others = 8 + p .len + others
 headLength (Comment p) others = 0
 
 -- how long the fields of a kind's keys are in their line
-abbrev pub keysLength : Kind → Keys → ℕ
+abbrev pub keysLength : Kind → KeyValues → ℕ
 keysLength kind.Header ks = 4 + ks .key .len
 keysLength kind.ReferenceSequence ks = 8 + ks .key .len + ks .number .len
 keysLength kind.ReadGroup ks = 4 + ks .key .len

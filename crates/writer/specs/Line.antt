@@ -3,7 +3,7 @@ use Prim.Native.Nat.{ℕ}
 use mathlib.Core.Bool.{Bool, true, false, cond}
 use mathlib.Core.List.{List, []}
 use lib.ListN.{length}
-use Rattle.format.specs.Records.{Line, refused, read}
+use Rattle.format.specs.Records.{Line, refusedLine, read}
 use Rattle.format.specs.Tidy.{recordText, isWritable}
 use Rattle.writer.specs.declared.Size.{Size}
 use Rattle.writer.specs.declared.Size.the-variants.{Unwritable, Is}
@@ -11,16 +11,16 @@ use Rattle.writer.specs.declared.Size.the-variants.{Unwritable, Is}
 -- the record's line, with its LF
 unfoldable pub lineText : Line → List ℕ
 unfolding recordText
-lineText (refused n) = []
+lineText (refusedLine n) = []
 lineText (read r) = recordText r
 
 -- can it be written?
 unfoldable pub lineWritable : Line → Bool
 unfolding isWritable
-lineWritable (refused n) = true
+lineWritable (refusedLine n) = true
 lineWritable (read r) = isWritable r
 
 -- its length, if it can be written
-unfoldable pub sizeOf : Line → Size
+unfoldable pub lineSize : Line → Size
 unfolding lineWritable lineText
-sizeOf l = cond (lineWritable l) (Is (length (lineText l))) Unwritable
+lineSize l = cond (lineWritable l) (Is (length (lineText l))) Unwritable

@@ -1,9 +1,9 @@
 // One record of the tidy text: written from its accepted line, or measured.
 use format::Kind;
 use format::Version;
-use heads::Keys;
+use heads::KeyValues;
 use record::Head;
-use record::Place;
+use record::Stretch;
 ghost use mathlib.Core.Path.{_≡_};
 ghost use mathlib.Core.Bool.{true, false, not, _&&_};
 ghost use mathlib.Core.List.{[], _∷_, _++_};
@@ -16,10 +16,10 @@ ghost use Rattle.other_fields.specs.Run.{AtField, fieldsFrom};
 ghost use Rattle.other_fields.specs.Tables.{Walkable};
 ghost use Rattle.heads.specs.Found.{kindBy, isComment};
 ghost use Rattle.heads.specs.Keys.{keysIn};
-ghost use Rattle.writer.specs.Line.{lineText, lineWritable, sizeOf};
+ghost use Rattle.writer.specs.Line.{lineText, lineWritable, lineSize};
 ghost use Rattle.other_fields_out.specs.Others.{othersText};
 ghost use Rattle.writer.specs.Heads.{placeLength, headLength, keysLength};
-ghost use Rattle.writer.specs.Texts.{Inside, headerText, sequenceText, mapText};
+ghost use Rattle.writer.specs.Texts.{InsideLine, headerText, sequenceText, mapText};
 
 // How many bytes a record has, if it can be written.
 pub enum Size {
@@ -53,7 +53,7 @@ fn put_header(
 fn put_reference_sequence(
     out: &mut [u8],
     o: usize,
-    name: Place,
+    name: Stretch,
     ln: u64,
     line: &[u8],
     at: usize,
@@ -62,7 +62,7 @@ fn put_reference_sequence(
 ) -> usize
     requires { ⌜ Walkable once at (now line) (now tables) ⌝ }
     requires { ⌜ at + length (now line) ≤ 16777216 ⌝ }
-    requires { ⌜ Inside at (now line) name ⌝ }
+    requires { ⌜ InsideLine at (now line) name ⌝ }
     requires { ⌜ o + length (sequenceText name ln at (now line)) ≤ length (now out) ⌝ }
     ensures next { λ r. ⌜ r ≡ o + length (sequenceText name ln at (now (line .entry))) ⌝ }
     ensures wrote { λ _. ⌜ now (out .exit) ≡ over (now (out .entry)) o (sequenceText name ln at (now (line .entry))) ⌝ }
@@ -81,7 +81,7 @@ fn put_map(
     out: &mut [u8],
     o: usize,
     kind: Kind,
-    id: Place,
+    id: Stretch,
     line: &[u8],
     at: usize,
     once: bool,
@@ -89,7 +89,7 @@ fn put_map(
 ) -> usize
     requires { ⌜ Walkable once at (now line) (now tables) ⌝ }
     requires { ⌜ at + length (now line) ≤ 16777216 ⌝ }
-    requires { ⌜ Inside at (now line) id ⌝ }
+    requires { ⌜ InsideLine at (now line) id ⌝ }
     requires { ⌜ o + length (mapText kind id at (now line)) ≤ length (now out) ⌝ }
     ensures next { λ r. ⌜ r ≡ o + length (mapText kind id at (now (line .entry))) ⌝ }
     ensures wrote { λ _. ⌜ now (out .exit) ≡ over (now (out .entry)) o (mapText kind id at (now (line .entry))) ⌝ }
@@ -194,7 +194,7 @@ pub fn put_record(out: &mut [u8], o: usize, src: &[u8], at: usize, strict: bool)
 }
 
 // How many bytes the fields of a kind's keys have in their line: four before each value.
-fn keys_len(kind: Kind, keys: Keys) -> usize
+fn keys_len(kind: Kind, keys: KeyValues) -> usize
     requires { ⌜ keysLength kind keys ≤ 16777216 ⌝ }
     ensures { λ r. ⌜ r ≡ keysLength kind keys ⌝ }
 {
@@ -253,7 +253,7 @@ fn is_writable(kind: Kind, src: &[u8], at: usize, once: bool, tables: &[u32]) ->
 }
 
 // How many bytes the record of an accepted line of fields has, whose other fields have `others`.
-fn parts_len(kind: Kind, src: &[u8], at: usize, keys: Keys, others: usize) -> usize
+fn parts_len(kind: Kind, src: &[u8], at: usize, keys: KeyValues, others: usize) -> usize
     requires { ⌜ isRead (line false (record { at = at; bytes = now src })) ≡ true ⌝ }
     requires { ⌜ (kindBy (getD (now src) 1 0) ≡ kind) × (isComment kind ≡ false) ⌝ }
     requires { ⌜ keys ≡ keysIn kind (fieldsFrom at (now src) 3) ⌝ }
@@ -270,7 +270,7 @@ fn once_size(kind: Kind, src: &[u8], at: usize) -> Size
     requires { ⌜ (kindBy (getD (now src) 1 0) ≡ kind) × (isComment kind ≡ false) ⌝ }
     requires { ⌜ AtField true at (now src) 3 ⌝ }
     requires { ⌜ at + length (now src) ≤ 16777216 ⌝ }
-    ensures { λ r. ⌜ r ≡ sizeOf (line false (record { at = at; bytes = now (src .entry) })) ⌝ }
+    ensures { λ r. ⌜ r ≡ lineSize (line false (record { at = at; bytes = now (src .entry) })) ⌝ }
 {
     if !is_writable(kind, src, at, true, &[]) {
         return Size::Unwritable;
@@ -288,7 +288,7 @@ fn noted_size(kind: Kind, src: &[u8], at: usize) -> Size
     requires { ⌜ isRead (line false (record { at = at; bytes = now src })) ≡ true ⌝ }
     requires { ⌜ (kindBy (getD (now src) 1 0) ≡ kind) × (isComment kind ≡ false) ⌝ }
     requires { ⌜ at + length (now src) ≤ 16777216 ⌝ }
-    ensures { λ r. ⌜ r ≡ sizeOf (line false (record { at = at; bytes = now (src .entry) })) ⌝ }
+    ensures { λ r. ⌜ r ≡ lineSize (line false (record { at = at; bytes = now (src .entry) })) ⌝ }
 {
     let mut tables = [0u32; 6448];
     other_fields::note_tags(src, at, &mut tables);
@@ -304,7 +304,7 @@ fn noted_size(kind: Kind, src: &[u8], at: usize) -> Size
 pub fn record_size(src: &[u8], at: usize, strict: bool) -> Size
     requires { ⌜ isRead (line strict (record { at = at; bytes = now src })) ≡ true ⌝ }
     requires { ⌜ at + length (now src) ≤ 16777216 ⌝ }
-    ensures { λ r. ⌜ r ≡ sizeOf (line strict (record { at = at; bytes = now (src .entry) })) ⌝ }
+    ensures { λ r. ⌜ r ≡ lineSize (line strict (record { at = at; bytes = now (src .entry) })) ⌝ }
 {
     let kind = heads::kind_of(src);
     if heads::is_comment(kind) {

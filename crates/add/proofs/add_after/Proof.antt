@@ -17,7 +17,7 @@ use Rattle.format.specs.Calls.{writing}
 use Rattle.accepted.specs.Read.{recordsOf}
 use Rattle.accepted.proofs.Read.{accepted-reads}
 use Rattle.field.proofs.Before.{rest}
-use Rattle.id_search.specs.Places.{idsAt, Placed}
+use Rattle.id_search.specs.Places.{idsAt, PlacesInText}
 use Rattle.id_search.specs.Search.{idsOf}
 use Rattle.id_search.proofs.Search.{ids-length}
 use Rattle.parents.proofs.Numbers.{links-count}
@@ -25,7 +25,7 @@ use Rattle.parents.proofs.Own.{few-programs}
 use Rattle.parser.specs.Answers.{answerOf, outputOf}
 use Rattle.parser.proofs.Told.{refused-answer}
 use Rattle.chains.proofs.Leaf.{leaves-length}
-use Rattle.add_ids.specs.Taken.{known, taken}
+use Rattle.add_ids.specs.Taken.{isAmong, taken}
 use Rattle.add_input.proofs.Text.{given-text}
 use Rattle.add_lines.specs.Lines.{addedText}
 use Rattle.add.specs.Added.{withAdded, leavesOf, addingOn}
@@ -45,7 +45,7 @@ reads : (s : tie.Start) → readText (s .args .text .now) ≡ accept (records s)
 reads s = accepted-reads (s .args .text .now) (s .pre .0)
 
 -- the IDs that are lent are those of the programs
-placed : (s : tie.Start) → Placed (s .args .text .now) (s .args .ats .now) (s .args .lens .now)
+placed : (s : tie.Start) → PlacesInText (s .args .text .now) (s .args .ats .now) (s .args .lens .now)
 placed s = s .pre .1 .0 .0
 
 abbrev ids : tie.Start → List (List ℕ)
@@ -71,7 +71,7 @@ counts s =
 free : (c : tie.After-is-free) → let s = c .before .before .before .before .before .before .before .before in c .is-free .result ≡ not (isKnown (ordinalFrom 0 (s .args .prefix .now) (programs (records s))))
 free c =
     let s = c .before .before .before .before .before .before .before .before in
-    c .is-free .ensures ∙ ap (λ xs. not (known (s .args .prefix .now) xs)) (s .pre .1 .0 .1) ∙ free-is (s .args .text .now) (records s) (reads s) (s .args .prefix .now) (fieldsOf s)
+    c .is-free .ensures ∙ ap (λ xs. not (isAmong (s .args .prefix .now) xs)) (s .pre .1 .0 .1) ∙ free-is (s .args .text .now) (records s) (reads s) (s .args .prefix .now) (fieldsOf s)
 
 -- the first leaf whose ID is joined is one of them, or behind them
 within : (c : tie.After-first-joined) → c .first-joined .result ≤ length (c .before .before .before .before .before .before .before .before .before .args .leaves .now)

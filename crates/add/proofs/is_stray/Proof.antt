@@ -3,7 +3,7 @@ use lib.ListN.{length, take, drop}
 use Rattle.format.specs.Fields.{lastOf}
 use Rattle.format.specs.Adding.{given}
 use Rattle.id_search.specs.Places.{idsAt}
-use Rattle.add_ids.specs.Taken.{known}
+use Rattle.add_ids.specs.Taken.{isAmong}
 use Rattle.add.specs.Added.{stray}
 use Rattle.add.proofs.Prior.{stray-nothing, stray-at}
 use Prim.Native.Nat.{_+_, _-_, _≤_}
@@ -19,7 +19,7 @@ stands : (c : tie.After-previous)
     → let a = c .before .before .before .before .before .before .args in
     let g = c .previous .given .0 in
     (g .0 + g .1 .0 ≤ length (a .fields .now))
-    × (not (known (take (g .0 + g .1 .0 - g .0) (drop (g .0) (a .fields .now))) (idsAt (a .text .now) (a .ats .now) (a .lens .now))) ≡ stray (idsAt (a .text .now) (a .ats .now) (a .lens .now)) (lastOf 80 80 (given (a .fields .now) .fields)))
+    × (not (isAmong (take (g .0 + g .1 .0 - g .0) (drop (g .0) (a .fields .now))) (idsAt (a .text .now) (a .ats .now) (a .lens .now))) ≡ stray (idsAt (a .text .now) (a .ats .now) (a .lens .now)) (lastOf 80 80 (given (a .fields .now) .fields)))
 stands c =
     let s = c .before .before .before .before .before .before in
     let g = c .previous .given in

@@ -4,7 +4,7 @@ use mathlib.Core.Path.{refl, sym}
 use native.Mathlib.Omega.{arith}
 use lib.ListN.{length, getD}
 use Rattle.id_search.proofs.Search.{placed-inside}
-use Rattle.add_ids.specs.Taken.{standing}
+use Rattle.add_ids.specs.Taken.{idStanding}
 use Rattle.add_ids.proofs.Search.{id-none, id-some, standing-none}
 use borrow.Author.Needs.{needs}
 use Rattle.add_ids.proofs.find_id.Statement.{statement}
@@ -62,7 +62,7 @@ part-result-end : tie.Need-part-result-end
 part-result-end c = omega (arith, inside (c .before .before))
 
 returns-2 : tie.Need-returns-2
-unfolding standing
+unfolding idStanding
 returns-2 c =
     let e = c .before .before .before in
     let s = e .before .before in

@@ -8,13 +8,13 @@ use lib.ListN.{length, drop}
 use Rattle.format.specs.Bytes.{same}
 use Rattle.id_search.specs.Places.{idsAt}
 use Rattle.id_search.proofs.Search.{ids-length}
-use Rattle.add_ids.specs.Taken.{joined, known}
+use Rattle.add_ids.specs.Taken.{joined, isAmong}
 use Rattle.add_ids.proofs.Search.{known-end, known-step}
 use Rattle.add_ids.proofs.is_known.Statement.{statement}
 use Rattle.add_ids.proofs.is_known.Tie as tie
 
 abbrev Inv-loop : tie.InvT-loop
-Inv-loop text ats lens prefix other k₀ k = known (joined prefix other) (idsAt text ats lens) ≡ known (joined prefix other) (drop k (idsAt text ats lens))
+Inv-loop text ats lens prefix other k₀ k = isAmong (joined prefix other) (idsAt text ats lens) ≡ isAmong (joined prefix other) (drop k (idsAt text ats lens))
 
 abbrev μ-loop : tie.MeasureT-loop
 μ-loop text ats lens prefix other k₀ k = length ats - k
@@ -36,7 +36,7 @@ step : (c : tie.After-is-joined Inv-loop μ-loop) (b : Bool) → c .is-joined .r
     → let a = c .before .before .before .before .before .before .before .before .before .args in
     let ids = idsAt (a .text .now) (a .ats .now) (a .lens .now) in
     let made = joined (a .prefix .now) (a .other .now) in
-    known made ids ≡ b || known made (drop (c .before .before .before .loop .k + 1) ids)
+    isAmong made ids ≡ b || isAmong made (drop (c .before .before .before .loop .k + 1) ids)
 step c b e =
     let s = c .before .before .before .before .before .before .before .before .before in
     let a = s .args in
@@ -44,7 +44,7 @@ step c b e =
     let ids = idsAt (a .text .now) (a .ats .now) (a .lens .now) in
     let made = joined (a .prefix .now) (a .other .now) in
     l .inv ∙ known-step made ids (l .k) (omega (arith, ids-length (a .text .now) (a .ats .now) (a .lens .now) (s .pre)))
-    ∙ ap (λ b. b || known made (drop (l .k + 1) ids)) (sym (c .is-joined .ensures ∙ ap (same made) (c .before .find-id .ensures .0)) ∙ e)
+    ∙ ap (λ b. b || isAmong made (drop (l .k + 1) ids)) (sym (c .is-joined .ensures ∙ ap (same made) (c .before .find-id .ensures .0)) ∙ e)
 
 returns : tie.Need-returns Inv-loop μ-loop
 returns c = sym (step (c .before) true (c .if1 .taken))

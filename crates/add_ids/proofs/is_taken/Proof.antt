@@ -6,7 +6,7 @@ use native.Mathlib.Omega.{arith}
 use borrow.Author.Needs.{needs}
 use lib.ListN.{length, drop}
 use Rattle.id_search.specs.Places.{idsAt}
-use Rattle.add_ids.specs.Taken.{joined, known, taken}
+use Rattle.add_ids.specs.Taken.{joined, isAmong, taken}
 use Rattle.add_ids.proofs.Search.{taken-end, taken-step}
 use Rattle.add_ids.proofs.is_taken.Statement.{statement}
 use Rattle.add_ids.proofs.is_taken.Tie as tie
@@ -42,7 +42,7 @@ step c b e =
     let l = c .before .before .before .before .loop in
     let ids = idsAt (a .text .now) (a .ats .now) (a .lens .now) in
     l .inv ∙ taken-step ids (a .prefix .now) (a .leaves .now) (l .i) (omega arith)
-    ∙ ap (λ b. b || taken ids (a .prefix .now) (drop (l .i + 1) (a .leaves .now))) (sym (c .is-known .ensures ∙ ap (λ id. known (joined (a .prefix .now) id) ids) (c .before .find-id .ensures .0)) ∙ e)
+    ∙ ap (λ b. b || taken ids (a .prefix .now) (drop (l .i + 1) (a .leaves .now))) (sym (c .is-known .ensures ∙ ap (λ id. isAmong (joined (a .prefix .now) id) ids) (c .before .find-id .ensures .0)) ∙ e)
 
 returns : tie.Need-returns Inv-loop μ-loop
 returns c = sym (step (c .before) true (c .if1 .taken))

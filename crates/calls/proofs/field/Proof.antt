@@ -6,7 +6,7 @@ use native.Mathlib.Omega.{arith}
 use lib.ListN.{take, drop}
 use Rattle.format.specs.Calls.{valuing}
 use Rattle.calls.specs.declared.ValuePlace.the-variants.{At}
-use Rattle.calls.specs.Answers.{placeOf}
+use Rattle.calls.specs.Answers.{valuePlaceOf}
 use Rattle.calls.proofs.Told.{place-inside, stood, valued-at}
 use borrow.Author.Needs.{needs}
 use Rattle.calls.proofs.field.Statement.{statement}
@@ -41,7 +41,7 @@ part-result-start : tie.Need-part-result-start
 part-result-start c = search needs
 
 -- the value's place
-told : (c : tie.After-at) → let a = c .before .before .before .before .before .before .args in placeOf (valuing (a .text .now) (a .kept .now) (a .kind) (a .ordinal) (a .a) (a .b)) ≡ At (c .at .given .0 .0) (c .at .given .0 .1 .0)
+told : (c : tie.After-at) → let a = c .before .before .before .before .before .before .args in valuePlaceOf (valuing (a .text .now) (a .kept .now) (a .kind) (a .ordinal) (a .a) (a .b)) ≡ At (c .at .given .0 .0) (c .at .given .0 .1 .0)
 told c = sym (c .before .before .place .ensures) ∙ c .at .given .1
 
 part-result-end : tie.Need-part-result-end

@@ -1,6 +1,6 @@
 -- `calls::key` meets its contract: reading, 21, then 25 where the catalogue has no such key.
 use mathlib.Core.Path.{sym, ap, _∙_}
-use Rattle.calls.specs.Answers.{keyOf}
+use Rattle.calls.specs.Answers.{keyAnswerOf}
 use Rattle.calls.proofs.Fresh.{refused-by, fresh-by}
 use Rattle.calls.proofs.Told.{key-refused, key-none, key-found}
 use borrow.Author.Needs.{needs}
@@ -26,19 +26,19 @@ enum-known-p : tie.Need-enum-known-p
 enum-known-p c = search needs
 
 returns : tie.Need-returns
-unfolding keyOf
+unfolding keyAnswerOf
 returns c =
     let k = c .before .before .before in
     let a = k .before .before .before .args in
     let g = c .before .n .given in
-    sym (ap keyOf (key-refused (a .text .now) (a .kept .now) (g .0 .0) (g .0 .1 .0 .0) (refused-by (a .text .now) (a .kept .now) (k .check .ensures) (g .0 .0) (g .0 .1 .0) (g .1)) (a .kind) (a .ordinal)))
+    sym (ap keyAnswerOf (key-refused (a .text .now) (a .kept .now) (g .0 .0) (g .0 .1 .0 .0) (refused-by (a .text .now) (a .kept .now) (k .check .ensures) (g .0 .0) (g .0 .1 .0) (g .1)) (a .kind) (a .ordinal)))
 
 returns-2 : tie.Need-returns-2
-unfolding keyOf
+unfolding keyAnswerOf
 returns-2 c =
     let f = c .before .before in
     let a = f .before .before .before .before .before .before .args in
-    sym (ap keyOf (key-none (a .text .now) (a .kept .now) (fresh-by (a .text .now) (a .kept .now) (f .before .before .before .check .ensures) (f .before .enum-told .given .1)) (a .kind) (a .ordinal) (sym (f .find-key .ensures) ∙ c .enum-told2 .given .1)))
+    sym (ap keyAnswerOf (key-none (a .text .now) (a .kept .now) (fresh-by (a .text .now) (a .kept .now) (f .before .before .before .check .ensures) (f .before .enum-told .given .1)) (a .kind) (a .ordinal) (sym (f .find-key .ensures) ∙ c .enum-told2 .given .1)))
 
 returns-3 : tie.Need-returns-3
 returns-3 c =

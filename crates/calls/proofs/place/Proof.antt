@@ -1,6 +1,6 @@
 -- `calls::place` meets its contract: nowhere after a refusal of the check or where the catalogue has no such field.
 use mathlib.Core.Path.{sym, ap, _∙_}
-use Rattle.calls.specs.Answers.{placeOf}
+use Rattle.calls.specs.Answers.{valuePlaceOf}
 use Rattle.calls.proofs.Fresh.{refused-by, fresh-by}
 use Rattle.calls.proofs.Told.{field-refused, field-none, field-found}
 use borrow.Author.Needs.{needs}
@@ -26,19 +26,19 @@ enum-known-p : tie.Need-enum-known-p
 enum-known-p c = search needs
 
 returns : tie.Need-returns
-unfolding placeOf
+unfolding valuePlaceOf
 returns c =
     let k = c .before .before in
     let a = k .before .before .before .args in
     let g = c .enum-told .given in
-    sym (ap placeOf (field-refused (a .text .now) (a .kept .now) (g .0 .0) (g .0 .1 .0 .0) (refused-by (a .text .now) (a .kept .now) (k .check .ensures) (g .0 .0) (g .0 .1 .0) (g .1)) (a .kind) (a .ordinal) (a .a) (a .b)))
+    sym (ap valuePlaceOf (field-refused (a .text .now) (a .kept .now) (g .0 .0) (g .0 .1 .0 .0) (refused-by (a .text .now) (a .kept .now) (k .check .ensures) (g .0 .0) (g .0 .1 .0) (g .1)) (a .kind) (a .ordinal) (a .a) (a .b)))
 
 returns-2 : tie.Need-returns-2
-unfolding placeOf
+unfolding valuePlaceOf
 returns-2 c =
     let f = c .before .before in
     let a = f .before .before .before .before .before .before .args in
-    sym (ap placeOf (field-none (a .text .now) (a .kept .now) (fresh-by (a .text .now) (a .kept .now) (f .before .before .before .check .ensures) (f .before .enum-told2 .given .1)) (a .kind) (a .ordinal) (a .a) (a .b) (sym (f .find-field .ensures) ∙ c .enum-told3 .given .1)))
+    sym (ap valuePlaceOf (field-none (a .text .now) (a .kept .now) (fresh-by (a .text .now) (a .kept .now) (f .before .before .before .check .ensures) (f .before .enum-told2 .given .1)) (a .kind) (a .ordinal) (a .a) (a .b) (sym (f .find-field .ensures) ∙ c .enum-told3 .given .1)))
 
 returns-3 : tie.Need-returns-3
 returns-3 c =

@@ -6,29 +6,29 @@ use mathlib.Core.List.{[], _∷_, _++_}
 use native.Mathlib.Nat.{zero-add}
 use native.Mathlib.Numerals.{add-one}
 use lib.ListN.{set}
-use Rattle.format.specs.Programs.{counting}
+use Rattle.format.specs.Programs.{numbersFrom}
 use Rattle.chains.specs.Parents.{inArray}
 use Rattle.chains.proofs.Arrays.{array-push}
 use Rattle.chains.proofs.Leaf.{counting-length, counting-more}
 use Rattle.chains.proofs.counting.Statement.{statement}
 use Rattle.chains.proofs.counting.Tie as tie
 
-turn : (i : ℕ) → i < 1024 → set (inArray (counting 0 i)) i i ≡ inArray (counting 0 (i + 1))
+turn : (i : ℕ) → i < 1024 → set (inArray (numbersFrom 0 i)) i i ≡ inArray (numbersFrom 0 (i + 1))
 turn i h =
-    ap (λ n. set (inArray (counting 0 i)) n i) (sym (counting-length 0 i))
-    ∙ array-push (counting 0 i) i (omega (arith, counting-length 0 i))
-    ∙ ap (λ x. inArray (counting 0 i ++ x ∷ [])) (sym (zero-add i))
+    ap (λ n. set (inArray (numbersFrom 0 i)) n i) (sym (counting-length 0 i))
+    ∙ array-push (numbersFrom 0 i) i (omega (arith, counting-length 0 i))
+    ∙ ap (λ x. inArray (numbersFrom 0 i ++ x ∷ [])) (sym (zero-add i))
     ∙ ap inArray (sym (counting-more 0 i))
-    ∙ ap (λ n. inArray (counting 0 n)) (sym (add-one i))
+    ∙ ap (λ n. inArray (numbersFrom 0 n)) (sym (add-one i))
 
 abbrev Inv-loop : tie.InvT-loop
-Inv-loop n list₀ i₀ list i = (i ≤ n) × (list ≡ inArray (counting 0 i))
+Inv-loop n list₀ i₀ list i = (i ≤ n) × (list ≡ inArray (numbersFrom 0 i))
 
 abbrev μ-loop : tie.MeasureT-loop
 μ-loop n list₀ i₀ list i = n - i
 
 loop-holds : tie.Need-loop-holds Inv-loop μ-loop
-unfolding inArray counting
+unfolding inArray numbersFrom
 loop-holds c = (omega arith, refl)
 
 cast-list : tie.Need-cast-list Inv-loop μ-loop
@@ -52,7 +52,7 @@ loop-again c =
     (omega arith, ap (λ r. set r (l .i) (l .i)) (l .inv .1) ∙ turn (l .i) (omega arith))
 
 returns : tie.Need-returns Inv-loop μ-loop
-returns c = c .before .loop .inv .1 ∙ ap (λ n. inArray (counting 0 n)) (omega arith)
+returns c = c .before .loop .inv .1 ∙ ap (λ n. inArray (numbersFrom 0 n)) (omega arith)
 
 pub counting-spec : {M : Type 1} → statement M
 counting-spec =

@@ -9,8 +9,8 @@ use native.Mathlib.Numerals.{add-one}
 use lib.ListN.{length, getD, set, take, drop, drop-of-length-le, replicate, length-map}
 use lib.Seq.{drop-cons, take-at}
 use borrow.Author.Tests.{le-ltb}
-use Rattle.format.specs.Programs.{leaves, leavesFrom, counting, swapRemove}
-use Rattle.chains.specs.Parents.{linkOf, linksOf, inArray, placeOf}
+use Rattle.format.specs.Programs.{leaves, leavesFrom, numbersFrom, swapRemove}
+use Rattle.chains.specs.Parents.{linkOf, linksOf, inArray, indexIn}
 use Rattle.chains.proofs.Arrays.{array-length}
 use Rattle.chains.proofs.Leaf.{counting-length, counting-once, swap-keeps}
 use Rattle.chains.proofs.Swaps.{place-any, array-swap, swap-shorter}
@@ -32,9 +32,9 @@ module _ (ps : List ℕ) (i : ℕ) (xs : List ℕ) where
   unfolding leavesFrom linksOf
   none-left h = rw drop-of-length-le refl
 
-whole : (ps : List ℕ) → leaves (linksOf ps) ≡ leavesFrom (counting 0 (length ps)) (linksOf ps)
+whole : (ps : List ℕ) → leaves (linksOf ps) ≡ leavesFrom (numbersFrom 0 (length ps)) (linksOf ps)
 unfolding leaves linksOf
-whole ps = ap (λ n. leavesFrom (counting 0 n) (linksOf ps)) (length-map ps linkOf)
+whole ps = ap (λ n. leavesFrom (numbersFrom 0 n) (linksOf ps)) (length-map ps linkOf)
 
 -- what is listed, in its array
 abbrev Listed : List ℕ → List ℕ → ℕ → ℕ → Type 0
@@ -57,21 +57,21 @@ module _ (ps list : List ℕ) (count i : ℕ) (x : Listed ps list count i) where
       (x .1 ∙ ap inArray (sym e), sym (x .2) ∙ ap length (sym e))
 
   -- a parent `k`, and the place that was found
-  module _ (k at : ℕ) (h : i < length ps) (e : k ≡ 4294967295 → ⊥) (p : k ≡ getD ps i 0) (f : at ≡ placeOf k (take count list)) where
-    found : at ≡ placeOf k (x .0)
-    found = f ∙ ap (placeOf k) lent
+  module _ (k at : ℕ) (h : i < length ps) (e : k ≡ 4294967295 → ⊥) (p : k ≡ getD ps i 0) (f : at ≡ indexIn k (take count list)) where
+    found : at ≡ indexIn k (x .0)
+    found = f ∙ ap (indexIn k) lent
 
     rest : leaves (linksOf ps) ≡ leavesFrom (swapRemove k (x .0)) (linksOf (drop (i + 1) ps))
     rest = x .4 ∙ with-parent ps i (x .0) h (λ q. e (p ∙ q)) ∙ ap (λ y. leavesFrom (swapRemove y (x .0)) (linksOf (drop (i + 1) ps))) (sym p)
 
     absent : count ≤ at → Listed ps list count (i + 1)
     absent g =
-        let none = swap-none k (x .0) (place-any k (x .0) ∙ le-ltb (placeOf k (x .0)) (length (x .0)) (omega (arith, found, x .2))) in
+        let none = swap-none k (x .0) (place-any k (x .0) ∙ le-ltb (indexIn k (x .0)) (length (x .0)) (omega (arith, found, x .2))) in
         (x .0, x .1, x .2, x .3, rest ∙ ap (λ l. leavesFrom l (linksOf (drop (i + 1) ps))) none)
 
     swapped : at < count → count ≤ 1024 → Listed ps (set (set list at (getD list (count - 1) 0)) (count - 1) 0) (count - 1) (i + 1)
     swapped g b =
-        let there : placeOf k (x .0) < length (x .0) = omega (arith, found, x .2) in (
+        let there : indexIn k (x .0) < length (x .0) = omega (arith, found, x .2) in (
           swapRemove k (x .0),
           rw (x .1, found) (array-swap k (count - 1) (x .0) (x .3 k) there (omega (arith, x .2)) (omega (arith, x .2))),
           swap-shorter k (x .0) (x .3 k) there ∙ ap (λ n. n - 1) (x .2),
@@ -91,7 +91,7 @@ counting-requires c κs = omega arith
 loop-holds : tie.Need-loop-holds Inv-loop μ-loop
 loop-holds c =
     let n = length (c .before .before .args .parents .now) in
-    (omega arith, omega arith, (counting 0 n, c .counting .ensures, counting-length 0 n, counting-once n, whole (c .before .before .args .parents .now)))
+    (omega arith, omega arith, (numbersFrom 0 n, c .counting .ensures, counting-length 0 n, counting-once n, whole (c .before .before .args .parents .now)))
 
 mul-k : tie.Need-mul-k Inv-loop μ-loop
 mul-k c = omega arith

@@ -7,25 +7,25 @@ use native.Mathlib.Numerals.{add-one}
 use lib.ListN.{length, getD, drop, drop-of-length-le}
 use lib.Seq.{drop-cons}
 use borrow.Author.Tests.{eq-eqb, ne-eqb}
-use Rattle.chains.specs.Parents.{placeOf}
+use Rattle.chains.specs.Parents.{indexIn}
 use Rattle.chains.proofs.place.Statement.{statement}
 use Rattle.chains.proofs.place.Tie as tie
 
 module _ (x : ℕ) (l : List ℕ) (i : ℕ) where
-  here : i < length l → x ≡ getD l i 0 → placeOf x (drop i l) ≡ 0
-  unfolding placeOf
+  here : i < length l → x ≡ getD l i 0 → indexIn x (drop i l) ≡ 0
+  unfolding indexIn
   here h e = rw (drop-cons l i 0 h, eq-eqb _ _ e) refl
 
-  next : i < length l → (x ≡ getD l i 0 → ⊥) → placeOf x (drop i l) ≡ suc (placeOf x (drop (i + 1) l))
-  unfolding placeOf
+  next : i < length l → (x ≡ getD l i 0 → ⊥) → indexIn x (drop i l) ≡ suc (indexIn x (drop (i + 1) l))
+  unfolding indexIn
   next h e = rw (drop-cons l i 0 h, ne-eqb _ _ e, add-one i) refl
 
-  spent : length l ≤ i → placeOf x (drop i l) ≡ 0
-  unfolding placeOf
+  spent : length l ≤ i → indexIn x (drop i l) ≡ 0
+  unfolding indexIn
   spent h = rw drop-of-length-le refl
 
 abbrev Inv-loop : tie.InvT-loop
-Inv-loop list x i₀ i = (i ≤ length list) × (placeOf x list ≡ i + placeOf x (drop i list))
+Inv-loop list x i₀ i = (i ≤ length list) × (indexIn x list ≡ i + indexIn x (drop i list))
 
 abbrev μ-loop : tie.MeasureT-loop
 μ-loop list x i₀ i = length list - i

@@ -4,13 +4,13 @@ use mathlib.Core.Path.{_≡_, sym, ap, _∙_}
 use mathlib.Core.Logic.{⊎-elim}
 use native.Mathlib.Omega.{arith}
 use lib.ListN.{length, drop}
-use Rattle.decimal.specs.Number.{front}
+use Rattle.decimal.specs.Number.{numberAtFront}
 use Rattle.decimal.proofs.Front.{frontFrom, done, done-none, done-is, digit-yes, digit-low, digit-high, front-start, turn, turn-end, turn-stop, turn-large}
 use Rattle.decimal.proofs.read_up_to.Statement.{statement}
 use Rattle.decimal.proofs.read_up_to.Tie as tie
 
 abbrev Inv-loop : tie.InvT-loop
-Inv-loop s max tenth n₀ i₀ n i = (i ≤ length s) × (n ≤ max) × (front (suc max) s ≡ frontFrom (suc max) n i (drop i s))
+Inv-loop s max tenth n₀ i₀ n i = (i ≤ length s) × (n ≤ max) × (numberAtFront (suc max) s ≡ frontFrom (suc max) n i (drop i s))
 
 abbrev μ-loop : tie.MeasureT-loop
 μ-loop s max tenth n₀ i₀ n i = length s - i
@@ -56,7 +56,7 @@ loop-again c =
 
 -- read to the end, or to a byte that is no digit
 left : (c : tie.Left-loop Inv-loop μ-loop)
-    → front (suc (c .before .before .args .max)) (c .before .before .args .s .now)
+    → numberAtFront (suc (c .before .before .args .max)) (c .before .before .args .s .now)
     ≡ done (suc (c .before .before .args .max)) (c .before .loop .n) (c .before .loop .i)
 left c =
     let l = c .before .loop in

@@ -7,21 +7,21 @@ use mathlib.Core.List.{List}
 use lib.ListN.{take, drop, getD}
 use lib.Seq.{drop-drop, getD-drop}
 use Rattle.entries.specs.declared.Entry.the-variants.{Header, ReferenceSequence, ReadGroup, Program, Comment, Field}
-use Rattle.entries.specs.Entries.{kindSize, placeOf, bodied}
+use Rattle.entries.specs.Entries.{kindSize, placeFrom, entryWith}
 use Rattle.text.specs.Little.{ofLittle}
 use Rattle.entries.proofs.Walk.{no-kind, no-body}
 use Rattle.entries.proofs.body_at.Statement.{statement}
 use Rattle.entries.proofs.body_at.Tie as tie
 
 module _ (at : ℕ) (s : List ℕ) where
-  sequence : bodied 2 (drop (at + 1) s) ≡ ReferenceSequence (placeOf (drop (at + 1) s)) (ofLittle (take 8 (drop (at + 9) s)))
-  unfolding bodied
+  sequence : entryWith 2 (drop (at + 1) s) ≡ ReferenceSequence (placeFrom (drop (at + 1) s)) (ofLittle (take 8 (drop (at + 9) s)))
+  unfolding entryWith
   sequence =
       let e : at + 1 + 8 ≡ at + 9 = omega arith in
       rw (drop-drop 8 (at + 1) s, e) refl
 
-  field : bodied 6 (drop (at + 1) s) ≡ Field (getD s (at + 1) 0) (getD s (at + 2) 0) (placeOf (drop (at + 3) s))
-  unfolding bodied
+  field : entryWith 6 (drop (at + 1) s) ≡ Field (getD s (at + 1) 0) (getD s (at + 2) 0) (placeFrom (drop (at + 3) s))
+  unfolding entryWith
   field =
       let e : at + 1 + 0 ≡ at + 1 = omega arith in
       let f : at + 1 + 1 ≡ at + 2 = omega arith in
@@ -92,10 +92,10 @@ unfolding kindSize
 place-at-requires-5 c κs = omega (arith, ap kindSize (c .before .before .match .keys6))
 
 returns : tie.Need-returns
-unfolding bodied
+unfolding entryWith
 returns c =
     let a = c .before .before .before .args in
-    ap Header (c .version-at .ensures) ∙ sym (ap (λ k. bodied k (drop (a .at + 1) (a .s .now))) (c .before .match .keys1))
+    ap Header (c .version-at .ensures) ∙ sym (ap (λ k. entryWith k (drop (a .at + 1) (a .s .now))) (c .before .match .keys1))
 
 returns-2 : tie.Need-returns-2
 returns-2 c =
@@ -103,22 +103,22 @@ returns-2 c =
     cc (sequence (a .at) (a .s .now), c .before .place-at .ensures, c .get-u64 .ensures, c .before .before .match .keys2)
 
 returns-3 : tie.Need-returns-3
-unfolding bodied
+unfolding entryWith
 returns-3 c =
     let a = c .before .before .before .args in
-    ap ReadGroup (c .place-at2 .ensures) ∙ sym (ap (λ k. bodied k (drop (a .at + 1) (a .s .now))) (c .before .match .keys3))
+    ap ReadGroup (c .place-at2 .ensures) ∙ sym (ap (λ k. entryWith k (drop (a .at + 1) (a .s .now))) (c .before .match .keys3))
 
 returns-4 : tie.Need-returns-4
-unfolding bodied
+unfolding entryWith
 returns-4 c =
     let a = c .before .before .before .args in
-    ap Program (c .place-at3 .ensures) ∙ sym (ap (λ k. bodied k (drop (a .at + 1) (a .s .now))) (c .before .match .keys4))
+    ap Program (c .place-at3 .ensures) ∙ sym (ap (λ k. entryWith k (drop (a .at + 1) (a .s .now))) (c .before .match .keys4))
 
 returns-5 : tie.Need-returns-5
-unfolding bodied
+unfolding entryWith
 returns-5 c =
     let a = c .before .before .before .args in
-    ap Comment (c .place-at4 .ensures) ∙ sym (ap (λ k. bodied k (drop (a .at + 1) (a .s .now))) (c .before .match .keys5))
+    ap Comment (c .place-at4 .ensures) ∙ sym (ap (λ k. entryWith k (drop (a .at + 1) (a .s .now))) (c .before .match .keys5))
 
 returns-6 : tie.Need-returns-6
 returns-6 c =

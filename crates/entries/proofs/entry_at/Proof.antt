@@ -9,7 +9,7 @@ use lib.Seq.{drop-cons}
 use borrow.Author.Needs.{needs}
 use borrow.Author.Tests.{le-leb, lt-leb}
 use Rattle.entries.specs.declared.Entry.the-variants.{End}
-use Rattle.entries.specs.Entries.{kindSize, bodied, entryOf}
+use Rattle.entries.specs.Entries.{kindSize, entryWith, entryOf}
 use Rattle.entries.proofs.entry_at.Statement.{statement}
 use Rattle.entries.proofs.entry_at.Tie as tie
 
@@ -27,7 +27,7 @@ module _ (s : List ℕ) (at : ℕ) where
       let l : length (getD s at 0 ∷ drop (suc at) s) < kindSize (getD s at 0) = omega (arith, opened h) in
       rw (drop-cons s at 0 h, lt-leb (kindSize (getD s at 0)) (length (getD s at 0 ∷ drop (suc at) s)) l) refl
 
-  whole : at < length s → kindSize (getD s at 0) ≤ length s - at → bodied (getD s at 0) (drop (at + 1) s) ≡ entryOf (drop at s)
+  whole : at < length s → kindSize (getD s at 0) ≤ length s - at → entryWith (getD s at 0) (drop (at + 1) s) ≡ entryOf (drop at s)
   unfolding entryOf
   whole h k =
       let l : kindSize (getD s at 0) ≤ length (getD s at 0 ∷ drop (suc at) s) = omega (arith, opened h) in

@@ -1,6 +1,6 @@
 -- `entries::kind_of` meets its contract: one arm for each case.
 use borrow.Author.Needs.{needs}
-use Rattle.entries.specs.Entries.{kindOf}
+use Rattle.entries.specs.Entries.{kindByte}
 use Rattle.entries.proofs.kind_of.Statement.{statement}
 use Rattle.entries.proofs.kind_of.Tie as tie
 
@@ -26,31 +26,31 @@ enum-told-7 : tie.Need-enum-told-7
 enum-told-7 c = search needs
 
 returns : tie.Need-returns
-unfolding kindOf
+unfolding kindByte
 returns c = search needs
 
 returns-2 : tie.Need-returns-2
-unfolding kindOf
+unfolding kindByte
 returns-2 c = search needs
 
 returns-3 : tie.Need-returns-3
-unfolding kindOf
+unfolding kindByte
 returns-3 c = search needs
 
 returns-4 : tie.Need-returns-4
-unfolding kindOf
+unfolding kindByte
 returns-4 c = search needs
 
 returns-5 : tie.Need-returns-5
-unfolding kindOf
+unfolding kindByte
 returns-5 c = search needs
 
 returns-6 : tie.Need-returns-6
-unfolding kindOf
+unfolding kindByte
 returns-6 c = search needs
 
 returns-7 : tie.Need-returns-7
-unfolding kindOf
+unfolding kindByte
 returns-7 c = search needs
 
 pub kind-of-spec : {M : Type 1} → statement M

@@ -9,7 +9,7 @@ use borrow.Author.Tests.{eq-eqb, ne-eqb}
 use lib.ListN.{length, drop}
 use Rattle.entries.specs.declared.Entry.{Entry}
 use Rattle.entries.specs.declared.Passed.{Passed}
-use Rattle.entries.specs.Entries.{kindOf, sizeOf, entryOf, entriesIn, counted, entriesBefore, sizes, passing}
+use Rattle.entries.specs.Entries.{kindByte, entrySize, entryOf, entriesIn, counted, entriesBefore, sizes, passing}
 use Rattle.entries.proofs.Walk.{turn-end, turn-within, turn-on}
 use Rattle.entries.proofs.pass_before.Statement.{statement}
 use Rattle.entries.proofs.pass_before.Tie as tie
@@ -33,7 +33,7 @@ all-passed c k i at n o e =
     let b : n ≡ counted k (entriesBefore k i (entriesIn c)) = omega (arith, o .4, ap (counted k) e) in
     ap₂ (λ x y. record { at = x; count = y }) a b
 
-module _ (c : List ℕ) (k i at n len : ℕ) (e : Entry) (found : e ≡ entryOf (drop at c)) (long : len ≡ sizeOf e) (o : Onward c k i at n) where
+module _ (c : List ℕ) (k i at n len : ℕ) (e : Entry) (found : e ≡ entryOf (drop at c)) (long : len ≡ entrySize e) (o : Onward c k i at n) where
   ended : len ≡ 0 → ahead c k at (i - n) ≡ []
   unfolding entriesBefore
   ended h = ap (entriesBefore k (i - n)) (turn-end c at len e found long h)
@@ -42,31 +42,31 @@ module _ (c : List ℕ) (k i at n len : ℕ) (e : Entry) (found : e ≡ entryOf 
     opened : (j : ℕ) → ahead c k at j ≡ entriesBefore k j (e ∷ entriesIn (drop (at + len) c))
     opened j = ap (entriesBefore k j) (turn-on c at len e found long h)
 
-    here : kindOf e ≡ k → n ≡ i → ahead c k at (i - n) ≡ []
+    here : kindByte e ≡ k → n ≡ i → ahead c k at (i - n) ≡ []
     unfolding entriesBefore
-    here q z = let y : i - n ≡ 0 = omega arith in ap (ahead c k at) y ∙ opened 0 ∙ rw (eq-eqb (kindOf e) k q) refl
+    here q z = let y : i - n ≡ 0 = omega arith in ap (ahead c k at) y ∙ opened 0 ∙ rw (eq-eqb (kindByte e) k q) refl
 
     within : at + len ≤ length c
     within = turn-within c at len e found long h
 
-    one : kindOf e ≡ k → (n ≡ i → ⊥) → Onward c k i (at + len) (n + 1)
+    one : kindByte e ≡ k → (n ≡ i → ⊥) → Onward c k i (at + len) (n + 1)
     unfolding entriesBefore sizes counted
     one q z =
         let y : i - n ≡ suc (i - (n + 1)) = omega (arith, z) in
-        let p : ahead c k at (i - n) ≡ e ∷ ahead c k (at + len) (i - (n + 1)) = ap (ahead c k at) y ∙ opened (suc (i - (n + 1))) ∙ rw (eq-eqb (kindOf e) k q) refl in
-        let m : counted k (e ∷ ahead c k (at + len) (i - (n + 1))) ≡ suc (counted k (ahead c k (at + len) (i - (n + 1)))) = rw (eq-eqb (kindOf e) k q) refl in
+        let p : ahead c k at (i - n) ≡ e ∷ ahead c k (at + len) (i - (n + 1)) = ap (ahead c k at) y ∙ opened (suc (i - (n + 1))) ∙ rw (eq-eqb (kindByte e) k q) refl in
+        let m : counted k (e ∷ ahead c k (at + len) (i - (n + 1))) ≡ suc (counted k (ahead c k (at + len) (i - (n + 1)))) = rw (eq-eqb (kindByte e) k q) refl in
         (within, omega (arith, h), omega (arith, z), omega (arith, o .3, ap sizes p, long), omega (arith, o .4, ap (counted k) p, m))
 
-    other : (kindOf e ≡ k → ⊥) → Onward c k i (at + len) n
+    other : (kindByte e ≡ k → ⊥) → Onward c k i (at + len) n
     other q =
         let p : ahead c k at (i - n) ≡ e ∷ ahead c k (at + len) (i - n) = opened (i - n) ∙ passed (i - n) in
-        let m : counted k (e ∷ ahead c k (at + len) (i - n)) ≡ counted k (ahead c k (at + len) (i - n)) = unfold counted in rw (ne-eqb (kindOf e) k q) refl in
-        let z : sizes (e ∷ ahead c k (at + len) (i - n)) ≡ sizeOf e + sizes (ahead c k (at + len) (i - n)) = unfold sizes in refl in
+        let m : counted k (e ∷ ahead c k (at + len) (i - n)) ≡ counted k (ahead c k (at + len) (i - n)) = unfold counted in rw (ne-eqb (kindByte e) k q) refl in
+        let z : sizes (e ∷ ahead c k (at + len) (i - n)) ≡ entrySize e + sizes (ahead c k (at + len) (i - n)) = unfold sizes in refl in
         (within, omega arith, omega arith, omega (arith, o .3, ap sizes p, z, long), omega (arith, o .4, ap (counted k) p, m))
       where
         passed : (j : ℕ) → entriesBefore k j (e ∷ entriesIn (drop (at + len) c)) ≡ e ∷ ahead c k (at + len) j
-        passed zero = unfold entriesBefore in rw (ne-eqb (kindOf e) k q) refl
-        passed (suc j) = unfold entriesBefore in rw (ne-eqb (kindOf e) k q) refl
+        passed zero = unfold entriesBefore in rw (ne-eqb (kindByte e) k q) refl
+        passed (suc j) = unfold entriesBefore in rw (ne-eqb (kindByte e) k q) refl
 
 abbrev Inv-loop : tie.InvT-loop
 Inv-loop catalogue kind ordinal at₀ count₀ at count = Onward catalogue kind ordinal at count

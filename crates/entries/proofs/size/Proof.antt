@@ -1,7 +1,7 @@
 -- `entries::size` meets its contract: the size of its kind.
 use borrow.Author.Needs.{needs}
 use mathlib.Core.Path.{ap, _∙_}
-use Rattle.entries.specs.Entries.{kindSize, sizeOf}
+use Rattle.entries.specs.Entries.{kindSize, entrySize}
 use Rattle.entries.proofs.size.Statement.{statement}
 use Rattle.entries.proofs.size.Tie as tie
 
@@ -12,7 +12,7 @@ kind-size-requires : tie.Need-kind-size-requires
 kind-size-requires c κs = search needs
 
 returns : tie.Need-returns
-unfolding sizeOf
+unfolding entrySize
 returns c = c .kind-size .ensures ∙ ap kindSize (c .before .kind-of .ensures)
 
 pub size-spec : {M : Type 1} → statement M

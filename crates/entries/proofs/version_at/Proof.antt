@@ -2,7 +2,7 @@
 use mathlib.Core.Path.{refl, sym}
 use borrow.Author.Needs.{needs}
 use lib.Seq.{drop-drop}
-use Rattle.entries.specs.Entries.{versionOf}
+use Rattle.entries.specs.Entries.{versionFrom}
 use Rattle.entries.proofs.version_at.Statement.{statement}
 use Rattle.entries.proofs.version_at.Tie as tie
 
@@ -16,7 +16,7 @@ get-u32-requires-2 : tie.Need-get-u32-requires-2
 get-u32-requires-2 c κs = search needs
 
 returns : tie.Need-returns
-unfolding versionOf
+unfolding versionFrom
 returns c =
     let a = c .before .before .before .args in
     sym (rw (drop-drop 4 (a .at) (a .s .now), ← c .before .get-u32 .ensures, ← c .get-u322 .ensures) refl)

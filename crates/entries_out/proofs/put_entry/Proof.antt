@@ -7,13 +7,13 @@ use borrow.Author.Needs.{needs}
 use Rattle.text.specs.Over.{over}
 use Rattle.text.proofs.Over.{over-none}
 use Rattle.entries.specs.declared.Entry.{Entry}
-use Rattle.entries.specs.Entries.{sizeOf, entryBytes}
+use Rattle.entries.specs.Entries.{entrySize, entryBytes}
 use Rattle.entries_out.proofs.put_entry.Statement.{statement}
 use Rattle.entries_out.proofs.put_entry.Tie as tie
 
 -- an arm that writes the bytes of the case that it is
-arm : (out last : List ℕ) (at n : ℕ) (e d : Entry) → n ≡ sizeOf e → e ≡ d → last ≡ over out at (entryBytes d)
-    → (at + n ≡ at + sizeOf e) × (last ≡ over out at (entryBytes e))
+arm : (out last : List ℕ) (at n : ℕ) (e d : Entry) → n ≡ entrySize e → e ≡ d → last ≡ over out at (entryBytes d)
+    → (at + n ≡ at + entrySize e) × (last ≡ over out at (entryBytes e))
 arm out last at n e d size same wrote = (ap (λ m. at + m) size, wrote ∙ ap (λ x. over out at (entryBytes x)) (sym same))
 
 size-requires : tie.Need-size-requires
@@ -29,43 +29,43 @@ enum-known-e : tie.Need-enum-known-e
 enum-known-e c = search needs
 
 put-kind-requires : tie.Need-put-kind-requires
-unfolding sizeOf
-put-kind-requires c κs = omega (arith, ap sizeOf (c .before .before .e .given .1))
+unfolding entrySize
+put-kind-requires c κs = omega (arith, ap entrySize (c .before .before .e .given .1))
 
 enum-known-e-2 : tie.Need-enum-known-e-2
 enum-known-e-2 c = search needs
 
 put-sequence-requires : tie.Need-put-sequence-requires
-unfolding sizeOf
-put-sequence-requires c κs = omega (arith, ap sizeOf (c .before .before .e2 .given .1))
+unfolding entrySize
+put-sequence-requires c κs = omega (arith, ap entrySize (c .before .before .e2 .given .1))
 
 enum-known-e-3 : tie.Need-enum-known-e-3
 enum-known-e-3 c = search needs
 
 put-kind-requires-2 : tie.Need-put-kind-requires-2
-unfolding sizeOf
-put-kind-requires-2 c κs = omega (arith, ap sizeOf (c .before .before .e3 .given .1))
+unfolding entrySize
+put-kind-requires-2 c κs = omega (arith, ap entrySize (c .before .before .e3 .given .1))
 
 enum-known-e-4 : tie.Need-enum-known-e-4
 enum-known-e-4 c = search needs
 
 put-kind-requires-3 : tie.Need-put-kind-requires-3
-unfolding sizeOf
-put-kind-requires-3 c κs = omega (arith, ap sizeOf (c .before .before .e4 .given .1))
+unfolding entrySize
+put-kind-requires-3 c κs = omega (arith, ap entrySize (c .before .before .e4 .given .1))
 
 enum-known-e-5 : tie.Need-enum-known-e-5
 enum-known-e-5 c = search needs
 
 put-kind-requires-4 : tie.Need-put-kind-requires-4
-unfolding sizeOf
-put-kind-requires-4 c κs = omega (arith, ap sizeOf (c .before .before .e5 .given .1))
+unfolding entrySize
+put-kind-requires-4 c κs = omega (arith, ap entrySize (c .before .before .e5 .given .1))
 
 enum-known-e-6 : tie.Need-enum-known-e-6
 enum-known-e-6 c = search needs
 
 put-field-requires : tie.Need-put-field-requires
-unfolding sizeOf
-put-field-requires c κs = omega (arith, ap sizeOf (c .before .before .e6 .given .1))
+unfolding entrySize
+put-field-requires c κs = omega (arith, ap entrySize (c .before .before .e6 .given .1))
 
 returns : tie.Need-returns
 unfolding entryBytes

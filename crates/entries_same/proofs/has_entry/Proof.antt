@@ -7,14 +7,14 @@ use lib.ListN.{length, drop}
 use borrow.Author.Needs.{needs}
 use Rattle.format.specs.Bytes.{starts}
 use Rattle.entries.specs.declared.Entry.{Entry}
-use Rattle.entries.specs.Entries.{sizeOf, placeBytes, entryBytes}
+use Rattle.entries.specs.Entries.{entrySize, placeBytes, entryBytes}
 use Rattle.entries_same.proofs.Starts.{starts-none}
 use Rattle.entries_same.proofs.has_entry.Statement.{statement}
 use Rattle.entries_same.proofs.has_entry.Tie as tie
 
 -- the entry is the case `d`
-long : (s : tie.Start) (d : Entry) → s .args .e ≡ d → s .args .at + sizeOf d ≤ length (s .args .s .now)
-long s d e = omega (arith, s .pre, ap sizeOf e)
+long : (s : tie.Start) (d : Entry) → s .args .e ≡ d → s .args .at + entrySize d ≤ length (s .args .s .now)
+long s d e = omega (arith, s .pre, ap entrySize e)
 
 same : (s : tie.Start) (d : Entry) → s .args .e ≡ d → (let c = drop (s .args .at) (s .args .s .now) in starts (entryBytes d) c ≡ starts (entryBytes (s .args .e)) c)
 same s d e = ap (λ d. starts (entryBytes d) (drop (s .args .at) (s .args .s .now))) (sym e)
@@ -26,42 +26,42 @@ enum-known-e : tie.Need-enum-known-e
 enum-known-e c = search needs
 
 has-kind-requires : tie.Need-has-kind-requires
-unfolding sizeOf
+unfolding entrySize
 has-kind-requires c κs = long (c .before .before .before .before) _ (c .before .e .given .1)
 
 enum-known-e-2 : tie.Need-enum-known-e-2
 enum-known-e-2 c = search needs
 
 has-sequence-requires : tie.Need-has-sequence-requires
-unfolding sizeOf
+unfolding entrySize
 has-sequence-requires c κs = long (c .before .before .before .before) _ (c .before .e2 .given .1)
 
 enum-known-e-3 : tie.Need-enum-known-e-3
 enum-known-e-3 c = search needs
 
 has-kind-requires-2 : tie.Need-has-kind-requires-2
-unfolding sizeOf
+unfolding entrySize
 has-kind-requires-2 c κs = long (c .before .before .before .before) _ (c .before .e3 .given .1)
 
 enum-known-e-4 : tie.Need-enum-known-e-4
 enum-known-e-4 c = search needs
 
 has-kind-requires-3 : tie.Need-has-kind-requires-3
-unfolding sizeOf
+unfolding entrySize
 has-kind-requires-3 c κs = long (c .before .before .before .before) _ (c .before .e4 .given .1)
 
 enum-known-e-5 : tie.Need-enum-known-e-5
 enum-known-e-5 c = search needs
 
 has-kind-requires-4 : tie.Need-has-kind-requires-4
-unfolding sizeOf
+unfolding entrySize
 has-kind-requires-4 c κs = long (c .before .before .before .before) _ (c .before .e5 .given .1)
 
 enum-known-e-6 : tie.Need-enum-known-e-6
 enum-known-e-6 c = search needs
 
 has-field-requires : tie.Need-has-field-requires
-unfolding sizeOf
+unfolding entrySize
 has-field-requires c κs = long (c .before .before .before .before) _ (c .before .e6 .given .1)
 
 returns : tie.Need-returns

@@ -4,7 +4,7 @@ use mathlib.Core.Path.{_≡_, sym}
 use native.Mathlib.Omega.{arith}
 use borrow.Author.Needs.{needs}
 use Rattle.entries.specs.declared.Entry.the-variants as entry
-use Rattle.entries.specs.Entries.{kindOf, kindSize, sizeOf, entryBytes}
+use Rattle.entries.specs.Entries.{kindByte, kindSize, entrySize, entryBytes}
 use Rattle.entries.proofs.Written.{entry-length}
 use Rattle.entries_same.proofs.Starts.{starts-short}
 use Rattle.entries_same.proofs.same_field.Statement.{statement}
@@ -14,7 +14,7 @@ sub-if1 : tie.Need-sub-if1
 sub-if1 c = search needs
 
 returns : tie.Need-returns
-unfolding sizeOf kindOf kindSize
+unfolding entrySize kindByte kindSize
 returns c =
     let a = c .before .before .args in
     let e = entry.Field (a .a) (a .b) (a .value) in

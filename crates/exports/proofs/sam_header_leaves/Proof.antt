@@ -4,22 +4,22 @@ use mathlib.Core.Path.{_≡_, refl, sym, ap, subst, _∙_}
 use mathlib.Core.List.{List}
 use native.Mathlib.Omega.{arith}
 use lib.ListN.{length}
-use Rattle.format.specs.Calls.{Answer, no, yes, leafing}
+use Rattle.format.specs.Calls.{Answer, refused, yes, leafing}
 use Rattle.accepted.proofs.Bools.{never}
 use Rattle.calls.specs.declared.LeavesAnswer.the-variants.{Refused, Counted}
-use Rattle.calls.specs.Answers.{leavesOf}
+use Rattle.calls.specs.Answers.{leavesAnswerOf}
 use Rattle.calls.proofs.Bound.{leaves-few}
 use Rattle.words.specs.Words.{leavesWord}
 use borrow.Author.Needs.{needs}
 use Rattle.exports.proofs.sam_header_leaves.Statement.{statement}
 use Rattle.exports.proofs.sam_header_leaves.Tie as tie
 
-few : (t s : List ℕ) (room n h : ℕ) → Counted n h ≡ leavesOf (leafing t s room) → n ≤ 1024
-unfolding leavesOf
+few : (t s : List ℕ) (room n h : ℕ) → Counted n h ≡ leavesAnswerOf (leafing t s room) → n ≤ 1024
+unfolding leavesAnswerOf
 few t s room n h e = go (leafing t s room) refl e
   where
-    go : (a : Answer (List ℕ × ℕ)) → leafing t s room ≡ a → Counted n h ≡ leavesOf a → n ≤ 1024
-    go (no m l) is e = absurd (never cc)
+    go : (a : Answer (List ℕ × ℕ)) → leafing t s room ≡ a → Counted n h ≡ leavesAnswerOf a → n ≤ 1024
+    go (refused m l) is e = absurd (never cc)
     go (yes (xs, g)) is e =
         let same : n ≡ length xs = cc in
         subst (λ k. k ≤ 1024) (sym same) (leaves-few t s room xs g is)

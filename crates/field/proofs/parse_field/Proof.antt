@@ -10,7 +10,7 @@ use Rattle.format.specs.Fields.{field, valueField}
 use Rattle.format.specs.declared.Kind.{Kind}
 use Rattle.text.specs.Upto.{before}
 use Rattle.field.specs.Parsed.{parsedOf}
-use Rattle.field.specs.declared.Field.{Field}
+use Rattle.field.specs.declared.ParsedField.{ParsedField}
 use Rattle.field.proofs.Before.{rest}
 use Rattle.field.proofs.Place.{colonAt, field-in-place, place-short, place-tag, place-colon, colon-none, colon-other, colon-value}
 use Rattle.field.proofs.parse_field.Statement.{statement}
@@ -112,7 +112,7 @@ parse-field-value-requires : tie.Need-parse-field-value-requires
 parse-field-value-requires c κs = search needs
 
 -- what is read from the rest of the slice is read from the piece
-at-value : (k : Kind) (s : List ℕ) (r : Field)
+at-value : (k : Kind) (s : List ℕ) (r : ParsedField)
     → field k 0 (before 9 s) ≡ valueField k (getD s 0 0) (getD s 1 0) 3 (before 9 (drop 3 s))
     → r ≡ parsedOf k (valueField k (getD s 0 0) (getD s 1 0) 3 (before 9 (take (length s - 3) (drop 3 s))))
     → r ≡ parsedOf k (field k 0 (before 9 s))

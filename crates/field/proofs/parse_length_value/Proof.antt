@@ -5,7 +5,7 @@ use mathlib.Core.List.{List}
 use native.Mathlib.Omega.{arith}
 use borrow.Author.Needs.{needs}
 use borrow.Author.Tests.{eq-eqb, ne-eqb, lt-ltb, le-ltb}
-use Rattle.decimal.specs.Number.{counted, front}
+use Rattle.decimal.specs.Number.{digitsNumber, numberAtFront}
 use Rattle.format.specs.Decimal.{span}
 use Rattle.format.specs.Fields.{lengthField}
 use Rattle.format.specs.declared.Kind.the-variants.{ReferenceSequence}
@@ -16,10 +16,10 @@ use Rattle.field.proofs.Judged.{lengthBy, length-sized}
 use Rattle.field.proofs.parse_length_value.Statement.{statement}
 use Rattle.field.proofs.parse_length_value.Tie as tie
 
-sized : (s : List ℕ) → lengthBy (front (2 ^ 64) s) ≡ parsedOf ReferenceSequence (lengthField 3 (span (before 9 s)))
-unfolding front
+sized : (s : List ℕ) → lengthBy (numberAtFront (2 ^ 64) s) ≡ parsedOf ReferenceSequence (lengthField 3 (span (before 9 s)))
+unfolding numberAtFront
 sized s =
-    ap (λ ds. lengthBy (counted (2 ^ 64) ds)) (sym (span-before s))
+    ap (λ ds. lengthBy (digitsNumber (2 ^ 64) ds)) (sym (span-before s))
     ∙ sym (length-sized 3 (span (before 9 s) .0) (span (before 9 s) .1))
 
 read-u64-requires : tie.Need-read-u64-requires

@@ -7,16 +7,16 @@ use borrow.Author.Tests.{eq-eqb, ne-eqb}
 use Rattle.decimal.specs.declared.Number.{Number}
 use Rattle.decimal.proofs.Whole.{whole, number-front, front-within}
 use Rattle.format.specs.Decimal.{number}
-use Rattle.field.specs.Parsed.{partOf}
+use Rattle.field.specs.Parsed.{versionSideOf}
 use Rattle.field.proofs.parse_part.Statement.{statement}
 use Rattle.field.proofs.parse_part.Tie as tie
 
 -- what the call answered, said of the whole slice
 part : (c : tie.After-read-u32) (n : Number) → c .read-u32 .result ≡ n
-    → partOf (number 4294967296 (c .before .before .args .src .now)) ≡ partOf (whole (length (c .before .before .args .src .now)) n)
+    → versionSideOf (number 4294967296 (c .before .before .args .src .now)) ≡ versionSideOf (whole (length (c .before .before .args .src .now)) n)
 part c n e =
     let s = c .before .before .args .src .now in
-    ap partOf (number-front 4294967296 s ∙ ap (whole (length s)) (sym (c .read-u32 .ensures) ∙ e))
+    ap versionSideOf (number-front 4294967296 s ∙ ap (whole (length s)) (sym (c .read-u32 .ensures) ∙ e))
 
 read-u32-requires : tie.Need-read-u32-requires
 read-u32-requires c κs = search needs
@@ -37,21 +37,21 @@ cast-t9 c =
     omega (arith, front-within 4294967296 (r .n .given .0 .0) (r .n .given .0 .1 .0) s (sym (r .before .before .read-u32 .ensures) ∙ r .n .given .1))
 
 returns : tie.Need-returns
-unfolding partOf whole
+unfolding versionSideOf whole
 returns c = sym (part (c .before .before) _ (c .enum-told .given .1))
 
 returns-2 : tie.Need-returns-2
-unfolding partOf whole
+unfolding versionSideOf whole
 returns-2 c = sym (part (c .before .before) _ (c .enum-told2 .given .1))
 
 returns-3 : tie.Need-returns-3
-unfolding partOf whole
+unfolding versionSideOf whole
 returns-3 c =
     let r = c .before .before in
     sym (part (r .before .before) _ (r .n .given .1) ∙ simp (eq-eqb _ _ (c .if1 .taken)))
 
 returns-4 : tie.Need-returns-4
-unfolding partOf whole
+unfolding versionSideOf whole
 returns-4 c =
     let r = c .before .before in
     sym (part (r .before .before) _ (r .n .given .1) ∙ simp (ne-eqb _ _ (c .if1 .left)))

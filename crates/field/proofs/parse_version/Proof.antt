@@ -8,8 +8,8 @@ use borrow.Author.Needs.{needs}
 use Rattle.format.specs.Decimal.{number}
 use Rattle.format.specs.Version.{version, both}
 use Rattle.text.proofs.Lines.{upto-le}
-use Rattle.field.specs.Parsed.{spelledOf, partOf}
-use Rattle.field.specs.declared.Spelled.the-variants.{Is}
+use Rattle.field.specs.Parsed.{parsedVersionOf, versionSideOf}
+use Rattle.field.specs.declared.ParsedVersion.the-variants.{Is}
 use Rattle.field.proofs.Before.{rest}
 use Rattle.field.proofs.Sides.{version-none, version-sides, no-major, no-minor, major-minor}
 use Rattle.field.proofs.parse_version.Statement.{statement}
@@ -30,8 +30,8 @@ upto-requires : tie.Need-upto-requires
 upto-requires c κs = search needs
 
 returns : tie.Need-returns
-unfolding spelledOf
-returns c = sym (ap spelledOf (version-none _ (sym (c .before .upto .ensures) ∙ c .if1 .taken)))
+unfolding parsedVersionOf
+returns c = sym (ap parsedVersionOf (version-none _ (sym (c .before .upto .ensures) ∙ c .if1 .taken)))
 
 slice-aggregate-parse-part : tie.Need-slice-aggregate-parse-part
 slice-aggregate-parse-part c = sym (length-take-le _ _ (omega (arith, inside (c .before))))
@@ -48,7 +48,7 @@ enum-told c = search needs
 returns-2 : tie.Need-returns-2
 returns-2 c =
     let p = c .before .before in
-    sym (ap spelledOf (split (p .before .before)) ∙ no-major _ _ (sym (c .enum-told .given .1) ∙ p .parse-part .ensures))
+    sym (ap parsedVersionOf (split (p .before .before)) ∙ no-major _ _ (sym (c .enum-told .given .1) ∙ p .parse-part .ensures))
 
 add-parse-part : tie.Need-add-parse-part
 add-parse-part c = omega (arith, inside (c .before .before .before .before .before))
@@ -74,7 +74,7 @@ enum-told-2 c = search needs
 -- what follows the dot is all that is left
 minor : (c : tie.After-parse-part2)
     → c .parse-part2 .result
-    ≡ partOf
+    ≡ versionSideOf
     (number
     (2 ^ 32)
     (drop
@@ -82,13 +82,13 @@ minor : (c : tie.After-parse-part2)
     (c .before .before .before .before .before .before .before .before .before .before .args .src .now)))
 minor c =
     let u = c .before .before .before .before .before .before .before .before in
-    c .parse-part2 .ensures ∙ ap (λ l. partOf (number (2 ^ 32) l)) (rest (u .upto .result + 1) (u .before .before .args .src .now))
+    c .parse-part2 .ensures ∙ ap (λ l. versionSideOf (number (2 ^ 32) l)) (rest (u .upto .result + 1) (u .before .before .args .src .now))
 
 returns-3 : tie.Need-returns-3
 returns-3 c =
     let q = c .before .before in
     let p = q .before .before .before .before .before in
-    sym (ap spelledOf (split (p .before .before)) ∙ no-minor _ _ (sym (c .enum-told2 .given .1) ∙ minor q))
+    sym (ap parsedVersionOf (split (p .before .before)) ∙ no-minor _ _ (sym (c .enum-told2 .given .1) ∙ minor q))
 
 new-requires : tie.Need-new-requires
 new-requires c κs = search needs
@@ -101,7 +101,7 @@ returns-4 c =
     let p = m .before .before .before in
     ap Is (c .new .ensures)
     ∙ sym
-    (ap spelledOf (split (p .before .before))
+    (ap parsedVersionOf (split (p .before .before))
     ∙ major-minor _ _ _ _ (sym (m .before .major .given .1) ∙ p .parse-part .ensures) (sym (d .before .minor .given .1) ∙ minor q))
 
 pub parse-version-spec : {M : Type 1} → statement M

@@ -5,20 +5,20 @@ use mathlib.Core.Option.{Option, none, some}
 use borrow.Author.Needs.{needs}
 use Rattle.format.specs.Version.{version}
 use Rattle.format.specs.declared.Version.{Version}
-use Rattle.field.specs.Parsed.{versionedBy, spelledOf, refusedBy}
-use Rattle.field.specs.declared.Field.{Field}
-use Rattle.field.specs.declared.Spelled.{Spelled}
-use Rattle.field.specs.declared.Spelled.the-variants.{Is, Invalid}
+use Rattle.field.specs.Parsed.{versionedBy, parsedVersionOf, refusedBy}
+use Rattle.field.specs.declared.ParsedField.{ParsedField}
+use Rattle.field.specs.declared.ParsedVersion.{ParsedVersion}
+use Rattle.field.specs.declared.ParsedVersion.the-variants.{Is, Invalid}
 use Rattle.field.proofs.parse_version_value.Statement.{statement}
 use Rattle.field.proofs.parse_version_value.Tie as tie
 
 -- by what was read
-versionBy : ℕ → Spelled → Field
+versionBy : ℕ → ParsedVersion → ParsedField
 versionBy n Invalid = refusedBy 11
 versionBy n (Is v) = record { stop = 0; tag_0 = 86; tag_1 = 78; len = n; major = v .major; minor = v .minor; length = 0 }
 
-by-spelled : (n : ℕ) (o : Option Version) → versionBy n (spelledOf o) ≡ versionedBy n o
-unfolding versionedBy spelledOf versionBy
+by-spelled : (n : ℕ) (o : Option Version) → versionBy n (parsedVersionOf o) ≡ versionedBy n o
+unfolding versionedBy parsedVersionOf versionBy
 by-spelled n none = refl
 by-spelled n (some v) = refl
 

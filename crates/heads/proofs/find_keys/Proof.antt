@@ -6,7 +6,7 @@ use Rattle.format.specs.Bytes.{between, letter, digit}
 use Rattle.format.specs.Fields.{isTag}
 use Rattle.format.specs.declared.Kind.the-variants.{Header, ReferenceSequence, ReadGroup, Program, Comment}
 use Rattle.other_fields.specs.Run.{fieldsFrom}
-use Rattle.other_fields.specs.Next.{nowhere, orValue, lastIn}
+use Rattle.other_fields.specs.Next.{noValue, orValue, lastIn}
 use Rattle.heads.specs.Keys.{lastKey, lastNumber, keysFrom, keysIn}
 use borrow.Author.Needs.{needs}
 use Rattle.heads.proofs.find_keys.Statement.{statement}
@@ -67,7 +67,7 @@ unfolding keysIn keysFrom lastKey lastNumber lastIn orValue
 returns c =
     let k = c .before in
     let a = k .before .before .before .before .args in
-    ap (λ v. record { key = v; number = nowhere }) (c .find-value .ensures) ∙ sym (ap (λ k. keysIn k (fieldsFrom (a .at) (a .src .now) 3)) (k .enum-told .given .1))
+    ap (λ v. record { key = v; number = noValue }) (c .find-value .ensures) ∙ sym (ap (λ k. keysIn k (fieldsFrom (a .at) (a .src .now) 3)) (k .enum-told .given .1))
 
 returns-2 : tie.Need-returns-2
 unfolding keysIn keysFrom lastKey lastNumber lastIn
@@ -81,14 +81,14 @@ unfolding keysIn keysFrom lastKey lastNumber lastIn orValue
 returns-3 c =
     let k = c .before in
     let a = k .before .before .before .before .args in
-    ap (λ v. record { key = v; number = nowhere }) (c .find-value4 .ensures) ∙ sym (ap (λ k. keysIn k (fieldsFrom (a .at) (a .src .now) 3)) (k .enum-told3 .given .1))
+    ap (λ v. record { key = v; number = noValue }) (c .find-value4 .ensures) ∙ sym (ap (λ k. keysIn k (fieldsFrom (a .at) (a .src .now) 3)) (k .enum-told3 .given .1))
 
 returns-4 : tie.Need-returns-4
 unfolding keysIn keysFrom lastKey lastNumber lastIn orValue
 returns-4 c =
     let k = c .before in
     let a = k .before .before .before .before .args in
-    ap (λ v. record { key = v; number = nowhere }) (c .find-value5 .ensures) ∙ sym (ap (λ k. keysIn k (fieldsFrom (a .at) (a .src .now) 3)) (k .enum-told4 .given .1))
+    ap (λ v. record { key = v; number = noValue }) (c .find-value5 .ensures) ∙ sym (ap (λ k. keysIn k (fieldsFrom (a .at) (a .src .now) 3)) (k .enum-told4 .given .1))
 
 returns-5 : tie.Need-returns-5
 unfolding keysIn keysFrom lastKey lastNumber orValue

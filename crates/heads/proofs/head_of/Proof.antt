@@ -9,12 +9,12 @@ use Rattle.format.specs.Fields.{lastOf}
 use Rattle.format.specs.Records.{line}
 use Rattle.format.specs.declared.Kind.the-variants.{Header, ReferenceSequence, ReadGroup, Program, Comment}
 use Rattle.accepted.proofs.Bools.{never}
-use Rattle.record.specs.Head.{placeOf, headOf}
-use Rattle.record.specs.declared.Place.{Place}
+use Rattle.record.specs.Head.{stretchOf, headOf}
+use Rattle.record.specs.declared.Stretch.{Stretch}
 use Rattle.record.specs.declared.Head.{Head}
 use Rattle.record.specs.declared.Head.the-variants as head
 use Rattle.other_fields.specs.Run.{fieldsFrom}
-use Rattle.other_fields.specs.Next.{orValue, nowhere}
+use Rattle.other_fields.specs.Next.{orValue, noValue}
 use Rattle.heads.specs.Found.{uncounted}
 use Rattle.heads.specs.Keys.{lastKey, lastNumber, keysFrom, keysIn}
 use Rattle.heads.proofs.Finds.{OfHeader, OfReference, OfMap, Held, held, found-place, value-within, value-bytes, front-digits}
@@ -33,8 +33,8 @@ keys : (s : tie.Start) (k : Kind) → s .args .kind ≡ k → (let a = s .args i
 keys s k e = s .pre .1 .1 .0 ∙ ap (λ k. keysIn k (fieldsFrom (s .args .at) (s .args .src .now) 3)) e
 
 -- the ID of a map
-map : (s : tie.Start) (make : Place → Head) → OfMap (s .args .at) (s .args .src .now) make (uncounted (headOf (line false (record { at = s .args .at; bytes = s .args .src .now }))))
-    → s .args .keys .key ≡ orValue nowhere (lastOf 73 68 (fieldsFrom (s .args .at) (s .args .src .now) 3))
+map : (s : tie.Start) (make : Stretch → Head) → OfMap (s .args .at) (s .args .src .now) make (uncounted (headOf (line false (record { at = s .args .at; bytes = s .args .src .now }))))
+    → s .args .keys .key ≡ orValue noValue (lastOf 73 68 (fieldsFrom (s .args .at) (s .args .src .now) 3))
     → make (record { at = s .args .keys .key .at; len = s .args .keys .key .len }) ≡ uncounted (headOf (line false (record { at = s .args .at; bytes = s .args .src .now })))
 map s make k e = ap make (found-place (s .args .at) (s .args .src .now) 73 68 (k .piece) (k .has) (s .args .keys .key) e) ∙ sym (k .is)
 

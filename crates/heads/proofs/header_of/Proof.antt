@@ -9,27 +9,27 @@ use Rattle.format.specs.Fields.{lastOf}
 use Rattle.format.specs.Records.{line}
 use Rattle.format.specs.declared.Kind.the-variants.{Header, ReferenceSequence, ReadGroup, Program, Comment}
 use Rattle.accepted.proofs.Bools.{never}
-use Rattle.record.specs.Head.{placeOf, headOf}
+use Rattle.record.specs.Head.{stretchOf, headOf}
 use Rattle.record.specs.declared.Head.the-variants as head
 use Rattle.other_fields.specs.Run.{fieldsFrom}
-use Rattle.other_fields.specs.Next.{orValue, nowhere}
+use Rattle.other_fields.specs.Next.{orValue, noValue}
 use Rattle.heads.specs.Found.{uncounted}
 use Rattle.heads.specs.Keys.{lastKey, lastNumber, keysFrom, keysIn}
 use Rattle.heads.proofs.Finds.{OfHeader, OfReference, OfMap, Held, held, found-place, value-within, value-bytes, front-digits}
 use Rattle.format.specs.Version.{version}
 use Rattle.format.specs.declared.Version.{Version}
-use Rattle.field.specs.Parsed.{spelledOf}
-use Rattle.field.specs.declared.Spelled.the-variants.{Is, Invalid}
+use Rattle.field.specs.Parsed.{parsedVersionOf}
+use Rattle.field.specs.declared.ParsedVersion.the-variants.{Is, Invalid}
 use borrow.Author.Needs.{needs}
 use Rattle.heads.proofs.header_of.Statement.{statement}
 use Rattle.heads.proofs.header_of.Tie as tie
 
-version-is : (v w : Version) → spelledOf (some v) ≡ Is w → v ≡ w
-unfolding spelledOf
+version-is : (v w : Version) → parsedVersionOf (some v) ≡ Is w → v ≡ w
+unfolding parsedVersionOf
 version-is v w e = cc
 
-version-none : (v : Version) → spelledOf (some v) ≡ Invalid → ⊥
-unfolding spelledOf
+version-none : (v : Version) → parsedVersionOf (some v) ≡ Invalid → ⊥
+unfolding parsedVersionOf
 version-none v e = never (cc)
 
 kept : (s : tie.Start) → (let a = s .args in OfHeader (a .at) (a .src .now) (uncounted (headOf (line false (record { at = a .at; bytes = a .src .now })))))
@@ -37,7 +37,7 @@ unfolding Held
 kept s = held false (s .args .at) (s .args .src .now) (s .pre .0) Header (s .pre .1 .0) .1
 
 -- the value that was found
-value : (s : tie.Start) → (let a = s .args in a .version ≡ orValue nowhere (lastOf 86 78 (fieldsFrom (a .at) (a .src .now) 3)))
+value : (s : tie.Start) → (let a = s .args in a .version ≡ orValue noValue (lastOf 86 78 (fieldsFrom (a .at) (a .src .now) 3)))
 unfolding keysIn keysFrom lastKey
 value s = s .pre .1 .1 .0
 
@@ -46,13 +46,13 @@ within : (s : tie.Start) → (let a = s .args in let v = a .version in (a .at �
 within s = let a = s .args in value-within (a .at) (a .src .now) 86 78 (kept s .piece) (kept s .has) (a .version) (value s)
 
 -- and spells the version
-spelled : (c : tie.After-parse-version) → c .parse-version .result ≡ spelledOf (some (kept (c .before .before .before .before) .number))
+spelled : (c : tie.After-parse-version) → c .parse-version .result ≡ parsedVersionOf (some (kept (c .before .before .before .before) .number))
 spelled c =
     let s = c .before .before .before .before in
     let a = s .args in
     c .parse-version .ensures
-    ∙ ap (λ l. spelledOf (version l)) (value-bytes (a .at) (a .src .now) 86 78 (kept s .piece) (kept s .has) (a .version) (value s))
-    ∙ ap spelledOf (kept s .spells)
+    ∙ ap (λ l. parsedVersionOf (version l)) (value-bytes (a .at) (a .src .now) 86 78 (kept s .piece) (kept s .has) (a .version) (value s))
+    ∙ ap parsedVersionOf (kept s .spells)
 
 sub-from : tie.Need-sub-from
 sub-from c = within (c .before .before) .0

@@ -9,15 +9,15 @@ use Rattle.format.specs.Fields.{lastOf}
 use Rattle.format.specs.Records.{line}
 use Rattle.format.specs.declared.Kind.the-variants.{Header, ReferenceSequence, ReadGroup, Program, Comment}
 use Rattle.accepted.proofs.Bools.{never}
-use Rattle.record.specs.Head.{placeOf, headOf}
+use Rattle.record.specs.Head.{stretchOf, headOf}
 use Rattle.record.specs.declared.Head.the-variants as head
 use Rattle.other_fields.specs.Run.{fieldsFrom}
-use Rattle.other_fields.specs.Next.{orValue, nowhere}
+use Rattle.other_fields.specs.Next.{orValue, noValue}
 use Rattle.heads.specs.Found.{uncounted}
 use Rattle.heads.specs.Keys.{lastKey, lastNumber, keysFrom, keysIn}
 use Rattle.heads.proofs.Finds.{OfHeader, OfReference, OfMap, Held, held, found-place, value-within, value-bytes, front-digits}
 use Rattle.format.specs.Decimal.{worth}
-use Rattle.decimal.specs.Number.{front}
+use Rattle.decimal.specs.Number.{numberAtFront}
 use Rattle.decimal.specs.declared.Number.the-variants.{NoDigit, TooLarge, Is}
 use borrow.Author.Needs.{needs}
 use Rattle.heads.proofs.sequence_of.Statement.{statement}
@@ -32,11 +32,11 @@ unfolding Held
 kept s = held false (s .args .at) (s .args .src .now) (s .pre .0) ReferenceSequence (s .pre .1 .0) .1
 
 -- the values that were found
-name : (s : tie.Start) → (let a = s .args in a .keys .key ≡ orValue nowhere (lastOf 83 78 (fieldsFrom (a .at) (a .src .now) 3)))
+name : (s : tie.Start) → (let a = s .args in a .keys .key ≡ orValue noValue (lastOf 83 78 (fieldsFrom (a .at) (a .src .now) 3)))
 unfolding keysIn keysFrom lastKey
 name s = ap (λ k. k .key) (s .pre .1 .1 .0)
 
-number : (s : tie.Start) → (let a = s .args in a .keys .number ≡ orValue nowhere (lastOf 76 78 (fieldsFrom (a .at) (a .src .now) 3)))
+number : (s : tie.Start) → (let a = s .args in a .keys .number ≡ orValue noValue (lastOf 76 78 (fieldsFrom (a .at) (a .src .now) 3)))
 unfolding keysIn keysFrom lastNumber
 number s = ap (λ k. k .number) (s .pre .1 .1 .0)
 
@@ -51,7 +51,7 @@ told c =
     let a = s .args in
     let k = kept s in
     c .read-u64 .ensures
-    ∙ ap (front (2 ^ 64)) (value-bytes (a .at) (a .src .now) 76 78 (k .size) (k .has-size) (a .keys .number) (number s))
+    ∙ ap (numberAtFront (2 ^ 64)) (value-bytes (a .at) (a .src .now) 76 78 (k .size) (k .has-size) (a .keys .number) (number s))
     ∙ front-digits (2 ^ 64) (k .size .bytes) (k .spells) (k .fits)
 
 sub-from : tie.Need-sub-from

@@ -14,7 +14,7 @@ use Rattle.text.proofs.First.{first-le, first-within, first-some}
 use Rattle.field.proofs.Before.{rest}
 use Rattle.record.specs.Head.{headOf}
 use Rattle.key_index.specs.Told.{isMet}
-use Rattle.key_index.specs.Keyed.{Placed}
+use Rattle.key_index.specs.Keyed.{KeyInText}
 use Rattle.key_index.proofs.Keyed.{head-placed, meeting-none}
 use Rattle.judging.specs.Blocks.{clashOf}
 use Rattle.judging.proofs.Blocks.{clash-none, clash-here, clash-met, clash-on, ahead-stands}
@@ -74,13 +74,13 @@ head-is c =
 
 placed-head : (c : tie.After-parse-record Inv-loop μ-loop)
     → let l = c .before .before .before .before .before .before .before in
-    Placed (length (l .before .before .before .args .text .now)) (c .parse-record .result)
+    KeyInText (length (l .before .before .before .args .text .now)) (c .parse-record .result)
 unfolding piece
 placed-head c =
     let l = c .before .before .before .before .before .before .before in
     let s = l .before .before .before in
     let a = s .args in
-    subst (Placed (length (a .text .now))) (sym (head-is c)) (head-placed (a .strict) (a .text .now) (l .loop .at) (s .pre .0) (ahead-stands (a .text .now) (l .loop .at) (omega arith)))
+    subst (KeyInText (length (a .text .now))) (sym (head-is c)) (head-placed (a .strict) (a .text .now) (l .loop .at) (s .pre .0) (ahead-stands (a .text .now) (l .loop .at) (omega arith)))
 
 -- what the slots say of it
 met-is : (c : tie.After-meet Inv-loop μ-loop)

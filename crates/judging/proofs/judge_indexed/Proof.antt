@@ -8,7 +8,7 @@ use borrow.Author.Needs.{needs}
 use lib.ListN.{length, take, drop, length-take, length-drop}
 use Rattle.format.specs.Lines.{Piece}
 use lib.Dec.{eqb}
-use Rattle.format.specs.Records.{Record, Line, read, refused, line, others, code}
+use Rattle.format.specs.Records.{Record, Line, read, refusedLine, line, others, code}
 use Rattle.format.specs.Reading.{admitted, ofKind}
 use Rattle.format.specs.Catalogue.{catalogue}
 use Rattle.text.specs.First.{firstLine}
@@ -18,11 +18,11 @@ use Rattle.field.proofs.Before.{rest}
 use Rattle.record.specs.declared.Head.{Head}
 use Rattle.record.specs.declared.Head.the-variants as head
 use Rattle.record.specs.Head.{headOf, recordHead}
-use Rattle.admission.specs.Admission.{refusalOf, isTaken, barring}
+use Rattle.admission.specs.Admission.{lineRefusal, isTaken, barring}
 use Rattle.admission.proofs.Admission.{barring-is, unbarred-new, refusal-none, refusal-some}
 use Rattle.admission.proofs.Few.{others-few}
 use Rattle.key_index.specs.Told.{isMet}
-use Rattle.key_index.specs.Keyed.{Placed}
+use Rattle.key_index.specs.Keyed.{KeyInText}
 use Rattle.key_index.proofs.Keyed.{head-placed, meeting-length}
 use Rattle.line_entries.specs.Line.{recordBytes}
 use Rattle.line_entries.specs.Parts.{sizeOfHead, othersOf, ownEntry}
@@ -103,13 +103,13 @@ head-is c =
 
 placed-head : (c : tie.After-parse-record Inv-loop μ-loop)
     → let q = c .before .before .before in
-    Placed (length (q .before .before .before .before .before .before .before .args .text .now)) (c .parse-record .result)
+    KeyInText (length (q .before .before .before .before .before .before .before .args .text .now)) (c .parse-record .result)
 unfolding piece
 placed-head c =
     let q = c .before .before .before in
     let l = q .before .before .before .before in
     let a = l .before .before .before .args in
-    subst (Placed (length (a .text .now))) (sym (head-is c)) (head-placed (a .strict) (a .text .now) (l .loop .at) (l .before .before .before .pre .0) (stands q))
+    subst (KeyInText (length (a .text .now))) (sym (head-is c)) (head-placed (a .strict) (a .text .now) (l .loop .at) (l .before .before .before .pre .0) (stands q))
 
 -- what is known of its block and of its key
 turned-is : (c : tie.After-turn Inv-loop μ-loop)
@@ -160,7 +160,7 @@ barring-told c =
 number : (c : tie.After-barred Inv-loop μ-loop)
     → let q = c .before .before .before .before .before .before .before .before .before .before .before .before .before in
     let l = q .before .before .before .before in
-    c .barred .result ≡ refusalOf (admitted (l .before .before .before .args .strict) (l .loop .inv .0 .before) (piece q))
+    c .barred .result ≡ lineRefusal (admitted (l .before .before .before .args .strict) (l .loop .inv .0 .before) (piece q))
 number c =
     let q = c .before .before .before .before .before .before .before .before .before .before .before .before .before in
     let l = q .before .before .before .before in

@@ -3,7 +3,7 @@ use Prim.Native.Nat.{ℕ, _+_, _-_, _%_, _≤_, _<_}
 use mathlib.Core.Path.{_≡_, refl, sym, ap, _∙_}
 use native.Mathlib.Omega.{arith}
 use lib.ListN.{length, getD, drop}
-use Rattle.key_index.specs.Hash.{mixed, wordsFrom, bytesFrom, hashFrom}
+use Rattle.key_index.specs.Hash.{mixed, wordsFrom, bytesFrom, keyHash}
 use Rattle.key_index.proofs.Mixing.{mixed-lt, words-lt, bytes-on, bytes-end}
 use borrow.Author.Needs.{needs}
 use Rattle.key_index.proofs.hash.Statement.{statement}
@@ -14,7 +14,7 @@ use Rattle.key_index.proofs.hash_words.Reads as hash-words-reads
 use Rattle.key_index.proofs.mix.Reads as mix-reads
 
 abbrev Inv-loop : tie.InvT-loop
-Inv-loop kind id h₀ i₀ h i = (i ≤ length id) × (h < 4294967296) × (hashFrom kind id ≡ bytesFrom h (drop i id))
+Inv-loop kind id h₀ i₀ h i = (i ≤ length id) × (h < 4294967296) × (keyHash kind id ≡ bytesFrom h (drop i id))
 
 abbrev μ-loop : tie.MeasureT-loop
 μ-loop kind id h₀ i₀ h i = length id - i
@@ -26,7 +26,7 @@ sub-i : tie.Need-sub-i Inv-loop μ-loop
 sub-i c = omega arith
 
 loop-holds : tie.Need-loop-holds Inv-loop μ-loop
-unfolding hashFrom
+unfolding keyHash
 loop-holds c =
     let a = c .before .before .args in
     let s = a .id .now in (

@@ -6,7 +6,7 @@ use native.Mathlib.Omega.{arith}
 use borrow.Author.Tests.{eq-eqb, ne-eqb}
 use lib.ListN.{length}
 use Rattle.format.specs.Bytes.{same}
-use Rattle.key_index.specs.Told.{keyIn}
+use Rattle.key_index.specs.Told.{keyTold}
 use borrow.Author.Needs.{needs}
 use Rattle.key_index.proofs.is_told.Statement.{statement}
 use Rattle.key_index.proofs.is_told.Tie as tie
@@ -17,7 +17,7 @@ use Rattle.key_index.proofs.is_at.Reads as is-at-reads
 returns : tie.Need-returns
 returns c =
     let a = c .before .before .before .args in
-    sym (ap (λ b. b && same (a .id .now) (keyIn (a .text .now) (a .slot))) (ne-eqb (a .mark) (a .slot / 16777216) (λ e. c .if1 .taken (sym e))))
+    sym (ap (λ b. b && same (a .id .now) (keyTold (a .text .now) (a .slot))) (ne-eqb (a .mark) (a .slot / 16777216) (λ e. c .if1 .taken (sym e))))
 
 cast-is-at : tie.Need-cast-is-at
 cast-is-at c = search needs
@@ -26,10 +26,10 @@ is-at-requires : tie.Need-is-at-requires
 is-at-requires c κs = search needs
 
 returns-2 : tie.Need-returns-2
-unfolding keyIn
+unfolding keyTold
 returns-2 c =
     let a = c .before .before .before .before .args in
-    c .is-at .ensures ∙ sym (ap (λ b. b && same (a .id .now) (keyIn (a .text .now) (a .slot))) (eq-eqb (a .mark) (a .slot / 16777216) (sym (c .before .if1 .left))))
+    c .is-at .ensures ∙ sym (ap (λ b. b && same (a .id .now) (keyTold (a .text .now) (a .slot))) (eq-eqb (a .mark) (a .slot / 16777216) (sym (c .before .if1 .left))))
 
 pub is-told-spec : {M : Type 1} → statement M
 is-told-spec = tie.close (tie.spec returns cast-is-at is-at-requires returns-2)

@@ -10,8 +10,8 @@ use borrow.Author.Needs.{needs}
 use lib.ListN.{length, drop, getD}
 use Rattle.format.specs.Bytes.{same}
 use Rattle.format.specs.Slots.{around}
-use Rattle.key_index.specs.Hash.{hashFrom}
-use Rattle.key_index.specs.Told.{mark, keyIn, tells, begins, looking, sought}
+use Rattle.key_index.specs.Hash.{keyHash}
+use Rattle.key_index.specs.Told.{mark, keyTold, tellsKey, firstSlot, lookAlong, sought}
 use Rattle.key_index.proofs.Looking.{at-empty, at-hit, at-other, at-next, at-end}
 use Rattle.key_index.proofs.look.Statement.{statement}
 use Rattle.key_index.proofs.look.Tie as tie
@@ -23,8 +23,8 @@ use Rattle.key_index.proofs.next.Reads as next-reads
 
 abbrev Inv-loop : tie.InvT-loop
 Inv-loop text area kind id number told at₀ i₀ at i =
-    let s : ℕ = begins (length area) kind id in
-    (i ≤ length area) × (s < length area) × (at < length area) × (at ≡ (s + i) % length area) × (sought text area kind id ≡ looking (tells text kind id) (length area) at (drop i (around s area))) × (told ≡ mark kind id)
+    let s : ℕ = firstSlot (length area) kind id in
+    (i ≤ length area) × (s < length area) × (at < length area) × (at ≡ (s + i) % length area) × (sought text area kind id ≡ lookAlong (tellsKey text kind id) (length area) at (drop i (around s area))) × (told ≡ mark kind id)
 
 abbrev μ-loop : tie.MeasureT-loop
 μ-loop text area kind id number told at₀ i₀ at i = length area - i
@@ -36,19 +36,19 @@ rem-at : tie.Need-rem-at Inv-loop μ-loop
 rem-at c = omega arith
 
 loop-holds : tie.Need-loop-holds Inv-loop μ-loop
-unfolding sought begins mark
+unfolding sought firstSlot mark
 loop-holds c =
     let a = c .before .before .before .before .args in
     let n : ℕ = length (a .area .now) in
-    let s : ℕ = begins n (a .kind) (a .id .now) in
+    let s : ℕ = firstSlot n (a .kind) (a .id .now) in
     let l : s < n = mod-lt _ (omega arith) in
-    let same : a .number ≡ hashFrom (a .kind) (a .id .now) = c .before .before .before .before .pre .1 .1 in
+    let same : a .number ≡ keyHash (a .kind) (a .id .now) = c .before .before .before .before .pre .1 .1 in
     let e : a .number % n ≡ s = ap (λ h. h % n) same in (
       omega arith,
       l,
       omega (arith, e, l),
       e ∙ sym (mod-eq-of-lt l) ∙ ap (λ m. m % n) (let z : s ≡ s + 0 = omega arith in z),
-      ap (λ m. looking (tells (a .text .now) (a .kind) (a .id .now)) n m (around s (a .area .now))) (sym e),
+      ap (λ m. lookAlong (tellsKey (a .text .now) (a .kind) (a .id .now)) n m (around s (a .area .now))) (sym e),
       c .mark .ensures ∙ ap (λ h. a .kind * 32 + h / 134217728 % 32) same,
     )
 
@@ -63,7 +63,7 @@ returns c =
     let l = c .before .before .before in
     let a = l .before .before .before .before .before .args in
     let v = l .loop .inv in
-    sym (v .4 ∙ at-empty (a .area .now) (begins (length (a .area .now)) (a .kind) (a .id .now)) (l .loop .i) (v .1) (tells (a .text .now) (a .kind) (a .id .now)) (l .loop .at) (v .3) (omega arith) (c .if1 .taken))
+    sym (v .4 ∙ at-empty (a .area .now) (firstSlot (length (a .area .now)) (a .kind) (a .id .now)) (l .loop .i) (v .1) (tellsKey (a .text .now) (a .kind) (a .id .now)) (l .loop .at) (v .3) (omega arith) (c .if1 .taken))
 
 is-told-requires : tie.Need-is-told-requires Inv-loop μ-loop
 is-told-requires c κs = search needs
@@ -72,13 +72,13 @@ is-told-requires c κs = search needs
 told-is : (c : tie.After-is-told Inv-loop μ-loop)
     → let l = c .before .before .before .before in
     let a = l .before .before .before .before .before .args in
-    c .is-told .result ≡ tells (a .text .now) (a .kind) (a .id .now) (getD (a .area .now) (l .loop .at) 0)
-unfolding tells
+    c .is-told .result ≡ tellsKey (a .text .now) (a .kind) (a .id .now) (getD (a .area .now) (l .loop .at) 0)
+unfolding tellsKey
 told-is c =
     let l = c .before .before .before .before in
     let a = l .before .before .before .before .before .args in
     let v = getD (a .area .now) (l .loop .at) 0 in
-    c .is-told .ensures ∙ ap (λ m. eqb m (v / 16777216) && same (a .id .now) (keyIn (a .text .now) v)) (l .loop .inv .5)
+    c .is-told .ensures ∙ ap (λ m. eqb m (v / 16777216) && same (a .id .now) (keyTold (a .text .now) v)) (l .loop .inv .5)
 
 returns-2 : tie.Need-returns-2 Inv-loop μ-loop
 returns-2 c =
@@ -86,7 +86,7 @@ returns-2 c =
     let l = e .before .before .before in
     let a = l .before .before .before .before .before .args in
     let v = l .loop .inv in
-    sym (v .4 ∙ at-hit (a .area .now) (begins (length (a .area .now)) (a .kind) (a .id .now)) (l .loop .i) (v .1) (tells (a .text .now) (a .kind) (a .id .now)) (l .loop .at) (v .3) (omega arith) (e .if1 .left) (sym (told-is (c .before)) ∙ c .if2 .taken))
+    sym (v .4 ∙ at-hit (a .area .now) (firstSlot (length (a .area .now)) (a .kind) (a .id .now)) (l .loop .i) (v .1) (tellsKey (a .text .now) (a .kind) (a .id .now)) (l .loop .at) (v .3) (omega arith) (e .if1 .left) (sym (told-is (c .before)) ∙ c .if2 .taken))
 
 next-requires : tie.Need-next-requires Inv-loop μ-loop
 next-requires c κs = search needs
@@ -104,8 +104,8 @@ loop-again c =
     let a = l .before .before .before .before .before .args in
     let v = l .loop .inv in
     let n : ℕ = length (a .area .now) in
-    let s : ℕ = begins n (a .kind) (a .id .now) in
-    let hit = tells (a .text .now) (a .kind) (a .id .now) in
+    let s : ℕ = firstSlot n (a .kind) (a .id .now) in
+    let hit = tellsKey (a .text .now) (a .kind) (a .id .now) in
     let i : ℕ = l .loop .i in
     let at : ℕ = l .loop .at in
     let h : i < n = omega arith in
@@ -115,7 +115,7 @@ loop-again c =
       m,
       c .next .ensures ∙ at-next (a .area .now) s i (v .1) hit at (v .3) h,
       v .4 ∙ at-other (a .area .now) s i (v .1) hit at (v .3) h (e .if1 .left) (sym (told-is (c .before .before)) ∙ c .before .if2 .left)
-          ∙ ap (λ m. looking hit n m (drop (i + 1) (around s (a .area .now)))) (sym (c .next .ensures)),
+          ∙ ap (λ m. lookAlong hit n m (drop (i + 1) (around s (a .area .now)))) (sym (c .next .ensures)),
       v .5,
     )
 
@@ -124,7 +124,7 @@ returns-3 c =
     let l = c .before in
     let a = l .before .before .before .before .before .args in
     let v = l .loop .inv in
-    sym (v .4 ∙ at-end (a .area .now) (begins (length (a .area .now)) (a .kind) (a .id .now)) (l .loop .i) (v .1) (tells (a .text .now) (a .kind) (a .id .now)) (l .loop .at) (c .loop-test .left))
+    sym (v .4 ∙ at-end (a .area .now) (firstSlot (length (a .area .now)) (a .kind) (a .id .now)) (l .loop .i) (v .1) (tellsKey (a .text .now) (a .kind) (a .id .now)) (l .loop .at) (c .loop-test .left))
 
 pub look-spec : {M : Type 1} → statement M
 look-spec =

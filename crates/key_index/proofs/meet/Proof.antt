@@ -4,7 +4,7 @@ use mathlib.Core.Path.{_≡_, sym, ap, subst, _∙_}
 use native.Mathlib.Omega.{arith}
 use lib.ListN.{length}
 use Rattle.key_index.specs.Told.{isMet, afterMeeting}
-use Rattle.key_index.specs.Keyed.{Placed}
+use Rattle.key_index.specs.Keyed.{KeyInText}
 use borrow.Author.Needs.{needs}
 use Rattle.key_index.proofs.meet.Statement.{statement}
 use Rattle.key_index.proofs.meet.Tie as tie
@@ -22,30 +22,30 @@ enum-known-head : tie.Need-enum-known-head
 enum-known-head c = search needs
 
 meet-at-requires : tie.Need-meet-at-requires
-unfolding Placed
+unfolding KeyInText
 meet-at-requires c κs =
     let s = c .before .before .before .before .before .before in
-    let p = subst (Placed (length (s .args .text .now))) (c .before .before .head .given .1) (s .pre .1 .1) in
+    let p = subst (KeyInText (length (s .args .text .now))) (c .before .before .head .given .1) (s .pre .1 .1) in
     (s .pre .0, (s .pre .1 .0, (p .0, (p .1, omega arith))))
 
 enum-known-head-2 : tie.Need-enum-known-head-2
 enum-known-head-2 c = search needs
 
 meet-at-requires-2 : tie.Need-meet-at-requires-2
-unfolding Placed
+unfolding KeyInText
 meet-at-requires-2 c κs =
     let s = c .before .before .before .before .before .before in
-    let p = subst (Placed (length (s .args .text .now))) (c .before .before .head2 .given .1) (s .pre .1 .1) in
+    let p = subst (KeyInText (length (s .args .text .now))) (c .before .before .head2 .given .1) (s .pre .1 .1) in
     (s .pre .0, (s .pre .1 .0, (p .0, (p .1, omega arith))))
 
 enum-known-head-3 : tie.Need-enum-known-head-3
 enum-known-head-3 c = search needs
 
 meet-at-requires-3 : tie.Need-meet-at-requires-3
-unfolding Placed
+unfolding KeyInText
 meet-at-requires-3 c κs =
     let s = c .before .before .before .before .before .before in
-    let p = subst (Placed (length (s .args .text .now))) (c .before .before .head3 .given .1) (s .pre .1 .1) in
+    let p = subst (KeyInText (length (s .args .text .now))) (c .before .before .head3 .given .1) (s .pre .1 .1) in
     (s .pre .0, (s .pre .1 .0, (p .0, (p .1, omega arith))))
 
 enum-told-3 : tie.Need-enum-told-3

@@ -5,9 +5,9 @@ use mathlib.Core.Bool.{cond}
 use mathlib.Core.List.{List}
 use native.Mathlib.Omega.{arith}
 use lib.ListN.{length, take, drop, set, length-take}
-use Rattle.key_index.specs.Hash.{hashFrom}
+use Rattle.key_index.specs.Hash.{keyHash}
 use Rattle.key_index.specs.declared.Sought.the-variants.{Known, Free, Full}
-use Rattle.key_index.specs.Told.{mark, value, sought, isKnown, after}
+use Rattle.key_index.specs.Told.{mark, value, sought, saysKnown, afterLooking}
 use Rattle.key_index.proofs.Looking.{free-below}
 use borrow.Author.Needs.{needs}
 use Rattle.key_index.proofs.meet_at.Statement.{statement}
@@ -42,7 +42,7 @@ marked c =
     let h = c .before .before .before .before .before .before .before in
     let a = h .before .before .before .before .before .args in
     let n : a .place .at + a .place .len - a .place .at ≡ a .place .len = omega arith in
-    c .mark .ensures ∙ ap (λ m. a .kind * 32 + m / 134217728 % 32) (h .hash .ensures ∙ ap (λ m. hashFrom (a .kind) (take m (drop (a .place .at) (a .text .now)))) n)
+    c .mark .ensures ∙ ap (λ m. a .kind * 32 + m / 134217728 % 32) (h .hash .ensures ∙ ap (λ m. keyHash (a .kind) (take m (drop (a .place .at) (a .text .now)))) n)
 
 mark-few : (c : tie.After-mark) → c .mark .result ≤ 255
 mark-few c = omega (arith, c .mark .ensures, c .before .before .before .before .before .before .before .before .before .before .before .before .pre .1 .1 .1 .1)
@@ -99,51 +99,51 @@ same-length : tie.Need-same-length
 same-length c = search needs
 
 returns : tie.Need-returns
-unfolding isKnown after
+unfolding saysKnown afterLooking
 returns c =
     let k = c .before .before in
     let a = k .before .before .before .before .before .before .before .args in
     let e = sym (ended k) ∙ c .enum-told .given .1 in
-    (sym (ap isKnown e), sym (ap (after (a .room) (value (mark (a .kind) (take (a .place .len) (drop (a .place .at) (a .text .now)))) (a .place .at)) (a .area .now)) e))
+    (sym (ap saysKnown e), sym (ap (afterLooking (a .room) (value (mark (a .kind) (take (a .place .len) (drop (a .place .at) (a .text .now)))) (a .place .at)) (a .area .now)) e))
 
 same-length-2 : tie.Need-same-length-2
 same-length-2 c = search needs
 
 returns-2 : tie.Need-returns-2
-unfolding isKnown after value
+unfolding saysKnown afterLooking value
 returns-2 c =
     let i = c .before .before .before in
     let k = i .before .before in
     let a = k .before .before .before .before .before .before .before .args in
     let id : List ℕ = take (a .place .len) (drop (a .place .at) (a .text .now)) in
     let e = sym (ended k) ∙ i .i .given .1 in (
-      sym (ap isKnown e),
+      sym (ap saysKnown e),
       ap (λ m. set (a .area .now) (i .i .given .0 .0) (m * 16777216 + a .place .at)) (marked c)
-          ∙ sym (ap (after (a .room) (value (mark (a .kind) id) (a .place .at)) (a .area .now)) e ∙ ap (λ b. cond b (set (a .area .now) (i .i .given .0 .0) (value (mark (a .kind) id) (a .place .at))) (a .area .now)) (c .before .if1 .taken)),
+          ∙ sym (ap (afterLooking (a .room) (value (mark (a .kind) id) (a .place .at)) (a .area .now)) e ∙ ap (λ b. cond b (set (a .area .now) (i .i .given .0 .0) (value (mark (a .kind) id) (a .place .at))) (a .area .now)) (c .before .if1 .taken)),
     )
 
 same-length-3 : tie.Need-same-length-3
 same-length-3 c = search needs
 
 returns-3 : tie.Need-returns-3
-unfolding isKnown after
+unfolding saysKnown afterLooking
 returns-3 c =
     let i = c .before .before in
     let k = i .before .before in
     let a = k .before .before .before .before .before .before .before .args in
     let e = sym (ended k) ∙ i .i .given .1 in
-    (sym (ap isKnown e), sym (ap (after (a .room) (value (mark (a .kind) (take (a .place .len) (drop (a .place .at) (a .text .now)))) (a .place .at)) (a .area .now)) e ∙ ap (λ b. cond b (set (a .area .now) (i .i .given .0 .0) (value (mark (a .kind) (take (a .place .len) (drop (a .place .at) (a .text .now)))) (a .place .at))) (a .area .now)) (c .if1 .left)))
+    (sym (ap saysKnown e), sym (ap (afterLooking (a .room) (value (mark (a .kind) (take (a .place .len) (drop (a .place .at) (a .text .now)))) (a .place .at)) (a .area .now)) e ∙ ap (λ b. cond b (set (a .area .now) (i .i .given .0 .0) (value (mark (a .kind) (take (a .place .len) (drop (a .place .at) (a .text .now)))) (a .place .at))) (a .area .now)) (c .if1 .left)))
 
 same-length-4 : tie.Need-same-length-4
 same-length-4 c = search needs
 
 returns-4 : tie.Need-returns-4
-unfolding isKnown after
+unfolding saysKnown afterLooking
 returns-4 c =
     let k = c .before .before in
     let a = k .before .before .before .before .before .before .before .args in
     let e = sym (ended k) ∙ c .enum-told2 .given .1 in
-    (sym (ap isKnown e), sym (ap (after (a .room) (value (mark (a .kind) (take (a .place .len) (drop (a .place .at) (a .text .now)))) (a .place .at)) (a .area .now)) e))
+    (sym (ap saysKnown e), sym (ap (afterLooking (a .room) (value (mark (a .kind) (take (a .place .len) (drop (a .place .at) (a .text .now)))) (a .place .at)) (a .area .now)) e))
 
 pub meet-at-spec : {M : Type 1} → statement M
 meet-at-spec =

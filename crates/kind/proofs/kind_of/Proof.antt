@@ -6,7 +6,7 @@ use mathlib.Core.Logic.{_⊎_, ⊎-elim}
 use lib.Dec.{eqb}
 use borrow.Author.Tests.{eq-eqb, ne-eqb}
 use Rattle.format.specs.Records.{kindOf}
-use Rattle.kind.specs.Kind.{known}
+use Rattle.kind.specs.Kind.{parsedKindOf}
 use Rattle.kind.proofs.kind_of.Statement.{statement}
 use Rattle.kind.proofs.kind_of.Tie as tie
 
@@ -32,27 +32,27 @@ no-comment : (c : tie.Joined9)
 no-comment c = unlike _ (c .before .before .before .before .before .args .b) 67 79 (λ p. p .1 .left) (λ q. q .left) (c .if9 .came)
 
 returns : tie.Need-returns
-unfolding kindOf known
+unfolding kindOf parsedKindOf
 returns c = simp (eq-eqb _ _ (c .before .if1 .taken), c .if2 .taken)
 
 returns-2 : tie.Need-returns-2
-unfolding kindOf known
+unfolding kindOf parsedKindOf
 returns-2 c = let j = c .before .before in simp (no-header j, eq-eqb _ _ (c .before .if3 .taken), c .if4 .taken)
 
 returns-3 : tie.Need-returns-3
-unfolding kindOf known
+unfolding kindOf parsedKindOf
 returns-3 c =
     let j = c .before .before in
     simp (no-header (j .before), no-sequence j, eq-eqb _ _ (c .before .if5 .taken), c .if6 .taken)
 
 returns-4 : tie.Need-returns-4
-unfolding kindOf known
+unfolding kindOf parsedKindOf
 returns-4 c =
     let j = c .before .before in
     simp (no-header (j .before .before), no-sequence (j .before), no-group j) (simp (eq-eqb _ _ (c .before .if7 .taken), c .if8 .taken))
 
 returns-5 : tie.Need-returns-5
-unfolding kindOf known
+unfolding kindOf parsedKindOf
 returns-5 c =
     let j = c .before .before in
     simp (
@@ -65,7 +65,7 @@ returns-5 c =
     )
 
 returns-6 : tie.Need-returns-6
-unfolding kindOf known
+unfolding kindOf parsedKindOf
 returns-6 c =
     simp (
       no-header (c .before .before .before .before),

@@ -7,7 +7,7 @@ use lib.ListN.{length, getD}
 use borrow.Author.Needs.{needs}
 use Rattle.format.specs.Records.{kindOf}
 use Rattle.kind.specs.declared.ParsedKind.the-variants.{Empty, Invalid}
-use Rattle.kind.specs.Kind.{kindAt, known}
+use Rattle.kind.specs.Kind.{kindAt, parsedKindOf}
 use Rattle.kind.proofs.parse_kind.Statement.{statement}
 use Rattle.kind.proofs.parse_kind.Tie as tie
 
@@ -22,7 +22,7 @@ one [] h = absurd (omega arith)
 one (a ∷ []) h = refl
 one (a ∷ b ∷ s) h = absurd (omega arith)
 
-two : (s : List ℕ) → 1 < length s → known (kindOf (getD s 0 0) (getD s 1 0)) ≡ kindAt s
+two : (s : List ℕ) → 1 < length s → parsedKindOf (kindOf (getD s 0 0) (getD s 1 0)) ≡ kindAt s
 unfolding kindAt
 two [] h = absurd (omega arith)
 two (a ∷ []) h = absurd (omega arith)

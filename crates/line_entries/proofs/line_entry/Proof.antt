@@ -2,7 +2,7 @@
 use mathlib.Core.Path.{_≡_, sym, ap, subst, _∙_}
 use native.Mathlib.Omega.{arith}
 use Rattle.record.specs.Head.{headOf}
-use Rattle.entries.specs.Entries.{Fits}
+use Rattle.entries.specs.Entries.{FitsEntry}
 use Rattle.format.specs.Records.{line}
 use Rattle.line_entries.specs.Parts.{ownEntry}
 use Rattle.line_entries.proofs.Told.{own-uncounted, own-fits}
@@ -18,7 +18,7 @@ head-of-requires : tie.Need-head-of-requires
 head-of-requires c κs = let s = c .before in (s .pre .0, (s .pre .1 .0, (s .pre .1 .1 .0, omega (arith, s .pre .1 .1 .1))))
 
 own-entry-requires : tie.Need-own-entry-requires
-own-entry-requires c κs = let s = c .before .before in subst Fits (sym (told c)) (own-fits (s .args .at) (s .args .src .now) (s .pre .0) (s .pre .1 .1 .1))
+own-entry-requires c κs = let s = c .before .before in subst FitsEntry (sym (told c)) (own-fits (s .args .at) (s .args .src .now) (s .pre .0) (s .pre .1 .1 .1))
 
 returns : tie.Need-returns
 returns c = c .own-entry .ensures ∙ told (c .before)

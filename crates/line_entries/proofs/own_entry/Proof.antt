@@ -1,6 +1,6 @@
 -- `line_entries::own_entry` meets its contract: the numbers of the entry fit, so that none is cut.
 use mathlib.Core.Path.{sym, ap, subst}
-use Rattle.entries.specs.Entries.{Fits}
+use Rattle.entries.specs.Entries.{FitsEntry}
 use Rattle.line_entries.specs.Parts.{ownEntry}
 use borrow.Author.Needs.{needs}
 use Rattle.line_entries.proofs.own_entry.Statement.{statement}
@@ -16,29 +16,29 @@ enum-known-head-2 : tie.Need-enum-known-head-2
 enum-known-head-2 c = search needs
 
 narrow-requires : tie.Need-narrow-requires
-unfolding Fits ownEntry
-narrow-requires c κs = subst (λ h. Fits (ownEntry h)) (c .before .head2 .given .1) (c .before .before .before .pre) .0
+unfolding FitsEntry ownEntry
+narrow-requires c κs = subst (λ h. FitsEntry (ownEntry h)) (c .before .head2 .given .1) (c .before .before .before .pre) .0
 
 enum-known-head-3 : tie.Need-enum-known-head-3
 enum-known-head-3 c = search needs
 
 narrow-requires-2 : tie.Need-narrow-requires-2
-unfolding Fits ownEntry
-narrow-requires-2 c κs = subst (λ h. Fits (ownEntry h)) (c .before .head3 .given .1) (c .before .before .before .pre)
+unfolding FitsEntry ownEntry
+narrow-requires-2 c κs = subst (λ h. FitsEntry (ownEntry h)) (c .before .head3 .given .1) (c .before .before .before .pre)
 
 enum-known-head-4 : tie.Need-enum-known-head-4
 enum-known-head-4 c = search needs
 
 narrow-requires-3 : tie.Need-narrow-requires-3
-unfolding Fits ownEntry
-narrow-requires-3 c κs = subst (λ h. Fits (ownEntry h)) (c .before .head4 .given .1) (c .before .before .before .pre)
+unfolding FitsEntry ownEntry
+narrow-requires-3 c κs = subst (λ h. FitsEntry (ownEntry h)) (c .before .head4 .given .1) (c .before .before .before .pre)
 
 enum-known-head-5 : tie.Need-enum-known-head-5
 enum-known-head-5 c = search needs
 
 narrow-requires-4 : tie.Need-narrow-requires-4
-unfolding Fits ownEntry
-narrow-requires-4 c κs = subst (λ h. Fits (ownEntry h)) (c .before .head5 .given .1) (c .before .before .before .pre)
+unfolding FitsEntry ownEntry
+narrow-requires-4 c κs = subst (λ h. FitsEntry (ownEntry h)) (c .before .head5 .given .1) (c .before .before .before .pre)
 
 returns : tie.Need-returns
 unfolding ownEntry

@@ -8,7 +8,7 @@ use lib.ListN.{length, getD}
 use Rattle.other_fields.specs.Next.{isFirst}
 use Rattle.other_fields.proofs.Place.{bounds}
 use Rattle.entries.specs.declared.Entry.the-variants as entry
-use Rattle.entries.specs.Entries.{kindOf, kindSize, sizeOf, entryBytes}
+use Rattle.entries.specs.Entries.{kindByte, kindSize, entrySize, entryBytes}
 use Rattle.line_entries.specs.Parts.{fieldBytes}
 use Rattle.text.specs.Over.{over}
 use Rattle.text.proofs.Over.{over-none}
@@ -117,7 +117,7 @@ room l = omega (arith, l .loop .inv .1, l .loop .inv .3, l .before .before .befo
 
 -- the entry has eleven bytes of it
 eleven : (c : tie.After-narrow Inv-loop μ-loop) → (let l = c .before .before .before .before .before .before .before .before .before .before .before in l .loop .next + 11 ≤ length (l .loop .out))
-unfolding sizeOf kindOf kindSize
+unfolding entrySize kindByte kindSize
 eleven c =
     let l = c .before .before .before .before .before .before .before .before .before .before .before in
     omega (arith, room l, entry-then _ _ _ (bytes c))
@@ -166,7 +166,7 @@ loop-less-2 : tie.Need-loop-less-2 Inv-loop μ-loop
 loop-less-2 c = omega (arith, reach (c .before .before .before .before .before .before .before .before .before .before .before .before))
 
 loop-again-2 : tie.Need-loop-again-2 Inv-loop μ-loop
-unfolding sizeOf kindOf kindSize
+unfolding entrySize kindByte kindSize
 loop-again-2 c =
     let p = c .before .before in
     let n = p .before in

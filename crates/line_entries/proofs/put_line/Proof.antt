@@ -8,7 +8,7 @@ use lib.ListN.{length}
 use borrow.Author.Needs.{needs}
 use Rattle.format.specs.Records.{line}
 use Rattle.text.specs.Over.{over}
-use Rattle.entries.specs.Entries.{sizeOf, entryBytes}
+use Rattle.entries.specs.Entries.{entrySize, entryBytes}
 use Rattle.line_entries.specs.Line.{recordBytes}
 use Rattle.line_entries.specs.Parts.{fieldBytes}
 use Rattle.line_entries.specs.Matched.{metIn}
@@ -24,7 +24,7 @@ bytes s = let a = s .args in line-bytes (a .at) (a .src .now) (s .pre .0) (a .ki
 -- how long they are
 parts : (c : tie.After-own-size)
     → (let s = c .before .before .before .before .before in let a = s .args in
-    (c .own-size .result ≡ sizeOf (own (a .at) (a .src .now) (s .pre .0)))
+    (c .own-size .result ≡ entrySize (own (a .at) (a .src .now) (s .pre .0)))
     × (length (recordBytes (line false (record { at = a .at; bytes = a .src .now }))) ≡ c .own-size .result + length (fieldBytes (a .kind) (a .at) (a .src .now) 3)))
 parts c =
     let s = c .before .before .before .before .before in
@@ -59,7 +59,7 @@ put-entry-requires c κs =
     let p = c .before .before .before .before in
     let o = p .before in
     let s = o .before .before .before .before .before in
-    omega (arith, ap sizeOf (c .line-entry .ensures), parts o, s .pre .1 .1 .1 .1, p .put-fields .kept .0)
+    omega (arith, ap entrySize (c .line-entry .ensures), parts o, s .pre .1 .1 .1 .1, p .put-fields .kept .0)
 
 same-length : tie.Need-same-length
 same-length c = search needs

@@ -2,7 +2,7 @@
 use Prim.Native.Nat.{_≤_}
 use mathlib.Core.Path.{_≡_}
 use native.Mathlib.Omega.{arith}
-use Rattle.entries.specs.Entries.{sizeOf}
+use Rattle.entries.specs.Entries.{entrySize}
 use Rattle.line_entries.specs.Parts.{ownEntry, sizeOfHead}
 use Rattle.line_entries.proofs.Entries.{size-most}
 use borrow.Author.Needs.{needs}
@@ -23,7 +23,7 @@ others-of-requires c κs = search needs
 
 -- an entry of a field has 11 bytes
 field-size : (c : tie.After-others-of) → c .before .before .before .size .result ≡ 11
-unfolding sizeOf
+unfolding entrySize
 field-size c = c .before .before .before .size .ensures
 
 own-size : (c : tie.After-others-of) → c .before .size2 .result ≤ 17

@@ -9,7 +9,7 @@ use Rattle.format.specs.Bytes.{starts}
 use Rattle.other_fields.specs.Next.{isFirst}
 use Rattle.other_fields.proofs.Place.{bounds}
 use Rattle.entries.specs.declared.Entry.the-variants as entry
-use Rattle.entries.specs.Entries.{kindOf, kindSize, sizeOf, entryBytes}
+use Rattle.entries.specs.Entries.{kindByte, kindSize, entrySize, entryBytes}
 use Rattle.entries.proofs.Written.{entry-length}
 use Rattle.entries_same.proofs.Starts.{starts-none}
 use Rattle.line_entries.specs.Parts.{fieldBytes}
@@ -115,7 +115,7 @@ told : (c : tie.After-same-field Inv-loop μ-loop)
     (starts (fieldBytes (a .kind) (a .at) (a .src .now) (l .loop .i)) (drop (l .loop .next) (a .catalogue .now))
     ≡ (c .same-field .result && starts (fieldBytes (a .kind) (a .at) (a .src .now) (f .field-end .result)) (drop (l .loop .next + 11) (a .catalogue .now))))
     × (length (fieldBytes (a .kind) (a .at) (a .src .now) (l .loop .i)) ≡ 11 + length (fieldBytes (a .kind) (a .at) (a .src .now) (f .field-end .result))))
-unfolding sizeOf kindOf kindSize
+unfolding entrySize kindByte kindSize
 told c =
     let n = c .before in
     let f = n .before .before .before .before .before .before .before .before in
@@ -141,7 +141,7 @@ returns c =
 -- the entry is there
 here : (c : tie.Else3 Inv-loop μ-loop)
     → (let l = c .before .before .before .before .before .before .before .before .before .before .before .before in let a = l .before .before .before .before .before .args in l .loop .next + 11 ≤ length (a .catalogue .now))
-unfolding sizeOf kindOf kindSize
+unfolding entrySize kindByte kindSize
 here c =
     let t = c .before in
     let n = t .before in

@@ -9,7 +9,7 @@ use borrow.Author.Needs.{needs}
 use Rattle.format.specs.Bytes.{starts}
 use Rattle.format.specs.Records.{line}
 use Rattle.accepted.proofs.Bools.{never, split}
-use Rattle.entries.specs.Entries.{sizeOf, entryBytes}
+use Rattle.entries.specs.Entries.{entrySize, entryBytes}
 use Rattle.entries_same.proofs.Starts.{starts-short}
 use Rattle.line_entries.specs.Line.{recordBytes}
 use Rattle.line_entries.specs.Parts.{fieldBytes}
@@ -39,7 +39,7 @@ bytes s = let a = s .args in line-bytes (a .at) (a .src .now) (s .pre .0) (a .ki
 
 -- how long they are, and how they are compared
 module _ (c : tie.After-own-size) where
-  size : (let s = c .before .before .before .before in let a = s .args in c .own-size .result ≡ sizeOf (own (a .at) (a .src .now) (s .pre .0)))
+  size : (let s = c .before .before .before .before in let a = s .args in c .own-size .result ≡ entrySize (own (a .at) (a .src .now) (s .pre .0)))
   size =
       let s = c .before .before .before .before in
       c .own-size .ensures ∙ sym (own-size (s .args .at) (s .args .src .now) (s .pre .0) (s .args .kind) (s .pre .1 .0 .0))

@@ -16,16 +16,16 @@ use Rattle.entries.proofs.Walk.{turn-on, turn-within}
 use Rattle.entries.specs.declared.Place.{Place}
 use Rattle.entries.specs.declared.Entry.{Entry}
 use Rattle.entries.specs.declared.Entry.the-variants.{End, Header, ReferenceSequence, ReadGroup, Program, Comment, Field}
-use Rattle.entries.specs.Entries.{kindOf, kindSize, sizeOf, entryOf, entriesIn}
+use Rattle.entries.specs.Entries.{kindByte, kindSize, entrySize, entryOf, entriesIn}
 use Rattle.lookup.specs.declared.Found.the-variants.{Nothing, At}
-use Rattle.lookup.specs.Lookup.{front, valueIn}
+use Rattle.lookup.specs.Lookup.{firstEntry, valueIn}
 use Rattle.lookup.proofs.Walks.{front-entry}
 use Rattle.lookup.proofs.field_from.Statement.{statement}
 use Rattle.lookup.proofs.field_from.Tie as tie
 
 -- no field is first
-no-value : (a b : ℕ) (es : List Entry) → OneOf (0 ∷ 1 ∷ 2 ∷ 3 ∷ 4 ∷ 5 ∷ []) (tagOf the-type (front es)) → Nothing ≡ valueIn a b es
-unfolding valueIn front
+no-value : (a b : ℕ) (es : List Entry) → OneOf (0 ∷ 1 ∷ 2 ∷ 3 ∷ 4 ∷ 5 ∷ []) (tagOf the-type (firstEntry es)) → Nothing ≡ valueIn a b es
+unfolding valueIn firstEntry
 no-value a b [] h = refl
 no-value a b (End ∷ es) h = refl
 no-value a b (Header v ∷ es) h = refl
@@ -37,9 +37,9 @@ no-value a b (Field x y p ∷ es) h = absurd (miss (0 ∷ 1 ∷ 2 ∷ 3 ∷ 4 �
 
 -- a field is first
 module _ (c : List ℕ) (at x y : ℕ) (p : Place) (e : Entry) (found : e ≡ entryOf (drop at c)) (is : e ≡ Field x y p) where
-  long : 11 ≡ sizeOf e
-  unfolding sizeOf kindOf kindSize
-  long = ap sizeOf (sym is)
+  long : 11 ≡ entrySize e
+  unfolding entrySize kindByte kindSize
+  long = ap entrySize (sym is)
 
   within : at + 11 ≤ length c
   within = turn-within c at 11 e found long (λ z. omega arith)

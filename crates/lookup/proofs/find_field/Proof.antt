@@ -4,7 +4,7 @@ use mathlib.Core.Logic.{⊎-elim}
 use native.Mathlib.Omega.{arith}
 use borrow.Author.Needs.{needs}
 use borrow.Author.Tests.{lt-ltb, le-ltb}
-use Rattle.entries.specs.Entries.{sizeOf}
+use Rattle.entries.specs.Entries.{entrySize}
 use Rattle.lookup.specs.Lookup.{valueIn, fieldIn}
 use Rattle.lookup.proofs.Walks.{found-rest, found-within}
 use Rattle.lookup.proofs.find_field.Statement.{statement}
@@ -27,7 +27,7 @@ add-field-from : tie.Need-add-field-from
 add-field-from c =
     let a = c .before .before .before .before .before .args in
     let f = c .before .before .find-record in
-    let long = c .size .ensures ∙ ap sizeOf (c .before .entry-at .ensures) in
+    let long = c .size .ensures ∙ ap entrySize (c .before .entry-at .ensures) in
     ⊎-elim (λ h. omega (arith, long, h)) (λ h. omega (arith, long, h, f .ok)) (found-within (a .catalogue .now) (f .result))
 
 field-from-requires : tie.Need-field-from-requires
@@ -39,7 +39,7 @@ returns-2 c =
     let t = c .before in
     let a = t .before .before .before .before .before .args in
     let f = t .before .before .find-record in
-    let long = t .size .ensures ∙ ap sizeOf (t .before .entry-at .ensures) in
+    let long = t .size .ensures ∙ ap entrySize (t .before .entry-at .ensures) in
     rw (le-ltb 5 (a .kind) (t .before .before .before .if1 .left)) (c .field-from .ensures ∙ ap (valueIn (a .a) (a .b)) (found-rest (a .kind) (a .ordinal) (a .catalogue .now) (f .result) (f .ensures) (t .size .result) long))
 
 pub find-field-spec : {M : Type 1} → statement M

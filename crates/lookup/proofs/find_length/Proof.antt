@@ -1,7 +1,7 @@
 -- `lookup::find_length` meets its contract: the entry that is found says the length.
 use mathlib.Core.Path.{_∙_, ap}
 use borrow.Author.Needs.{needs}
-use Rattle.lookup.specs.Lookup.{lengthOf, lengthIn}
+use Rattle.lookup.specs.Lookup.{entryLength, lengthIn}
 use Rattle.lookup.proofs.Walks.{found-entry}
 use Rattle.lookup.proofs.find_length.Statement.{statement}
 use Rattle.lookup.proofs.find_length.Tie as tie
@@ -20,7 +20,7 @@ unfolding lengthIn
 returns c =
     let a = c .before .before .before .before .args in
     let f = c .before .before .find-record in
-    c .length-of .ensures ∙ ap lengthOf (c .before .entry-at .ensures ∙ found-entry 2 (a .ordinal) (a .catalogue .now) (f .result) (f .ensures))
+    c .length-of .ensures ∙ ap entryLength (c .before .entry-at .ensures ∙ found-entry 2 (a .ordinal) (a .catalogue .now) (f .result) (f .ensures))
 
 pub find-length-spec : {M : Type 1} → statement M
 find-length-spec =

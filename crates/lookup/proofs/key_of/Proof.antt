@@ -8,12 +8,12 @@ use Rattle.entries.proofs.Entry.{the-type}
 use Rattle.entries.specs.declared.Entry.{Entry}
 use Rattle.entries.specs.declared.Entry.the-variants.{End, Header, ReferenceSequence, ReadGroup, Program, Comment, Field}
 use Rattle.lookup.specs.declared.Found.the-variants.{Nothing}
-use Rattle.lookup.specs.Lookup.{keyOf}
+use Rattle.lookup.specs.Lookup.{entryKey}
 use Rattle.lookup.proofs.key_of.Statement.{statement}
 use Rattle.lookup.proofs.key_of.Tie as tie
 
-no-key : (e : Entry) → OneOf (0 ∷ 1 ∷ 5 ∷ 6 ∷ []) (tagOf the-type e) → Nothing ≡ keyOf e
-unfolding keyOf
+no-key : (e : Entry) → OneOf (0 ∷ 1 ∷ 5 ∷ 6 ∷ []) (tagOf the-type e) → Nothing ≡ entryKey e
+unfolding entryKey
 no-key End h = refl
 no-key (Header v) h = refl
 no-key (ReferenceSequence p n) h = absurd (miss (0 ∷ 1 ∷ 5 ∷ 6 ∷ []) 2 tt h)
@@ -32,16 +32,16 @@ enum-known-e-3 : tie.Need-enum-known-e-3
 enum-known-e-3 c = search needs
 
 returns : tie.Need-returns
-unfolding keyOf
-returns c = sym (ap keyOf (c .before .e .given .1))
+unfolding entryKey
+returns c = sym (ap entryKey (c .before .e .given .1))
 
 returns-2 : tie.Need-returns-2
-unfolding keyOf
-returns-2 c = sym (ap keyOf (c .before .e2 .given .1))
+unfolding entryKey
+returns-2 c = sym (ap entryKey (c .before .e2 .given .1))
 
 returns-3 : tie.Need-returns-3
-unfolding keyOf
-returns-3 c = sym (ap keyOf (c .before .e3 .given .1))
+unfolding entryKey
+returns-3 c = sym (ap entryKey (c .before .e3 .given .1))
 
 returns-4 : tie.Need-returns-4
 returns-4 c = no-key (c .before .args .e) (c .match .keys4)

@@ -8,12 +8,12 @@ use Rattle.entries.proofs.Entry.{the-type}
 use Rattle.entries.specs.declared.Entry.{Entry}
 use Rattle.entries.specs.declared.Entry.the-variants.{End, Header, ReferenceSequence, ReadGroup, Program, Comment, Field}
 use Rattle.lookup.specs.declared.Sized.the-variants.{Nothing}
-use Rattle.lookup.specs.Lookup.{lengthOf}
+use Rattle.lookup.specs.Lookup.{entryLength}
 use Rattle.lookup.proofs.length_of.Statement.{statement}
 use Rattle.lookup.proofs.length_of.Tie as tie
 
-no-length : (e : Entry) → OneOf (0 ∷ 1 ∷ 3 ∷ 4 ∷ 5 ∷ 6 ∷ []) (tagOf the-type e) → Nothing ≡ lengthOf e
-unfolding lengthOf
+no-length : (e : Entry) → OneOf (0 ∷ 1 ∷ 3 ∷ 4 ∷ 5 ∷ 6 ∷ []) (tagOf the-type e) → Nothing ≡ entryLength e
+unfolding entryLength
 no-length End h = refl
 no-length (Header v) h = refl
 no-length (ReferenceSequence p n) h = absurd (miss (0 ∷ 1 ∷ 3 ∷ 4 ∷ 5 ∷ 6 ∷ []) 2 tt h)
@@ -26,8 +26,8 @@ enum-known-e : tie.Need-enum-known-e
 enum-known-e c = search needs
 
 returns : tie.Need-returns
-unfolding lengthOf
-returns c = sym (ap lengthOf (c .before .e .given .1))
+unfolding entryLength
+returns c = sym (ap entryLength (c .before .e .given .1))
 
 returns-2 : tie.Need-returns-2
 returns-2 c = no-length (c .before .args .e) (c .match .keys2)

@@ -8,7 +8,7 @@ use lib.Seq.{length-take-le}
 use Rattle.entries.specs.Entries.{entriesIn}
 use Rattle.format.specs.Calls.{Answer}
 use Rattle.calls.proofs.Fresh.{Current, refused-by, check-fresh}
-use Rattle.name_index.specs.Index.{ordinalIn, slotCount, index, looks}
+use Rattle.name_index.specs.Index.{nameOrdinal, slotCount, index, looks}
 use Rattle.name_index.proofs.Indexed.{index-length}
 use Rattle.sq_index.specs.Filled.{namesIn}
 use Rattle.names.specs.Batch.{asked, summed, batching}
@@ -151,8 +151,8 @@ returns-5 c =
     let s = e .before .before .before .before .before .before .before .before in
     let a = s .args in
     let xs = names e in
-    let found = map (ordinalIn xs) (asked (a .list .now)) in
-    let count : k .count-names .result ≡ length found = k .count-names .ensures ∙ sym (length-map (asked (a .list .now)) (ordinalIn xs)) in
+    let found = map (nameOrdinal xs) (asked (a .list .now)) in
+    let count : k .count-names .result ≡ length found = k .count-names .ensures ∙ sym (length-map (asked (a .list .now)) (nameOrdinal xs)) in
     let many : n .slot-count .result ≡ length (index xs) = slots n ∙ sym (index-length xs) in
     told-answer (batch s) (a .work .now) (a .out .now) found (index xs) (summed (looks xs) (asked (a .list .now)))
     (batch-all (a .text .now) (a .kept .now) (own e) (a .list .now) (length (a .work .now)) (length (a .out .now)) (o .if1 .left) (omega (arith, slots n, k .before .if2 .left)) (omega (arith, k .count-names .ensures, c .before .before .before .before .before .before .before .if3 .left)))

@@ -10,13 +10,13 @@ use borrow.Author.Tests.{eqb-true}
 use Rattle.format.specs.Fields.{Field, lastOf}
 use Rattle.accepted.proofs.Bools.{and-left, and-right}
 use Rattle.other_fields.specs.Run.{fieldsFrom, AtField}
-use Rattle.other_fields.specs.Next.{orValue, nowhere, lastIn, valueAt, keptAt}
+use Rattle.other_fields.specs.Next.{orValue, noValue, lastIn, valueAt, keptAt}
 use Rattle.other_fields.proofs.Here.{ended}
 use Rattle.other_fields.proofs.Place.{next-at, bounds, same-at, other-at, own-at}
 use Rattle.other_fields.proofs.only_value.Statement.{statement}
 use Rattle.other_fields.proofs.only_value.Tie as tie
 
-none-left : (a b : ℕ) (fs : List Field) → fs ≡ [] → orValue nowhere (lastOf a b fs) ≡ nowhere
+none-left : (a b : ℕ) (fs : List Field) → fs ≡ [] → orValue noValue (lastOf a b fs) ≡ noValue
 unfolding orValue lastOf
 none-left a b fs e = rw e refl
 
@@ -30,7 +30,7 @@ kept-same at line i end a b h =
     ap₂ (λ c d. orValue (valueAt at i end) (lastOf c d (fieldsFrom at line end))) (eqb-true _ _ (and-left x y h)) (eqb-true _ _ (and-right x y h))
 
 abbrev Inv-loop : tie.InvT-loop
-Inv-loop line at a b i₀ i = AtField true at line i × (lastIn at line a b ≡ orValue nowhere (lastOf a b (fieldsFrom at line i)))
+Inv-loop line at a b i₀ i = AtField true at line i × (lastIn at line a b ≡ orValue noValue (lastOf a b (fieldsFrom at line i)))
 
 abbrev μ-loop : tie.MeasureT-loop
 μ-loop line at a b i₀ i = length line - i
@@ -79,7 +79,7 @@ returns c =
     c .value-at .ensures
     ∙ sym
     (l .loop .inv .1
-    ∙ same-at true (a .at) (a .line .now) (l .loop .i) (l .loop .inv .0) (omega arith) (f .field-end .result) (f .field-end .ensures) (a .a) (a .b) nowhere hit
+    ∙ same-at true (a .at) (a .line .now) (l .loop .i) (l .loop .inv .0) (omega arith) (f .field-end .result) (f .field-end .ensures) (a .a) (a .b) noValue hit
     ∙ sym (kept-same (a .at) (a .line .now) (l .loop .i) (f .field-end .result) (a .a) (a .b) hit)
     ∙ own-at true (a .at) (a .line .now) (l .loop .i) (l .loop .inv .0) (omega arith) (f .field-end .result) (f .field-end .ensures) refl)
 
@@ -94,7 +94,7 @@ loop-again c =
     let a = l .before .before .args in (
       next-at true (a .at) (a .line .now) (l .loop .i) (l .loop .inv .0) (omega arith) (f .field-end .result) (f .field-end .ensures),
       l .loop .inv .1
-          ∙ other-at true (a .at) (a .line .now) (l .loop .i) (l .loop .inv .0) (omega arith) (f .field-end .result) (f .field-end .ensures) (a .a) (a .b) nowhere (sym (t .is-same-tag .ensures) ∙ c .if1 .left),
+          ∙ other-at true (a .at) (a .line .now) (l .loop .i) (l .loop .inv .0) (omega arith) (f .field-end .result) (f .field-end .ensures) (a .a) (a .b) noValue (sym (t .is-same-tag .ensures) ∙ c .if1 .left),
     )
 
 returns-2 : tie.Need-returns-2 Inv-loop μ-loop

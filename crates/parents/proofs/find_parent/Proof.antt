@@ -12,7 +12,7 @@ use Rattle.entries.specs.declared.Place.{Place}
 use Rattle.id_search.specs.declared.Named.{Named}
 use Rattle.id_search.specs.declared.Named.the-variants.{Nobody, Is}
 use Rattle.id_search.specs.Places.{bytesAt, idsAt}
-use Rattle.id_search.specs.Search.{ordinalIn, namedOf}
+use Rattle.id_search.specs.Search.{idOrdinalFrom, namedOf}
 use Rattle.parents.specs.Parents.{stranger, orStranger, parentOf}
 use Rattle.parents.proofs.find_parent.Statement.{statement}
 use Rattle.parents.proofs.find_parent.Tie as tie
@@ -29,11 +29,11 @@ number-named (some k) = refl
 
 -- the bytes that are lent are those at the place
 parent-found : (t : List ℕ) (ids : List (List ℕ)) (p : Place) (n : Named) → (p .at ≡ 4294967295 → ⊥)
-    → n ≡ namedOf (ordinalIn (take (p .at + p .len - p .at) (drop (p .at) t)) 0 ids) → parentOf t ids p ≡ number n
+    → n ≡ namedOf (idOrdinalFrom (take (p .at + p .len - p .at) (drop (p .at) t)) 0 ids) → parentOf t ids p ≡ number n
 unfolding parentOf bytesAt
 parent-found t ids p n h e =
     let z : p .at + p .len - p .at ≡ p .len = omega arith in
-    rw (ne-eqb (p .at) 4294967295 h) (sym (number-named (ordinalIn (bytesAt t p) 0 ids)) ∙ ap (λ m. number (namedOf (ordinalIn (take m (drop (p .at) t)) 0 ids))) (sym z) ∙ ap number (sym e))
+    rw (ne-eqb (p .at) 4294967295 h) (sym (number-named (idOrdinalFrom (bytesAt t p) 0 ids)) ∙ ap (λ m. number (namedOf (idOrdinalFrom (take m (drop (p .at) t)) 0 ids))) (sym z) ∙ ap number (sym e))
 
 answered : (c : tie.After-find-program) (n : Named) → c .find-program .result ≡ n
     → let a = c .before .before .before .before .before .before .before .before .before .args in

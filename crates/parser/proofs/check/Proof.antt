@@ -7,7 +7,7 @@ use lib.ListN.{length}
 use Rattle.format.specs.Bytes.{same}
 use Rattle.format.specs.Reading.{accept, readText}
 use Rattle.format.specs.Catalogue.{catalogue}
-use Rattle.format.specs.Calls.{fresh, no, yes}
+use Rattle.format.specs.Calls.{fresh, refused, yes}
 use Rattle.text.proofs.Equal.{same-other}
 use Rattle.accepted.specs.Read.{recordsOf}
 use Rattle.judging.proofs.Whole.{text-refused, text-accepted}
@@ -32,7 +32,7 @@ accepted c =
 
 found : (c : tie.After-size)
     → let a = c .before .before .before .before .before .args in
-    fresh (a .text .now) (a .kept .now) ≡ cond (same (a .kept .now) (catalogue (recordsOf (a .text .now)))) (yes (recordsOf (a .text .now))) (no 21 0)
+    fresh (a .text .now) (a .kept .now) ≡ cond (same (a .kept .now) (catalogue (recordsOf (a .text .now)))) (yes (recordsOf (a .text .now))) (refused 21 0)
 found c =
     let a = c .before .before .before .before .before .args in
     fresh-reads (a .text .now) (a .kept .now) (recordsOf (a .text .now)) (accepted c .0)
@@ -43,7 +43,7 @@ stale : (c : tie.After-size)
 unfolding checkedOf
 stale c e =
     let a = c .before .before .before .before .before .args in
-    sym (ap checkedOf (found c ∙ ap (λ t. cond t (yes (recordsOf (a .text .now))) (no 21 0)) e))
+    sym (ap checkedOf (found c ∙ ap (λ t. cond t (yes (recordsOf (a .text .now))) (refused 21 0)) e))
 
 judge-requires : tie.Need-judge-requires
 judge-requires c κs = search needs
@@ -72,7 +72,7 @@ returns-2 c =
     let i = c .before in
     let z = i .before .before .before .before in
     let a = z .before .before .before .before .before .args in
-    sym (ap checkedOf (found z ∙ ap (λ t. cond t (yes (recordsOf (a .text .now))) (no 21 0)) (sym (i .is-catalogue .ensures) ∙ c .if2 .taken)))
+    sym (ap checkedOf (found z ∙ ap (λ t. cond t (yes (recordsOf (a .text .now))) (refused 21 0)) (sym (i .is-catalogue .ensures) ∙ c .if2 .taken)))
 
 returns-3 : tie.Need-returns-3
 unfolding checkedOf

@@ -3,7 +3,7 @@ use mathlib.Core.Path.{refl}
 use native.Mathlib.Omega.{arith}
 use borrow.Author.Needs.{needs}
 use Rattle.accepted.proofs.Clean.{tag-bounds}
-use Rattle.record.specs.Marks.{placeOf}
+use Rattle.record.specs.Marks.{markPlace}
 use Rattle.record.proofs.mark_of.Statement.{statement}
 use Rattle.record.proofs.mark_of.Tie as tie
 
@@ -20,7 +20,7 @@ add-result : tie.Need-add-result
 add-result c = search needs
 
 returns : tie.Need-returns
-unfolding placeOf
+unfolding markPlace
 returns c = rw (c .if1 .taken) refl
 
 mul-result-2 : tie.Need-mul-result-2
@@ -30,7 +30,7 @@ add-result-2 : tie.Need-add-result-2
 add-result-2 c = search needs
 
 returns-2 : tie.Need-returns-2
-unfolding placeOf
+unfolding markPlace
 returns-2 c = rw (c .if1 .left) refl
 
 pub mark-of-spec : {M : Type 1} → statement M

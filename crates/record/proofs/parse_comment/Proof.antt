@@ -9,7 +9,7 @@ use lib.Dec.{eqb}
 use borrow.Author.Tests.{eq-eqb, ne-eqb}
 use Rattle.format.specs.Records.{remark}
 use Rattle.record.specs.declared.Head.the-variants.{Refused, Comment}
-use Rattle.record.specs.Head.{headOf, placeOf}
+use Rattle.record.specs.Head.{headOf, stretchOf}
 use borrow.Author.Needs.{needs}
 use Rattle.record.proofs.parse_comment.Statement.{statement}
 use Rattle.record.proofs.parse_comment.Tie as tie

@@ -5,7 +5,7 @@ use Prim.Native.Nat.{_≤_}
 use borrow.Author.Needs.{needs}
 use lib.ListN.{length}
 use Rattle.format.specs.Reading.{announced}
-use Rattle.field.specs.Parsed.{spelledOf}
+use Rattle.field.specs.Parsed.{parsedVersionOf}
 use Rattle.field.proofs.Before.{rest}
 use Rattle.repeat_rule.proofs.First.{starts-long}
 use Rattle.repeat_rule.proofs.announced.Statement.{statement}
@@ -40,7 +40,7 @@ returns c =
     c .first-version .ensures ∙ rw (rest 4 s, sym (t .before .starts .ensures) ∙ t .if1 .taken) refl
 
 returns-2 : tie.Need-returns-2
-unfolding announced spelledOf
+unfolding announced parsedVersionOf
 returns-2 c = rw (sym (c .before .starts .ensures) ∙ c .if1 .left) refl
 
 pub announced-spec : {M : Type 1} → statement M

@@ -13,7 +13,7 @@ use Rattle.format.specs.Bytes.{starts}
 use Rattle.format.specs.Lines.{cut}
 use Rattle.format.specs.Reading.{firstVersion}
 use Rattle.format.specs.Version.{version}
-use Rattle.field.specs.Parsed.{spelledOf}
+use Rattle.field.specs.Parsed.{parsedVersionOf}
 use Rattle.field.proofs.Before.{rest}
 use Rattle.text.specs.Upto.{upto, before}
 use Rattle.text.proofs.Lines.{upto-le}
@@ -195,7 +195,7 @@ parse-version-requires : tie.Need-parse-version-requires Inv-loop μ-loop
 parse-version-requires c κs = search needs
 
 returns : tie.Need-returns Inv-loop μ-loop
-returns c = c .parse-version .ensures ∙ ap spelledOf (ends (c .before .before .before .before) .2)
+returns c = c .parse-version .ensures ∙ ap parsedVersionOf (ends (c .before .before .before .before) .2)
 
 pub first-version-spec : {M : Type 1} → statement M
 first-version-spec =

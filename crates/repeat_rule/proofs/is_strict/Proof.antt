@@ -9,30 +9,30 @@ use Rattle.format.specs.Lines.{lines}
 use Rattle.format.specs.Reading.{announced, isStrict}
 use Rattle.format.specs.Version.{isBelow}
 use Rattle.format.specs.declared.Version.{Version}
-use Rattle.field.specs.Parsed.{spelledOf}
-use Rattle.field.specs.declared.Spelled.the-variants.{Is, Invalid}
+use Rattle.field.specs.Parsed.{parsedVersionOf}
+use Rattle.field.specs.declared.ParsedVersion.the-variants.{Is, Invalid}
 use Rattle.text.proofs.First.{first-le, first-within}
 use Rattle.repeat_rule.proofs.First.{announced-first}
 use Rattle.repeat_rule.proofs.is_strict.Statement.{statement}
 use Rattle.repeat_rule.proofs.is_strict.Tie as tie
 
 -- what an answer says of the version
-none-lax : (o : Option Version) → Invalid ≡ spelledOf o → false ≡ isStrict o
-unfolding spelledOf isStrict
+none-lax : (o : Option Version) → Invalid ≡ parsedVersionOf o → false ≡ isStrict o
+unfolding parsedVersionOf isStrict
 none-lax none e = refl
 none-lax (some v) e = cc
 
-some-strict : (o : Option Version) (v : Version) → Is v ≡ spelledOf o → not (isBelow v (record { major = 1; minor = 6 })) ≡ isStrict o
-unfolding spelledOf isStrict
+some-strict : (o : Option Version) (v : Version) → Is v ≡ parsedVersionOf o → not (isBelow v (record { major = 1; minor = 6 })) ≡ isStrict o
+unfolding parsedVersionOf isStrict
 some-strict none v e = cc
 some-strict (some w) v e = let q : v ≡ w = cc in rw q refl
 
 -- what line 0 announces, the text announces
 told : (c : tie.After-announced)
-    → c .announced .result ≡ spelledOf (announced (lines (c .before .before .before .before .args .text .now)))
+    → c .announced .result ≡ parsedVersionOf (announced (lines (c .before .before .before .before .args .text .now)))
 told c =
     let f = c .before .before in
-    c .announced .ensures ∙ ap spelledOf (rw (f .first-line .ensures) (sym (announced-first (f .before .before .args .text .now))))
+    c .announced .ensures ∙ ap parsedVersionOf (rw (f .first-line .ensures) (sym (announced-first (f .before .before .args .text .now))))
 
 first-line-requires : tie.Need-first-line-requires
 first-line-requires c κs = search needs

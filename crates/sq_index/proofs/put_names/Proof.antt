@@ -10,7 +10,7 @@ use types.Run.{OneOf, miss}
 use Rattle.entries.proofs.Entry.{the-type}
 use Rattle.entries.specs.declared.Entry.{Entry}
 use Rattle.entries.specs.declared.Entry.the-variants.{End, Header, ReferenceSequence, ReadGroup, Program, Comment, Field}
-use Rattle.entries.specs.Entries.{kindOf, entryOf, entriesIn}
+use Rattle.entries.specs.Entries.{kindByte, entryOf, entriesIn}
 use Rattle.name_index.proofs.Indexed.{enter-length}
 use Rattle.sq_index.specs.Filled.{nameIn, startIn, entering}
 use Rattle.sq_index.proofs.Turns.{sq-within, entered, entered-all}
@@ -52,8 +52,8 @@ entry c = ReferenceSequence (c .e .given .0 .0) (c .e .given .0 .1 .0)
 found : (c : tie.After-e Inv-loop μ-loop) → entry c ≡ entryOf (drop (c .before .before .before .next-sq .result) (start (loop c) .args .catalogue .now))
 found c = sym (c .e .given .1) ∙ c .before .before .entry-at .ensures
 
-is-sq : (c : tie.After-e Inv-loop μ-loop) → kindOf (entry c) ≡ 2
-unfolding kindOf
+is-sq : (c : tie.After-e Inv-loop μ-loop) → kindByte (entry c) ≡ 2
+unfolding kindByte
 is-sq c = refl
 
 within : (c : tie.After-e Inv-loop μ-loop) → c .before .before .before .next-sq .result + 17 ≤ length (start (loop c) .args .catalogue .now)
@@ -101,8 +101,8 @@ same-length c = c .before .before .before .loop .inv .2
 
 -- ---- no SQ entry
 
-not-sq : (e : Entry) → OneOf (0 ∷ 1 ∷ 3 ∷ 4 ∷ 5 ∷ 6 ∷ []) (tagOf the-type e) → kindOf e ≡ 2 → ⊥
-unfolding kindOf
+not-sq : (e : Entry) → OneOf (0 ∷ 1 ∷ 3 ∷ 4 ∷ 5 ∷ 6 ∷ []) (tagOf the-type e) → kindByte e ≡ 2 → ⊥
+unfolding kindByte
 not-sq End h q = omega (arith, q)
 not-sq (Header v) h q = omega (arith, q)
 not-sq (ReferenceSequence p n) h q = miss (0 ∷ 1 ∷ 3 ∷ 4 ∷ 5 ∷ 6 ∷ []) 2 tt h

@@ -1,7 +1,7 @@
 -- `tag_number::place_of` meets its contract: each test that failed on the way takes one class away.
 use borrow.Author.Tests.{le-leb, lt-leb}
 use borrow.Author.Needs.{needs}
-use Rattle.tag_number.specs.Number.{placeOf}
+use Rattle.tag_number.specs.Number.{byteNumber}
 use Rattle.tag_number.proofs.place_of.Statement.{statement}
 use Rattle.tag_number.proofs.place_of.Tie as tie
 
@@ -9,18 +9,18 @@ sub-result : tie.Need-sub-result
 sub-result c = search needs
 
 returns : tie.Need-returns
-unfolding placeOf
+unfolding byteNumber
 returns c = simp (le-leb _ _ (c .if1 .taken))
 
 returns-2 : tie.Need-returns-2
-unfolding placeOf
+unfolding byteNumber
 returns-2 c = simp (lt-leb _ _ (c .before .if1 .left), le-leb _ _ (c .if2 .taken))
 
 add-result : tie.Need-add-result
 add-result c = search needs
 
 returns-3 : tie.Need-returns-3
-unfolding placeOf
+unfolding byteNumber
 returns-3 c = simp (lt-leb _ _ (c .before .if1 .left), lt-leb _ _ (c .if2 .left))
 
 pub place-of-spec : {M : Type 1} → statement M

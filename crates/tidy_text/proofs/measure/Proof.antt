@@ -13,7 +13,7 @@ use Rattle.format.specs.Tidy.{tidy, unwritable}
 use Rattle.format.specs.declared.Kind.{Kind}
 use Rattle.accepted.specs.Read.{recordsOf}
 use Rattle.writer.specs.Line.{lineText, lineWritable}
-use Rattle.tidy_text.specs.Accepted.{onto, measuredOf, allRead, recordsFrom}
+use Rattle.tidy_text.specs.Accepted.{withRecord, measuredOf, allRead, recordsFrom}
 use Rattle.tidy_text.specs.Kinds.{kindText, textOfKind}
 use Rattle.per_kind.specs.Numbers.{get, plus}
 use Rattle.tidy_text.specs.Sizes.{sizesOf}

@@ -5,9 +5,9 @@ use native.Mathlib.Omega.{arith}
 use lib.ListN.{length}
 use Rattle.format.specs.Reading.{readText}
 use Rattle.accepted.specs.Read.{recordsOf}
-use Rattle.per_kind.specs.Numbers.{front, starts}
+use Rattle.per_kind.specs.Numbers.{front, kindStarts}
 use Rattle.tidy_text.specs.Sizes.{sizesOf}
-use Rattle.tidy_text.specs.Placed.{placed, parts, Apart}
+use Rattle.tidy_text.specs.Placed.{withParts, parts, Apart}
 use Rattle.tidy_text.proofs.Lines.{opened}
 use Rattle.tidy_text.proofs.Total.{front-sizes, tidy-sizes, tidy-small}
 use Rattle.tidy_text.proofs.Sizes.{front-size}
@@ -17,8 +17,8 @@ use Rattle.tidy_text.proofs.put_around.Statement.{statement}
 use Rattle.tidy_text.proofs.put_around.Tie as tie
 
 -- where each kind starts
-places : (c : tie.After-starts) → (let a = c .before .before .before .args in c .starts .result ≡ starts (a .gap) (sizesOf (recordsOf (a .text .now))))
-places c = let s = c .before .before .before in c .starts .ensures ∙ ap (starts (s .args .gap)) (s .pre .1 .1 .0)
+places : (c : tie.After-starts) → (let a = c .before .before .before .args in c .starts .result ≡ kindStarts (a .gap) (sizesOf (recordsOf (a .text .now))))
+places c = let s = c .before .before .before in c .starts .ensures ∙ ap (kindStarts (s .args .gap)) (s .pre .1 .1 .0)
 
 starts-requires : tie.Need-starts-requires
 starts-requires c κs =
@@ -47,7 +47,7 @@ returns c =
     let s = g .before .before .before in
     let a = s .args in
     let rs = recordsOf (a .text .now) in
-    w .put-lines .ensures ∙ ap (λ p. placed (a .out .now) (parts p rs)) (places g) ∙ starts-placed (a .out .now) (a .gap) rs (s .pre .1 .1 .1 .1)
+    w .put-lines .ensures ∙ ap (λ p. withParts (a .out .now) (parts p rs)) (places g) ∙ starts-placed (a .out .now) (a .gap) rs (s .pre .1 .1 .1 .1)
 
 pub put-around-spec : {M : Type 1} → statement M
 put-around-spec = tie.close (tie.spec starts-requires put-lines-requires same-length returns)

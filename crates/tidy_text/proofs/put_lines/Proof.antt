@@ -10,10 +10,10 @@ use Rattle.format.specs.Records.{line}
 use Rattle.format.specs.Reading.{readText}
 use Rattle.accepted.specs.Read.{recordsOf}
 use Rattle.writer.specs.Line.{lineText}
-use Rattle.tidy_text.specs.Accepted.{onto, allRead, recordsFrom}
+use Rattle.tidy_text.specs.Accepted.{withRecord, allRead, recordsFrom}
 use Rattle.per_kind.specs.Numbers.{get, plus}
 use Rattle.heads.specs.Found.{kindBy}
-use Rattle.tidy_text.specs.Placed.{placed, parts, Apart}
+use Rattle.tidy_text.specs.Placed.{withParts, parts, Apart}
 use Rattle.tidy_text.proofs.Lines.{Opened, opened, lent, Turn, turn, ended}
 use Rattle.tidy_text.proofs.OfKind.{line-kind}
 use Rattle.tidy_text.proofs.Placed.{Split}
@@ -27,7 +27,7 @@ Inv-loop t strict out₀ next₀ at₀ out next at =
     (at ≤ length t)
     × (allRead strict (linesFrom at (drop at t)) ≡ true)
     × Apart (parts next (recordsFrom strict t at)) (length out)
-    × (placed out (parts next (recordsFrom strict t at)) ≡ placed out₀ (parts next₀ (recordsOf t)))
+    × (withParts out (parts next (recordsFrom strict t at)) ≡ withParts out₀ (parts next₀ (recordsOf t)))
     × (length out ≡ length out₀)
 
 abbrev μ-loop : tie.MeasureT-loop
@@ -72,7 +72,7 @@ loop-holds c =
       omega arith,
       o .lines,
       subst (λ rs. Apart (parts (a .places) rs) (length (a .out .now))) (sym (o .records)) (s .pre .1 .1),
-      ap (λ rs. placed (a .out .now) (parts (a .places) rs)) (o .records),
+      ap (λ rs. withParts (a .out .now) (parts (a .places) rs)) (o .records),
       refl,
     )
 
@@ -124,7 +124,7 @@ loop-again c =
       t .within,
       t .rest,
       subst (λ p. Apart (parts p rs) (length (w .put-line .last .0))) (sym (w .put-line .ensures .0)) (subst (Apart _) (sym (w .put-line .kept .0)) (s .apart)),
-      ap₂ (λ o p. placed o (parts p rs)) (w .put-line .ensures .1) (w .put-line .ensures .0) ∙ sym (s .same) ∙ l .loop .inv .3,
+      ap₂ (λ o p. withParts o (parts p rs)) (w .put-line .ensures .1) (w .put-line .ensures .0) ∙ sym (s .same) ∙ l .loop .inv .3,
       w .put-line .kept .0 ∙ l .loop .inv .4,
     )
 
@@ -136,7 +136,7 @@ returns c =
     let l = c .before in
     let a = l .before .before .before .args in
     sym (placed-none (l .loop .out) (l .loop .next))
-    ∙ ap (λ rs. placed (l .loop .out) (parts (l .loop .next) rs)) (sym (ended (a .strict) (a .text .now) (l .loop .at) (c .loop-test .left)))
+    ∙ ap (λ rs. withParts (l .loop .out) (parts (l .loop .next) rs)) (sym (ended (a .strict) (a .text .now) (l .loop .at) (c .loop-test .left)))
     ∙ l .loop .inv .3
 
 pub put-lines-spec : {M : Type 1} → statement M

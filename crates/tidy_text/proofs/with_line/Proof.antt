@@ -5,7 +5,7 @@ use native.Mathlib.Omega.{arith}
 use lib.ListN.{length, getD}
 use Rattle.format.specs.Records.{Line, line}
 use Rattle.format.specs.declared.Kind.{Kind}
-use Rattle.writer.specs.Line.{lineText, sizeOf}
+use Rattle.writer.specs.Line.{lineText, lineSize}
 use Rattle.writer.specs.declared.Size.the-variants.{Is}
 use Rattle.per_kind.specs.Numbers.{get, plus}
 use Rattle.heads.specs.Found.{kindBy}
@@ -24,7 +24,7 @@ abbrev kind-at : tie.Start → Kind
 kind-at s = kindBy (getD (s .args .src .now) 1 0)
 
 -- its size, if it can be written
-told : (z : tie.After-size) → sizeOf (line-of (z .before .before .before .before)) ≡ Is (z .size .given .0 .0)
+told : (z : tie.After-size) → lineSize (line-of (z .before .before .before .before)) ≡ Is (z .size .given .0 .0)
 told z = sym (z .before .before .record-size .ensures) ∙ z .size .given .1
 
 record-size-requires : tie.Need-record-size-requires

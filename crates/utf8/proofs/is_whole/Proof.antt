@@ -10,14 +10,14 @@ use lib.Dec.{ltb}
 use borrow.Author.Needs.{needs}
 use borrow.Author.Tests.{le-ltb}
 use Rattle.format.specs.Utf8.{characters}
-use Rattle.utf8.specs.Pending.{pendingOf, ranges, dueOf, after}
+use Rattle.utf8.specs.Pending.{pendingOf, ranges, dueOf, dueAfter}
 use Rattle.utf8.specs.declared.Pending.{Pending}
 use Rattle.utf8.proofs.Step.{step}
 use Rattle.utf8.proofs.is_whole.Statement.{statement}
 use Rattle.utf8.proofs.is_whole.Tie as tie
 
 module _ (s : List ℕ) (i : ℕ) (p : Pending) where
-  more : i < length s → characters (dueOf p) (drop i s) ≡ characters (dueOf (pendingOf (after (dueOf p) (getD s i 0)))) (drop (i + 1) s)
+  more : i < length s → characters (dueOf p) (drop i s) ≡ characters (dueOf (pendingOf (dueAfter (dueOf p) (getD s i 0)))) (drop (i + 1) s)
   more h = ap (characters (dueOf p)) (drop-cons s i 0 h ∙ ap (λ j. getD s i 0 ∷ drop j s) (sym (add-one i))) ∙ step p (getD s i 0) (drop (i + 1) s)
 
   -- nothing is left: whole if nothing is due

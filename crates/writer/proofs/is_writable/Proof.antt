@@ -20,7 +20,7 @@ use Rattle.record.specs.Head.{headOf}
 use Rattle.record.specs.declared.Head.{Head}
 use Rattle.record.specs.declared.Head.the-variants as head
 use Rattle.other_fields.specs.Run.{fieldsFrom}
-use Rattle.other_fields.specs.Next.{orValue, nowhere, lastIn}
+use Rattle.other_fields.specs.Next.{orValue, noValue, lastIn}
 use Rattle.heads.specs.Found.{isComment, uncounted}
 use Rattle.heads.proofs.Finds.{OfReference, Held, held, found-place, value-within, value-bytes}
 use Rattle.writer.specs.Line.{lineWritable}
@@ -55,7 +55,7 @@ unfolding Held
 kept c = let s = c .before .before .before .before in held false (s .args .at) (s .args .src .now) (s .pre .0) kind.ReferenceSequence (s .pre .1 .0 .0 ∙ c .enum-told .given .1) .1
 
 -- the value that was found
-value : (c : tie.After-find-value) → (let a = c .before .before .before .before .before .args in c .find-value .result ≡ orValue nowhere (lastOf 83 78 (fieldsFrom (a .at) (a .src .now) 3)))
+value : (c : tie.After-find-value) → (let a = c .before .before .before .before .before .args in c .find-value .result ≡ orValue noValue (lastOf 83 78 (fieldsFrom (a .at) (a .src .now) 3)))
 unfolding lastIn
 value c = c .find-value .ensures
 

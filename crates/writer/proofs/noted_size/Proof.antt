@@ -12,7 +12,7 @@ use Rattle.other_fields.specs.Tables.{HasTag, Walkable}
 use Rattle.other_fields.proofs.Start.{blank-tables, noted-walkable}
 use Rattle.heads.specs.Found.{isComment}
 use Rattle.heads.proofs.Finds.{fielded}
-use Rattle.writer.specs.Line.{sizeOf}
+use Rattle.writer.specs.Line.{lineSize}
 use Rattle.writer.specs.declared.Size.the-variants.{Is}
 use Rattle.writer.proofs.noted_size.Statement.{statement}
 use Rattle.writer.proofs.noted_size.Tie as tie
@@ -46,7 +46,7 @@ is-writable-requires c κs =
     (s .pre .0, (s .pre .1 .0, (tables n, s .pre .1 .1)))
 
 returns : tie.Need-returns
-unfolding sizeOf
+unfolding lineSize
 returns c = let w = c .before in rw (sym (w .is-writable .ensures) ∙ not-true (w .is-writable .result) (c .if1 .taken)) refl
 
 slice-aggregate-find-keys : tie.Need-slice-aggregate-find-keys
@@ -72,7 +72,7 @@ parts-len-requires c κs =
     (s .pre .0, (s .pre .1 .0, (k .find-keys .ensures, (c .other-fields-len .ensures, s .pre .1 .1))))
 
 returns-2 : tie.Need-returns-2
-unfolding sizeOf
+unfolding lineSize
 returns-2 c =
     let e = c .before .before .before .before .before in
     let w = e .before in

@@ -12,7 +12,7 @@ use Rattle.other_fields.specs.Run.{fieldsFrom}
 use Rattle.other_fields.proofs.Start.{once-walkable}
 use Rattle.heads.specs.Keys.{keysIn}
 use Rattle.heads.proofs.Finds.{three}
-use Rattle.writer.specs.Line.{lineText, lineWritable, sizeOf}
+use Rattle.writer.specs.Line.{lineText, lineWritable, lineSize}
 use Rattle.other_fields_out.specs.Others.{othersText}
 use Rattle.writer.specs.Heads.{keysLength}
 use Rattle.writer.specs.declared.Size.the-variants.{Is}
@@ -49,7 +49,7 @@ is-writable-requires c κs =
     (s .pre .0, (s .pre .1 .0, (once-walkable (s .args .at) (s .args .src .now) _ (s .pre .1 .1 .0), s .pre .1 .1 .1)))
 
 returns : tie.Need-returns
-unfolding sizeOf
+unfolding lineSize
 returns c = let w = c .before in rw (sym (w .is-writable .ensures) ∙ not-true (w .is-writable .result) (c .if1 .taken)) refl
 
 is-neat-requires : tie.Need-is-neat-requires
@@ -59,7 +59,7 @@ add-t14 : tie.Need-add-t14
 add-t14 c = search needs
 
 returns-2 : tie.Need-returns-2
-unfolding sizeOf
+unfolding lineSize
 returns-2 c =
     let n = c .before in
     let e = n .before in
@@ -92,7 +92,7 @@ parts-len-requires c κs =
     (s .pre .0, (s .pre .1 .0, (k .find-keys .ensures, (others c .1, s .pre .1 .1 .1))))
 
 returns-3 : tie.Need-returns-3
-unfolding sizeOf
+unfolding lineSize
 returns-3 c =
     let e = c .before .before .before .before .before .before in
     rw (writable e) (ap Is (c .parts-len .ensures))

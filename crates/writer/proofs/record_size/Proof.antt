@@ -12,7 +12,7 @@ use Rattle.other_fields.proofs.Start.{once-start}
 use Rattle.heads.specs.Found.{kindBy, isComment}
 use Rattle.heads.proofs.Lax.{line-lax, read-lax}
 use Rattle.heads.proofs.Finds.{comment-is, three, fielded}
-use Rattle.writer.specs.Line.{lineText, lineWritable, sizeOf}
+use Rattle.writer.specs.Line.{lineText, lineWritable, lineSize}
 use Rattle.writer.specs.declared.Size.the-variants.{Is}
 use Rattle.writer.proofs.Whole.{comment-text}
 use Rattle.writer.proofs.record_size.Statement.{statement}
@@ -39,7 +39,7 @@ add-t7 : tie.Need-add-t7
 add-t7 c = search needs
 
 returns : tie.Need-returns
-unfolding sizeOf
+unfolding lineSize
 returns c =
     let k = c .before in
     let s = k .before .before .before in
@@ -62,7 +62,7 @@ once-size-requires c κs =
     (read s, ((sym (k .before .kind-of .ensures), sym (k .is-comment .ensures) ∙ e .if1 .left), (once-start (a .strict) (a .at) (a .src .now) h (sym (c .before .is-once .ensures) ∙ c .if2 .taken), s .pre .1)))
 
 returns-2 : tie.Need-returns-2
-returns-2 c = c .once-size .ensures ∙ ap sizeOf (sym (same (c .before .before .before .before .before .before .before)))
+returns-2 c = c .once-size .ensures ∙ ap lineSize (sym (same (c .before .before .before .before .before .before .before)))
 
 noted-size-requires : tie.Need-noted-size-requires
 noted-size-requires c κs =
@@ -72,7 +72,7 @@ noted-size-requires c κs =
     (read s, ((sym (k .before .kind-of .ensures), sym (k .is-comment .ensures) ∙ e .if1 .left), s .pre .1))
 
 returns-3 : tie.Need-returns-3
-returns-3 c = c .noted-size .ensures ∙ ap sizeOf (sym (same (c .before .before .before .before .before .before .before)))
+returns-3 c = c .noted-size .ensures ∙ ap lineSize (sym (same (c .before .before .before .before .before .before .before)))
 
 pub record-size-spec : {M : Type 1} → statement M
 record-size-spec =

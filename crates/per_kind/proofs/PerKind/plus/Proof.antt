@@ -1,7 +1,7 @@
 -- `per_kind::PerKind::plus` meets its contract: an arm for each kind.
 use mathlib.Core.Path.{sym, ap}
 use native.Mathlib.Omega.{arith}
-use Rattle.per_kind.specs.Numbers.{get, plus, numberOf}
+use Rattle.per_kind.specs.Numbers.{get, plus, kindNumber}
 use borrow.Author.Needs.{needs}
 use Rattle.per_kind.proofs.PerKind.plus.Statement.{statement}
 use Rattle.per_kind.proofs.PerKind.plus.Tie as tie
@@ -42,23 +42,23 @@ unfolding get
 add-next-5 c = let s = c .before .before .before in omega (arith, s .pre, ap (λ k. get k (s .args .self)) (c .before .enum-told5 .given .1))
 
 returns : tie.Need-returns
-unfolding plus get numberOf
+unfolding plus get kindNumber
 returns c = let a = c .before .before .before .args in sym (ap (λ k. plus k (a .n) (a .self)) (c .before .enum-told .given .1))
 
 returns-2 : tie.Need-returns-2
-unfolding plus get numberOf
+unfolding plus get kindNumber
 returns-2 c = let a = c .before .before .before .args in sym (ap (λ k. plus k (a .n) (a .self)) (c .before .enum-told2 .given .1))
 
 returns-3 : tie.Need-returns-3
-unfolding plus get numberOf
+unfolding plus get kindNumber
 returns-3 c = let a = c .before .before .before .args in sym (ap (λ k. plus k (a .n) (a .self)) (c .before .enum-told3 .given .1))
 
 returns-4 : tie.Need-returns-4
-unfolding plus get numberOf
+unfolding plus get kindNumber
 returns-4 c = let a = c .before .before .before .args in sym (ap (λ k. plus k (a .n) (a .self)) (c .before .enum-told4 .given .1))
 
 returns-5 : tie.Need-returns-5
-unfolding plus get numberOf
+unfolding plus get kindNumber
 returns-5 c = let a = c .before .before .before .args in sym (ap (λ k. plus k (a .n) (a .self)) (c .before .enum-told5 .given .1))
 
 pub plus-spec : {M : Type 1} → statement M

@@ -1,7 +1,7 @@
 -- `per_kind::PerKind::starts` meets its contract: sums.
 use mathlib.Core.Path.{refl}
 use native.Mathlib.Omega.{arith}
-use Rattle.per_kind.specs.Numbers.{front, starts}
+use Rattle.per_kind.specs.Numbers.{front, kindStarts}
 use Rattle.per_kind.proofs.PerKind.starts.Statement.{statement}
 use Rattle.per_kind.proofs.PerKind.starts.Tie as tie
 
@@ -22,7 +22,7 @@ unfolding front
 add-t7 c = omega (arith, c .before .before .before .pre)
 
 returns : tie.Need-returns
-unfolding starts front
+unfolding kindStarts front
 returns c = refl
 
 pub starts-spec : {M : Type 1} → statement M

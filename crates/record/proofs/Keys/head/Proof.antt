@@ -6,7 +6,7 @@ use borrow.Author.Tests.{eq-eqb, ne-eqb, not-true, not-false}
 use Rattle.format.specs.declared.Kind.{Kind}
 use Rattle.format.specs.declared.Kind.the-variants as kind
 use Rattle.record.specs.declared.Keys.{Keys}
-use Rattle.record.specs.declared.Place.{Place}
+use Rattle.record.specs.declared.Stretch.{Stretch}
 use Rattle.record.specs.declared.Head.the-variants.{Refused, Header, ReferenceSequence, ReadGroup, Program}
 use Rattle.record.specs.Keys.{headFrom}
 use Rattle.record.proofs.Keys.head.Statement.{statement}
@@ -14,7 +14,7 @@ use Rattle.record.proofs.Keys.head.Tie as tie
 
 -- by kind, and by what is there
 module _ (k : Kind) (keys : Keys) where
-  place : Place
+  place : Stretch
   place = record { at = keys .«key_at»; len = keys .«key_len» }
 
   no-version : k ≡ kind.Header → keys .versioned ≡ false → Refused 15 ≡ headFrom k keys

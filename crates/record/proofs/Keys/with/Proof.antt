@@ -6,7 +6,7 @@ use native.Mathlib.Numerals.{add-one}
 use borrow.Author.Needs.{needs}
 use borrow.Author.Tests.{not-true, not-false}
 use Rattle.format.specs.declared.Kind.{Kind}
-use Rattle.field.specs.declared.Field.{Field}
+use Rattle.field.specs.declared.ParsedField.{ParsedField}
 use Rattle.field.specs.Parsed.{isVersion, isLength}
 use Rattle.accepted.specs.Sound.{isKey}
 use Rattle.record.specs.declared.Keys.{Keys}
@@ -14,7 +14,7 @@ use Rattle.record.specs.Keys.{withField, withPlace, withVersion, withLen
 use Rattle.record.proofs.Keys.with.Statement.{statement}
 use Rattle.record.proofs.Keys.with.Tie as tie
 
-module _ (k : Kind) (f : Field) (at : ℕ) (again : Bool) (keys : Keys) where
+module _ (k : Kind) (f : ParsedField) (at : ℕ) (again : Bool) (keys : Keys) where
   module _ (n : isKey k (f .«tag_0») (f .«tag_1») ≡ false) where
     came-again : again ≡ true → keys ≡ withField k f at again keys
     unfolding withField

@@ -2,8 +2,8 @@
 use mathlib.Core.Path.{refl}
 use borrow.Author.Tests.{eq-eqb, ne-eqb}
 use Rattle.heads.specs.Keys.{withKey}
-use Rattle.heads.proofs.Keys.with.Statement.{statement}
-use Rattle.heads.proofs.Keys.with.Tie as tie
+use Rattle.heads.proofs.KeyValues.with.Statement.{statement}
+use Rattle.heads.proofs.KeyValues.with.Tie as tie
 
 returns : tie.Need-returns
 unfolding withKey
