@@ -13,8 +13,11 @@ use Rattle.format.specs.Tidy.{tidy, unwritable}
 use Rattle.format.specs.Adding.{added, used}
 use Rattle.format.specs.Calls.{Answer, then, untangled, writing}
 use Rattle.format.specs.declared.Kind.the-variants.{Comment}
+use Rattle.accepted.specs.Read.{recordsOf}
 use Rattle.tidy_text.specs.Kinds.{textOfKind, frontText}
 use Rattle.add_ids.specs.Taken.{isAmong}
+use Rattle.add_lines.specs.Lines.{newText}
+use Rattle.add_lines.specs.declared.Shape.{Shape}
 use Rattle.add_input.specs.declared.Given.{Given}
 use Rattle.add_input.specs.declared.Given.the-variants as given
 
@@ -22,6 +25,14 @@ use Rattle.add_input.specs.declared.Given.the-variants as given
 unfoldable pub withAdded : List Record → List ℕ → List ℕ
 unfolding frontText textOfKind
 withAdded rs new = frontText rs ++ new ++ textOfKind Comment rs
+
+-- the tidy text of `t` with new programs, after the leaves `ks` of those whose IDs stand in it at these offsets, with these lengths
+abbrev pub grownText : List ℕ → List ℕ → List ℕ → Shape → List ℕ → List ℕ → List ℕ → List ℕ
+grownText t ats lens shape prefix fields ks = withAdded (recordsOf t) (newText t ats lens shape prefix fields ks)
+
+-- it is written, or why not: 24, 1, 20
+abbrev pub writingGrown : List ℕ → List ℕ → List ℕ → Shape → List ℕ → List ℕ → List ℕ → ℕ → Answer (List ℕ)
+writingGrown t ats lens shape prefix fields ks room = writing room (unwritable 0 (recordsOf t)) (grownText t ats lens shape prefix fields ks)
 
 -- is there none?
 unfoldable pub isNone : Option Piece → Bool

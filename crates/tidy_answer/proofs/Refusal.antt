@@ -8,17 +8,17 @@ use Rattle.format.specs.Decimal.{written}
 use Rattle.text.specs.Over.{over}
 use Rattle.decimal.proofs.Written.{written-short}
 use Rattle.parts.proofs.Wrote.{Wrote, wrote-then, wrote-one}
-use Rattle.tidy_answer.specs.Program.{refusedWord, lineWord, refusal}
+use Rattle.tidy_answer.specs.Program.{spelledRefused, spelledLine, refusal}
 
 pub refusal-size : (n l : ℕ) → length (refusal n l) ≡ 8 + length (written n) + 6 + length (written l) + 1
-unfolding refusal refusedWord lineWord
+unfolding refusal spelledRefused spelledLine
 refusal-size n l =
     omega (
       arith,
-      length-append (refusedWord ++ written n ++ lineWord ++ written l) (10 ∷ []),
-      length-append (refusedWord ++ written n ++ lineWord) (written l),
-      length-append (refusedWord ++ written n) lineWord,
-      length-append refusedWord (written n),
+      length-append (spelledRefused ++ written n ++ spelledLine ++ written l) (10 ∷ []),
+      length-append (spelledRefused ++ written n ++ spelledLine) (written l),
+      length-append (spelledRefused ++ written n) spelledLine,
+      length-append spelledRefused (written n),
     )
 
 -- any refusal fits 55 bytes
@@ -27,15 +27,15 @@ refusal-fits n l room h = omega (arith, refusal-size n l, written-short n, writt
 
 -- the word, the number, the word, the line and the LF, each written behind the one before
 module _ (out : List ℕ) (n l : ℕ) (room : length (refusal n l) ≤ length out) where
-  pub refusal-wrote : (a b c d : List ℕ) (p q : ℕ) → Wrote out 0 a 8 refusedWord → Wrote a 8 b p (written n) → Wrote b p c (p + 6) lineWord → Wrote c (p + 6) d q (written l) → length d ≡ length out
+  pub refusal-wrote : (a b c d : List ℕ) (p q : ℕ) → Wrote out 0 a 8 spelledRefused → Wrote a 8 b p (written n) → Wrote b p c (p + 6) spelledLine → Wrote c (p + 6) d q (written l) → length d ≡ length out
       → Wrote out 0 (set d q 10) (q + 1) (refusal n l)
   unfolding refusal
   refusal-wrote a b c d p q e f g h same =
       let size = refusal-size n l in
-      let two = length-append refusedWord (written n) in
-      let three = length-append (refusedWord ++ written n) lineWord in
-      let four = length-append (refusedWord ++ written n ++ lineWord) (written l) in
-      let x = wrote-then out 0 a 8 b p refusedWord (written n) e f (omega arith) in
-      let y = wrote-then out 0 b p c (p + 6) (refusedWord ++ written n) lineWord x g (omega arith) in
-      let z = wrote-then out 0 c (p + 6) d q (refusedWord ++ written n ++ lineWord) (written l) y h (omega arith) in
-      wrote-then out 0 d q (set d q 10) (q + 1) (refusedWord ++ written n ++ lineWord ++ written l) (10 ∷ []) z (refl, wrote-one d q 10 (omega arith)) (omega arith)
+      let two = length-append spelledRefused (written n) in
+      let three = length-append (spelledRefused ++ written n) spelledLine in
+      let four = length-append (spelledRefused ++ written n ++ spelledLine) (written l) in
+      let x = wrote-then out 0 a 8 b p spelledRefused (written n) e f (omega arith) in
+      let y = wrote-then out 0 b p c (p + 6) (spelledRefused ++ written n) spelledLine x g (omega arith) in
+      let z = wrote-then out 0 c (p + 6) d q (spelledRefused ++ written n ++ spelledLine) (written l) y h (omega arith) in
+      wrote-then out 0 d q (set d q 10) (q + 1) (spelledRefused ++ written n ++ spelledLine ++ written l) (10 ∷ []) z (refl, wrote-one d q 10 (omega arith)) (omega arith)

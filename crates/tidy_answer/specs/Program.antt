@@ -9,17 +9,17 @@ use Rattle.format.specs.Reading.{longest}
 use Rattle.format.specs.Calls.{Answer, refused, yes, tidying}
 
 -- `refused `
-unfoldable pub refusedWord : List ℕ
-refusedWord = 114 ∷ 101 ∷ 102 ∷ 117 ∷ 115 ∷ 101 ∷ 100 ∷ 32 ∷ []
+unfoldable pub spelledRefused : List ℕ
+spelledRefused = 114 ∷ 101 ∷ 102 ∷ 117 ∷ 115 ∷ 101 ∷ 100 ∷ 32 ∷ []
 
 -- ` line `
-unfoldable pub lineWord : List ℕ
-lineWord = 32 ∷ 108 ∷ 105 ∷ 110 ∷ 101 ∷ 32 ∷ []
+unfoldable pub spelledLine : List ℕ
+spelledLine = 32 ∷ 108 ∷ 105 ∷ 110 ∷ 101 ∷ 32 ∷ []
 
 -- `refused N line L` and LF, both numbers in decimal
 unfoldable pub refusal : ℕ → ℕ → List ℕ
-unfolding refusedWord lineWord written
-refusal n l = refusedWord ++ written n ++ lineWord ++ written l ++ (10 ∷ [])
+unfolding spelledRefused spelledLine written
+refusal n l = spelledRefused ++ written n ++ spelledLine ++ written l ++ (10 ∷ [])
 
 -- an answer as a text
 unfoldable pub said : Answer (List ℕ) → List ℕ

@@ -4,7 +4,7 @@ use mathlib.Core.Path.{_≡_, refl, _∙_}
 use native.Mathlib.Omega.{arith}
 use lib.ListN.{length, length-set}
 use Rattle.format.specs.Decimal.{written}
-use Rattle.tidy_answer.specs.Program.{refusedWord, lineWord, refusal}
+use Rattle.tidy_answer.specs.Program.{spelledRefused, spelledLine, refusal}
 use Rattle.tidy_answer.proofs.Refusal.{refusal-size, refusal-wrote}
 use borrow.Author.Needs.{needs}
 use Rattle.tidy_answer.proofs.put_refusal.Statement.{statement}
@@ -80,7 +80,7 @@ same-length : tie.Need-same-length
 same-length c = simp length-set (before (c .before .before) .1)
 
 returns : tie.Need-returns
-unfolding refusedWord lineWord
+unfolding spelledRefused spelledLine
 returns c =
     let n = c .before .before in
     let l = n .before .before .before .before in
