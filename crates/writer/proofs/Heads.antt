@@ -28,12 +28,12 @@ use Rattle.writer.specs.Line.{lineText, lineWritable}
 use Rattle.parts.specs.Parts.{prefixText, versionText}
 use Rattle.other_fields_out.specs.Others.{othersText}
 use Rattle.writer.specs.Texts.{InsideLine, placeText, headerText, sequenceText, mapText}
-use Rattle.writer.specs.Heads.{headText, headWritable, Holds}
+use Rattle.writer.specs.Heads.{headText, headWritable, KeyInLine}
 use Rattle.writer.proofs.Sizes.{kindOfHead}
 
 -- an accepted line with the head `d`
 pub record Told (at : ℕ) (s : List ℕ) (k : Kind) (d : Head) : Type 0 where
-  pub holds : Holds at s d
+  pub holds : KeyInLine at s d
   pub kind-is : kindOfHead d ≡ k
   pub text : lineText (line false (record { at = at; bytes = s })) ≡ headText at s d
   pub writable : lineWritable (line false (record { at = at; bytes = s })) ≡ headWritable at s d
@@ -69,8 +69,8 @@ module _ (at : ℕ) (s : List ℕ) where
 
   -- ---- by record
 
-  record-holds : (r : Record) → line false (record { at = at; bytes = s }) ≡ read r → isComment (kind r) ≡ false → Holds at s (uncounted (recordHead r))
-  unfolding Holds uncounted recordHead pieces Each kind
+  record-holds : (r : Record) → line false (record { at = at; bytes = s }) ≡ read r → isComment (kind r) ≡ false → KeyInLine at s (uncounted (recordHead r))
+  unfolding KeyInLine uncounted recordHead pieces Each kind
   record-holds (header v fs) e n = tt
   record-holds (reference p l fs) e n = inside at s p (stand (reference p l fs) e .0)
   record-holds (group p fs) e n = inside at s p (stand (group p fs) e .0)
@@ -116,7 +116,7 @@ module _ (at : ℕ) (s : List ℕ) where
     told g d e c =
         subst (Told at s k) (sym e ∙ c)
         (record {
-          holds = by-record false at s h (λ l. Holds at s (uncounted (headOf l))) (λ r e. record-holds r e (fields r e));
+          holds = by-record false at s h (λ l. KeyInLine at s (uncounted (headOf l))) (λ r e. record-holds r e (fields r e));
           kind-is = by-record false at s h (λ l. kindOfHead (uncounted (headOf l)) ≡ k) (λ r e. record-kind r ∙ byte r e);
           text = by-record false at s h (λ l. lineText l ≡ headText at s (uncounted (headOf l))) (λ r e. record-text r e (fields r e));
           writable = by-record false at s h (λ l. lineWritable l ≡ headWritable at s (uncounted (headOf l))) record-writable;

@@ -15,7 +15,7 @@ use Rattle.record.specs.declared.Stretch.{Stretch}
 use Rattle.record.specs.declared.Head.{Head}
 use Rattle.record.specs.declared.Head.the-variants as head
 use Rattle.record.specs.declared.Head.the-variants.{Refused, ReadGroup, Program, Comment}
-use Rattle.writer.specs.Heads.{headText, Holds, placeLength, headLength}
+use Rattle.writer.specs.Heads.{headText, KeyInLine, placeLength, headLength}
 use Rattle.parts.specs.Parts.{prefixText, versionText}
 use Rattle.other_fields_out.specs.Others.{othersText}
 use Rattle.writer.specs.Texts.{InsideLine, placeText, headerText, sequenceText, mapText}
@@ -58,8 +58,8 @@ module _ (at : ℕ) (s : List ℕ) (p : Stretch) (i : InsideLine at s p) where
   map-size k = omega (arith, place-size, ends (prefixText k) (fieldText 73 68 (placeText at s p)) (othersText k at s))
 
 -- by the head
-pub head-size : (at : ℕ) (s : List ℕ) (k : Kind) (d : Head) → Holds at s d → kindOfHead d ≡ k → length (headText at s d) ≡ headLength d (length (othersText k at s))
-unfolding Holds headText headLength kindOfHead
+pub head-size : (at : ℕ) (s : List ℕ) (k : Kind) (d : Head) → KeyInLine at s d → kindOfHead d ≡ k → length (headText at s d) ≡ headLength d (length (othersText k at s))
+unfolding KeyInLine headText headLength kindOfHead
 head-size at s k (Refused n) h e = absurd h
 head-size at s k (head.Header v n) h e = rw (← e) (header-size v at s)
 head-size at s k (head.ReferenceSequence p l n) h e = rw (← e) (sequence-size at s p h l)
@@ -68,8 +68,8 @@ head-size at s k (Program p n) h e = rw (← e) (map-size at s p h kind.Program)
 head-size at s k (Comment p) h e = absurd h
 
 -- a key is no longer than its line
-pub place-short : (at : ℕ) (s : List ℕ) (d : Head) → Holds at s d → placeLength d ≤ length s
-unfolding Holds
+pub place-short : (at : ℕ) (s : List ℕ) (d : Head) → KeyInLine at s d → placeLength d ≤ length s
+unfolding KeyInLine
 place-short at s (Refused n) h = absurd h
 place-short at s (head.Header v n) h = omega arith
 place-short at s (head.ReferenceSequence p l n) h = omega (arith, h .within)

@@ -33,13 +33,13 @@ headWritable at s (Program p n) = true
 headWritable at s (Comment p) = true
 
 -- its key is bytes of the line
-unfoldable pub Holds : ℕ → List ℕ → Head → Type 0
-Holds at s (Refused n) = ⊥
-Holds at s (Header v n) = Unit
-Holds at s (ReferenceSequence p l n) = InsideLine at s p
-Holds at s (ReadGroup p n) = InsideLine at s p
-Holds at s (Program p n) = InsideLine at s p
-Holds at s (Comment p) = ⊥
+unfoldable pub KeyInLine : ℕ → List ℕ → Head → Type 0
+KeyInLine at s (Refused n) = ⊥
+KeyInLine at s (Header v n) = Unit
+KeyInLine at s (ReferenceSequence p l n) = InsideLine at s p
+KeyInLine at s (ReadGroup p n) = InsideLine at s p
+KeyInLine at s (Program p n) = InsideLine at s p
+KeyInLine at s (Comment p) = ⊥
 
 -- how long its key is
 abbrev pub placeLength : Head → ℕ

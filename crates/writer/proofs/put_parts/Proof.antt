@@ -5,7 +5,7 @@ use native.Mathlib.Omega.{arith}
 use lib.ListN.{length}
 use borrow.Author.Needs.{needs}
 use Rattle.record.specs.declared.Head.{Head}
-use Rattle.writer.specs.Heads.{headText, Holds}
+use Rattle.writer.specs.Heads.{headText, KeyInLine}
 use Rattle.parts.proofs.Wrote.{Wrote}
 use Rattle.writer.proofs.Heads.{Told, told}
 use Rattle.writer.proofs.put_parts.Statement.{statement}
@@ -38,7 +38,7 @@ enum-known-head : tie.Need-enum-known-head
 enum-known-head c = search needs
 
 put-header-requires : tie.Need-put-header-requires
-unfolding Holds headText
+unfolding KeyInLine headText
 put-header-requires c κs =
     let k = c .before .before in
     let p = k .before .before in
@@ -49,7 +49,7 @@ enum-known-head-2 : tie.Need-enum-known-head-2
 enum-known-head-2 c = search needs
 
 put-reference-sequence-requires : tie.Need-put-reference-sequence-requires
-unfolding Holds headText
+unfolding KeyInLine headText
 put-reference-sequence-requires c κs =
     let k = c .before .before in
     let p = k .before .before in
@@ -60,7 +60,7 @@ enum-known-head-3 : tie.Need-enum-known-head-3
 enum-known-head-3 c = search needs
 
 put-map-requires : tie.Need-put-map-requires
-unfolding Holds headText
+unfolding KeyInLine headText
 put-map-requires c κs =
     let k = c .before .before in
     let p = k .before .before in
@@ -71,7 +71,7 @@ enum-known-head-4 : tie.Need-enum-known-head-4
 enum-known-head-4 c = search needs
 
 put-map-requires-2 : tie.Need-put-map-requires-2
-unfolding Holds headText
+unfolding KeyInLine headText
 put-map-requires-2 c κs =
     let k = c .before .before in
     let p = k .before .before in
@@ -82,7 +82,7 @@ enum-told-2 : tie.Need-enum-told-2
 enum-told-2 c = search needs
 
 returns : tie.Need-returns
-unfolding Holds
+unfolding KeyInLine
 returns c = absurd (shown (c .before .before) _ (c .enum-told .given .1) .holds)
 
 same-length : tie.Need-same-length
@@ -134,7 +134,7 @@ returns-5 c =
     subst (Wrote (a .out .now) (a .o) (w .put-map2 .last .0) (w .put-map2 .result)) (sym (shown p _ (k .head4 .given .1) .text)) (w .put-map2 .ensures)
 
 returns-6 : tie.Need-returns-6
-unfolding Holds
+unfolding KeyInLine
 returns-6 c = absurd (shown (c .before .before) _ (c .enum-told2 .given .1) .holds)
 
 pub put-parts-spec : {M : Type 1} → statement M
