@@ -6,14 +6,17 @@ use mathlib.Core.List.{List}
 use mathlib.Core.Option.{Option, none, some}
 use native.Mathlib.Omega.{arith}
 use Rattle.format.specs.Version.{version}
-use Rattle.format.specs.Fields.{JudgedPiece, refusedPiece, isValue, spelled, versionField}
+use Rattle.format.specs.Fields.{JudgedPiece, refusedPiece, isValue, plain, spelled, versionField}
 use Rattle.format.specs.declared.Version.{Version}
+use Rattle.format.specs.declared.Kind.the-variants.{Header}
 use Rattle.field.specs.Parsed.{parsedVersionOf, versionRefusal}
 
 pub version-refused : (at : ℕ) (v : List ℕ) (n : ℕ) → isValue v ≡ true → versionRefusal (parsedVersionOf (version v)) ≡ suc n
     → versionField at v ≡ refusedPiece (suc n)
 unfolding versionRefusal parsedVersionOf spelled versionField
-version-refused at v n i e = ap (λ b. cond b _ (refusedPiece 10)) i ∙ go (version v) _ e
+version-refused at v n i e =
+    let j : JudgedPiece = plain Header 86 78 at v in
+    ap (λ b. cond b (spelled (version v) j) (refusedPiece 10)) i ∙ go (version v) j e
   where
     go : (o : Option Version) (j : JudgedPiece) → versionRefusal (parsedVersionOf o) ≡ suc n → spelled o j ≡ refusedPiece (suc n)
     go none j e = ap refusedPiece e
