@@ -27,17 +27,28 @@ ghost use Rattle.add_ids.specs.Taken.{isAmong};
 ghost use Rattle.add_input.specs.Given.{givenOf};
 ghost use Rattle.tidy_text.specs.Sizes.{sizesOf};
 ghost use Rattle.add_lines.specs.Lines.{newText};
-ghost use Rattle.add.specs.Added.{grownText, writingGrown, isNone, isNothing, stray, leavesOf, addingOn};
+ghost use Rattle.add.specs.Added.{grownText, writingGrown, planning, isNone, isNothing, stray, leavesOf, addingOn};
 
-// Writes the tidy text with the new programs behind the old ones, and answers its length: the new ones have `more` bytes, and go
-// to the gap that is left before the comments.
+// What is measured before a byte is written: what the text says of repeated tags, the bytes of each kind, and those of the new programs.
+struct Plan {
+    strict: bool,
+    sizes: PerKind,
+    more: usize,
+}
+
+// A refusal and its line, or what was measured.
+enum Planned {
+    Refused(u8, LineNo),
+    Is(Plan),
+}
+
+// Writes the tidy text with the new programs behind the old ones, and answers its length: the new ones go to the gap that is left
+// before the comments.
 fn put_all(
     text: &[u8],
     ats: &[u32],
     lens: &[u32],
-    strict: bool,
-    sizes: PerKind,
-    more: usize,
+    plan: Plan,
     prefix: &[u8],
     fields: &[u8],
     leaves: &[u32],
@@ -45,9 +56,9 @@ fn put_all(
     out: &mut [u8],
 ) -> usize
     requires { ⌜ isAccepted (readText (now text)) ≡ true ⌝ }
-    requires { ⌜ strict ≡ isStrict (announced (lines (now text))) ⌝ }
-    requires { ⌜ sizes ≡ sizesOf (recordsOf (now text)) ⌝ }
-    requires { ⌜ (more ≡ length (newText (now text) (now ats) (now lens) shape (now prefix) (now fields) (now leaves))) × (more ≤ 16777216) ⌝ }
+    requires { ⌜ plan .strict ≡ isStrict (announced (lines (now text))) ⌝ }
+    requires { ⌜ plan .sizes ≡ sizesOf (recordsOf (now text)) ⌝ }
+    requires { ⌜ (plan .more ≡ length (newText (now text) (now ats) (now lens) shape (now prefix) (now fields) (now leaves))) × (plan .more ≤ 16777216) ⌝ }
     requires { ⌜ PlacesInText (now text) (now ats) (now lens) ⌝ }
     requires { ⌜ length (grownText (now text) (now ats) (now lens) shape (now prefix) (now fields) (now leaves)) ≤ length (now out) ⌝ }
     ensures next { λ r.
@@ -57,7 +68,8 @@ fn put_all(
         (grownText (now (text .entry)) (now (ats .entry)) (now (lens .entry)) shape
         (now (prefix .entry)) (now (fields .entry)) (now (leaves .entry))) ⌝ }
 {
-    tidy_text::put_around(text, strict, sizes, more, out);
+    let sizes = plan.sizes;
+    tidy_text::put_around(text, plan.strict, sizes, plan.more, out);
     let n = add_lines::put_added(
         out,
         sizes.front(),
@@ -89,7 +101,48 @@ fn is_over(n: usize, more: usize) -> bool
     format::LONGEST - n < more
 }
 
-// Writes the tidy text with the new programs: 24, then 1, then 20.
+// Measures what is to be written for an output of `room` bytes: 24, then 1, then 20.
+fn measure_all(
+    text: &[u8],
+    ats: &[u32],
+    lens: &[u32],
+    prefix: &[u8],
+    fields: &[u8],
+    leaves: &[u32],
+    shape: Shape,
+    room: usize,
+) -> Planned
+    requires { ⌜ isAccepted (readText (now text)) ≡ true ⌝ }
+    requires { ⌜ PlacesInText (now text) (now ats) (now lens) ⌝ }
+    requires { ⌜ (length (now leaves) ≤ 1024) × (shape .empty ≡ false → 0 < length (now leaves)) ⌝ }
+    ensures { λ r. ⌜ r ≡ planning (now (text .entry)) (now (ats .entry)) (now (lens .entry)) shape
+        (now (prefix .entry)) (now (fields .entry)) (now (leaves .entry)) room ⌝ }
+{
+    let strict = repeat_rule::is_strict(text);
+    match tidy_text::measure(text, strict) {
+        Measured::Unwritable(line) => Planned::Refused(24, line),
+        Measured::Is(sizes) => {
+            let n = sizes.total();
+            if is_too_long(prefix, fields) {
+                return Planned::Refused(1, LineNo(0));
+            }
+            let more = add_lines::added_len(text, ats, lens, prefix, fields, leaves, shape);
+            if is_over(n, more) {
+                return Planned::Refused(1, LineNo(0));
+            }
+            if room < n + more {
+                return Planned::Refused(20, LineNo(0));
+            }
+            Planned::Is(Plan {
+                strict,
+                sizes,
+                more,
+            })
+        }
+    }
+}
+
+// Writes the tidy text with the new programs, or answers why not, and then changes nothing.
 fn write_added(
     text: &[u8],
     ats: &[u32],
@@ -111,34 +164,10 @@ fn write_added(
         (now (prefix .entry)) (now (fields .entry)) (now (leaves .entry)) (length (now (out .entry))))
         (now (out .entry)) ⌝ }
 {
-    let strict = repeat_rule::is_strict(text);
-    match tidy_text::measure(text, strict) {
-        Measured::Unwritable(line) => CountAnswer::Refused(24, line),
-        Measured::Is(sizes) => {
-            let n = sizes.total();
-            if is_too_long(prefix, fields) {
-                return CountAnswer::Refused(1, LineNo(0));
-            }
-            let more = add_lines::added_len(text, ats, lens, prefix, fields, leaves, shape);
-            if is_over(n, more) {
-                return CountAnswer::Refused(1, LineNo(0));
-            }
-            if out.len() < n + more {
-                return CountAnswer::Refused(20, LineNo(0));
-            }
-            let n = put_all(
-                text,
-                ats,
-                lens,
-                strict,
-                sizes,
-                more,
-                prefix,
-                fields,
-                leaves,
-                shape,
-                out,
-            );
+    match measure_all(text, ats, lens, prefix, fields, leaves, shape, out.len()) {
+        Planned::Refused(n, line) => CountAnswer::Refused(n, line),
+        Planned::Is(plan) => {
+            let n = put_all(text, ats, lens, plan, prefix, fields, leaves, shape, out);
             CountAnswer::Count(n)
         }
     }

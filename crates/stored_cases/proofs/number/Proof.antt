@@ -1,5 +1,5 @@
 -- `stored_cases::number` meets its contract: nine digits and one more fit, and the digits ahead decide. Assumes nothing.
-use Prim.Native.Nat.{ℕ, _+_, _*_, _%_, _≤_, _<_, _-_}
+use Prim.Native.Nat.{_+_, _*_, _%_, _≤_, _<_, _-_}
 use mathlib.Core.Path.{_≡_, refl, sym, ap, _∙_}
 use native.Mathlib.Omega.{arith}
 use borrow.Author.Needs.{needs}
