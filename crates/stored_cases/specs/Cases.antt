@@ -32,17 +32,17 @@ unfolding smaller
 decodedCount hex out = smaller (length hex / 2) (length out)
 
 -- what a line has from word `k` on, counted from 0: one space stands between two words
-unfoldable pub wordsFrom : ℕ → List ℕ → List ℕ
+unfoldable pub fromWord : ℕ → List ℕ → List ℕ
 unfolding upto
-wordsFrom zero s = s
-wordsFrom (suc k) s = wordsFrom k (drop (upto 32 s + 1) s)
+fromWord zero s = s
+fromWord (suc k) s = fromWord k (drop (upto 32 s + 1) s)
 
 -- word `k`: none where there is none
 unfoldable pub wordIn : ℕ → List ℕ → List ℕ
-unfolding wordsFrom before
-wordIn k s = before 32 (wordsFrom k s)
+unfolding fromWord before
+wordIn k s = before 32 (fromWord k s)
 
 -- where it stands
 unfoldable pub wordStanding : ℕ → List ℕ → ℕ × ℕ → ℕ × ℕ
-unfolding wordsFrom
-wordStanding k s line = (line .0, length s - length (wordsFrom k s) + line .1)
+unfolding fromWord
+wordStanding k s line = (line .0, length s - length (fromWord k s) + line .1)

@@ -6,7 +6,7 @@ ghost use lib.Dec.{eqb};
 ghost use Rattle.format.specs.Bytes.{all};
 ghost use Rattle.text.specs.Over.{over};
 ghost use Rattle.text.specs.Upto.{upto};
-ghost use Rattle.stored_cases.specs.Cases.{smaller, digitValue, numberFrom, decoded, decodedCount, wordsFrom, wordIn, wordStanding};
+ghost use Rattle.stored_cases.specs.Cases.{smaller, digitValue, numberFrom, decoded, decodedCount, fromWord, wordIn, wordStanding};
 
 // What an output of bytes holds before a call.
 pub const FILLER: u8 = 0xa5;
@@ -124,7 +124,7 @@ pub fn until(s: &[u8], at: usize, d: u8) -> usize
 
 // Where word `k` of a line starts, counted from 0: words are parted by one space. The line's end where there is none.
 fn word_start(line: &[u8], k: usize) -> usize
-    ensures { λ r. ⌜ (r ≤ length (now (line .entry))) × (drop r (now (line .entry)) ≡ wordsFrom k (now (line .entry))) ⌝ }
+    ensures { λ r. ⌜ (r ≤ length (now (line .entry))) × (drop r (now (line .entry)) ≡ fromWord k (now (line .entry))) ⌝ }
 {
     let mut at: usize = 0;
     let mut left = k;

@@ -4,7 +4,7 @@ use mathlib.Core.Path.{_≡_, ap, _∙_}
 use native.Mathlib.Omega.{arith}
 use lib.ListN.{length, take, drop, length-take, length-drop}
 use Rattle.text.specs.Upto.{upto, before}
-use Rattle.stored_cases.specs.Cases.{wordsFrom, wordIn, wordStanding}
+use Rattle.stored_cases.specs.Cases.{fromWord, wordIn, wordStanding}
 use borrow.Author.Needs.{needs}
 use Rattle.stored_cases.proofs.word.Statement.{statement}
 use Rattle.stored_cases.proofs.word.Tie as tie
@@ -32,7 +32,7 @@ returns c =
     let a = w .before .before .args in
     let line = a .line .now in
     let start : ℕ = w .word-start .result in
-    let rest = wordsFrom (a .k) line in
+    let rest = fromWord (a .k) line in
     let here : drop start line ≡ rest = w .word-start .ensures .1 in
     let long : u .until .result - start ≡ upto 32 (drop start line) = omega (arith, u .until .ensures .2) in
     let place : start ≡ length line - length rest = omega (arith, length-drop start line, ap length here, w .word-start .ensures .0) in (

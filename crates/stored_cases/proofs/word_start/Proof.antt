@@ -5,14 +5,14 @@ use native.Mathlib.Omega.{arith}
 use lib.ListN.{length, drop, drop-of-length-le, length-drop}
 use lib.Seq.{drop-drop}
 use Rattle.text.specs.Upto.{upto}
-use Rattle.stored_cases.specs.Cases.{wordsFrom}
+use Rattle.stored_cases.specs.Cases.{fromWord}
 use Rattle.stored_cases.proofs.Words.{words-end, words-turn}
 use borrow.Author.Needs.{needs}
 use Rattle.stored_cases.proofs.word_start.Statement.{statement}
 use Rattle.stored_cases.proofs.word_start.Tie as tie
 
 abbrev Inv-loop : tie.InvT-loop
-Inv-loop line k at₀ left₀ at left = (at ≤ length line) × (wordsFrom k line ≡ wordsFrom left (drop at line))
+Inv-loop line k at₀ left₀ at left = (at ≤ length line) × (fromWord k line ≡ fromWord left (drop at line))
 
 abbrev μ-loop : tie.MeasureT-loop
 μ-loop line k at₀ left₀ at left = left
@@ -52,15 +52,15 @@ loop-again c =
     let next : at + (upto 32 rest + 1) ≡ u .until .result + 1 = omega (arith, u .until .ensures .2) in (
       omega arith,
       l .loop .inv .1 ∙ words-turn rest (l .loop .left) (omega arith)
-          ∙ ap (wordsFrom (l .loop .left - 1)) (drop-drop (upto 32 rest + 1) at line ∙ ap (λ n. drop n line) next),
+          ∙ ap (fromWord (l .loop .left - 1)) (drop-drop (upto 32 rest + 1) at line ∙ ap (λ n. drop n line) next),
     )
 
 returns-2 : tie.Need-returns-2 Inv-loop μ-loop
-unfolding wordsFrom
+unfolding fromWord
 returns-2 c =
     let l = c .before in
     let none : l .loop .left ≡ 0 = omega arith in
-    (omega arith, sym (l .loop .inv .1 ∙ ap (λ n. wordsFrom n (drop (l .loop .at) (l .before .before .args .line .now))) none))
+    (omega arith, sym (l .loop .inv .1 ∙ ap (λ n. fromWord n (drop (l .loop .at) (l .before .before .args .line .now))) none))
 
 pub word-start-spec : {M : Type 1} → statement M
 word-start-spec =
