@@ -1,4 +1,4 @@
--- `heads::Keys::with` meets its contract.
+-- `heads::KeyValues::with` meets its contract.
 use mathlib.Core.Path.{refl}
 use borrow.Author.Tests.{eq-eqb, ne-eqb}
 use Rattle.heads.specs.Keys.{withKey}
