@@ -3,3 +3,4 @@ pub mod Texts
 pub mod Prior
 pub mod On
 pub mod Adding
+pub mod Measured

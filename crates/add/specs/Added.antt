@@ -5,23 +5,51 @@ use mathlib.Core.List.{List, _++_}
 use mathlib.Core.Option.{Option, none, some}
 use lib.ListN.{length}
 use lib.Dec.{ltb}
-use Rattle.format.specs.Lines.{Piece}
+use Rattle.format.specs.Lines.{Piece, lines}
 use Rattle.format.specs.Fields.{Field}
 use Rattle.format.specs.Records.{Record}
+use Rattle.format.specs.Reading.{announced, isStrict}
 use Rattle.format.specs.Programs.{Program, programs, links, leaves}
 use Rattle.format.specs.Tidy.{tidy, unwritable}
 use Rattle.format.specs.Adding.{added, used}
-use Rattle.format.specs.Calls.{Answer, then, untangled, writing}
+use Rattle.format.specs.Calls.{Answer, refused, yes, then, untangled, writing}
 use Rattle.format.specs.declared.Kind.the-variants.{Comment}
+use Rattle.accepted.specs.Read.{recordsOf}
 use Rattle.tidy_text.specs.Kinds.{textOfKind, frontText}
+use Rattle.tidy_text.specs.Sizes.{sizesOf}
 use Rattle.add_ids.specs.Taken.{isAmong}
+use Rattle.add_lines.specs.Lines.{newText}
+use Rattle.add_lines.specs.declared.Shape.{Shape}
 use Rattle.add_input.specs.declared.Given.{Given}
 use Rattle.add_input.specs.declared.Given.the-variants as given
+use Rattle.add.specs.declared.Plan.{Plan}
+use Rattle.add.specs.declared.Planned.{Planned}
+use Rattle.add.specs.declared.Planned.the-variants as planned
 
 -- the new programs stand behind the old ones, and the comments last
 unfoldable pub withAdded : List Record → List ℕ → List ℕ
 unfolding frontText textOfKind
 withAdded rs new = frontText rs ++ new ++ textOfKind Comment rs
+
+-- the tidy text of `t` with new programs, after the leaves `ks` of those whose IDs stand in it at these offsets, with these lengths
+abbrev pub grownText : List ℕ → List ℕ → List ℕ → Shape → List ℕ → List ℕ → List ℕ → List ℕ
+grownText t ats lens shape prefix fields ks = withAdded (recordsOf t) (newText t ats lens shape prefix fields ks)
+
+-- it is written, or why not: 24, 1, 20
+abbrev pub writingGrown : List ℕ → List ℕ → List ℕ → Shape → List ℕ → List ℕ → List ℕ → ℕ → Answer (List ℕ)
+writingGrown t ats lens shape prefix fields ks room = writing room (unwritable 0 (recordsOf t)) (grownText t ats lens shape prefix fields ks)
+
+-- a refusal and its line, or what was measured
+unfoldable pub plannedOf : Plan → Answer (List ℕ) → Planned
+plannedOf p (refused n l) = planned.Refused n (record { 0 = l })
+plannedOf p (yes t) = planned.Is p
+
+-- what is known before a byte of it is written
+abbrev pub planning : List ℕ → List ℕ → List ℕ → Shape → List ℕ → List ℕ → List ℕ → ℕ → Planned
+planning t ats lens shape prefix fields ks room =
+    plannedOf
+    (record { strict = isStrict (announced (lines t)); sizes = sizesOf (recordsOf t); more = length (newText t ats lens shape prefix fields ks) })
+    (writingGrown t ats lens shape prefix fields ks room)
 
 -- is there none?
 unfoldable pub isNone : Option Piece → Bool

@@ -1,10 +1,10 @@
 // Adding programs: one after each leaf, and then the tidy text with the new programs behind the old ones.
+use add_input::Given;
 use add_lines::Shape;
 use format::LineNo;
-use add_input::Given;
 use id_search::Named;
-use parser::CountAnswer;
 use parser::Checked;
+use parser::CountAnswer;
 use per_kind::PerKind;
 use tidy_text::Measured;
 ghost use mathlib.Core.Path.{_≡_};
@@ -16,9 +16,8 @@ ghost use Rattle.format.specs.Fields.{lastOf};
 ghost use Rattle.format.specs.Lines.{lines};
 ghost use Rattle.format.specs.Reading.{announced, isStrict, readText};
 ghost use Rattle.format.specs.Programs.{programs, leaves};
-ghost use Rattle.format.specs.Tidy.{unwritable};
 ghost use Rattle.format.specs.Adding.{given};
-ghost use Rattle.format.specs.Calls.{writing, adding};
+ghost use Rattle.format.specs.Calls.{adding};
 ghost use Rattle.text.specs.Over.{over};
 ghost use Rattle.accepted.specs.Read.{isAccepted, recordsOf};
 ghost use Rattle.id_search.specs.Places.{idsAt, PlacesInText};
@@ -27,18 +26,29 @@ ghost use Rattle.parser.specs.Answers.{answerOf, outputOf};
 ghost use Rattle.add_ids.specs.Taken.{isAmong};
 ghost use Rattle.add_input.specs.Given.{givenOf};
 ghost use Rattle.tidy_text.specs.Sizes.{sizesOf};
-ghost use Rattle.add_lines.specs.Lines.{addedText};
-ghost use Rattle.add.specs.Added.{withAdded, isNone, isNothing, stray, leavesOf, addingOn};
+ghost use Rattle.add_lines.specs.Lines.{newText};
+ghost use Rattle.add.specs.Added.{grownText, writingGrown, planning, isNone, isNothing, stray, leavesOf, addingOn};
 
-// Writes the tidy text with the new programs behind the old ones, and answers its length: the new ones have `more` bytes, and go
-// to the gap that is left before the comments.
+// What is measured before a byte is written: what the text says of repeated tags, the bytes of each kind, and those of the new programs.
+struct Plan {
+    strict: bool,
+    sizes: PerKind,
+    more: usize,
+}
+
+// A refusal and its line, or what was measured.
+enum Planned {
+    Refused(u8, LineNo),
+    Is(Plan),
+}
+
+// Writes the tidy text with the new programs behind the old ones, and answers its length: the new ones go to the gap that is left
+// before the comments.
 fn put_all(
     text: &[u8],
     ats: &[u32],
     lens: &[u32],
-    strict: bool,
-    sizes: PerKind,
-    more: usize,
+    plan: Plan,
     prefix: &[u8],
     fields: &[u8],
     leaves: &[u32],
@@ -46,15 +56,20 @@ fn put_all(
     out: &mut [u8],
 ) -> usize
     requires { ⌜ isAccepted (readText (now text)) ≡ true ⌝ }
-    requires { ⌜ strict ≡ isStrict (announced (lines (now text))) ⌝ }
-    requires { ⌜ sizes ≡ sizesOf (recordsOf (now text)) ⌝ }
-    requires { ⌜ (more ≡ length (addedText (idsAt (now text) (now ats) (now lens)) (shape .empty) (shape .alone) (shape .linked) (now prefix) (now fields) (now leaves))) × (more ≤ 16777216) ⌝ }
+    requires { ⌜ plan .strict ≡ isStrict (announced (lines (now text))) ⌝ }
+    requires { ⌜ plan .sizes ≡ sizesOf (recordsOf (now text)) ⌝ }
+    requires { ⌜ (plan .more ≡ length (newText (now text) (now ats) (now lens) shape (now prefix) (now fields) (now leaves))) × (plan .more ≤ 16777216) ⌝ }
     requires { ⌜ PlacesInText (now text) (now ats) (now lens) ⌝ }
-    requires { ⌜ length (withAdded (recordsOf (now text)) (addedText (idsAt (now text) (now ats) (now lens)) (shape .empty) (shape .alone) (shape .linked) (now prefix) (now fields) (now leaves))) ≤ length (now out) ⌝ }
-    ensures next { λ r. ⌜ r ≡ length (withAdded (recordsOf (now (text .entry))) (addedText (idsAt (now (text .entry)) (now (ats .entry)) (now (lens .entry))) (shape .empty) (shape .alone) (shape .linked) (now (prefix .entry)) (now (fields .entry)) (now (leaves .entry)))) ⌝ }
-    ensures wrote { λ _. ⌜ now (out .exit) ≡ over (now (out .entry)) 0 (withAdded (recordsOf (now (text .entry))) (addedText (idsAt (now (text .entry)) (now (ats .entry)) (now (lens .entry))) (shape .empty) (shape .alone) (shape .linked) (now (prefix .entry)) (now (fields .entry)) (now (leaves .entry)))) ⌝ }
+    requires { ⌜ length (grownText (now text) (now ats) (now lens) shape (now prefix) (now fields) (now leaves)) ≤ length (now out) ⌝ }
+    ensures next { λ r.
+        ⌜ r ≡ length (grownText (now (text .entry)) (now (ats .entry)) (now (lens .entry)) shape
+        (now (prefix .entry)) (now (fields .entry)) (now (leaves .entry))) ⌝ }
+    ensures wrote { λ _. ⌜ now (out .exit) ≡ over (now (out .entry)) 0
+        (grownText (now (text .entry)) (now (ats .entry)) (now (lens .entry)) shape
+        (now (prefix .entry)) (now (fields .entry)) (now (leaves .entry))) ⌝ }
 {
-    tidy_text::put_around(text, strict, sizes, more, out);
+    let sizes = plan.sizes;
+    tidy_text::put_around(text, plan.strict, sizes, plan.more, out);
     let n = add_lines::put_added(
         out,
         sizes.front(),
@@ -86,7 +101,48 @@ fn is_over(n: usize, more: usize) -> bool
     format::LONGEST - n < more
 }
 
-// Writes the tidy text with the new programs: 24, then 1, then 20.
+// Measures what is to be written for an output of `room` bytes: 24, then 1, then 20.
+fn measure_all(
+    text: &[u8],
+    ats: &[u32],
+    lens: &[u32],
+    prefix: &[u8],
+    fields: &[u8],
+    leaves: &[u32],
+    shape: Shape,
+    room: usize,
+) -> Planned
+    requires { ⌜ isAccepted (readText (now text)) ≡ true ⌝ }
+    requires { ⌜ PlacesInText (now text) (now ats) (now lens) ⌝ }
+    requires { ⌜ (length (now leaves) ≤ 1024) × (shape .empty ≡ false → 0 < length (now leaves)) ⌝ }
+    ensures { λ r. ⌜ r ≡ planning (now (text .entry)) (now (ats .entry)) (now (lens .entry)) shape
+        (now (prefix .entry)) (now (fields .entry)) (now (leaves .entry)) room ⌝ }
+{
+    let strict = repeat_rule::is_strict(text);
+    match tidy_text::measure(text, strict) {
+        Measured::Unwritable(line) => Planned::Refused(24, line),
+        Measured::Is(sizes) => {
+            let n = sizes.total();
+            if is_too_long(prefix, fields) {
+                return Planned::Refused(1, LineNo(0));
+            }
+            let more = add_lines::added_len(text, ats, lens, prefix, fields, leaves, shape);
+            if is_over(n, more) {
+                return Planned::Refused(1, LineNo(0));
+            }
+            if room < n + more {
+                return Planned::Refused(20, LineNo(0));
+            }
+            Planned::Is(Plan {
+                strict,
+                sizes,
+                more,
+            })
+        }
+    }
+}
+
+// Writes the tidy text with the new programs, or answers why not, and then changes nothing.
 fn write_added(
     text: &[u8],
     ats: &[u32],
@@ -100,37 +156,18 @@ fn write_added(
     requires { ⌜ isAccepted (readText (now text)) ≡ true ⌝ }
     requires { ⌜ PlacesInText (now text) (now ats) (now lens) ⌝ }
     requires { ⌜ (length (now leaves) ≤ 1024) × (shape .empty ≡ false → 0 < length (now leaves)) ⌝ }
-    ensures answer { λ r. ⌜ r ≡ answerOf (writing (length (now (out .entry))) (unwritable 0 (recordsOf (now (text .entry)))) (withAdded (recordsOf (now (text .entry))) (addedText (idsAt (now (text .entry)) (now (ats .entry)) (now (lens .entry))) (shape .empty) (shape .alone) (shape .linked) (now (prefix .entry)) (now (fields .entry)) (now (leaves .entry))))) ⌝ }
-    ensures wrote { λ _. ⌜ now (out .exit) ≡ outputOf (writing (length (now (out .entry))) (unwritable 0 (recordsOf (now (text .entry)))) (withAdded (recordsOf (now (text .entry))) (addedText (idsAt (now (text .entry)) (now (ats .entry)) (now (lens .entry))) (shape .empty) (shape .alone) (shape .linked) (now (prefix .entry)) (now (fields .entry)) (now (leaves .entry))))) (now (out .entry)) ⌝ }
+    ensures answer { λ r. ⌜ r ≡ answerOf
+        (writingGrown (now (text .entry)) (now (ats .entry)) (now (lens .entry)) shape
+        (now (prefix .entry)) (now (fields .entry)) (now (leaves .entry)) (length (now (out .entry)))) ⌝ }
+    ensures wrote { λ _. ⌜ now (out .exit) ≡ outputOf
+        (writingGrown (now (text .entry)) (now (ats .entry)) (now (lens .entry)) shape
+        (now (prefix .entry)) (now (fields .entry)) (now (leaves .entry)) (length (now (out .entry))))
+        (now (out .entry)) ⌝ }
 {
-    let strict = repeat_rule::is_strict(text);
-    match tidy_text::measure(text, strict) {
-        Measured::Unwritable(line) => CountAnswer::Refused(24, line),
-        Measured::Is(sizes) => {
-            let n = sizes.total();
-            if is_too_long(prefix, fields) {
-                return CountAnswer::Refused(1, LineNo(0));
-            }
-            let more = add_lines::added_len(text, ats, lens, prefix, fields, leaves, shape);
-            if is_over(n, more) {
-                return CountAnswer::Refused(1, LineNo(0));
-            }
-            if out.len() < n + more {
-                return CountAnswer::Refused(20, LineNo(0));
-            }
-            let n = put_all(
-                text,
-                ats,
-                lens,
-                strict,
-                sizes,
-                more,
-                prefix,
-                fields,
-                leaves,
-                shape,
-                out,
-            );
+    match measure_all(text, ats, lens, prefix, fields, leaves, shape, out.len()) {
+        Planned::Refused(n, line) => CountAnswer::Refused(n, line),
+        Planned::Is(plan) => {
+            let n = put_all(text, ats, lens, plan, prefix, fields, leaves, shape, out);
             CountAnswer::Count(n)
         }
     }
@@ -207,8 +244,11 @@ fn add_after(
     requires { ⌜ PlacesInText (now text) (now ats) (now lens) × (idsAt (now text) (now ats) (now lens) ≡ idsOf (programs (recordsOf (now text)))) ⌝ }
     requires { ⌜ (given (now fields) .stop ≡ 0) × (linked ≡ isNone (lastOf 80 80 (given (now fields) .fields))) ⌝ }
     requires { ⌜ (now leaves ≡ leavesOf (recordsOf (now text))) × (0 < length (now ats) → 0 < length (now leaves)) ⌝ }
-    ensures answer { λ r. ⌜ r ≡ answerOf (addingOn (recordsOf (now (text .entry))) (now (prefix .entry)) (given (now (fields .entry)) .fields) (length (now (out .entry)))) ⌝ }
-    ensures wrote { λ _. ⌜ now (out .exit) ≡ outputOf (addingOn (recordsOf (now (text .entry))) (now (prefix .entry)) (given (now (fields .entry)) .fields) (length (now (out .entry)))) (now (out .entry)) ⌝ }
+    ensures answer { λ r.
+        ⌜ r ≡ answerOf (addingOn (recordsOf (now (text .entry))) (now (prefix .entry)) (given (now (fields .entry)) .fields) (length (now (out .entry)))) ⌝ }
+    ensures wrote { λ _. ⌜ now (out .exit) ≡ outputOf
+        (addingOn (recordsOf (now (text .entry))) (now (prefix .entry)) (given (now (fields .entry)) .fields) (length (now (out .entry))))
+        (now (out .entry)) ⌝ }
 {
     let alone = is_free(text, ats, lens, prefix);
     let first = first_joined(leaves.len(), alone);
@@ -229,8 +269,11 @@ fn add_after(
 
 // Adds a program after each leaf, and writes the tidy text to the front of `out`: reading's refusals, 21, 26, 22, 23, 18, 19, 24, 1, 20.
 pub fn add(text: &[u8], kept: &[u8], prefix: &[u8], fields: &[u8], out: &mut [u8]) -> CountAnswer
-    ensures answer { λ r. ⌜ r ≡ answerOf (adding (now (text .entry)) (now (kept .entry)) (now (prefix .entry)) (now (fields .entry)) (length (now (out .entry)))) ⌝ }
-    ensures wrote { λ _. ⌜ now (out .exit) ≡ outputOf (adding (now (text .entry)) (now (kept .entry)) (now (prefix .entry)) (now (fields .entry)) (length (now (out .entry)))) (now (out .entry)) ⌝ }
+    ensures answer { λ r.
+        ⌜ r ≡ answerOf (adding (now (text .entry)) (now (kept .entry)) (now (prefix .entry)) (now (fields .entry)) (length (now (out .entry)))) ⌝ }
+    ensures wrote { λ _. ⌜ now (out .exit) ≡ outputOf
+        (adding (now (text .entry)) (now (kept .entry)) (now (prefix .entry)) (now (fields .entry)) (length (now (out .entry))))
+        (now (out .entry)) ⌝ }
 {
     match parser::check(text, kept) {
         Checked::Refused(n, line) => CountAnswer::Refused(n, line),

@@ -5,9 +5,9 @@ ghost use mathlib.Core.Path.{_≡_};
 ghost use Prim.Native.Nat.{_≤_, _+_};
 ghost use lib.ListN.{length};
 ghost use Rattle.text.specs.Over.{over};
-ghost use Rattle.id_search.specs.Places.{idsAt, PlacesInText};
+ghost use Rattle.id_search.specs.Places.{PlacesInText};
 ghost use Rattle.add_lines.specs.Line.{joining, linking, ending, newLine};
-ghost use Rattle.add_lines.specs.Lines.{addedText};
+ghost use Rattle.add_lines.specs.Lines.{newText};
 
 // How new programs look: there are none yet; the first one's ID is the prefix alone; PP with the leaf's ID is added.
 pub struct Shape {
@@ -129,7 +129,9 @@ pub fn added_len(
 ) -> usize
     requires { ⌜ PlacesInText (now text) (now ats) (now lens) ⌝ }
     requires { ⌜ (length (now text) ≤ 16777216) × (length (now prefix) ≤ 16777216) × (length (now fields) ≤ 16777216) × (length (now leaves) ≤ 1024) ⌝ }
-    ensures { λ r. ⌜ r ≡ length (addedText (idsAt (now (text .entry)) (now (ats .entry)) (now (lens .entry))) (shape .empty) (shape .alone) (shape .linked) (now (prefix .entry)) (now (fields .entry)) (now (leaves .entry))) ⌝ }
+    ensures { λ r.
+        ⌜ r ≡ length (newText (now (text .entry)) (now (ats .entry)) (now (lens .entry)) shape
+        (now (prefix .entry)) (now (fields .entry)) (now (leaves .entry))) ⌝ }
 {
     if shape.empty {
         return line_len(prefix, fields, &text[..0], true, false);
@@ -159,9 +161,13 @@ pub fn put_added(
     shape: Shape,
 ) -> usize
     requires { ⌜ PlacesInText (now text) (now ats) (now lens) ⌝ }
-    requires { ⌜ o + length (addedText (idsAt (now text) (now ats) (now lens)) (shape .empty) (shape .alone) (shape .linked) (now prefix) (now fields) (now leaves)) ≤ length (now out) ⌝ }
-    ensures next { λ r. ⌜ r ≡ o + length (addedText (idsAt (now (text .entry)) (now (ats .entry)) (now (lens .entry))) (shape .empty) (shape .alone) (shape .linked) (now (prefix .entry)) (now (fields .entry)) (now (leaves .entry))) ⌝ }
-    ensures wrote { λ _. ⌜ now (out .exit) ≡ over (now (out .entry)) o (addedText (idsAt (now (text .entry)) (now (ats .entry)) (now (lens .entry))) (shape .empty) (shape .alone) (shape .linked) (now (prefix .entry)) (now (fields .entry)) (now (leaves .entry))) ⌝ }
+    requires { ⌜ o + length (newText (now text) (now ats) (now lens) shape (now prefix) (now fields) (now leaves)) ≤ length (now out) ⌝ }
+    ensures next { λ r.
+        ⌜ r ≡ o + length (newText (now (text .entry)) (now (ats .entry)) (now (lens .entry)) shape
+        (now (prefix .entry)) (now (fields .entry)) (now (leaves .entry))) ⌝ }
+    ensures wrote { λ _. ⌜ now (out .exit) ≡ over (now (out .entry)) o
+        (newText (now (text .entry)) (now (ats .entry)) (now (lens .entry)) shape
+        (now (prefix .entry)) (now (fields .entry)) (now (leaves .entry))) ⌝ }
 {
     if shape.empty {
         return put_line(out, o, prefix, fields, &text[..0], true, false);

@@ -2,8 +2,8 @@
 use format::LineNo;
 use lookup::Found;
 use lookup::Sized;
-use parser::CountAnswer;
 use parser::Checked;
+use parser::CountAnswer;
 ghost use mathlib.Core.Path.{_≡_};
 ghost use lib.ListN.{length};
 ghost use Rattle.format.specs.Calls.{fitting, counting, keying, sizing, valuing, looking, rooting, leafing};
@@ -102,7 +102,8 @@ pub fn field<'a>(
     stand_in: &'a [u8],
 ) -> &'a [u8]
     ensures value { λ r. ⌜ now r ≡ looking (now (text .entry)) (now (kept .entry)) kind ordinal a b (now (stand_in .entry)) ⌝ }
-    ensures place { λ r. ⌜ r .ptr ≡ partStanding (valuing (now (text .entry)) (now (kept .entry)) kind ordinal a b) (text .entry .ptr) (stand_in .entry .ptr) ⌝ }
+    ensures place { λ r. ⌜ r .ptr ≡ partStanding (valuing (now (text .entry)) (now (kept .entry)) kind ordinal a b) (text .entry .ptr)
+        (stand_in .entry .ptr) ⌝ }
 {
     match place(text, kept, kind, ordinal, a, b) {
         ValuePlace::StandIn => stand_in,
@@ -160,7 +161,8 @@ fn with_hops(a: CountAnswer, hops: u32) -> LeavesAnswer
 // The leaves at the front of `out`, in the crate's order, and the hops: 22 where a PP dangles, 23 where there is a cycle.
 pub fn leaves(text: &[u8], kept: &[u8], out: &mut [u32]) -> LeavesAnswer
     ensures answer { λ r. ⌜ r ≡ leavesAnswerOf (leafing (now (text .entry)) (now (kept .entry)) (length (now (out .entry)))) ⌝ }
-    ensures wrote { λ _. ⌜ now (out .exit) ≡ outputOf (listOf (leafing (now (text .entry)) (now (kept .entry)) (length (now (out .entry))))) (now (out .entry)) ⌝ }
+    ensures wrote { λ _. ⌜ now (out .exit) ≡ outputOf (listOf (leafing (now (text .entry)) (now (kept .entry)) (length (now (out .entry)))))
+        (now (out .entry)) ⌝ }
 {
     match parser::check(text, kept) { // 21 comes before 22
         Checked::Refused(n, line) => LeavesAnswer::Refused(n, line),

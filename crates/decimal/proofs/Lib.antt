@@ -3,3 +3,4 @@ pub mod Whole
 pub mod Written
 pub mod OverBack
 pub mod ReadBack
+pub mod Refused

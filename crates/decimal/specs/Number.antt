@@ -1,12 +1,11 @@
 -- What reading a number at the front of a slice answers.
-use Prim.Native.Nat.{ℕ}
+use Prim.Native.Nat.{ℕ, _^_}
 use mathlib.Core.Bool.{cond}
 use mathlib.Core.List.{List}
 use lib.ListN.{length}
-use lib.Dec.{ltb}
+use lib.Dec.{eqb, ltb}
 use Rattle.format.specs.Bytes.{none?}
-use Rattle.format.specs.Decimal.{worth}
-use Rattle.format.specs.Decimal.{span}
+use Rattle.format.specs.Decimal.{worth, span}
 use Rattle.decimal.specs.declared.Number.{Number}
 use Rattle.decimal.specs.declared.Number.the-variants.{NoDigit, TooLarge, Is}
 
@@ -19,3 +18,9 @@ digitsNumber limit ds = cond (none? ds) NoDigit (cond (ltb (worth ds) limit) (Is
 unfoldable pub numberAtFront : ℕ → List ℕ → Number
 unfolding digitsNumber span
 numberAtFront limit s = digitsNumber limit (span s .0)
+
+-- the refusal that each is where it is read as LN of SQ, and 0 for 1 to 2 ^ 31 - 1
+unfoldable pub numberRefusal : Number → ℕ
+numberRefusal NoDigit = 12
+numberRefusal TooLarge = 12
+numberRefusal (Is n len) = cond (eqb n 0) 13 (cond (ltb n (2 ^ 31)) 0 27)

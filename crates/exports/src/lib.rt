@@ -52,7 +52,8 @@ pub extern "C" fn sam_header_roots(text: &[u8], catalogue: &[u8], out: &mut [u32
 #[no_mangle]
 pub extern "C" fn sam_header_leaves(text: &[u8], catalogue: &[u8], out: &mut [u32]) -> u64
     ensures answer { λ r. ⌜ r ≡ leavesWord (leavesAnswerOf (leafing (now (text .entry)) (now (catalogue .entry)) (length (now (out .entry))))) ⌝ }
-    ensures wrote { λ _. ⌜ now (out .exit) ≡ outputOf (listOf (leafing (now (text .entry)) (now (catalogue .entry)) (length (now (out .entry))))) (now (out .entry)) ⌝ }
+    ensures wrote { λ _. ⌜ now (out .exit) ≡ outputOf (listOf (leafing (now (text .entry)) (now (catalogue .entry)) (length (now (out .entry)))))
+        (now (out .entry)) ⌝ }
 {
     match calls::leaves(text, catalogue, out) {
         LeavesAnswer::Refused(n, line) => words::refusal_word(n, line),
@@ -108,8 +109,10 @@ pub extern "C" fn sam_header_add(
     fields: &[u8],
     out: &mut [u8],
 ) -> u64
-    ensures answer { λ r. ⌜ r ≡ answerWord (answerOf (adding (now (text .entry)) (now (catalogue .entry)) (now (prefix .entry)) (now (fields .entry)) (length (now (out .entry))))) ⌝ }
-    ensures wrote { λ _. ⌜ now (out .exit) ≡ outputOf (adding (now (text .entry)) (now (catalogue .entry)) (now (prefix .entry)) (now (fields .entry)) (length (now (out .entry)))) (now (out .entry)) ⌝ }
+    ensures answer { λ r. ⌜ r ≡ answerWord
+        (answerOf (adding (now (text .entry)) (now (catalogue .entry)) (now (prefix .entry)) (now (fields .entry)) (length (now (out .entry))))) ⌝ }
+    ensures wrote { λ _. ⌜ now (out .exit) ≡ outputOf
+        (adding (now (text .entry)) (now (catalogue .entry)) (now (prefix .entry)) (now (fields .entry)) (length (now (out .entry)))) (now (out .entry)) ⌝ }
 {
     words::answer_word(add::add(text, catalogue, prefix, fields, out))
 }
@@ -123,10 +126,17 @@ pub extern "C" fn sam_header_names(
     out: &mut [u32],
     inspected: &mut u64,
 ) -> u64
-    ensures answer { λ r. ⌜ r ≡ namesWord (namesOf (batching (now (text .entry)) (now (catalogue .entry)) (now (list .entry)) (length (now (work .entry))) (length (now (out .entry))))) ⌝ }
-    ensures slots { λ _. ⌜ now (work .exit) ≡ outputOf (slotsOf (batching (now (text .entry)) (now (catalogue .entry)) (now (list .entry)) (length (now (work .entry))) (length (now (out .entry))))) (now (work .entry)) ⌝ }
-    ensures found { λ _. ⌜ now (out .exit) ≡ outputOf (resultsOf (batching (now (text .entry)) (now (catalogue .entry)) (now (list .entry)) (length (now (work .entry))) (length (now (out .entry))))) (now (out .entry)) ⌝ }
-    ensures looks { λ _. ⌜ now (inspected .exit) ≡ namesLeft (namesOf (batching (now (text .entry)) (now (catalogue .entry)) (now (list .entry)) (length (now (work .entry))) (length (now (out .entry))))) (now (inspected .entry)) ⌝ }
+    ensures answer { λ r. ⌜ r ≡ namesWord
+        (namesOf (batching (now (text .entry)) (now (catalogue .entry)) (now (list .entry)) (length (now (work .entry))) (length (now (out .entry))))) ⌝ }
+    ensures slots { λ _. ⌜ now (work .exit) ≡ outputOf
+        (slotsOf (batching (now (text .entry)) (now (catalogue .entry)) (now (list .entry)) (length (now (work .entry))) (length (now (out .entry)))))
+        (now (work .entry)) ⌝ }
+    ensures found { λ _. ⌜ now (out .exit) ≡ outputOf
+        (resultsOf (batching (now (text .entry)) (now (catalogue .entry)) (now (list .entry)) (length (now (work .entry))) (length (now (out .entry)))))
+        (now (out .entry)) ⌝ }
+    ensures looks { λ _. ⌜ now (inspected .exit) ≡ namesLeft
+        (namesOf (batching (now (text .entry)) (now (catalogue .entry)) (now (list .entry)) (length (now (work .entry))) (length (now (out .entry)))))
+        (now (inspected .entry)) ⌝ }
 {
     match names::names(text, catalogue, list, work, out) {
         NamesAnswer::Refused(n, line) => words::refusal_word(n, line),

@@ -8,3 +8,4 @@ pub mod Anywhere
 pub mod Next
 pub mod Answer
 pub mod Shown
+pub mod Refused

@@ -27,10 +27,15 @@ unfoldable pub versionSideOf : Option ℕ → VersionSide
 versionSideOf none = part.Invalid
 versionSideOf (some n) = part.Is n
 
--- a version, or refusal 11 (`Invalid`)
+-- a version, if one is spelled
 unfoldable pub parsedVersionOf : Option Version → ParsedVersion
 parsedVersionOf none = spelled.Invalid
 parsedVersionOf (some v) = spelled.Is v
+
+-- the refusal that each is where it is read as VN of HD, and 0 for a version
+unfoldable pub versionRefusal : ParsedVersion → ℕ
+versionRefusal spelled.Invalid = 11
+versionRefusal (spelled.Is v) = 0
 
 -- ---- a field
 

@@ -2,9 +2,9 @@
 use decimal::Number;
 use field::ParsedVersion;
 use format::Kind;
+use other_fields::Value;
 use record::Head;
 use record::Stretch;
-use other_fields::Value;
 ghost use mathlib.Core.Path.{_≡_};
 ghost use mathlib.Core.Bool.{true, false};
 ghost use Prim.Native.Nat.{_≤_, _+_};

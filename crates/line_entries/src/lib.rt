@@ -245,7 +245,8 @@ fn same_fields(
     requires { ⌜ Walkable once at (now src) (now tables) ⌝ }
     requires { ⌜ at + length (now src) ≤ 16777216 ⌝ }
     requires { ⌜ o ≤ length (now catalogue) ⌝ }
-    ensures { λ r. ⌜ r ≡ comparedOf (starts (fieldBytes kind at (now (src .entry)) 3) (drop o (now (catalogue .entry)))) (metIn kind at (now (src .entry)) o) ⌝ }
+    ensures { λ r. ⌜ r ≡ comparedOf (starts (fieldBytes kind at (now (src .entry)) 3) (drop o (now (catalogue .entry))))
+        (metIn kind at (now (src .entry)) o) ⌝ }
 {
     let mut keys = KeyValues::new();
     let mut next = o;

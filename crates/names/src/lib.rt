@@ -175,9 +175,14 @@ pub fn names(
     work: &mut [u32],
     out: &mut [u32],
 ) -> NamesAnswer
-    ensures answer { λ r. ⌜ r ≡ namesOf (batching (now (text .entry)) (now (kept .entry)) (now (list .entry)) (length (now (work .entry))) (length (now (out .entry)))) ⌝ }
-    ensures slots { λ _. ⌜ now (work .exit) ≡ outputOf (slotsOf (batching (now (text .entry)) (now (kept .entry)) (now (list .entry)) (length (now (work .entry))) (length (now (out .entry))))) (now (work .entry)) ⌝ }
-    ensures found { λ _. ⌜ now (out .exit) ≡ outputOf (resultsOf (batching (now (text .entry)) (now (kept .entry)) (now (list .entry)) (length (now (work .entry))) (length (now (out .entry))))) (now (out .entry)) ⌝ }
+    ensures answer { λ r. ⌜ r ≡ namesOf
+        (batching (now (text .entry)) (now (kept .entry)) (now (list .entry)) (length (now (work .entry))) (length (now (out .entry)))) ⌝ }
+    ensures slots { λ _. ⌜ now (work .exit) ≡ outputOf
+        (slotsOf (batching (now (text .entry)) (now (kept .entry)) (now (list .entry)) (length (now (work .entry))) (length (now (out .entry)))))
+        (now (work .entry)) ⌝ }
+    ensures found { λ _. ⌜ now (out .exit) ≡ outputOf
+        (resultsOf (batching (now (text .entry)) (now (kept .entry)) (now (list .entry)) (length (now (work .entry))) (length (now (out .entry)))))
+        (now (out .entry)) ⌝ }
 {
     match parser::check(text, kept) {
         Checked::Refused(n, line) => NamesAnswer::Refused(n, line),

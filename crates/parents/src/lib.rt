@@ -1,8 +1,8 @@
 // The parents of the programs that are gathered from a catalogue, and the road along them to the leaves.
 use chains::Ordinals;
 use entries::Place;
-use programs::Programs;
 use id_search::Named;
+use programs::Programs;
 ghost use mathlib.Core.Path.{_≡_};
 ghost use mathlib.Core.Bool.{true};
 ghost use mathlib.Core.List.{[]};

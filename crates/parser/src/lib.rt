@@ -1,7 +1,7 @@
 // The whole text: judged line by line, its catalogue written, and a catalogue compared with it.
-use line_entries::Matched;
 use format::LineNo;
 use judging::Judged;
+use line_entries::Matched;
 ghost use mathlib.Core.Path.{_≡_};
 ghost use Prim.Native.Nat.{_≤_};
 ghost use lib.ListN.{length};
@@ -51,7 +51,8 @@ fn is_catalogue(text: &[u8], strict: bool, kept: &[u8]) -> bool
     while at < text.len() {
         let cut = text::first_line(&text[at..]);
         let end = at + cut.len;
-        let Matched::Upto(next) = line_entries::same_record(kept, o, &text[at..end], at, strict) else {
+        let Matched::Upto(next) = line_entries::same_record(kept, o, &text[at..end], at, strict)
+        else {
             return false;
         };
         o = next;

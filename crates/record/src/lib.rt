@@ -31,12 +31,6 @@ pub enum Head {
     Comment(Stretch),
 }
 
-// Where a key stands, where there is one.
-pub enum KeyPlace {
-    Missing,
-    At(Stretch),
-}
-
 // What the fields read so far give, in plain numbers: a key has at least one byte and LN is at least 1, so 0 says that there was none yet.
 pub struct Keys {
     pub key_at: usize,

@@ -1,11 +1,12 @@
 // Cases that stand in files: their words, numbers and bytes in hex, and a filler that shows what a call has written.
 ghost use mathlib.Core.Path.{_≡_};
 ghost use Prim.Native.Nat.{_<_, _≤_, _+_};
-ghost use mathlib.Core.Bool.{cond};
-ghost use lib.ListN.{length, take, drop};
-ghost use lib.Dec.{eqb, ltb};
+ghost use lib.ListN.{length, take, drop, replicate};
+ghost use lib.Dec.{eqb};
 ghost use Rattle.format.specs.Bytes.{all};
+ghost use Rattle.text.specs.Over.{over};
 ghost use Rattle.text.specs.Upto.{upto};
+ghost use Rattle.stored_cases.specs.Cases.{smaller, digitValue, numberFrom, decoded, decodedCount, fromWord, wordIn, wordStanding};
 
 // What an output of bytes holds before a call.
 pub const FILLER: u8 = 0xa5;
@@ -15,21 +16,21 @@ pub const NO_ORDINAL: u32 = 0xa5a5a5a5;
 
 // 131,072 zeros, for a file or a part of one.
 pub fn space() -> [u8; 131072]
-    ensures { λ r. ⌜ 131072 ≡ length r ⌝ }
+    ensures { λ r. ⌜ (131072 ≡ length r) × (r ≡ replicate 131072 0) ⌝ }
 {
     [0; 131072]
 }
 
 // The smaller of two.
 pub fn least(a: usize, b: usize) -> usize
-    ensures { λ r. ⌜ (r ≤ a) × (r ≤ b) × (r ≡ cond (ltb a b) a b) ⌝ }
+    ensures { λ r. ⌜ (r ≤ a) × (r ≤ b) × (r ≡ smaller a b) ⌝ }
 {
     if a < b { a } else { b }
 }
 
 // The value of a digit, decimal or hex, and 0 for any other byte.
 fn digit(b: u8) -> u8
-    ensures { λ r. ⌜ r < 16 ⌝ }
+    ensures { λ r. ⌜ (r < 16) × (r ≡ digitValue b) ⌝ }
 {
     if b < b'0' {
         return 0;
@@ -48,7 +49,7 @@ fn digit(b: u8) -> u8
 
 // The number that `s` spells, by its last ten digits.
 pub fn number(s: &[u8]) -> usize
-    ensures { λ r. ⌜ r < 10000000016 ⌝ }
+    ensures { λ r. ⌜ (r < 10000000016) × (r ≡ numberFrom 0 (now (s .entry))) ⌝ }
 {
     let mut n: usize = 0;
     let mut i: usize = 0;
@@ -61,7 +62,9 @@ pub fn number(s: &[u8]) -> usize
 
 // Puts the bytes that `hex` spells at the front of `text`, as many as fit, and answers how many.
 pub fn decode(hex: &[u8], text: &mut [u8]) -> usize
-    ensures { λ r. ⌜ (r ≤ length (now (text .exit))) × (r ≡ length (take r (now (text .exit)))) × (length (now (text .exit)) ≡ length (now (text .entry))) ⌝ }
+    ensures within { λ r. ⌜ (r ≤ length (now (text .exit))) × (r ≡ length (take r (now (text .exit)))) × (length (now (text .exit)) ≡ length (now (text .entry))) ⌝ }
+    ensures count { λ r. ⌜ r ≡ decodedCount (now (hex .entry)) (now (text .entry)) ⌝ }
+    ensures wrote { λ _. ⌜ now (text .exit) ≡ over (now (text .entry)) 0 (take (decodedCount (now (hex .entry)) (now (text .entry))) (decoded (now (hex .entry)))) ⌝ }
 {
     let n = least(hex.len() / 2, text.len());
     let mut i: usize = 0;
@@ -74,7 +77,7 @@ pub fn decode(hex: &[u8], text: &mut [u8]) -> usize
 
 // Fills `kept`, so that a byte that is written shows.
 pub fn fill(kept: &mut [u8])
-    ensures { λ _. ⌜ length (now (kept .exit)) ≡ length (now (kept .entry)) ⌝ }
+    ensures { λ _. ⌜ (length (now (kept .exit)) ≡ length (now (kept .entry))) × (now (kept .exit) ≡ replicate (length (now (kept .entry))) 165) ⌝ }
 {
     let mut i: usize = 0;
     while i < kept.len() {
@@ -121,7 +124,7 @@ pub fn until(s: &[u8], at: usize, d: u8) -> usize
 
 // Where word `k` of a line starts, counted from 0: words are parted by one space. The line's end where there is none.
 fn word_start(line: &[u8], k: usize) -> usize
-    ensures { λ r. ⌜ r ≤ length (now (line .entry)) ⌝ }
+    ensures { λ r. ⌜ (r ≤ length (now (line .entry))) × (drop r (now (line .entry)) ≡ fromWord k (now (line .entry))) ⌝ }
 {
     let mut at: usize = 0;
     let mut left = k;
@@ -138,7 +141,9 @@ fn word_start(line: &[u8], k: usize) -> usize
 
 // Word `k` of a line: empty where there is none.
 pub fn word(line: &[u8], k: usize) -> &[u8]
-    ensures { λ r. ⌜ length (now r) ≤ length (now (line .entry)) ⌝ }
+    ensures short { λ r. ⌜ length (now r) ≤ length (now (line .entry)) ⌝ }
+    ensures value { λ r. ⌜ now r ≡ wordIn k (now (line .entry)) ⌝ }
+    ensures place { λ r. ⌜ r .ptr ≡ wordStanding k (now (line .entry)) (line .entry .ptr) ⌝ }
 {
     let start = word_start(line, k);
     let end = until(line, start, b' ');

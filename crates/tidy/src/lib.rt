@@ -8,17 +8,17 @@ ghost use mathlib.Core.Bool.{true};
 ghost use lib.ListN.{length};
 ghost use Rattle.format.specs.Lines.{lines};
 ghost use Rattle.format.specs.Reading.{announced, isStrict, readText};
-ghost use Rattle.format.specs.Tidy.{tidy, unwritable};
-ghost use Rattle.format.specs.Calls.{writing, tidying};
-ghost use Rattle.accepted.specs.Read.{isAccepted, recordsOf};
+ghost use Rattle.format.specs.Calls.{tidying};
+ghost use Rattle.accepted.specs.Read.{isAccepted};
 ghost use Rattle.parser.specs.Answers.{answerOf, outputOf};
+ghost use Rattle.tidy.specs.Written.{writingTidy};
 
 // Writes the tidy text of an accepted text: 24, then 1, then 20.
 fn write_accepted(text: &[u8], strict: bool, out: &mut [u8]) -> CountAnswer
     requires { ⌜ isAccepted (readText (now text)) ≡ true ⌝ }
     requires { ⌜ strict ≡ isStrict (announced (lines (now text))) ⌝ }
-    ensures answer { λ r. ⌜ r ≡ answerOf (writing (length (now (out .entry))) (unwritable 0 (recordsOf (now (text .entry)))) (tidy (recordsOf (now (text .entry))))) ⌝ }
-    ensures wrote { λ _. ⌜ now (out .exit) ≡ outputOf (writing (length (now (out .entry))) (unwritable 0 (recordsOf (now (text .entry)))) (tidy (recordsOf (now (text .entry))))) (now (out .entry)) ⌝ }
+    ensures answer { λ r. ⌜ r ≡ answerOf (writingTidy (now (text .entry)) (length (now (out .entry)))) ⌝ }
+    ensures wrote { λ _. ⌜ now (out .exit) ≡ outputOf (writingTidy (now (text .entry)) (length (now (out .entry)))) (now (out .entry)) ⌝ }
 {
     match tidy_text::measure(text, strict) {
         Measured::Unwritable(line) => CountAnswer::Refused(24, line),

@@ -5,3 +5,4 @@ pub mod Names
 pub mod Sizes
 pub mod Placed
 pub mod Parts
+pub mod Refused

@@ -6,6 +6,7 @@ use mathlib.Core.Option.{Option, none, some}
 use lib.ListN.{drop}
 use Rattle.format.specs.Lines.{Piece, linesFrom}
 use Rattle.format.specs.Records.{Record, Line, refusedLine, read, line}
+use Rattle.format.specs.Calls.{Answer, refused, yes}
 use Rattle.accepted.specs.Read.{isRead}
 use Rattle.per_kind.specs.declared.PerKind.{PerKind}
 use Rattle.tidy_text.specs.declared.Measured.{Measured}
@@ -15,6 +16,11 @@ use Rattle.tidy_text.specs.declared.Measured.the-variants as measured
 unfoldable pub measuredOf : Option ℕ → PerKind → Measured
 measuredOf none n = measured.Is n
 measuredOf (some l) n = measured.Unwritable (record { 0 = l })
+
+-- what each is: 24 on the line of that SQ, or the sizes
+unfoldable pub measuredAnswer : Measured → Answer PerKind
+measuredAnswer (measured.Unwritable l) = refused 24 (l .0)
+measuredAnswer (measured.Is n) = yes n
 
 -- ---- line by line
 

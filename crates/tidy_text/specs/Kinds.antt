@@ -1,15 +1,27 @@
--- A line's text if it is of a kind, and the text of a kind.
+-- A line's kind and its text, and the text of a kind.
 use Prim.Native.Nat.{ℕ}
-use mathlib.Core.Bool.{cond}
+use mathlib.Core.Bool.{Bool, cond}
 use mathlib.Core.List.{List, [], _++_}
+use lib.ListN.{getD}
 use lib.Dec.{eqb}
-use Rattle.format.specs.Records.{Record, code, Line, refusedLine, read}
+use Rattle.format.specs.Records.{Record, code, Line, refusedLine, read, line}
 use Rattle.format.specs.Reading.{ofKind}
 use Rattle.format.specs.Tidy.{recordText, text}
 use Rattle.format.specs.declared.Kind.{Kind}
 use Rattle.format.specs.declared.Kind.the-variants.{Header, ReferenceSequence, ReadGroup, Program}
+use Rattle.heads.specs.Found.{kindBy}
+use Rattle.writer.specs.Line.{lineText}
 use Rattle.per_kind.specs.Numbers.{kindNumber}
 
+-- the kind of an accepted line
+abbrev pub lineKind : List ℕ → Kind
+lineKind s = kindBy (getD s 1 0)
+
+-- what the tidy text has of the line `s` at the offset `at`
+abbrev pub tidyLine : Bool → ℕ → List ℕ → List ℕ
+tidyLine strict at s = lineText (line strict (record { at = at; bytes = s }))
+
+-- the same, if it is of a kind
 unfoldable pub kindText : Kind → Line → List ℕ
 unfolding kindNumber code recordText
 kindText k (refusedLine n) = []

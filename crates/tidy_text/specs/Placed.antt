@@ -6,7 +6,7 @@ use Rattle.format.specs.Records.{Record}
 use Rattle.format.specs.declared.Kind.{Kind}
 use Rattle.format.specs.declared.Kind.the-variants.{Header, ReferenceSequence, ReadGroup, Program, Comment}
 use Rattle.text.specs.Over.{over}
-use Rattle.tidy_text.specs.Kinds.{textOfKind}
+use Rattle.tidy_text.specs.Kinds.{textOfKind, frontText}
 use Rattle.per_kind.specs.Numbers.{get}
 use Rattle.per_kind.specs.declared.PerKind.{PerKind}
 
@@ -37,3 +37,7 @@ unfolding get textOfKind
 parts c rs =
     let part : Kind → Part = λ k. record { at = get k c; bytes = textOfKind k rs } in
     part Header ∷ part ReferenceSequence ∷ part ReadGroup ∷ part Program ∷ part Comment ∷ []
+
+-- the tidy text of records over `out`, but for `gap` bytes before the comments, which stay as they are
+abbrev pub withGap : List ℕ → ℕ → List Record → List ℕ
+withGap out gap rs = over (over out 0 (frontText rs)) (length (frontText rs) + gap) (textOfKind Comment rs)

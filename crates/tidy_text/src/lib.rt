@@ -6,21 +6,18 @@ use writer::Size;
 ghost use mathlib.Core.Path.{_≡_};
 ghost use mathlib.Core.Bool.{true};
 ghost use Prim.Native.Nat.{_≤_, _+_};
-ghost use lib.ListN.{length, getD};
+ghost use lib.ListN.{length};
 ghost use Rattle.format.specs.Lines.{lines};
 ghost use Rattle.format.specs.Records.{line};
 ghost use Rattle.format.specs.Reading.{announced, isStrict, readText};
 ghost use Rattle.format.specs.Tidy.{tidy, unwritable};
-ghost use Rattle.format.specs.declared.Kind.the-variants.{Comment};
 ghost use Rattle.text.specs.Over.{over};
-ghost use Rattle.writer.specs.Line.{lineText};
 ghost use Rattle.accepted.specs.Read.{isAccepted, isRead, recordsOf};
-ghost use Rattle.heads.specs.Found.{kindBy};
 ghost use Rattle.tidy_text.specs.Accepted.{measuredOf};
-ghost use Rattle.tidy_text.specs.Kinds.{textOfKind, frontText};
+ghost use Rattle.tidy_text.specs.Kinds.{lineKind, tidyLine};
 ghost use Rattle.per_kind.specs.Numbers.{get, plus};
 ghost use Rattle.tidy_text.specs.Sizes.{grownBy, sizesOf};
-ghost use Rattle.tidy_text.specs.Placed.{withParts, parts, Apart};
+ghost use Rattle.tidy_text.specs.Placed.{withParts, parts, Apart, withGap};
 
 // How many bytes each kind has in the tidy text, or the line of the first SQ whose name can't be written.
 pub enum Measured {
@@ -38,8 +35,8 @@ enum Grown {
 fn with_line(sizes: PerKind, src: &[u8], at: usize, strict: bool) -> Grown
     requires { ⌜ isRead (line strict (record { at = at; bytes = now src })) ≡ true ⌝ }
     requires { ⌜ at + length (now src) ≤ 16777216 ⌝ }
-    requires { ⌜ get (kindBy (getD (now src) 1 0)) sizes + length (lineText (line strict (record { at = at; bytes = now src }))) ≤ 18446744073709551615 ⌝ }
-    ensures { λ r. ⌜ r ≡ grownBy (kindBy (getD (now (src .entry)) 1 0)) (line strict (record { at = at; bytes = now (src .entry) })) sizes ⌝ }
+    requires { ⌜ get (lineKind (now src)) sizes + length (tidyLine strict at (now src)) ≤ 18446744073709551615 ⌝ }
+    ensures { λ r. ⌜ r ≡ grownBy (lineKind (now (src .entry))) (line strict (record { at = at; bytes = now (src .entry) })) sizes ⌝ }
 {
     let size = writer::record_size(src, at, strict);
     let Size::Is(n) = size else {
@@ -75,9 +72,9 @@ pub fn measure(text: &[u8], strict: bool) -> Measured
 fn put_line(out: &mut [u8], places: PerKind, src: &[u8], at: usize, strict: bool) -> PerKind
     requires { ⌜ isRead (line strict (record { at = at; bytes = now src })) ≡ true ⌝ }
     requires { ⌜ at + length (now src) ≤ 16777216 ⌝ }
-    requires { ⌜ get (kindBy (getD (now src) 1 0)) places + length (lineText (line strict (record { at = at; bytes = now src }))) ≤ length (now out) ⌝ }
-    ensures next { λ r. ⌜ r ≡ plus (kindBy (getD (now (src .entry)) 1 0)) (length (lineText (line strict (record { at = at; bytes = now (src .entry) })))) places ⌝ }
-    ensures wrote { λ _. ⌜ now (out .exit) ≡ over (now (out .entry)) (get (kindBy (getD (now (src .entry)) 1 0)) places) (lineText (line strict (record { at = at; bytes = now (src .entry) }))) ⌝ }
+    requires { ⌜ get (lineKind (now src)) places + length (tidyLine strict at (now src)) ≤ length (now out) ⌝ }
+    ensures next { λ r. ⌜ r ≡ plus (lineKind (now (src .entry))) (length (tidyLine strict at (now (src .entry)))) places ⌝ }
+    ensures wrote { λ _. ⌜ now (out .exit) ≡ over (now (out .entry)) (get (lineKind (now (src .entry))) places) (tidyLine strict at (now (src .entry))) ⌝ }
 {
     let kind = heads::kind_of(src);
     let o = places.get(kind);
@@ -109,7 +106,7 @@ pub fn put_around(text: &[u8], strict: bool, sizes: PerKind, gap: usize, out: &m
     requires { ⌜ sizes ≡ sizesOf (recordsOf (now text)) ⌝ }
     requires { ⌜ gap ≤ 16777216 ⌝ }
     requires { ⌜ length (tidy (recordsOf (now text))) + gap ≤ length (now out) ⌝ }
-    ensures { λ _. ⌜ now (out .exit) ≡ over (over (now (out .entry)) 0 (frontText (recordsOf (now (text .entry))))) (length (frontText (recordsOf (now (text .entry)))) + gap) (textOfKind Comment (recordsOf (now (text .entry)))) ⌝ }
+    ensures { λ _. ⌜ now (out .exit) ≡ withGap (now (out .entry)) gap (recordsOf (now (text .entry))) ⌝ }
 {
     put_lines(text, strict, sizes.starts(gap), out);
 }

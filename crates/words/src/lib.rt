@@ -2,8 +2,8 @@
 use calls::KeyAnswer;
 use calls::ValuePlace;
 use format::LineNo;
-use parser::CountAnswer;
 use parser::Checked;
+use parser::CountAnswer;
 ghost use mathlib.Core.Path.{_≡_};
 ghost use Rattle.words.specs.Words.{refusalWord, answerWord, checkedWord, pairWord, keyWord, fieldWord};
 

@@ -1,26 +1,22 @@
--- `add::write_added` meets its contract: what the tidy text and the new programs have together is known before a byte is written.
-use Prim.Native.Nat.{ℕ, _+_, _≤_}
+-- `add::write_added` meets its contract: what was measured is written, or its refusal is the answer.
+use Prim.Native.Nat.{ℕ, _≤_}
 use mathlib.Core.Path.{_≡_, sym, ap, _∙_}
 use mathlib.Core.List.{List}
-use mathlib.Core.Option.{none}
 use native.Mathlib.Omega.{arith}
 use lib.ListN.{length}
-use borrow.Author.Tests.{ltb-true, ltb-false}
+use Rattle.format.specs.Lines.{lines}
 use Rattle.format.specs.Records.{Record}
-use Rattle.format.specs.Tidy.{tidy, unwritable}
-use Rattle.format.specs.Calls.{writing}
+use Rattle.format.specs.Reading.{announced, isStrict}
+use Rattle.format.specs.Tidy.{unwritable}
+use Rattle.format.specs.Calls.{writing, yes}
 use Rattle.accepted.specs.Read.{recordsOf}
-use Rattle.id_search.specs.Places.{idsAt}
 use Rattle.parser.proofs.Told.{refused-answer, written-answer}
-use Rattle.per_kind.specs.Numbers.{total}
 use Rattle.tidy_text.specs.Sizes.{sizesOf}
-use Rattle.tidy_text.proofs.Lines.{opened}
-use Rattle.tidy_text.proofs.Total.{tidy-small}
-use Rattle.tidy_text.proofs.Sizes.{total-size}
-use Rattle.tidy.proofs.Writing.{measured-bad, measured-is, write-bad, write-long, write-short, write-fits}
-use Rattle.add_lines.specs.Lines.{addedText}
+use Rattle.add_lines.specs.Lines.{newText}
 use Rattle.add.specs.Added.{withAdded}
-use Rattle.add.proofs.Sizes.{with-size, added-long, both-short}
+use Rattle.add.specs.declared.Plan.{Plan}
+use Rattle.add.proofs.Sizes.{with-size}
+use Rattle.add.proofs.Measured.{planned-refused, planned-is}
 use borrow.Author.Needs.{needs}
 use Rattle.add.proofs.write_added.Statement.{statement}
 use Rattle.add.proofs.write_added.Tie as tie
@@ -30,155 +26,70 @@ abbrev records : tie.Start → List Record
 records s = recordsOf (s .args .text .now)
 
 abbrev new : tie.Start → List ℕ
-new s = let a = s .args in addedText (idsAt (a .text .now) (a .ats .now) (a .lens .now)) (a .shape .empty) (a .shape .alone) (a .shape .linked) (a .prefix .now) (a .fields .now) (a .leaves .now)
+new s = let a = s .args in newText (a .text .now) (a .ats .now) (a .lens .now) (a .shape) (a .prefix .now) (a .fields .now) (a .leaves .now)
 
 abbrev whole : tie.Start → List ℕ
 whole s = withAdded (records s) (new s)
 
--- what was measured before the call
-abbrev start : tie.After-sizes → tie.Start
-start z = z .before .before .before .before .before .before .before .before .before .before .before
+-- what is measured
+abbrev sound : tie.Start → Plan
+sound s = record { strict = isStrict (announced (lines (s .args .text .now))); sizes = sizesOf (records s); more = length (new s) }
 
--- every name can be written, and the sizes are those of the tidy text
-measured : (z : tie.After-sizes) → let rs = records (start z) in (unwritable 0 rs ≡ none) × (sizesOf rs ≡ z .sizes .given .0 .0)
-measured z =
-    let m = z .before .before in
-    let rs = records (start z) in
-    measured-is (unwritable 0 rs) (sizesOf rs) (z .sizes .given .0 .0) (sym (m .measure .ensures) ∙ z .sizes .given .1)
+-- its name can be written, and it fits
+fits : (p : tie.After-plan)
+    → let s = p .before .before .before .before .before .before .before .before .before .before in
+    (sound s ≡ p .plan .given .0 .0) × (writing (length (s .args .out .now)) (unwritable 0 (records s)) (whole s) ≡ yes (whole s)) × (length (whole s) ≤ 16777216)
+    × (length (whole s) ≤ length (s .args .out .now))
+fits p =
+    let s = p .before .before .before .before .before .before .before .before .before .before in
+    planned-is (sound s) (p .plan .given .0 .0) (length (s .args .out .now)) (unwritable 0 (records s)) (whole s) (sym (p .before .before .measure-all .ensures) ∙ p .plan .given .1)
 
--- how many bytes it has
-sum : (z : tie.After-sizes) → (total (z .sizes .given .0 .0) ≡ length (tidy (records (start z)))) × (length (tidy (records (start z))) ≤ 16777217)
-sum z =
-    let s = start z in
-    let k = z .before .before .before in
-    (ap total (sym (measured z .1)) ∙ total-size (records s), tidy-small (k .is-strict .result) (s .args .text .now) (opened (k .is-strict .result) (s .args .text .now) (s .pre .0) (k .is-strict .ensures)) .1)
+measure-all-requires : tie.Need-measure-all-requires
+measure-all-requires c κs = search needs
 
-counted : (c : tie.After-total) → length (tidy (records (start (c .before .before)))) ≡ c .total .result
-counted c = sym (c .total .ensures ∙ sum (c .before .before) .0)
+enum-known-n : tie.Need-enum-known-n
+enum-known-n c = search needs
 
--- the whole is as long as both
-size : (c : tie.After-added-len) → (let n = c .before .before .before in length (whole (start (n .before .before))) ≡ n .total .result + c .added-len .result)
-size c =
-    let n = c .before .before .before in
-    let s = start (n .before .before) in
-    omega (arith, with-size (records s) (new s), counted n, c .added-len .ensures)
-
--- and no longer than a text may be
-short : (c : tie.Else2) → length (whole (start (c .before .before .before .before .before .before .before))) ≤ 16777216
-short c = let o = c .before in omega (arith, size (o .before), ltb-false 16777216 (o .before .before .before .before .total .result + o .before .added-len .result) (sym (o .is-over .ensures) ∙ c .if2 .left))
-
-is-strict-requires : tie.Need-is-strict-requires
-is-strict-requires c κs = search needs
-
-measure-requires : tie.Need-measure-requires
-measure-requires c κs = search needs
-
-enum-known-line : tie.Need-enum-known-line
-enum-known-line c = search needs
-
-enum-known-sizes : tie.Need-enum-known-sizes
-enum-known-sizes c = search needs
-
-total-requires : tie.Need-total-requires
-total-requires c κs = omega (arith, sum (c .before))
-
-is-too-long-requires : tie.Need-is-too-long-requires
-is-too-long-requires c κs = search needs
-
-returns : tie.Need-returns
-returns c =
-    let z = c .before .before .before .before in
-    let s = start z in
-    let a = s .args in
-    let room = length (a .out .now) in
-    let long = added-long (idsAt (a .text .now) (a .ats .now) (a .lens .now)) (a .shape .linked) (a .prefix .now) (a .fields .now) (a .shape .empty) (a .shape .alone) (a .leaves .now) (s .pre .1 .1 .1) (sym (c .before .is-too-long .ensures) ∙ c .if1 .taken) in
-    refused-answer (writing room (unwritable 0 (records s)) (whole s)) (a .out .now) 1 (record { 0 = 0 })
-    (write-long room (unwritable 0 (records s)) (whole s) (measured z .0) (omega (arith, with-size (records s) (new s), long)))
-
-added-len-requires : tie.Need-added-len-requires
-added-len-requires c κs =
-    let z = c .before .before .before .before in
-    let s = start z in
-    let k = z .before .before .before in
-    let b = both-short (s .args .prefix .now) (s .args .fields .now) (sym (c .before .is-too-long .ensures) ∙ c .if1 .left) in
-    (s .pre .1 .0, (opened (k .is-strict .result) (s .args .text .now) (s .pre .0) (k .is-strict .ensures) .fits, b .0, b .1, s .pre .1 .1 .0))
-
-is-over-requires : tie.Need-is-over-requires
-is-over-requires c κs = search needs
-
-returns-2 : tie.Need-returns-2
-returns-2 c =
-    let o = c .before in
-    let n = o .before .before .before .before in
-    let z = n .before .before in
-    let s = start z in
-    let a = s .args in
-    let room = length (a .out .now) in
-    refused-answer (writing room (unwritable 0 (records s)) (whole s)) (a .out .now) 1 (record { 0 = 0 })
-    (write-long room (unwritable 0 (records s)) (whole s) (measured z .0) (omega (arith, size (o .before), ltb-true 16777216 (n .total .result + o .before .added-len .result) (sym (o .is-over .ensures) ∙ c .if2 .taken))))
-
-add-if3 : tie.Need-add-if3
-add-if3 c = omega (arith, short c, size (c .before .before))
-
-returns-3 : tie.Need-returns-3
-returns-3 c =
-    let e = c .before in
-    let z = e .before .before .before .before .before .before .before in
-    let s = start z in
-    let a = s .args in
-    let room = length (a .out .now) in
-    refused-answer (writing room (unwritable 0 (records s)) (whole s)) (a .out .now) 20 (record { 0 = 0 })
-    (write-short room (unwritable 0 (records s)) (whole s) (measured z .0) (short e) (omega (arith, size (e .before .before), c .if3 .taken)))
+enum-known-plan : tie.Need-enum-known-plan
+enum-known-plan c = search needs
 
 put-all-requires : tie.Need-put-all-requires
 put-all-requires c κs =
-    let e = c .before in
-    let l = e .before .before .before in
-    let z = l .before .before .before .before .before in
-    let s = start z in
-    (s .pre .0, (z .before .before .before .is-strict .ensures, (sym (measured z .1), ((l .added-len .ensures, omega (arith, size l, short (e .before))), (s .pre .1 .0, omega (arith, size l, e .if3 .left))))))
+    let p = c .before .before in
+    let s = p .before .before .before .before .before .before .before .before .before .before in
+    let f = fits p in
+    let e = sym (f .0) in
+    (s .pre .0, (ap (λ q. q .strict) e, (ap (λ q. q .sizes) e, ((ap (λ q. q .more) e, omega (arith, ap (λ q. q .more) e, with-size (records s) (new s), f .2)), (s .pre .1 .0, f .3)))))
 
-returns-4 : tie.Need-returns-4
-returns-4 c =
-    let m = c .before .before .before in
-    let s = c .before .before .before .before .before .before .before .before .before .before .before .before in
-    let room = length (s .args .out .now) in
-    let l = c .before .line .given .0 .0 in
-    refused-answer (writing room (unwritable 0 (records s)) (whole s)) (s .args .out .now) 24 l
-    (write-bad room (unwritable 0 (records s)) (whole s) (l .0) (measured-bad (unwritable 0 (records s)) (sizesOf (records s)) l (sym (m .measure .ensures) ∙ c .before .line .given .1)))
+returns : tie.Need-returns
+returns c =
+    let p = c .before in
+    let s = p .before .before .before .before .before .before .before .before .before .before in
+    let n = p .n .given .0 .0 in
+    let l = p .n .given .0 .1 .0 in
+    let w = writing (length (s .args .out .now)) (unwritable 0 (records s)) (whole s) in
+    refused-answer w (s .args .out .now) n l (planned-refused (sound s) w n l (sym (p .before .before .measure-all .ensures) ∙ p .n .given .1))
 
 same-length : tie.Need-same-length
 same-length c = search needs
 
-returns-5 : tie.Need-returns-5
-returns-5 c =
+returns-2 : tie.Need-returns-2
+returns-2 c =
     let w = c .before .before in
-    let e = w .before .before in
-    let l = e .before .before .before in
-    let z = l .before .before .before .before .before in
-    let s = start z in
-    let room = length (s .args .out .now) in
-    written-answer (writing room (unwritable 0 (records s)) (whole s)) (s .args .out .now) (whole s) (w .put-all .last .1 .1 .1 .1 .1 .1 .1 .1 .1 .1 .0) (w .put-all .result)
-    (write-fits room (unwritable 0 (records s)) (whole s) (measured z .0) (short (e .before)) (omega (arith, size l, e .if3 .left)))
-    (w .put-all .ensures .0) (w .put-all .ensures .1)
+    let p = w .before .before .before in
+    let s = p .before .before .before .before .before .before .before .before .before .before in
+    let f = fits p in
+    written-answer (writing (length (s .args .out .now)) (unwritable 0 (records s)) (whole s)) (s .args .out .now) (whole s) (w .put-all .last .1 .1 .1 .1 .1 .1 .1 .1 .0)
+    (w .put-all .result) (f .1) (w .put-all .ensures .0) (w .put-all .ensures .1)
 
 pub write-added-spec : {M : Type 1} → statement M
 write-added-spec =
     tie.close
     (tie.spec
-    is-strict-requires
-    measure-requires
-    enum-known-line
-    enum-known-sizes
-    total-requires
-    is-too-long-requires
-    returns
-    added-len-requires
-    is-over-requires
-    returns-2
-    add-if3
-    returns-3
+    measure-all-requires
+    enum-known-n
+    enum-known-plan
     put-all-requires
-    returns-4
+    returns
     same-length
-    returns-5)
+    returns-2)

@@ -2,13 +2,16 @@
 use mathlib.Core.Path.{refl}
 use native.Mathlib.Omega.{arith}
 use borrow.Author.Tests.{lt-ltb, le-ltb}
+use Rattle.stored_cases.specs.Cases.{smaller}
 use Rattle.stored_cases.proofs.least.Statement.{statement}
 use Rattle.stored_cases.proofs.least.Tie as tie
 
 returns : tie.Need-returns
+unfolding smaller
 returns c = (omega arith, omega arith, rw (lt-ltb _ _ (c .if1 .taken)) refl)
 
 returns-2 : tie.Need-returns-2
+unfolding smaller
 returns-2 c = (omega arith, omega arith, rw (le-ltb _ _ (c .if1 .left)) refl)
 
 pub least-spec : {M : Type 1} → statement M
