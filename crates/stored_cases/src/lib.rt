@@ -62,9 +62,11 @@ pub fn number(s: &[u8]) -> usize
 
 // Puts the bytes that `hex` spells at the front of `text`, as many as fit, and answers how many.
 pub fn decode(hex: &[u8], text: &mut [u8]) -> usize
-    ensures within { λ r. ⌜ (r ≤ length (now (text .exit))) × (r ≡ length (take r (now (text .exit)))) × (length (now (text .exit)) ≡ length (now (text .entry))) ⌝ }
+    ensures within { λ r. ⌜ (r ≤ length (now (text .exit))) × (r ≡ length (take r (now (text .exit)))) × (length (now (text .exit)) ≡ length
+        (now (text .entry))) ⌝ }
     ensures count { λ r. ⌜ r ≡ decodedCount (now (hex .entry)) (now (text .entry)) ⌝ }
-    ensures wrote { λ _. ⌜ now (text .exit) ≡ over (now (text .entry)) 0 (take (decodedCount (now (hex .entry)) (now (text .entry))) (decoded (now (hex .entry)))) ⌝ }
+    ensures wrote { λ _. ⌜ now (text .exit) ≡ over (now (text .entry)) 0
+        (take (decodedCount (now (hex .entry)) (now (text .entry))) (decoded (now (hex .entry)))) ⌝ }
 {
     let n = least(hex.len() / 2, text.len());
     let mut i: usize = 0;
