@@ -12,7 +12,7 @@ use Rattle.entries.specs.declared.Entry.{Entry}
 use Rattle.entries.specs.Entries.{kindByte, counted}
 use Rattle.name_index.specs.Index.{hashFrom, first, enter}
 use Rattle.name_index.proofs.Passing.{opened}
-use Rattle.sq_index.specs.Filled.{nameIn, startIn, valueOf, entering, seats, numbered}
+use Rattle.sq_index.specs.Filled.{nameIn, startIn, valueOf, entering, seats, withOrdinals}
 
 -- a slot more is noted
 pub note-on : {all rest : List ℕ} {s : ℕ} (notes now : List ℕ) (k r : ℕ) → all ≡ s ∷ rest → r ≡ s → now ≡ set notes k r → sets notes k all ≡ sets now (k + 1) rest
@@ -22,28 +22,28 @@ note-on {rest = rest} notes now k r e q n =
 -- ---- a walk over the notes, at `k`
 
 module _ (notes slots : List ℕ) (k : ℕ) where
-  pub numbered-end : length notes ≤ k → numbered k (drop k notes) slots ≡ slots
-  unfolding numbered
-  numbered-end h = ap (λ ss. numbered k ss slots) (drop-of-length-le notes h)
+  pub numbered-end : length notes ≤ k → withOrdinals k (drop k notes) slots ≡ slots
+  unfolding withOrdinals
+  numbered-end h = ap (λ ss. withOrdinals k ss slots) (drop-of-length-le notes h)
 
-  pub numbered-on : k < length notes → numbered k (drop k notes) slots ≡ numbered (k + 1) (drop (k + 1) notes) (set slots (getD notes k 0) (suc k))
-  unfolding numbered
-  numbered-on l = ap (λ ss. numbered k ss slots) (opened notes k l)
+  pub numbered-on : k < length notes → withOrdinals k (drop k notes) slots ≡ withOrdinals (k + 1) (drop (k + 1) notes) (set slots (getD notes k 0) (suc k))
+  unfolding withOrdinals
+  numbered-on l = ap (λ ss. withOrdinals k ss slots) (opened notes k l)
 
 -- ---- ordinals at the slots that names enter: as if the names entered
 
 module _ (t : List ℕ) where
-  pub numbered-seats : (k : ℕ) (es : List Entry) (slots : List ℕ) → numbered k (seats true t k es slots) slots ≡ entering true t k es slots
-  unfolding numbered seats entering enter valueOf
+  pub numbered-seats : (k : ℕ) (es : List Entry) (slots : List ℕ) → withOrdinals k (seats true t k es slots) slots ≡ entering true t k es slots
+  unfolding withOrdinals seats entering enter valueOf
   numbered-seats k [] slots = refl
   numbered-seats k (e ∷ es) slots = go (eqb (kindByte e) 2) (numbered-seats (k + 1) es (enter (suc k) (nameIn t e) slots)) (numbered-seats k es slots)
     where
       at : ℕ
       at = seat (first (length slots) (nameIn t e)) slots
 
-      go : (b : Bool) → numbered (k + 1) (seats true t (k + 1) es (set slots at (suc k))) (set slots at (suc k)) ≡ entering true t (k + 1) es (set slots at (suc k))
-          → numbered k (seats true t k es slots) slots ≡ entering true t k es slots
-          → numbered k (cond b (at ∷ seats true t (k + 1) es (set slots at (suc k))) (seats true t k es slots)) slots
+      go : (b : Bool) → withOrdinals (k + 1) (seats true t (k + 1) es (set slots at (suc k))) (set slots at (suc k)) ≡ entering true t (k + 1) es (set slots at (suc k))
+          → withOrdinals k (seats true t k es slots) slots ≡ entering true t k es slots
+          → withOrdinals k (cond b (at ∷ seats true t (k + 1) es (set slots at (suc k))) (seats true t k es slots)) slots
           ≡ cond b (entering true t (k + 1) es (set slots at (suc k))) (entering true t k es slots)
       go true ih jh = ih
       go false ih jh = jh

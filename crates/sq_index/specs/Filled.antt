@@ -91,9 +91,9 @@ seats ordinals t k (e ∷ es) slots =
     (seats ordinals t k es slots)
 
 -- ordinals plus one at the slots `ss`: the first of them has the ordinal `k`
-unfoldable pub numbered : ℕ → List ℕ → List ℕ → List ℕ
-numbered k [] slots = slots
-numbered k (s ∷ ss) slots = numbered (k + 1) ss (set slots s (suc k))
+unfoldable pub withOrdinals : ℕ → List ℕ → List ℕ → List ℕ
+withOrdinals k [] slots = slots
+withOrdinals k (s ∷ ss) slots = withOrdinals (k + 1) ss (set slots s (suc k))
 
 -- ---- looking
 

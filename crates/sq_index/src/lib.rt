@@ -14,7 +14,7 @@ ghost use Rattle.key_index.specs.Word.{word};
 ghost use Rattle.entries.specs.Entries.{entriesIn, entriesBefore, sizes, counted};
 ghost use Rattle.format.specs.Slots.{seat};
 ghost use Rattle.name_index.specs.Index.{hashFrom, first, enter};
-ghost use Rattle.sq_index.specs.Filled.{markOf, valueOf, entering, seats, numbered, slotOf, looksOf, ordinalAt};
+ghost use Rattle.sq_index.specs.Filled.{markOf, valueOf, entering, seats, withOrdinals, slotOf, looksOf, ordinalAt};
 
 // What is answered for a name that no SQ has.
 pub const ABSENT: u32 = 4294967295;
@@ -164,7 +164,7 @@ pub fn fill(text: &[u8], catalogue: &[u8], slots: &mut [u32], notes: &mut [u32],
 // Puts ordinals plus one at the slots that are noted, in order.
 fn put_ordinals(notes: &[u32], slots: &mut [u32])
     requires { ⌜ length (now notes) ≤ 4294967294 ⌝ }
-    ensures { λ _. ⌜ now (slots .exit) ≡ numbered 0 (now (notes .entry)) (now (slots .entry)) ⌝ }
+    ensures { λ _. ⌜ now (slots .exit) ≡ withOrdinals 0 (now (notes .entry)) (now (slots .entry)) ⌝ }
 {
     let mut k: usize = 0;
     while k < notes.len() {

@@ -7,14 +7,14 @@ use native.Mathlib.Numerals.{add-one}
 use borrow.Author.Needs.{needs}
 use lib.ListN.{length, getD, drop, set, length-set}
 use lib.Seq.{set-out}
-use Rattle.sq_index.specs.Filled.{numbered}
+use Rattle.sq_index.specs.Filled.{withOrdinals}
 use Rattle.sq_index.proofs.Noted.{numbered-end, numbered-on}
 use Rattle.sq_index.proofs.put_ordinals.Statement.{statement}
 use Rattle.sq_index.proofs.put_ordinals.Tie as tie
 
 abbrev Inv-loop : tie.InvT-loop
 Inv-loop notes slots₀ k₀ slots k =
-    (k ≤ length notes) × (length slots ≡ length slots₀) × (numbered 0 notes slots₀ ≡ numbered k (drop k notes) slots)
+    (k ≤ length notes) × (length slots ≡ length slots₀) × (withOrdinals 0 notes slots₀ ≡ withOrdinals k (drop k notes) slots)
 
 abbrev μ-loop : tie.MeasureT-loop
 μ-loop notes slots₀ k₀ slots k = length notes - k
@@ -60,7 +60,7 @@ loop-again c =
     ⊎-elim (λ w. w .1 ∙ ap (set slots s) (add-one k)) (λ w. w .1 ∙ sym (set-out slots s (suc k) (w .0 .left))) (c .if1 .came) in (
       omega (arith, c .before .before .loop-test .taken),
       ap length put ∙ length-set slots s (suc k) ∙ l .loop .inv .1,
-      l .loop .inv .2 ∙ numbered-on notes slots k (c .before .before .loop-test .taken) ∙ ap (numbered (k + 1) (drop (k + 1) notes)) (sym put),
+      l .loop .inv .2 ∙ numbered-on notes slots k (c .before .before .loop-test .taken) ∙ ap (withOrdinals (k + 1) (drop (k + 1) notes)) (sym put),
     )
 
 same-length : tie.Need-same-length Inv-loop μ-loop

@@ -6,7 +6,7 @@ use borrow.Author.Needs.{needs}
 use lib.ListN.{length, replicate, length-take}
 use lib.Seq.{length-take-le}
 use Rattle.entries.specs.Entries.{entriesIn}
-use Rattle.sq_index.specs.Filled.{numbered}
+use Rattle.sq_index.specs.Filled.{withOrdinals}
 use Rattle.sq_index.proofs.Noted.{numbered-seats}
 use Rattle.sq_index.proofs.refill.Statement.{statement}
 use Rattle.sq_index.proofs.refill.Tie as tie
@@ -56,7 +56,7 @@ returns-2 c =
     let es = entriesIn (a .catalogue .now) in
     let empty = replicate {A = ℕ} (length (a .slots .now)) 0 in
     p .put-ordinals .ensures
-    ∙ ap₂ (numbered 0) (s .pre .1 .1 .1 .1 (o .if1 .left)) (k .clear .ensures)
+    ∙ ap₂ (withOrdinals 0) (s .pre .1 .1 .1 .1 (o .if1 .left)) (k .clear .ensures)
     ∙ numbered-seats t 0 es empty
 
 pub refill-spec : {M : Type 1} → statement M
