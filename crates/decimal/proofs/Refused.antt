@@ -21,6 +21,7 @@ length-refused at v n e = go (none? (span v .0)) (ltb (worth (span v .0)) (2 ^ 6
     judge true d j e = ap refusedPiece e
     judge false true j e = absurd (omega (arith, e))
     judge false false j e = ap refusedPiece e
+
     go : (a b : Bool) (w l : ℕ) (j : JudgedPiece) → numberRefusal (cond a NoDigit (cond b (Is w l) TooLarge)) ≡ suc n
         → cond (a || not b) (refusedPiece 12) (cond (eqb w 0) (refusedPiece 13) (cond (not (ltb w (2 ^ 31))) (refusedPiece 27) j)) ≡ refusedPiece (suc n)
     go true b w l j e = ap refusedPiece e
