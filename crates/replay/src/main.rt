@@ -4,7 +4,7 @@
 // `vectors.txt`: 373 questions to `count`, `key`, `length`, `field`, `roots`, `leaves`, `add` and `answer`, answered by a model written from
 // document 01 alone.
 // `chains.txt`: chains, forests, dangling and looping headers, stale catalogues, the corners of each call and of adding, written by
-// `oracle/chains` from document 01's rules; no answer in it comes from this library or from the crate.
+// `oracle/chains` from the rules of documents 01 and 02; no answer in it comes from this library or from the crate.
 // `oracle.txt`: 536 texts, answered by noodles-sam 0.93.0 (`oracle/README.md`, "The fixed sample").
 // `names.txt`: questions to `names`, answered by a model written from document 02 alone.
 // `requests.txt`: questions to every call, answered by that model, request by request.
@@ -14,6 +14,7 @@
 //     count TEXT KEPT KIND ok COUNT
 //     key TEXT KEPT KIND ORDINAL ok OFFSET LENGTH
 //     ln TEXT KEPT ORDINAL ok LN
+//     line TEXT KEPT KIND ORDINAL ok LINE
 //     field TEXT KEPT KIND ORDINAL TAG STAND-IN BYTES
 //     roots TEXT KEPT ROOM ok ORDINALS
 //     leaves TEXT KEPT ROOM ok ORDINALS HOPS
@@ -30,6 +31,7 @@
 use calls::KeyAnswer;
 use calls::LeavesAnswer;
 use calls::LengthAnswer;
+use calls::LineAnswer;
 use format::LineNo;
 use libc::STDOUT_FILENO;
 use names::NamesAnswer;
@@ -45,33 +47,35 @@ const KEY: usize = 1;
 
 const LENGTH: usize = 2;
 
-const FIELD: usize = 3;
+const LINE: usize = 3;
 
-const ROOTS: usize = 4;
+const FIELD: usize = 4;
 
-const LEAVES: usize = 5;
+const ROOTS: usize = 5;
 
-const ADDED: usize = 6;
+const LEAVES: usize = 6;
 
-const NAMES: usize = 7;
+const ADDED: usize = 7;
 
-const PROGRAM: usize = 8;
+const NAMES: usize = 8;
 
-const TIDIED: usize = 9;
+const PROGRAM: usize = 9;
 
-const REFUSED: usize = 10;
+const TIDIED: usize = 10;
 
-const ACCEPTED: usize = 11;
+const REFUSED: usize = 11;
 
-const UNWRITABLE: usize = 12;
+const ACCEPTED: usize = 12;
 
-const UNKNOWN: usize = 13;
+const UNWRITABLE: usize = 13;
 
-const WRONG: usize = 14;
+const UNKNOWN: usize = 14;
 
-const MARKED: usize = 15;
+const WRONG: usize = 15;
 
-const FOUND: usize = 16;
+const MARKED: usize = 16;
+
+const FOUND: usize = 17;
 
 // Whether `s` is `n` in decimal, without leading zeros.
 fn is_number(s: &[u8], n: u64) -> bool {
@@ -242,6 +246,15 @@ fn is_length(line: &[u8], text: &[u8], kept: &[u8]) -> bool {
     }
 }
 
+// Whether a record's line is the one that the stored line says.
+fn is_line(line: &[u8], text: &[u8], kept: &[u8]) -> bool {
+    let kind = byte_of(stored_cases::word(line, 3));
+    match calls::line(text, kept, kind, ordinal_of(stored_cases::word(line, 4))) {
+        LineAnswer::Refused(n, no) => is_refusal(line, 5, n, no),
+        LineAnswer::Is(no) => is_ok(line, 5, 1) && is_number(stored_cases::word(line, 6), no.0 as u64),
+    }
+}
+
 // Whether a field, or the stand-in, is the line's.
 fn is_field(line: &[u8], text: &[u8], kept: &[u8]) -> bool {
     let mut tag = io::buffer();
@@ -344,6 +357,7 @@ fn is_call(line: &[u8], asked: usize, text: &[u8], kept: &[u8], out: &mut [u32])
         COUNT => is_count(line, text, kept),
         KEY => is_key(line, text, kept),
         LENGTH => is_length(line, text, kept),
+        LINE => is_line(line, text, kept),
         FIELD => is_field(line, text, kept),
         ROOTS => is_roots(line, text, kept, out),
         LEAVES => is_leaves(line, text, kept, out),
@@ -500,6 +514,9 @@ fn asked_by(line: &[u8]) -> usize {
     }
     if text::same(call, b"ln") {
         return LENGTH;
+    }
+    if text::same(call, b"line") {
+        return LINE;
     }
     if text::same(call, b"field") {
         return FIELD;
@@ -672,11 +689,12 @@ fn print_count(name: &[u8], n: u32) {
 
 // Writes how many lines ask each call.
 fn print_asked(tally: &[u32])
-    requires { ⌜ length (now tally) ≡ 17 ⌝ }
+    requires { ⌜ length (now tally) ≡ 18 ⌝ }
 {
     print_count(b" count ", tally[COUNT]);
     print_count(b" key ", tally[KEY]);
     print_count(b" ln ", tally[LENGTH]);
+    print_count(b" line ", tally[LINE]);
     print_count(b" field ", tally[FIELD]);
     print_count(b" roots ", tally[ROOTS]);
     print_count(b" leaves ", tally[LEAVES]);
@@ -688,7 +706,7 @@ fn print_asked(tally: &[u32])
 
 // Writes how many texts the crate judged in each way, and how many lines ask nothing.
 fn print_judged(tally: &[u32])
-    requires { ⌜ length (now tally) ≡ 17 ⌝ }
+    requires { ⌜ length (now tally) ≡ 18 ⌝ }
 {
     print_count(b" refused ", tally[REFUSED]);
     print_count(b" accepted ", tally[ACCEPTED]);
@@ -698,7 +716,7 @@ fn print_judged(tally: &[u32])
 
 // Writes how many answers were wrong, and how many of the marked lines were found.
 fn print_found(tally: &[u32])
-    requires { ⌜ length (now tally) ≡ 17 ⌝ }
+    requires { ⌜ length (now tally) ≡ 18 ⌝ }
 {
     print_number(b" wrong ", tally[WRONG]);
     print_number(b", known wrong found ", tally[FOUND]);
@@ -715,7 +733,7 @@ fn replay(place: usize) {
         os::fail(&name[..n]);
         return;
     }
-    let mut tally: [u32; 17] = [0; 17];
+    let mut tally: [u32; 18] = [0; 18];
     all_blocks(fd, &mut tally);
     libc::close(fd);
     io::write_all(STDOUT_FILENO, &name[..n]);
