@@ -10,6 +10,8 @@ use Rattle.calls.specs.declared.KeyAnswer.{KeyAnswer}
 use Rattle.calls.specs.declared.KeyAnswer.the-variants as key
 use Rattle.calls.specs.declared.LengthAnswer.{LengthAnswer}
 use Rattle.calls.specs.declared.LengthAnswer.the-variants as ln
+use Rattle.calls.specs.declared.LineAnswer.{LineAnswer}
+use Rattle.calls.specs.declared.LineAnswer.the-variants as line
 use Rattle.calls.specs.declared.LeavesAnswer.{LeavesAnswer}
 use Rattle.calls.specs.declared.LeavesAnswer.the-variants as leaves
 use Rattle.calls.specs.declared.ValuePlace.{ValuePlace}
@@ -29,6 +31,11 @@ keyOf (yes p) = key.At (p .at) (length (p .bytes))
 unfoldable pub lengthOf : Answer ℕ → LengthAnswer
 lengthOf (no n l) = ln.Refused n (record { 0 = l })
 lengthOf (yes n) = ln.Is n
+
+-- a refusal and its line, or the line of a record
+unfoldable pub lineOf : Answer ℕ → LineAnswer
+lineOf (no n l) = line.Refused n (record { 0 = l })
+lineOf (yes l) = line.Is (record { 0 = l })
 
 -- a refusal and its line, or how many leaves, and the hops
 unfoldable pub leavesOf : Answer (List ℕ × ℕ) → LeavesAnswer

@@ -1,4 +1,4 @@
--- What is found in the entries of a catalogue: a record's key, the LN of an SQ, the value of a field.
+-- What is found in the entries of a catalogue: a record's key, the LN of an SQ, a record's line, the value of a field.
 use Prim.Native.Nat.{ℕ, zero, suc}
 use mathlib.Core.Bool.{_&&_, cond}
 use mathlib.Core.List.{List, [], _∷_}
@@ -13,6 +13,8 @@ use Rattle.lookup.specs.declared.Found.{Found}
 use Rattle.lookup.specs.declared.Found.the-variants.{Nothing, At}
 use Rattle.lookup.specs.declared.Sized.{Sized}
 use Rattle.lookup.specs.declared.Sized.the-variants as sized
+use Rattle.lookup.specs.declared.Located.{Located}
+use Rattle.lookup.specs.declared.Located.the-variants as located
 
 -- ---- answers
 
@@ -26,6 +28,11 @@ foundOf (some p) = At (pieceAt p)
 unfoldable pub sizedOf : Option ℕ → Sized
 sizedOf none = sized.Nothing
 sizedOf (some n) = sized.Is n
+
+-- a line, if there is one
+unfoldable pub locatedOf : Option ℕ → Located
+locatedOf none = located.Nothing
+locatedOf (some l) = located.On (record { 0 = l })
 
 -- ---- entries
 
@@ -44,32 +51,42 @@ front (e ∷ es) = e
 -- the key that an entry says: SN of SQ, ID of RG and PG
 unfoldable pub keyOf : Entry → Found
 keyOf End = Nothing
-keyOf (Header v) = Nothing
-keyOf (ReferenceSequence p n) = At p
-keyOf (ReadGroup p) = At p
-keyOf (Program p) = At p
-keyOf (Comment p) = Nothing
+keyOf (Header v l) = Nothing
+keyOf (ReferenceSequence p n l) = At p
+keyOf (ReadGroup p l) = At p
+keyOf (Program p l) = At p
+keyOf (Comment p l) = Nothing
 keyOf (Field a b p) = Nothing
 
 -- the LN that an entry says
 unfoldable pub lengthOf : Entry → Sized
 lengthOf End = sized.Nothing
-lengthOf (Header v) = sized.Nothing
-lengthOf (ReferenceSequence p n) = sized.Is n
-lengthOf (ReadGroup p) = sized.Nothing
-lengthOf (Program p) = sized.Nothing
-lengthOf (Comment p) = sized.Nothing
+lengthOf (Header v l) = sized.Nothing
+lengthOf (ReferenceSequence p n l) = sized.Is n
+lengthOf (ReadGroup p l) = sized.Nothing
+lengthOf (Program p l) = sized.Nothing
+lengthOf (Comment p l) = sized.Nothing
 lengthOf (Field a b p) = sized.Nothing
+
+-- the line that an entry of a record says: a field has none
+unfoldable pub lineOf : Entry → Located
+lineOf End = located.Nothing
+lineOf (Header v l) = located.On (record { 0 = l })
+lineOf (ReferenceSequence p n l) = located.On (record { 0 = l })
+lineOf (ReadGroup p l) = located.On (record { 0 = l })
+lineOf (Program p l) = located.On (record { 0 = l })
+lineOf (Comment p l) = located.On (record { 0 = l })
+lineOf (Field a b p) = located.Nothing
 
 -- the value of the field entry with the tag `a`, `b`, before the next record's entry
 unfoldable pub valueIn : ℕ → ℕ → List Entry → Found
 valueIn a b [] = Nothing
 valueIn a b (End ∷ es) = Nothing
-valueIn a b (Header v ∷ es) = Nothing
-valueIn a b (ReferenceSequence p n ∷ es) = Nothing
-valueIn a b (ReadGroup p ∷ es) = Nothing
-valueIn a b (Program p ∷ es) = Nothing
-valueIn a b (Comment p ∷ es) = Nothing
+valueIn a b (Header v l ∷ es) = Nothing
+valueIn a b (ReferenceSequence p n l ∷ es) = Nothing
+valueIn a b (ReadGroup p l ∷ es) = Nothing
+valueIn a b (Program p l ∷ es) = Nothing
+valueIn a b (Comment p l ∷ es) = Nothing
 valueIn a b (Field x y p ∷ es) = cond (eqb x a && eqb y b) (At p) (valueIn a b es)
 
 -- ---- the record of kind `k` with `i` of that kind before it
@@ -81,6 +98,10 @@ keyIn k i es = keyOf (front (entriesFrom k i es))
 unfoldable pub lengthIn : ℕ → List Entry → Sized
 unfolding lengthOf front entriesFrom
 lengthIn i es = lengthOf (front (entriesFrom 2 i es))
+
+unfoldable pub lineIn : ℕ → ℕ → List Entry → Located
+unfolding lineOf front entriesFrom
+lineIn k i es = lineOf (front (entriesFrom k i es))
 
 -- a field entry belongs to the record before it; a field is no record
 unfoldable pub fieldIn : ℕ → ℕ → ℕ → ℕ → List Entry → Found

@@ -65,7 +65,7 @@ pub fn count(catalogue: &[u8]) -> usize
             return n;
         }
         n += 1;
-        at += 17;
+        at += 21;
     }
 }
 
@@ -131,10 +131,10 @@ fn put_names(text: &[u8], catalogue: &[u8], slots: &mut [u32], ordinals: bool)
         at = next_sq(catalogue, at);
         let e = entries::entry_at(catalogue, at);
         match e {
-            Entry::ReferenceSequence(p, _) => {
+            Entry::ReferenceSequence(p, _, _) => {
                 put_name(text, p, k, slots, ordinals);
                 k += 1;
-                at += 17;
+                at += 21;
             }
             _ => return,
         }
