@@ -45,7 +45,7 @@ unfolding lineOf
 returns-3 c =
     let f = c .before .before .before in
     let a = f .before .before .before .before .before .before .args in
-    sym (ap lineOf (line-found (a .text .now) (a .kept .now) (fresh-by (a .text .now) (a .kept .now) (f .before .before .before .check .ensures) (f .before .enum-told .given .1)) (a .kind) (a .ordinal) (c .before .line2 .given .0 .0) (sym (f .find-line .ensures) ∙ c .before .line2 .given .1)))
+    sym (ap lineOf (line-found (a .text .now) (a .kept .now) (fresh-by (a .text .now) (a .kept .now) (f .before .before .before .check .ensures) (f .before .enum-told .given .1)) (a .kind) (a .ordinal) (c .before .line .given .0 .0) (sym (f .find-line .ensures) ∙ c .before .line .given .1)))
 
 pub line-spec : {M : Type 1} → statement M
 line-spec =
