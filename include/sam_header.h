@@ -4,7 +4,7 @@
  * PTRDIFF_MAX; and no slice that a call writes overlaps another slice of that call. Calls keep no state and lend nothing on: they may run side by side.
  * A call takes less than 1 MiB of stack.
  *
- * Room that always suffices: for read three times text_len bytes; for tidy text_len + 1; for roots and leaves 1,024 ordinals; for names as many ordinals as the
+ * Room that always suffices: for read 3 * text_len + 1 bytes; for tidy text_len + 1; for roots and leaves 1,024 ordinals; for names as many ordinals as the
  * list has names, and the slots that are said there; for add what tidy needs and for each new program, one after each leaf, prefix_len + fields_len, twice
  * the leaf's ID and 13 bytes more. An output that is too short is refusal 20.
  *
@@ -64,7 +64,13 @@ enum {
 /* Field's answer where the caller's stand-in takes the value's place: all ones. It has no number and no line. */
 #define SAM_HEADER_STAND_IN UINT64_MAX
 
-/* Reads a header: its catalogue in `catalogue`. */
+/* Reads a header: its catalogue in `catalogue`, one entry after another, in text order. The first byte of an entry is its kind; numbers are
+ * little-endian, and offsets count from the text's first byte.
+ *     1 HD           VN's major and minor, 4 bytes each; the line, 4                              13 bytes
+ *     2 SQ           SN's offset and length, 4 bytes each; LN, 8; the line, 4                     21
+ *     3 RG, 4 PG     ID's offset and length, 4 bytes each; the line, 4                            13
+ *     5 CO           the comment's offset and length, 4 bytes each; the line, 4                   13
+ *     6 a field      of the record before it: its tag, 2 bytes; offset and length, 4 bytes each   11 */
 uint64_t sam_header_read(const uint8_t *text, size_t text_len, uint8_t *catalogue, size_t catalogue_len);
 
 /* 0 if the catalogue is the one that reading this text gives, and 21 if not: every offset, length, VN and LN in it is then this text's. It holds no bytes of
@@ -83,6 +89,10 @@ uint64_t sam_header_count(const uint8_t *text, size_t text_len, const uint8_t *c
 /* Where a record's key stands: its offset shifted left by 32, and its length. */
 uint64_t sam_header_key(const uint8_t *text, size_t text_len, const uint8_t *catalogue, size_t catalogue_len, uint8_t kind,
                         uint32_t ordinal);
+
+/* The line on which a record of kind 1 to 5 stands: lines count from 0, and every line counts, of whatever kind. */
+uint64_t sam_header_line(const uint8_t *text, size_t text_len, const uint8_t *catalogue, size_t catalogue_len, uint8_t kind,
+                         uint32_t ordinal);
 
 /* The LN of an SQ in `*length`, and 0. It is 1 to 2,147,483,647: reading refuses any other. */
 uint64_t sam_header_length(const uint8_t *text, size_t text_len, const uint8_t *catalogue, size_t catalogue_len, uint32_t ordinal,

@@ -10,6 +10,8 @@ use Rattle.calls.specs.declared.KeyAnswer.{KeyAnswer}
 use Rattle.calls.specs.declared.KeyAnswer.the-variants as key
 use Rattle.calls.specs.declared.LengthAnswer.{LengthAnswer}
 use Rattle.calls.specs.declared.LengthAnswer.the-variants as ln
+use Rattle.calls.specs.declared.LineAnswer.{LineAnswer}
+use Rattle.calls.specs.declared.LineAnswer.the-variants as line
 use Rattle.calls.specs.declared.LeavesAnswer.{LeavesAnswer}
 use Rattle.calls.specs.declared.LeavesAnswer.the-variants as leaves
 use Rattle.calls.specs.declared.ValuePlace.{ValuePlace}
@@ -29,6 +31,11 @@ keyAnswerOf (yes p) = key.At (p .at) (length (p .bytes))
 unfoldable pub lengthAnswerOf : Answer ℕ → LengthAnswer
 lengthAnswerOf (refused n l) = ln.Refused n (record { 0 = l })
 lengthAnswerOf (yes n) = ln.Is n
+
+-- a refusal and its line, or the line of a record
+unfoldable pub lineAnswerOf : Answer ℕ → LineAnswer
+lineAnswerOf (refused n l) = line.Refused n (record { 0 = l })
+lineAnswerOf (yes l) = line.Is (record { 0 = l })
 
 -- a refusal and its line, or how many leaves, and the hops
 unfoldable pub leavesAnswerOf : Answer (List ℕ × ℕ) → LeavesAnswer

@@ -1,14 +1,15 @@
-// The calls over a text and its catalogue: counts, keys, lengths, fields, roots and leaves. Each judges the text and the catalogue first.
+// The calls over a text and its catalogue: counts, keys, lengths, lines, fields, roots and leaves. Each judges the text and the catalogue first.
 use format::LineNo;
 use lookup::Found;
+use lookup::Located;
 use lookup::Sized;
 use parser::Checked;
 use parser::CountAnswer;
 ghost use mathlib.Core.Path.{_≡_};
 ghost use lib.ListN.{length};
-ghost use Rattle.format.specs.Calls.{fitting, counting, keying, sizing, valuing, looking, rooting, leafing};
+ghost use Rattle.format.specs.Calls.{fitting, counting, keying, sizing, locating, valuing, looking, rooting, leafing};
 ghost use Rattle.parser.specs.Answers.{answerOf, outputOf};
-ghost use Rattle.calls.specs.Answers.{countOf, keyAnswerOf, lengthAnswerOf, leavesAnswerOf, listOf, withHops, valuePlaceOf, partStanding};
+ghost use Rattle.calls.specs.Answers.{countOf, keyAnswerOf, lengthAnswerOf, lineAnswerOf, leavesAnswerOf, listOf, withHops, valuePlaceOf, partStanding};
 
 // A refusal and its line, or the key's offset and length.
 pub enum KeyAnswer {
@@ -20,6 +21,12 @@ pub enum KeyAnswer {
 pub enum LengthAnswer {
     Refused(u8, LineNo),
     Is(u64),
+}
+
+// A refusal and its line, or the line of a record.
+pub enum LineAnswer {
+    Refused(u8, LineNo),
+    Is(LineNo),
 }
 
 // A refusal and its line, or how many leaves are written, and the hops.
@@ -74,6 +81,19 @@ pub fn length(text: &[u8], kept: &[u8], ordinal: u32) -> LengthAnswer
         Checked::Fresh => match lookup::find_length(kept, ordinal) {
             Sized::Nothing => LengthAnswer::Refused(25, LineNo(0)),
             Sized::Is(n) => LengthAnswer::Is(n),
+        },
+    }
+}
+
+// The line of the record of a kind, 1 to 5, with an ordinal among its kind.
+pub fn line(text: &[u8], kept: &[u8], kind: u8, ordinal: u32) -> LineAnswer
+    ensures { λ r. ⌜ r ≡ lineAnswerOf (locating (now (text .entry)) (now (kept .entry)) kind ordinal) ⌝ }
+{
+    match parser::check(text, kept) {
+        Checked::Refused(n, line) => LineAnswer::Refused(n, line),
+        Checked::Fresh => match lookup::find_line(kept, kind, ordinal) {
+            Located::Nothing => LineAnswer::Refused(25, LineNo(0)),
+            Located::On(line) => LineAnswer::Is(line),
         },
     }
 }

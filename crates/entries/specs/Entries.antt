@@ -20,21 +20,21 @@ use Rattle.entries.specs.declared.Entry.the-variants.{End, Header, Refer
 -- the byte of kind; 0 for what is no entry
 unfoldable pub kindByte : Entry → ℕ
 kindByte End = 0
-kindByte (Header v) = 1
-kindByte (ReferenceSequence p n) = 2
-kindByte (ReadGroup p) = 3
-kindByte (Program p) = 4
-kindByte (Comment p) = 5
+kindByte (Header v l) = 1
+kindByte (ReferenceSequence p n l) = 2
+kindByte (ReadGroup p l) = 3
+kindByte (Program p l) = 4
+kindByte (Comment p l) = 5
 kindByte (Field a b p) = 6
 
 -- how long an entry of a kind is, its byte of kind and its body; 0 where there is no such kind
 unfoldable pub kindSize : ℕ → ℕ
 kindSize k =
-    cond (eqb k 1) 9
-    (cond (eqb k 2) 17
-    (cond (eqb k 3) 9
-    (cond (eqb k 4) 9
-    (cond (eqb k 5) 9
+    cond (eqb k 1) 13
+    (cond (eqb k 2) 21
+    (cond (eqb k 3) 13
+    (cond (eqb k 4) 13
+    (cond (eqb k 5) 13
     (cond (eqb k 6) 11 0)))))
 
 unfoldable pub entrySize : Entry → ℕ
@@ -53,15 +53,20 @@ unfoldable pub placeFrom : List ℕ → Place
 unfolding ofLittle
 placeFrom s = record { at = ofLittle (take 4 s); len = ofLittle (take 4 (drop 4 s)) }
 
+-- a line, in four bytes
+unfoldable pub lineFrom : List ℕ → ℕ
+unfolding ofLittle
+lineFrom s = ofLittle (take 4 s)
+
 -- the entry of kind `k` with the body at the front of `s`
 unfoldable pub entryWith : ℕ → List ℕ → Entry
-unfolding versionFrom placeFrom ofLittle
+unfolding versionFrom placeFrom lineFrom ofLittle
 entryWith k s =
-    cond (eqb k 1) (Header (versionFrom s))
-    (cond (eqb k 2) (ReferenceSequence (placeFrom s) (ofLittle (take 8 (drop 8 s))))
-    (cond (eqb k 3) (ReadGroup (placeFrom s))
-    (cond (eqb k 4) (Program (placeFrom s))
-    (cond (eqb k 5) (Comment (placeFrom s))
+    cond (eqb k 1) (Header (versionFrom s) (lineFrom (drop 8 s)))
+    (cond (eqb k 2) (ReferenceSequence (placeFrom s) (ofLittle (take 8 (drop 8 s))) (lineFrom (drop 16 s)))
+    (cond (eqb k 3) (ReadGroup (placeFrom s) (lineFrom (drop 8 s)))
+    (cond (eqb k 4) (Program (placeFrom s) (lineFrom (drop 8 s)))
+    (cond (eqb k 5) (Comment (placeFrom s) (lineFrom (drop 8 s)))
     (cond (eqb k 6) (Field (getD s 0 0) (getD s 1 0) (placeFrom (drop 2 s))) End)))))
 
 -- what stands at the front of `s`: no entry where nothing is left, where the kind is unknown, or where the body is short
@@ -79,11 +84,11 @@ placeBytes p = little 4 (p .at) ++ little 4 (p .len)
 unfoldable pub entryBytes : Entry → List ℕ
 unfolding little placeBytes
 entryBytes End = []
-entryBytes (Header v) = 1 ∷ little 4 (v .major) ++ little 4 (v .minor)
-entryBytes (ReferenceSequence p n) = 2 ∷ placeBytes p ++ little 8 n
-entryBytes (ReadGroup p) = 3 ∷ placeBytes p
-entryBytes (Program p) = 4 ∷ placeBytes p
-entryBytes (Comment p) = 5 ∷ placeBytes p
+entryBytes (Header v l) = 1 ∷ little 4 (v .major) ++ little 4 (v .minor) ++ little 4 l
+entryBytes (ReferenceSequence p n l) = 2 ∷ placeBytes p ++ little 8 n ++ little 4 l
+entryBytes (ReadGroup p l) = 3 ∷ placeBytes p ++ little 4 l
+entryBytes (Program p l) = 4 ∷ placeBytes p ++ little 4 l
+entryBytes (Comment p l) = 5 ∷ placeBytes p ++ little 4 l
 entryBytes (Field a b p) = 6 ∷ a ∷ b ∷ placeBytes p
 
 -- one after another
@@ -100,11 +105,11 @@ FitsPlace p = (p .at < 2 ^ 32) × (p .len < 2 ^ 32)
 -- each number is below what its bytes hold
 unfoldable pub FitsEntry : Entry → Type 0
 FitsEntry End = ⊥
-FitsEntry (Header v) = (v .major < 2 ^ 32) × (v .minor < 2 ^ 32)
-FitsEntry (ReferenceSequence p n) = FitsPlace p × (n < 2 ^ 64)
-FitsEntry (ReadGroup p) = FitsPlace p
-FitsEntry (Program p) = FitsPlace p
-FitsEntry (Comment p) = FitsPlace p
+FitsEntry (Header v l) = (v .major < 2 ^ 32) × (v .minor < 2 ^ 32) × (l < 2 ^ 32)
+FitsEntry (ReferenceSequence p n l) = FitsPlace p × (n < 2 ^ 64) × (l < 2 ^ 32)
+FitsEntry (ReadGroup p l) = FitsPlace p × (l < 2 ^ 32)
+FitsEntry (Program p l) = FitsPlace p × (l < 2 ^ 32)
+FitsEntry (Comment p l) = FitsPlace p × (l < 2 ^ 32)
 FitsEntry (Field a b p) = (a < 256) × (b < 256) × FitsPlace p
 
 -- ---- from records
@@ -113,25 +118,29 @@ FitsEntry (Field a b p) = (a < 256) × (b < 256) × FitsPlace p
 unfoldable pub pieceAt : Piece → Place
 pieceAt p = record { at = p .at; len = length (p .bytes) }
 
--- a record's own entry
-unfoldable pub headEntry : Record → Entry
+-- the own entry of a record on the line `l`
+unfoldable pub headEntry : ℕ → Record → Entry
 unfolding pieceAt
-headEntry (header v fs) = Header v
-headEntry (reference p n fs) = ReferenceSequence (pieceAt p) n
-headEntry (group p fs) = ReadGroup (pieceAt p)
-headEntry (program p fs) = Program (pieceAt p)
-headEntry (comment p) = Comment (pieceAt p)
+headEntry l (header v fs) = Header v l
+headEntry l (reference p n fs) = ReferenceSequence (pieceAt p) n l
+headEntry l (group p fs) = ReadGroup (pieceAt p) l
+headEntry l (program p fs) = Program (pieceAt p) l
+headEntry l (comment p) = Comment (pieceAt p) l
 
 -- the entry of a field besides the keys
 unfoldable pub fieldEntry : fields.Field → Entry
 unfolding pieceAt
 fieldEntry f = Field (f .tag₀) (f .tag₁) (pieceAt (f .value))
 
--- a field entry belongs to the record before it
-unfoldable pub entriesOf : List Record → List Entry
+-- records from the line `l` on; a field entry belongs to the record before it
+unfoldable pub entriesOn : ℕ → List Record → List Entry
 unfolding headEntry fieldEntry others
-entriesOf [] = []
-entriesOf (r ∷ rs) = headEntry r ∷ map fieldEntry (others r) ++ entriesOf rs
+entriesOn l [] = []
+entriesOn l (r ∷ rs) = headEntry l r ∷ map fieldEntry (others r) ++ entriesOn (l + 1) rs
+
+unfoldable pub entriesOf : List Record → List Entry
+unfolding entriesOn
+entriesOf rs = entriesOn 0 rs
 
 -- ---- a walk
 

@@ -11,14 +11,14 @@ pub struct Place {
     pub len: u32,
 }
 
-// What stands at a place of a catalogue. `End` is also what is no entry.
+// What stands at a place of a catalogue: an entry of a record ends with the record's line. `End` is also what is no entry.
 pub enum Entry {
     End,
-    Header(Version),
-    ReferenceSequence(Place, u64),
-    ReadGroup(Place),
-    Program(Place),
-    Comment(Place),
+    Header(Version, u32),
+    ReferenceSequence(Place, u64, u32),
+    ReadGroup(Place, u32),
+    Program(Place, u32),
+    Comment(Place, u32),
     Field(u8, u8, Place),
 }
 
@@ -28,11 +28,11 @@ pub fn kind_of(e: Entry) -> u8
 {
     match e {
         Entry::End => 0,
-        Entry::Header(_) => 1,
-        Entry::ReferenceSequence(_, _) => 2,
-        Entry::ReadGroup(_) => 3,
-        Entry::Program(_) => 4,
-        Entry::Comment(_) => 5,
+        Entry::Header(_, _) => 1,
+        Entry::ReferenceSequence(_, _, _) => 2,
+        Entry::ReadGroup(_, _) => 3,
+        Entry::Program(_, _) => 4,
+        Entry::Comment(_, _) => 5,
         Entry::Field(_, _, _) => 6,
     }
 }
@@ -42,11 +42,11 @@ fn kind_size(kind: u8) -> usize
     ensures { λ r. ⌜ r ≡ kindSize kind ⌝ }
 {
     match kind {
-        1 => 9,
-        2 => 17,
-        3 => 9,
-        4 => 9,
-        5 => 9,
+        1 => 13,
+        2 => 21,
+        3 => 13,
+        4 => 13,
+        5 => 13,
         6 => 11,
         _ => 0,
     }
@@ -85,11 +85,15 @@ fn body_at(s: &[u8], at: usize, kind: u8) -> Entry
     ensures { λ r. ⌜ r ≡ entryWith kind (drop (at + 1) (now (s .entry))) ⌝ }
 {
     match kind {
-        1 => Entry::Header(version_at(s, at + 1)),
-        2 => Entry::ReferenceSequence(place_at(s, at + 1), text::get_u64(s, at + 9)),
-        3 => Entry::ReadGroup(place_at(s, at + 1)),
-        4 => Entry::Program(place_at(s, at + 1)),
-        5 => Entry::Comment(place_at(s, at + 1)),
+        1 => Entry::Header(version_at(s, at + 1), text::get_u32(s, at + 9)),
+        2 => Entry::ReferenceSequence(
+            place_at(s, at + 1),
+            text::get_u64(s, at + 9),
+            text::get_u32(s, at + 17),
+        ),
+        3 => Entry::ReadGroup(place_at(s, at + 1), text::get_u32(s, at + 9)),
+        4 => Entry::Program(place_at(s, at + 1), text::get_u32(s, at + 9)),
+        5 => Entry::Comment(place_at(s, at + 1), text::get_u32(s, at + 9)),
         6 => Entry::Field(s[at + 1], s[at + 2], place_at(s, at + 3)),
         _ => Entry::End,
     }

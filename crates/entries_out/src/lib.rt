@@ -27,15 +27,25 @@ fn put_kind(out: &mut [u8], at: usize, kind: u8, a: u32, b: u32)
     put_numbers(out, at + 1, a, b);
 }
 
-// Writes the entry of an SQ: where its name stands, and its LN.
-fn put_sequence(out: &mut [u8], at: usize, name: Place, n: u64)
-    requires { ⌜ at + 17 ≤ length (now out) ⌝ }
-    ensures { λ _. ⌜ now (out .exit) ≡ over (now (out .entry)) at (entryBytes (Entry.ReferenceSequence name n)) ⌝ }
+// Writes the entry of a record of another kind than SQ: its kind, two numbers and its line.
+fn put_lined(out: &mut [u8], at: usize, kind: u8, a: u32, b: u32, line: u32)
+    requires { ⌜ at + 13 ≤ length (now out) ⌝ }
+    ensures { λ _. ⌜ now (out .exit) ≡ over (now (out .entry)) at (kind ∷ little 4 a ++ little 4 b ++ little 4 line) ⌝ }
+{
+    put_kind(out, at, kind, a, b);
+    text::put_u32(out, at + 9, line);
+}
+
+// Writes the entry of an SQ: where its name stands, its LN and its line.
+fn put_sequence(out: &mut [u8], at: usize, name: Place, n: u64, line: u32)
+    requires { ⌜ at + 21 ≤ length (now out) ⌝ }
+    ensures { λ _. ⌜ now (out .exit) ≡ over (now (out .entry)) at (entryBytes (Entry.ReferenceSequence name n line)) ⌝ }
 {
     let offset = name.at;
     let len = name.len;
     put_kind(out, at, format::REFERENCE_SEQUENCE, offset, len);
     text::put_u64(out, at + 9, n);
+    text::put_u32(out, at + 17, line);
 }
 
 // Writes the entry of a field: its tag, and where its value stands.
@@ -60,28 +70,28 @@ pub fn put_entry(out: &mut [u8], at: usize, e: Entry) -> usize
     let next = at + entries::size(e);
     match e {
         Entry::End => {}
-        Entry::Header(v) => {
+        Entry::Header(v, line) => {
             let major = v.major;
             let minor = v.minor;
-            put_kind(out, at, 1, major, minor);
+            put_lined(out, at, 1, major, minor, line);
         }
-        Entry::ReferenceSequence(p, n) => {
-            put_sequence(out, at, p, n);
+        Entry::ReferenceSequence(p, n, line) => {
+            put_sequence(out, at, p, n, line);
         }
-        Entry::ReadGroup(p) => {
+        Entry::ReadGroup(p, line) => {
             let offset = p.at;
             let len = p.len;
-            put_kind(out, at, format::READ_GROUP, offset, len);
+            put_lined(out, at, format::READ_GROUP, offset, len, line);
         }
-        Entry::Program(p) => {
+        Entry::Program(p, line) => {
             let offset = p.at;
             let len = p.len;
-            put_kind(out, at, format::PROGRAM, offset, len);
+            put_lined(out, at, format::PROGRAM, offset, len, line);
         }
-        Entry::Comment(p) => {
+        Entry::Comment(p, line) => {
             let offset = p.at;
             let len = p.len;
-            put_kind(out, at, 5, offset, len);
+            put_lined(out, at, 5, offset, len, line);
         }
         Entry::Field(a, b, p) => {
             put_field(out, at, a, b, p);

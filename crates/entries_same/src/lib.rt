@@ -31,17 +31,31 @@ fn has_kind(s: &[u8], at: usize, kind: u8, a: u32, b: u32) -> bool
     has_numbers(s, at + 1, a, b)
 }
 
-// Whether the entry of an SQ stands at `at`: where its name stands, and its LN.
-fn has_sequence(s: &[u8], at: usize, name: Place, n: u64) -> bool
-    requires { ⌜ at + 17 ≤ length (now s) ⌝ }
-    ensures { λ r. ⌜ r ≡ starts (entryBytes (Entry.ReferenceSequence name n)) (drop at (now (s .entry))) ⌝ }
+// Whether the entry of a record of another kind than SQ stands at `at`: its kind, two numbers and its line.
+fn has_lined(s: &[u8], at: usize, kind: u8, a: u32, b: u32, line: u32) -> bool
+    requires { ⌜ at + 13 ≤ length (now s) ⌝ }
+    ensures { λ r. ⌜ r ≡ starts (kind ∷ little 4 a ++ little 4 b ++ little 4 line) (drop at (now (s .entry))) ⌝ }
+{
+    if !has_kind(s, at, kind, a, b) {
+        return false;
+    }
+    text::get_u32(s, at + 9) == line
+}
+
+// Whether the entry of an SQ stands at `at`: where its name stands, its LN and its line.
+fn has_sequence(s: &[u8], at: usize, name: Place, n: u64, line: u32) -> bool
+    requires { ⌜ at + 21 ≤ length (now s) ⌝ }
+    ensures { λ r. ⌜ r ≡ starts (entryBytes (Entry.ReferenceSequence name n line)) (drop at (now (s .entry))) ⌝ }
 {
     let offset = name.at;
     let len = name.len;
     if !has_kind(s, at, format::REFERENCE_SEQUENCE, offset, len) {
         return false;
     }
-    text::get_u64(s, at + 9) == n
+    if text::get_u64(s, at + 9) != n {
+        return false;
+    }
+    text::get_u32(s, at + 17) == line
 }
 
 // Whether the entry of a field stands at `at`: its tag, and where its value stands.
@@ -81,26 +95,26 @@ fn has_entry(s: &[u8], at: usize, e: Entry) -> bool
 {
     match e {
         Entry::End => true,
-        Entry::Header(v) => {
+        Entry::Header(v, line) => {
             let major = v.major;
             let minor = v.minor;
-            has_kind(s, at, 1, major, minor)
+            has_lined(s, at, 1, major, minor, line)
         }
-        Entry::ReferenceSequence(p, n) => has_sequence(s, at, p, n),
-        Entry::ReadGroup(p) => {
+        Entry::ReferenceSequence(p, n, line) => has_sequence(s, at, p, n, line),
+        Entry::ReadGroup(p, line) => {
             let offset = p.at;
             let len = p.len;
-            has_kind(s, at, format::READ_GROUP, offset, len)
+            has_lined(s, at, format::READ_GROUP, offset, len, line)
         }
-        Entry::Program(p) => {
+        Entry::Program(p, line) => {
             let offset = p.at;
             let len = p.len;
-            has_kind(s, at, format::PROGRAM, offset, len)
+            has_lined(s, at, format::PROGRAM, offset, len, line)
         }
-        Entry::Comment(p) => {
+        Entry::Comment(p, line) => {
             let offset = p.at;
             let len = p.len;
-            has_kind(s, at, 5, offset, len)
+            has_lined(s, at, 5, offset, len, line)
         }
         Entry::Field(a, b, p) => has_field(s, at, a, b, p),
     }

@@ -4,12 +4,12 @@ use calls::LengthAnswer;
 use names::NamesAnswer;
 ghost use mathlib.Core.Path.{_≡_};
 ghost use lib.ListN.{length};
-ghost use Rattle.format.specs.Calls.{reading, fresh, tidying, counting, keying, sizing, valuing, rooting, leafing, adding};
+ghost use Rattle.format.specs.Calls.{reading, fresh, tidying, counting, keying, sizing, locating, valuing, rooting, leafing, adding};
 ghost use Rattle.names.specs.Batch.{batching};
 ghost use Rattle.names.specs.Answers.{namesOf, resultsOf, slotsOf};
 ghost use Rattle.parser.specs.Answers.{answerOf, outputOf, checkedOf};
-ghost use Rattle.calls.specs.Answers.{countOf, keyAnswerOf, lengthAnswerOf, leavesAnswerOf, listOf, valuePlaceOf};
-ghost use Rattle.words.specs.Words.{answerWord, checkedWord, leavesWord, keyWord, fieldWord, lengthWord, lengthLeft, namesWord, namesLeft};
+ghost use Rattle.calls.specs.Answers.{countOf, keyAnswerOf, lengthAnswerOf, lineAnswerOf, leavesAnswerOf, listOf, valuePlaceOf};
+ghost use Rattle.words.specs.Words.{answerWord, checkedWord, leavesWord, keyWord, fieldWord, lengthWord, lineWord, lengthLeft, namesWord, namesLeft};
 
 #[no_mangle]
 pub extern "C" fn sam_header_read(text: &[u8], catalogue: &mut [u8]) -> u64
@@ -85,6 +85,13 @@ pub extern "C" fn sam_header_length(
             0
         }
     }
+}
+
+#[no_mangle]
+pub extern "C" fn sam_header_line(text: &[u8], catalogue: &[u8], kind: u8, ordinal: u32) -> u64
+    ensures { λ r. ⌜ r ≡ lineWord (lineAnswerOf (locating (now (text .entry)) (now (catalogue .entry)) kind ordinal)) ⌝ }
+{
+    words::line_word(calls::line(text, catalogue, kind, ordinal))
 }
 
 #[no_mangle]

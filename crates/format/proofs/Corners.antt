@@ -57,13 +57,13 @@ holdAll (c ∷ cs) = holds c && holdAll cs
 pg0-pg3 : String
 pg0-pg3 = "@PG\tID:pg0\n@PG\tID:pg1\tPP:pg0\n@PG\tID:pg2\tPP:pg1\n@PG\tID:pg3\n"
 
--- SN at offset 7, one byte, and LN in eight bytes, the largest that is accepted
+-- SN at offset 7, one byte, LN in eight bytes, the largest that is accepted, and line 0
 largest : List ℕ
-largest = 2 ∷ 7 ∷ 0 ∷ 0 ∷ 0 ∷ 1 ∷ 0 ∷ 0 ∷ 0 ∷ 255 ∷ 255 ∷ 255 ∷ 127 ∷ 0 ∷ 0 ∷ 0 ∷ 0 ∷ []
+largest = 2 ∷ 7 ∷ 0 ∷ 0 ∷ 0 ∷ 1 ∷ 0 ∷ 0 ∷ 0 ∷ 255 ∷ 255 ∷ 255 ∷ 127 ∷ 0 ∷ 0 ∷ 0 ∷ 0 ∷ 0 ∷ 0 ∷ 0 ∷ 0 ∷ []
 
--- version 1.6, no field
+-- version 1.6, line 0, no field
 one-six : List ℕ
-one-six = 1 ∷ 1 ∷ 0 ∷ 0 ∷ 0 ∷ 6 ∷ 0 ∷ 0 ∷ 0 ∷ []
+one-six = 1 ∷ 1 ∷ 0 ∷ 0 ∷ 0 ∷ 6 ∷ 0 ∷ 0 ∷ 0 ∷ 0 ∷ 0 ∷ 0 ∷ 0 ∷ []
 
 pub cases : List Case
 unfolding pg0-pg3 largest one-six
@@ -72,6 +72,7 @@ cases =
     ∷ reading "@SQ\tSN:s\tLN:8x" (refused 6 0)
     ∷ reading "@SQ\tSN:s\tLN:2147483647" (yes largest)
     ∷ reading "@SQ\tSN:s\tLN:2147483648" (refused 27 0)
+    ∷ reading "@HD\tVN:1.6\n@SQ\tSN:s\tLN:1\tLN:2147483648" (refused 27 1)
     ∷ reading "@SQ\tSN:s\tLN:18446744073709551615" (refused 27 0)
     ∷ reading "@SQ\tSN:s\tLN:18446744073709551616" (refused 12 0)
     ∷ reading "@HD" (refused 15 0)

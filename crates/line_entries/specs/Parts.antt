@@ -18,14 +18,14 @@ use Rattle.entries.specs.Entries.{kindSize, entrySize}
 abbrev pub entryPlace : record′.Stretch → Place
 entryPlace p = record { at = p .at; len = p .len }
 
--- a record's own entry; none for a refusal
-unfoldable pub ownEntry : Head → Entry
-ownEntry (Refused n) = entry.End
-ownEntry (Header v n) = entry.Header v
-ownEntry (ReferenceSequence p l n) = entry.ReferenceSequence (entryPlace p) l
-ownEntry (ReadGroup p n) = entry.ReadGroup (entryPlace p)
-ownEntry (Program p n) = entry.Program (entryPlace p)
-ownEntry (Comment p) = entry.Comment (entryPlace p)
+-- the own entry of a record on the line `k`; none for a refusal
+unfoldable pub ownEntry : ℕ → Head → Entry
+ownEntry k (Refused n) = entry.End
+ownEntry k (Header v n) = entry.Header v k
+ownEntry k (ReferenceSequence p l n) = entry.ReferenceSequence (entryPlace p) l k
+ownEntry k (ReadGroup p n) = entry.ReadGroup (entryPlace p) k
+ownEntry k (Program p n) = entry.Program (entryPlace p) k
+ownEntry k (Comment p) = entry.Comment (entryPlace p) k
 
 -- how many other fields it has
 unfoldable pub othersOf : Head → ℕ
@@ -36,18 +36,18 @@ othersOf (ReadGroup p n) = n
 othersOf (Program p n) = n
 othersOf (Comment p) = 0
 
--- how many bytes the entries of a record have: its own, and those of its other fields, which are of kind 6
+-- how many bytes the entries of a record have, on any line: its own, and those of its other fields, which are of kind 6
 unfoldable pub sizeOfHead : Head → ℕ
 unfolding entrySize ownEntry othersOf kindSize
-sizeOfHead h = entrySize (ownEntry h) + othersOf h * kindSize 6
+sizeOfHead h = entrySize (ownEntry 0 h) + othersOf h * kindSize 6
 
 -- how long the own entry of a record of a kind is
 abbrev pub ownSize : Kind → ℕ
-ownSize kind.Header = 9
-ownSize kind.ReferenceSequence = 17
-ownSize kind.ReadGroup = 9
-ownSize kind.Program = 9
-ownSize kind.Comment = 9
+ownSize kind.Header = 13
+ownSize kind.ReferenceSequence = 21
+ownSize kind.ReadGroup = 13
+ownSize kind.Program = 13
+ownSize kind.Comment = 13
 
 -- the entries of the other fields from the place `pos` of a line on
 unfoldable pub fieldBytes : Kind → ℕ → List ℕ → ℕ → List ℕ

@@ -19,7 +19,7 @@ ghost use Rattle.other_fields.specs.Tables.{Walkable};
 ghost use Rattle.heads.specs.Found.{kindBy, isComment};
 ghost use Rattle.heads.specs.Keys.{keysIn};
 ghost use Rattle.entries.specs.Entries.{entrySize, FitsEntry};
-ghost use Rattle.line_entries.specs.Line.{recordBytes};
+ghost use Rattle.line_entries.specs.Line.{lineBytes};
 ghost use Rattle.line_entries.specs.Parts.{ownEntry, othersOf, sizeOfHead, ownSize, fieldBytes};
 ghost use Rattle.line_entries.specs.Matched.{metIn, comparedOf, matched};
 
@@ -55,18 +55,18 @@ fn others_of(head: Head) -> usize
     }
 }
 
-// An entry of the kind of a record's own, with no place in it: as long as the record's own.
+// An entry of the kind of a record's own, with no place and no line in it: as long as the record's own.
 fn blank_entry(head: Head) -> Entry
-    ensures { λ r. ⌜ entrySize r ≡ entrySize (ownEntry head) ⌝ }
+    ensures { λ r. ⌜ entrySize r ≡ entrySize (ownEntry 0 head) ⌝ }
 {
     let nowhere = Place { at: 0, len: 0 };
     match head {
         Head::Refused(_) => Entry::End,
-        Head::Header(v, _) => Entry::Header(v),
-        Head::ReferenceSequence(_, n, _) => Entry::ReferenceSequence(nowhere, n),
-        Head::ReadGroup(_, _) => Entry::ReadGroup(nowhere),
-        Head::Program(_, _) => Entry::Program(nowhere),
-        Head::Comment(_) => Entry::Comment(nowhere),
+        Head::Header(v, _) => Entry::Header(v, 0),
+        Head::ReferenceSequence(_, n, _) => Entry::ReferenceSequence(nowhere, n, 0),
+        Head::ReadGroup(_, _) => Entry::ReadGroup(nowhere, 0),
+        Head::Program(_, _) => Entry::Program(nowhere, 0),
+        Head::Comment(_) => Entry::Comment(nowhere, 0),
     }
 }
 
@@ -91,18 +91,20 @@ fn narrow(at: usize, len: usize) -> Place
     }
 }
 
-// A record's own entry.
-fn own_entry(head: Head) -> Entry
-    requires { ⌜ FitsEntry (ownEntry head) ⌝ }
-    ensures { λ r. ⌜ r ≡ ownEntry head ⌝ }
+// The own entry of a record on the line `number`.
+fn own_entry(head: Head, number: u32) -> Entry
+    requires { ⌜ FitsEntry (ownEntry number head) ⌝ }
+    ensures { λ r. ⌜ r ≡ ownEntry number head ⌝ }
 {
     match head {
         Head::Refused(_) => Entry::End,
-        Head::Header(v, _) => Entry::Header(v),
-        Head::ReferenceSequence(p, n, _) => Entry::ReferenceSequence(narrow(p.at, p.len), n),
-        Head::ReadGroup(p, _) => Entry::ReadGroup(narrow(p.at, p.len)),
-        Head::Program(p, _) => Entry::Program(narrow(p.at, p.len)),
-        Head::Comment(p) => Entry::Comment(narrow(p.at, p.len)),
+        Head::Header(v, _) => Entry::Header(v, number),
+        Head::ReferenceSequence(p, n, _) => {
+            Entry::ReferenceSequence(narrow(p.at, p.len), n, number)
+        }
+        Head::ReadGroup(p, _) => Entry::ReadGroup(narrow(p.at, p.len), number),
+        Head::Program(p, _) => Entry::Program(narrow(p.at, p.len), number),
+        Head::Comment(p) => Entry::Comment(narrow(p.at, p.len), number),
     }
 }
 
@@ -111,23 +113,23 @@ fn own_size(kind: Kind) -> usize
     ensures { λ r. ⌜ r ≡ ownSize kind ⌝ }
 {
     match kind {
-        Kind::Header => 9,
-        Kind::ReferenceSequence => 17,
-        Kind::ReadGroup => 9,
-        Kind::Program => 9,
-        Kind::Comment => 9,
+        Kind::Header => 13,
+        Kind::ReferenceSequence => 21,
+        Kind::ReadGroup => 13,
+        Kind::Program => 13,
+        Kind::Comment => 13,
     }
 }
 
-// The own entry of an accepted line, by its keys.
-fn line_entry(kind: Kind, src: &[u8], at: usize, keys: KeyValues) -> Entry
+// The own entry of an accepted line, by its keys; its number is `number`.
+fn line_entry(kind: Kind, src: &[u8], at: usize, number: u32, keys: KeyValues) -> Entry
     requires { ⌜ isRead (line false (record { at = at; bytes = now src })) ≡ true ⌝ }
     requires { ⌜ kindBy (getD (now src) 1 0) ≡ kind ⌝ }
     requires { ⌜ keys ≡ keysIn kind (fieldsFrom at (now src) 3) ⌝ }
     requires { ⌜ at + length (now src) ≤ 16777216 ⌝ }
-    ensures { λ r. ⌜ r ≡ ownEntry (headOf (line false (record { at = at; bytes = now (src .entry) }))) ⌝ }
+    ensures { λ r. ⌜ r ≡ ownEntry number (headOf (line false (record { at = at; bytes = now (src .entry) }))) ⌝ }
 {
-    own_entry(heads::head_of(kind, src, at, keys))
+    own_entry(heads::head_of(kind, src, at, keys), number)
 }
 
 // Writes the entries of an accepted line's other fields from `o` on. The same walk meets the keys.
@@ -172,6 +174,7 @@ fn put_line(
     kind: Kind,
     src: &[u8],
     at: usize,
+    number: u32,
     once: bool,
     tables: &[u32],
 ) -> usize
@@ -179,57 +182,68 @@ fn put_line(
     requires { ⌜ (kindBy (getD (now src) 1 0) ≡ kind) × (isComment kind ≡ false) ⌝ }
     requires { ⌜ Walkable once at (now src) (now tables) ⌝ }
     requires { ⌜ at + length (now src) ≤ 16777216 ⌝ }
-    requires { ⌜ o + length (recordBytes (line false (record { at = at; bytes = now src }))) ≤ length (now out) ⌝ }
-    ensures next { λ r. ⌜ r ≡ o + length (recordBytes (line false (record { at = at; bytes = now (src .entry) }))) ⌝ }
-    ensures wrote { λ _. ⌜ now (out .exit) ≡ over (now (out .entry)) o (recordBytes (line false (record { at = at; bytes = now (src .entry) }))) ⌝ }
+    requires { ⌜ o + length (lineBytes false number at (now src)) ≤ length (now out) ⌝ }
+    ensures next { λ r. ⌜ r ≡ o + length (lineBytes false number at (now (src .entry))) ⌝ }
+    ensures wrote { λ _. ⌜ now (out .exit) ≡ over (now (out .entry)) o (lineBytes false number at (now (src .entry))) ⌝ }
 {
     let met = put_fields(out, o + own_size(kind), kind, src, at, once, tables);
-    entries_out::put_entry(out, o, line_entry(kind, src, at, met.keys));
+    entries_out::put_entry(out, o, line_entry(kind, src, at, number, met.keys));
     met.next
 }
 
 // Writes the entries of a line in which a tag may stand twice: its tables are made first.
-fn put_noted(out: &mut [u8], o: usize, kind: Kind, src: &[u8], at: usize) -> usize
+fn put_noted(out: &mut [u8], o: usize, kind: Kind, src: &[u8], at: usize, number: u32) -> usize
     requires { ⌜ isRead (line false (record { at = at; bytes = now src })) ≡ true ⌝ }
     requires { ⌜ (kindBy (getD (now src) 1 0) ≡ kind) × (isComment kind ≡ false) ⌝ }
     requires { ⌜ at + length (now src) ≤ 16777216 ⌝ }
-    requires { ⌜ o + length (recordBytes (line false (record { at = at; bytes = now src }))) ≤ length (now out) ⌝ }
-    ensures next { λ r. ⌜ r ≡ o + length (recordBytes (line false (record { at = at; bytes = now (src .entry) }))) ⌝ }
-    ensures wrote { λ _. ⌜ now (out .exit) ≡ over (now (out .entry)) o (recordBytes (line false (record { at = at; bytes = now (src .entry) }))) ⌝ }
+    requires { ⌜ o + length (lineBytes false number at (now src)) ≤ length (now out) ⌝ }
+    ensures next { λ r. ⌜ r ≡ o + length (lineBytes false number at (now (src .entry))) ⌝ }
+    ensures wrote { λ _. ⌜ now (out .exit) ≡ over (now (out .entry)) o (lineBytes false number at (now (src .entry))) ⌝ }
 {
     let mut tables = [0u32; 6448];
     other_fields::note_tags(src, at, &mut tables);
-    put_line(out, o, kind, src, at, false, &tables)
+    put_line(out, o, kind, src, at, number, false, &tables)
 }
 
 // Writes the entry of a comment.
-fn put_comment(out: &mut [u8], o: usize, src: &[u8], at: usize) -> usize
+fn put_comment(out: &mut [u8], o: usize, src: &[u8], at: usize, number: u32) -> usize
     requires { ⌜ isRead (line false (record { at = at; bytes = now src })) ≡ true ⌝ }
     requires { ⌜ kindBy (getD (now src) 1 0) ≡ Comment ⌝ }
     requires { ⌜ at + length (now src) ≤ 16777216 ⌝ }
-    requires { ⌜ o + length (recordBytes (line false (record { at = at; bytes = now src }))) ≤ length (now out) ⌝ }
-    ensures next { λ r. ⌜ r ≡ o + length (recordBytes (line false (record { at = at; bytes = now (src .entry) }))) ⌝ }
-    ensures wrote { λ _. ⌜ now (out .exit) ≡ over (now (out .entry)) o (recordBytes (line false (record { at = at; bytes = now (src .entry) }))) ⌝ }
+    requires { ⌜ o + length (lineBytes false number at (now src)) ≤ length (now out) ⌝ }
+    ensures next { λ r. ⌜ r ≡ o + length (lineBytes false number at (now (src .entry))) ⌝ }
+    ensures wrote { λ _. ⌜ now (out .exit) ≡ over (now (out .entry)) o (lineBytes false number at (now (src .entry))) ⌝ }
 {
-    entries_out::put_entry(out, o, line_entry(Kind::Comment, src, at, KeyValues::new()))
+    entries_out::put_entry(
+        out,
+        o,
+        line_entry(Kind::Comment, src, at, number, KeyValues::new()),
+    )
 }
 
-// Writes the entries of the accepted line `src`, which starts at the offset `at`, from `o` on, and gives the place after them.
-pub fn put_record(out: &mut [u8], o: usize, src: &[u8], at: usize, strict: bool) -> usize
+// Writes the entries of the accepted line `src`, the line `number`, which starts at the offset `at`, from `o` on, and gives the place after them.
+pub fn put_record(
+    out: &mut [u8],
+    o: usize,
+    src: &[u8],
+    at: usize,
+    number: u32,
+    strict: bool,
+) -> usize
     requires { ⌜ isRead (line strict (record { at = at; bytes = now src })) ≡ true ⌝ }
     requires { ⌜ at + length (now src) ≤ 16777216 ⌝ }
-    requires { ⌜ o + length (recordBytes (line strict (record { at = at; bytes = now src }))) ≤ length (now out) ⌝ }
-    ensures next { λ r. ⌜ r ≡ o + length (recordBytes (line strict (record { at = at; bytes = now (src .entry) }))) ⌝ }
-    ensures wrote { λ _. ⌜ now (out .exit) ≡ over (now (out .entry)) o (recordBytes (line strict (record { at = at; bytes = now (src .entry) }))) ⌝ }
+    requires { ⌜ o + length (lineBytes strict number at (now src)) ≤ length (now out) ⌝ }
+    ensures next { λ r. ⌜ r ≡ o + length (lineBytes strict number at (now (src .entry))) ⌝ }
+    ensures wrote { λ _. ⌜ now (out .exit) ≡ over (now (out .entry)) o (lineBytes strict number at (now (src .entry))) ⌝ }
 {
     let kind = heads::kind_of(src);
     if heads::is_comment(kind) {
-        return put_comment(out, o, src, at);
+        return put_comment(out, o, src, at, number);
     }
     if other_fields::is_once(src, at, strict) {
-        return put_line(out, o, kind, src, at, true, &[]);
+        return put_line(out, o, kind, src, at, number, true, &[]);
     }
-    put_noted(out, o, kind, src, at)
+    put_noted(out, o, kind, src, at, number)
 }
 
 // Whether the catalogue has the entries of an accepted line's other fields at `o`. The same walk meets the keys.
@@ -276,6 +290,7 @@ fn same_line(
     kind: Kind,
     src: &[u8],
     at: usize,
+    number: u32,
     once: bool,
     tables: &[u32],
 ) -> Matched
@@ -284,7 +299,7 @@ fn same_line(
     requires { ⌜ Walkable once at (now src) (now tables) ⌝ }
     requires { ⌜ at + length (now src) ≤ 16777216 ⌝ }
     requires { ⌜ o ≤ length (now catalogue) ⌝ }
-    ensures { λ r. ⌜ r ≡ matched o (drop o (now (catalogue .entry))) (recordBytes (line false (record { at = at; bytes = now (src .entry) }))) ⌝ }
+    ensures { λ r. ⌜ r ≡ matched o (drop o (now (catalogue .entry))) (lineBytes false number at (now (src .entry))) ⌝ }
 {
     let n = own_size(kind);
     if catalogue.len() - o < n {
@@ -294,53 +309,60 @@ fn same_line(
     let Compared::Same(met) = compared else {
         return Matched::Differs;
     };
-    if entries_same::same_entry(catalogue, o, line_entry(kind, src, at, met.keys)) {
+    if entries_same::same_entry(catalogue, o, line_entry(kind, src, at, number, met.keys)) {
         return Matched::Upto(met.next);
     }
     Matched::Differs
 }
 
 // The same of a line in which a tag may stand twice: its tables are made first.
-fn same_noted(catalogue: &[u8], o: usize, kind: Kind, src: &[u8], at: usize) -> Matched
+fn same_noted(catalogue: &[u8], o: usize, kind: Kind, src: &[u8], at: usize, number: u32) -> Matched
     requires { ⌜ isRead (line false (record { at = at; bytes = now src })) ≡ true ⌝ }
     requires { ⌜ (kindBy (getD (now src) 1 0) ≡ kind) × (isComment kind ≡ false) ⌝ }
     requires { ⌜ at + length (now src) ≤ 16777216 ⌝ }
     requires { ⌜ o ≤ length (now catalogue) ⌝ }
-    ensures { λ r. ⌜ r ≡ matched o (drop o (now (catalogue .entry))) (recordBytes (line false (record { at = at; bytes = now (src .entry) }))) ⌝ }
+    ensures { λ r. ⌜ r ≡ matched o (drop o (now (catalogue .entry))) (lineBytes false number at (now (src .entry))) ⌝ }
 {
     let mut tables = [0u32; 6448];
     other_fields::note_tags(src, at, &mut tables);
-    same_line(catalogue, o, kind, src, at, false, &tables)
+    same_line(catalogue, o, kind, src, at, number, false, &tables)
 }
 
 // The same of a comment.
-fn same_comment(catalogue: &[u8], o: usize, src: &[u8], at: usize) -> Matched
+fn same_comment(catalogue: &[u8], o: usize, src: &[u8], at: usize, number: u32) -> Matched
     requires { ⌜ isRead (line false (record { at = at; bytes = now src })) ≡ true ⌝ }
     requires { ⌜ kindBy (getD (now src) 1 0) ≡ Comment ⌝ }
     requires { ⌜ at + length (now src) ≤ 16777216 ⌝ }
     requires { ⌜ o ≤ length (now catalogue) ⌝ }
-    ensures { λ r. ⌜ r ≡ matched o (drop o (now (catalogue .entry))) (recordBytes (line false (record { at = at; bytes = now (src .entry) }))) ⌝ }
+    ensures { λ r. ⌜ r ≡ matched o (drop o (now (catalogue .entry))) (lineBytes false number at (now (src .entry))) ⌝ }
 {
-    let e = line_entry(Kind::Comment, src, at, KeyValues::new());
+    let e = line_entry(Kind::Comment, src, at, number, KeyValues::new());
     if entries_same::same_entry(catalogue, o, e) {
-        return Matched::Upto(o + 9);
+        return Matched::Upto(o + 13);
     }
     Matched::Differs
 }
 
-// Whether the catalogue has the entries of the accepted line `src`, which starts at the offset `at`, at `o`, and then the place after them.
-pub fn same_record(catalogue: &[u8], o: usize, src: &[u8], at: usize, strict: bool) -> Matched
+// Whether the catalogue has the entries of the accepted line `src`, the line `number`, which starts at the offset `at`, at `o`, and then the place after them.
+pub fn same_record(
+    catalogue: &[u8],
+    o: usize,
+    src: &[u8],
+    at: usize,
+    number: u32,
+    strict: bool,
+) -> Matched
     requires { ⌜ isRead (line strict (record { at = at; bytes = now src })) ≡ true ⌝ }
     requires { ⌜ at + length (now src) ≤ 16777216 ⌝ }
     requires { ⌜ o ≤ length (now catalogue) ⌝ }
-    ensures { λ r. ⌜ r ≡ matched o (drop o (now (catalogue .entry))) (recordBytes (line strict (record { at = at; bytes = now (src .entry) }))) ⌝ }
+    ensures { λ r. ⌜ r ≡ matched o (drop o (now (catalogue .entry))) (lineBytes strict number at (now (src .entry))) ⌝ }
 {
     let kind = heads::kind_of(src);
     if heads::is_comment(kind) {
-        return same_comment(catalogue, o, src, at);
+        return same_comment(catalogue, o, src, at, number);
     }
     if other_fields::is_once(src, at, strict) {
-        return same_line(catalogue, o, kind, src, at, true, &[]);
+        return same_line(catalogue, o, kind, src, at, number, true, &[]);
     }
-    same_noted(catalogue, o, kind, src, at)
+    same_noted(catalogue, o, kind, src, at, number)
 }

@@ -1,10 +1,11 @@
-// What is found by a catalogue: keys, lengths and fields. No line of the text is parsed again.
+// What is found by a catalogue: keys, lengths, lines and fields. No line of the text is parsed again.
 use entries::Entry;
 use entries::Place;
+use format::LineNo;
 ghost use mathlib.Core.Path.{_≡_};
 ghost use lib.ListN.{drop};
 ghost use Rattle.entries.specs.Entries.{entriesIn};
-ghost use Rattle.lookup.specs.Lookup.{entryKey, entryLength, valueIn, keyIn, lengthIn, fieldIn};
+ghost use Rattle.lookup.specs.Lookup.{entryKey, entryLength, entryLine, valueIn, keyIn, lengthIn, lineIn, fieldIn};
 
 // A place of the text, if there is one.
 pub enum Found {
@@ -18,14 +19,20 @@ pub enum Sized {
     Is(u64),
 }
 
+// A line, if there is one.
+pub enum Located {
+    Nothing,
+    On(LineNo),
+}
+
 // The key that an entry says: SN of SQ, ID of RG and PG.
 fn key_of(e: Entry) -> Found
     ensures { λ r. ⌜ r ≡ entryKey e ⌝ }
 {
     match e {
-        Entry::ReferenceSequence(p, _) => Found::At(p),
-        Entry::ReadGroup(p) => Found::At(p),
-        Entry::Program(p) => Found::At(p),
+        Entry::ReferenceSequence(p, _, _) => Found::At(p),
+        Entry::ReadGroup(p, _) => Found::At(p),
+        Entry::Program(p, _) => Found::At(p),
         _ => Found::Nothing,
     }
 }
@@ -35,8 +42,22 @@ fn length_of(e: Entry) -> Sized
     ensures { λ r. ⌜ r ≡ entryLength e ⌝ }
 {
     match e {
-        Entry::ReferenceSequence(_, n) => Sized::Is(n),
+        Entry::ReferenceSequence(_, n, _) => Sized::Is(n),
         _ => Sized::Nothing,
+    }
+}
+
+// The line that an entry of a record says: a field has none.
+fn line_of(e: Entry) -> Located
+    ensures { λ r. ⌜ r ≡ entryLine e ⌝ }
+{
+    match e {
+        Entry::Header(_, line) => Located::On(LineNo(line)),
+        Entry::ReferenceSequence(_, _, line) => Located::On(LineNo(line)),
+        Entry::ReadGroup(_, line) => Located::On(LineNo(line)),
+        Entry::Program(_, line) => Located::On(LineNo(line)),
+        Entry::Comment(_, line) => Located::On(LineNo(line)),
+        _ => Located::Nothing,
     }
 }
 
@@ -54,6 +75,14 @@ pub fn find_length(catalogue: &[u8], ordinal: u32) -> Sized
 {
     let at = entries::find_record(catalogue, format::REFERENCE_SEQUENCE, ordinal as usize);
     length_of(entries::entry_at(catalogue, at))
+}
+
+// The line of the record of a kind, 1 to 5, with an ordinal among its kind.
+pub fn find_line(catalogue: &[u8], kind: u8, ordinal: u32) -> Located
+    ensures { λ r. ⌜ r ≡ lineIn kind ordinal (entriesIn (now (catalogue .entry))) ⌝ }
+{
+    let at = entries::find_record(catalogue, kind, ordinal as usize);
+    line_of(entries::entry_at(catalogue, at))
 }
 
 // The value of the field entry with a tag among those from `from` on, up to the next record's entry.

@@ -33,11 +33,13 @@ fn put_catalogue(text: &[u8], strict: bool, out: &mut [u8])
 {
     let mut at: usize = 0;
     let mut o: usize = 0;
+    let mut line: u32 = 0;
     while at < text.len() {
         let cut = text::first_line(&text[at..]);
         let end = at + cut.len;
-        o = line_entries::put_record(out, o, &text[at..end], at, strict);
+        o = line_entries::put_record(out, o, &text[at..end], at, line, strict);
         at += cut.next;
+        line += 1;
     }
 }
 
@@ -48,15 +50,23 @@ fn is_catalogue(text: &[u8], strict: bool, kept: &[u8]) -> bool
 {
     let mut at: usize = 0;
     let mut o: usize = 0;
+    let mut line: u32 = 0;
     while at < text.len() {
         let cut = text::first_line(&text[at..]);
         let end = at + cut.len;
-        let Matched::Upto(next) = line_entries::same_record(kept, o, &text[at..end], at, strict)
-        else {
+        let Matched::Upto(next) = line_entries::same_record(
+            kept,
+            o,
+            &text[at..end],
+            at,
+            line,
+            strict,
+        ) else {
             return false;
         };
         o = next;
         at += cut.next;
+        line += 1;
     }
     o == kept.len()
 }

@@ -65,7 +65,7 @@ pub fn gather(catalogue: &[u8]) -> Programs
             };
         }
         at += len;
-        if let Entry::Program(id) = e {
+        if let Entry::Program(id, _) = e {
             let previous = find_previous(catalogue, at);
             ats[count] = id.at;
             lens[count] = id.len;

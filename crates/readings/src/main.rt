@@ -2,7 +2,7 @@
 //
 // A line of the input is a case: the text in hex (`-` for the empty one), a space, and the room for
 // the catalogue. 128 cases are the corners of documents 01 and 02: each refusal of reading but 1, on both
-// sides, 1,024 programs and one more. 110 are longer texts. What is expected of the longer ones comes
+// sides, 1,024 programs and one more. 174 are longer texts. What is expected of the longer ones comes
 // from a model written from these documents alone, and of the others from them by hand: none of it from
 // this program.
 //
@@ -11,8 +11,8 @@
 // `fresh` that `parser::check` takes the catalogue and refuses it with 21 when its last byte is another.
 use format::LineNo;
 use libc::STDOUT_FILENO;
-use parser::CountAnswer;
 use parser::Checked;
+use parser::CountAnswer;
 ghost use mathlib.Core.Path.{_≡_};
 ghost use Prim.Native.Nat.{_≤_};
 ghost use lib.ListN.{length};
@@ -102,7 +102,10 @@ fn answer(text: &[u8], kept: &mut [u8], room: usize)
 
 // One line of the input.
 fn case(line: &[u8], text: &mut [u8], kept: &mut [u8]) {
-    let room = stored_cases::least(stored_cases::number(stored_cases::word(line, 1)), kept.len());
+    let room = stored_cases::least(
+        stored_cases::number(stored_cases::word(line, 1)),
+        kept.len(),
+    );
     let n = stored_cases::decode(stored_cases::word(line, 0), text);
     stored_cases::fill(kept);
     answer(&text[..n], kept, room);

@@ -4,7 +4,7 @@
 // `vectors.txt`: 373 questions to `count`, `key`, `length`, `field`, `roots`, `leaves`, `add` and `answer`, answered by a model written from
 // document 01 alone.
 // `chains.txt`: chains, forests, dangling and looping headers, stale catalogues, the corners of each call and of adding, written by
-// `oracle/chains` from document 01's rules; no answer in it comes from this library or from the crate.
+// `oracle/chains` from the rules of documents 01 and 02; no answer in it comes from this library or from the crate.
 // `oracle.txt`: 536 texts, answered by noodles-sam 0.93.0 (`oracle/README.md`, "The fixed sample").
 // `names.txt`: questions to `names`, answered by a model written from document 02 alone.
 // `requests.txt`: questions to every call, answered by that model, request by request.
@@ -14,6 +14,7 @@
 //     count TEXT KEPT KIND ok COUNT
 //     key TEXT KEPT KIND ORDINAL ok OFFSET LENGTH
 //     ln TEXT KEPT ORDINAL ok LN
+//     line TEXT KEPT KIND ORDINAL ok LINE
 //     field TEXT KEPT KIND ORDINAL TAG STAND-IN BYTES
 //     roots TEXT KEPT ROOM ok ORDINALS
 //     leaves TEXT KEPT ROOM ok ORDINALS HOPS
@@ -36,6 +37,7 @@ use replay_asked::FOUND;
 use replay_asked::KEY;
 use replay_asked::LEAVES;
 use replay_asked::LENGTH;
+use replay_asked::LINE;
 use replay_asked::MARKED;
 use replay_asked::NAMES;
 use replay_asked::PROGRAM;
@@ -54,6 +56,7 @@ fn is_call(line: &[u8], asked: usize, text: &[u8], kept: &[u8], out: &mut [u32])
         COUNT => replay_calls::is_count(line, text, kept),
         KEY => replay_calls::is_key(line, text, kept),
         LENGTH => replay_calls::is_length(line, text, kept),
+        LINE => replay_calls::is_line(line, text, kept),
         FIELD => replay_calls::is_field(line, text, kept),
         ROOTS => replay_graphs::is_roots(line, text, kept, out),
         LEAVES => replay_graphs::is_leaves(line, text, kept, out),
@@ -221,7 +224,7 @@ fn replay(place: usize) {
         os::fail(&name[..n]);
         return;
     }
-    let mut tally: [u32; 17] = [0; 17];
+    let mut tally: [u32; 18] = [0; 18];
     all_blocks(fd, &mut tally);
     libc::close(fd);
     io::write_all(STDOUT_FILENO, &name[..n]);

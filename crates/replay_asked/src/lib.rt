@@ -10,33 +10,35 @@ pub const KEY: usize = 1;
 
 pub const LENGTH: usize = 2;
 
-pub const FIELD: usize = 3;
+pub const LINE: usize = 3;
 
-pub const ROOTS: usize = 4;
+pub const FIELD: usize = 4;
 
-pub const LEAVES: usize = 5;
+pub const ROOTS: usize = 5;
 
-pub const ADDED: usize = 6;
+pub const LEAVES: usize = 6;
 
-pub const NAMES: usize = 7;
+pub const ADDED: usize = 7;
 
-pub const PROGRAM: usize = 8;
+pub const NAMES: usize = 8;
 
-pub const TIDIED: usize = 9;
+pub const PROGRAM: usize = 9;
 
-pub const REFUSED: usize = 10;
+pub const TIDIED: usize = 10;
 
-pub const ACCEPTED: usize = 11;
+pub const REFUSED: usize = 11;
 
-pub const UNWRITABLE: usize = 12;
+pub const ACCEPTED: usize = 12;
 
-pub const UNKNOWN: usize = 13;
+pub const UNWRITABLE: usize = 13;
 
-pub const WRONG: usize = 14;
+pub const UNKNOWN: usize = 14;
 
-pub const MARKED: usize = 15;
+pub const WRONG: usize = 15;
 
-pub const FOUND: usize = 16;
+pub const MARKED: usize = 16;
+
+pub const FOUND: usize = 17;
 
 // What a line asks: its first word is a call, or its second what the crate makes of the text.
 pub fn asked_by(line: &[u8]) -> usize {
@@ -49,6 +51,9 @@ pub fn asked_by(line: &[u8]) -> usize {
     }
     if text::same(call, b"ln") {
         return LENGTH;
+    }
+    if text::same(call, b"line") {
+        return LINE;
     }
     if text::same(call, b"field") {
         return FIELD;
@@ -114,11 +119,12 @@ fn print_count(name: &[u8], n: u32) {
 
 // Writes how many lines ask each call.
 pub fn print_asked(tally: &[u32])
-    requires { ⌜ length (now tally) ≡ 17 ⌝ }
+    requires { ⌜ length (now tally) ≡ 18 ⌝ }
 {
     print_count(b" count ", tally[COUNT]);
     print_count(b" key ", tally[KEY]);
     print_count(b" ln ", tally[LENGTH]);
+    print_count(b" line ", tally[LINE]);
     print_count(b" field ", tally[FIELD]);
     print_count(b" roots ", tally[ROOTS]);
     print_count(b" leaves ", tally[LEAVES]);
@@ -130,7 +136,7 @@ pub fn print_asked(tally: &[u32])
 
 // Writes how many texts the crate judged in each way, and how many lines ask nothing.
 pub fn print_judged(tally: &[u32])
-    requires { ⌜ length (now tally) ≡ 17 ⌝ }
+    requires { ⌜ length (now tally) ≡ 18 ⌝ }
 {
     print_count(b" refused ", tally[REFUSED]);
     print_count(b" accepted ", tally[ACCEPTED]);
@@ -140,7 +146,7 @@ pub fn print_judged(tally: &[u32])
 
 // Writes how many answers were wrong, and how many of the marked lines were found.
 pub fn print_found(tally: &[u32])
-    requires { ⌜ length (now tally) ≡ 17 ⌝ }
+    requires { ⌜ length (now tally) ≡ 18 ⌝ }
 {
     print_number(b" wrong ", tally[WRONG]);
     print_number(b", known wrong found ", tally[FOUND]);

@@ -2,6 +2,7 @@
 // answers says (`replay` has the lines' form).
 use calls::KeyAnswer;
 use calls::LengthAnswer;
+use calls::LineAnswer;
 use parser::CountAnswer;
 ghost use mathlib.Core.Path.{_≡_};
 ghost use Prim.Native.Nat.{_≤_};
@@ -61,6 +62,21 @@ pub fn is_length(line: &[u8], text: &[u8], kept: &[u8]) -> bool {
         LengthAnswer::Refused(n, no) => stored_answers::is_refusal(line, 4, n, no),
         LengthAnswer::Is(n) => stored_answers::is_ok(line, 4, 1)
             && stored_answers::is_number(stored_cases::word(line, 5), n),
+    }
+}
+
+// Whether a record's line is the one that the stored line says.
+pub fn is_line(line: &[u8], text: &[u8], kept: &[u8]) -> bool {
+    let kind = stored_answers::byte_of(stored_cases::word(line, 3));
+    match calls::line(
+        text,
+        kept,
+        kind,
+        stored_answers::ordinal_of(stored_cases::word(line, 4)),
+    ) {
+        LineAnswer::Refused(n, no) => stored_answers::is_refusal(line, 5, n, no),
+        LineAnswer::Is(no) => stored_answers::is_ok(line, 5, 1)
+            && stored_answers::is_number(stored_cases::word(line, 6), no.0 as u64),
     }
 }
 

@@ -72,7 +72,7 @@ from-none (e ∷ es) h = go (eqb (kindByte e) 2) refl h (from-none es)
     go true q h ih = absurd (h (eqb-true (kindByte e) 2 q))
     go false q h ih = ih h
 
-pub sq-size : (e : Entry) → kindByte e ≡ 2 → 17 ≡ entrySize e
+pub sq-size : (e : Entry) → kindByte e ≡ 2 → 21 ≡ entrySize e
 unfolding entrySize kindSize
 sq-size e q = sym (ap kindSize q)
 
@@ -89,14 +89,14 @@ module _ (c : List ℕ) (at r : ℕ) (is : r ≡ next c at) (e : Entry) (found :
       from-none (entriesIn (drop at c)) (λ z. q (ap kindByte f ∙ z))
 
   module _ (q : kindByte e ≡ 2) where
-    some : _≡_ {A = ℕ} 17 0 → ⊥
+    some : _≡_ {A = ℕ} 21 0 → ⊥
     some z = omega (arith, z)
 
-    one-more : entriesFrom 2 0 (entriesIn (drop at c)) ≡ e ∷ entriesIn (drop (r + 17) c)
-    one-more = sym from ∙ turn-on c r 17 e found (sq-size e q) some
+    one-more : entriesFrom 2 0 (entriesIn (drop at c)) ≡ e ∷ entriesIn (drop (r + 21) c)
+    one-more = sym from ∙ turn-on c r 21 e found (sq-size e q) some
 
-    pub sq-within : r + 17 ≤ length c
-    sq-within = turn-within c r 17 e found (sq-size e q) some
+    pub sq-within : r + 21 ≤ length c
+    sq-within = turn-within c r 21 e found (sq-size e q) some
 
   -- ---- how many there are
 
@@ -114,10 +114,10 @@ module _ (c : List ℕ) (at r : ℕ) (is : r ≡ next c at) (e : Entry) (found :
   unfolding counted
   count-none q = sym (counted-from (entriesIn (drop at c))) ∙ ap (counted 2) (no-more q)
 
-  pub count-on : kindByte e ≡ 2 → counted 2 (entriesIn (drop at c)) ≡ suc (counted 2 (entriesIn (drop (r + 17) c)))
+  pub count-on : kindByte e ≡ 2 → counted 2 (entriesIn (drop at c)) ≡ suc (counted 2 (entriesIn (drop (r + 21) c)))
   unfolding counted
   count-on q =
-      let es : List Entry = entriesIn (drop (r + 17) c) in
+      let es : List Entry = entriesIn (drop (r + 21) c) in
       sym (counted-from (entriesIn (drop at c))) ∙ ap (counted 2) (one-more q) ∙ ap (λ b. cond b (suc (counted 2 es)) (counted 2 es)) (eq-eqb (kindByte e) 2 q)
 
   -- ---- filling
@@ -139,10 +139,10 @@ module _ (c : List ℕ) (at r : ℕ) (is : r ≡ next c at) (e : Entry) (found :
     entered-all q = sym (entering-from (entriesIn (drop at c))) ∙ ap (λ es. entering b t k es slots) (no-more q)
 
     pub entered : kindByte e ≡ 2
-        → entering b t k (entriesIn (drop at c)) slots ≡ entering b t (k + 1) (entriesIn (drop (r + 17) c)) (enter (valueOf b k (hashFrom 0 (nameIn t e)) (startIn t e)) (nameIn t e) slots)
+        → entering b t k (entriesIn (drop at c)) slots ≡ entering b t (k + 1) (entriesIn (drop (r + 21) c)) (enter (valueOf b k (hashFrom 0 (nameIn t e)) (startIn t e)) (nameIn t e) slots)
     unfolding entering
     entered q =
-        let es : List Entry = entriesIn (drop (r + 17) c) in
+        let es : List Entry = entriesIn (drop (r + 21) c) in
         sym (entering-from (entriesIn (drop at c))) ∙ ap (λ es. entering b t k es slots) (one-more q)
         ∙ ap (λ w. cond w (entering b t (k + 1) es (enter (valueOf b k (hashFrom 0 (nameIn t e)) (startIn t e)) (nameIn t e) slots)) (entering b t k es slots)) (eq-eqb (kindByte e) 2 q)
 
@@ -169,9 +169,9 @@ module _ (c : List ℕ) (at r : ℕ) (is : r ≡ next c at) (e : Entry) (found :
 
     pub seated-on : kindByte e ≡ 2 → seats b t k (entriesIn (drop at c)) slots
         ≡ seat (first (length slots) (nameIn t e)) slots
-        ∷ seats b t (k + 1) (entriesIn (drop (r + 17) c)) (enter (valueOf b k (hashFrom 0 (nameIn t e)) (startIn t e)) (nameIn t e) slots)
+        ∷ seats b t (k + 1) (entriesIn (drop (r + 21) c)) (enter (valueOf b k (hashFrom 0 (nameIn t e)) (startIn t e)) (nameIn t e) slots)
     unfolding seats
     seated-on q =
-        let es : List Entry = entriesIn (drop (r + 17) c) in
+        let es : List Entry = entriesIn (drop (r + 21) c) in
         let on : List ℕ = seat (first (length slots) (nameIn t e)) slots ∷ seats b t (k + 1) es (enter (valueOf b k (hashFrom 0 (nameIn t e)) (startIn t e)) (nameIn t e) slots) in
         sym (seats-from (entriesIn (drop at c))) ∙ ap (λ es. seats b t k es slots) (one-more q) ∙ ap (λ w. cond w on (seats b t k es slots)) (eq-eqb (kindByte e) 2 q)

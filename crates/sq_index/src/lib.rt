@@ -67,7 +67,7 @@ pub fn count(catalogue: &[u8]) -> usize
             return n;
         }
         n += 1;
-        at += 17;
+        at += 21;
     }
 }
 
@@ -136,13 +136,13 @@ fn put_names(text: &[u8], catalogue: &[u8], slots: &mut [u32], notes: &mut [u32]
         at = next_sq(catalogue, at);
         let e = entries::entry_at(catalogue, at);
         match e {
-            Entry::ReferenceSequence(p, _) => {
+            Entry::ReferenceSequence(p, _, _) => {
                 let slot = put_name(text, p, k, slots, ordinals);
                 if k < notes.len() {
                     notes[k] = slot as u32;
                 }
                 k += 1;
-                at += 17;
+                at += 21;
             }
             _ => return,
         }

@@ -10,6 +10,8 @@ use Rattle.calls.specs.declared.ValuePlace.{ValuePlace}
 use Rattle.calls.specs.declared.ValuePlace.the-variants as field
 use Rattle.calls.specs.declared.LengthAnswer.{LengthAnswer}
 use Rattle.calls.specs.declared.LengthAnswer.the-variants as ln
+use Rattle.calls.specs.declared.LineAnswer.{LineAnswer}
+use Rattle.calls.specs.declared.LineAnswer.the-variants as line
 use Rattle.calls.specs.declared.LeavesAnswer.{LeavesAnswer}
 use Rattle.calls.specs.declared.LeavesAnswer.the-variants as leaves
 use Rattle.names.specs.declared.NamesAnswer.{NamesAnswer}
@@ -44,6 +46,12 @@ unfoldable pub keyWord : KeyAnswer → ℕ
 unfolding refusalWord pairWord
 keyWord (key.Refused n l) = refusalWord n (l .0)
 keyWord (key.At at len) = pairWord at len
+
+-- the line of a record
+unfoldable pub lineWord : LineAnswer → ℕ
+unfolding refusalWord
+lineWord (line.Refused n l) = refusalWord n (l .0)
+lineWord (line.Is l) = l .0
 
 -- the value's offset and its length, or all ones where the stand-in takes its place
 unfoldable pub fieldWord : ValuePlace → ℕ

@@ -1,11 +1,12 @@
 // Answers as one number, for programs in C and Rust (include/sam_header.h).
 use calls::KeyAnswer;
+use calls::LineAnswer;
 use calls::ValuePlace;
 use format::LineNo;
 use parser::Checked;
 use parser::CountAnswer;
 ghost use mathlib.Core.Path.{_≡_};
-ghost use Rattle.words.specs.Words.{refusalWord, answerWord, checkedWord, pairWord, keyWord, fieldWord};
+ghost use Rattle.words.specs.Words.{refusalWord, answerWord, checkedWord, pairWord, keyWord, lineWord, fieldWord};
 
 // A refusal: bit 63, its number and its line.
 pub fn refusal_word(n: u8, line: LineNo) -> u64
@@ -48,6 +49,16 @@ pub fn key_word(answer: KeyAnswer) -> u64
     match answer {
         KeyAnswer::Refused(n, line) => refusal_word(n, line),
         KeyAnswer::At(at, len) => pair_word(at, len),
+    }
+}
+
+// The line of a record.
+pub fn line_word(answer: LineAnswer) -> u64
+    ensures { λ r. ⌜ r ≡ lineWord answer ⌝ }
+{
+    match answer {
+        LineAnswer::Refused(n, line) => refusal_word(n, line),
+        LineAnswer::Is(line) => line.0 as u64,
     }
 }
 

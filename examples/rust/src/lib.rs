@@ -8,6 +8,7 @@ unsafe extern "C" {
     fn sam_header_tidy(text: *const u8, text_len: usize, out: *mut u8, out_len: usize) -> u64;
     fn sam_header_count(text: *const u8, text_len: usize, catalogue: *const u8, catalogue_len: usize, kind: u8) -> u64;
     fn sam_header_key(text: *const u8, text_len: usize, catalogue: *const u8, catalogue_len: usize, kind: u8, ordinal: u32) -> u64;
+    fn sam_header_line(text: *const u8, text_len: usize, catalogue: *const u8, catalogue_len: usize, kind: u8, ordinal: u32) -> u64;
     fn sam_header_length(text: *const u8, text_len: usize, catalogue: *const u8, catalogue_len: usize, ordinal: u32, length: *mut u64) -> u64;
     fn sam_header_field(text: *const u8, text_len: usize, catalogue: *const u8, catalogue_len: usize, kind: u8, ordinal: u32, tag_0: u8, tag_1: u8) -> u64;
     fn sam_header_leaves(text: *const u8, text_len: usize, catalogue: *const u8, catalogue_len: usize, out: *mut u32, out_len: usize) -> u64;
@@ -62,7 +63,7 @@ pub struct Header<'a> {
 
 impl<'a> Header<'a> {
     pub fn read(text: &'a [u8]) -> Result<Self, Refusal> {
-        let mut catalogue = vec![0; 3 * text.len()]; // as much as any accepted text needs
+        let mut catalogue = vec![0; 3 * text.len() + 1]; // as much as any accepted text needs
         let n = answer(unsafe { sam_header_read(text.as_ptr(), text.len(), catalogue.as_mut_ptr(), catalogue.len()) })?;
         catalogue.truncate(n as usize);
         Ok(Header { text, catalogue })
@@ -93,6 +94,12 @@ impl<'a> Header<'a> {
         let (t, c) = (self.text, &self.catalogue);
         let place = answer(unsafe { sam_header_key(t.as_ptr(), t.len(), c.as_ptr(), c.len(), kind as u8, ordinal) })?;
         Ok(self.part(place))
+    }
+
+    /// The line on which a record stands; every line counts, from 0 on.
+    pub fn line(&self, kind: Kind, ordinal: u32) -> Result<u32, Refusal> {
+        let (t, c) = (self.text, &self.catalogue);
+        answer(unsafe { sam_header_line(t.as_ptr(), t.len(), c.as_ptr(), c.len(), kind as u8, ordinal) }).map(|n| n as u32)
     }
 
     /// LN of an SQ.
@@ -131,6 +138,8 @@ mod tests {
         let header = Header::read(TEXT).unwrap();
         assert_eq!(header.count(Kind::ReferenceSequence), Ok(1));
         assert_eq!(header.key(Kind::ReferenceSequence, 0), Ok(&b"chr1"[..]));
+        assert_eq!(header.line(Kind::Program, 1), Ok(2));
+        assert_eq!(header.line(Kind::Comment, 0), Err(Refusal { number: 25, line: 0 }));
         assert_eq!(header.length(0), Ok(248956422));
         assert_eq!(header.field(Kind::ReadGroup, 0, *b"SM"), Some(&b"NA12878"[..]));
         assert_eq!(header.field(Kind::ReadGroup, 0, *b"DS"), None);

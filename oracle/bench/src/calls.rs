@@ -23,7 +23,7 @@ impl Room {
     /// A field of five bytes has an entry of eleven, and nothing has more for its length but a last comment without LF.
     pub fn new() -> Self {
         let longest = oracle::LONGEST;
-        Self { catalogue: vec![0; 3 * longest], size: 0, out: vec![0; longest], ordinals: vec![0; oracle::PROGRAMS] }
+        Self { catalogue: vec![0; 3 * longest + 1], size: 0, out: vec![0; longest], ordinals: vec![0; oracle::PROGRAMS] }
     }
 
     fn kept(&self) -> &[u8] {

@@ -187,7 +187,7 @@ fn main() -> ExitCode {
     }
     println!("{:>9}{:>9}{:>9}", "ns read", "ns tidy", "best of");
     let word = if let ["rows", word] = *args { word } else { "" };
-    let mut asked = |name: &str, text: &[u8], given: &[u8]| {
+    let asked = |name: &str, text: &[u8], given: &[u8]| {
         if name.contains(word) {
             row(name, text, given, rounds);
         }

@@ -49,7 +49,7 @@ fn row(name: &str, bytes: &[u8], list: &[u8], rounds: usize) {
     let Ok(text) = str::from_utf8(bytes) else {
         return println!("{name}: not UTF-8, which the crate's whole-text parser needs");
     };
-    let mut catalogue = vec![0; 3 * bytes.len()];
+    let mut catalogue = vec![0; 3 * bytes.len() + 1];
     match library::read(bytes, &mut catalogue) {
         Ok(n) => catalogue.truncate(n as usize),
         Err(r) => return println!("{name}: refused {} line {}", r.number, r.line),

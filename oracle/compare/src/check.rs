@@ -81,14 +81,47 @@ fn outputs<T: Element>(
     None
 }
 
-/// How long the catalogue of these records is, by document 01's table.
+/// How long the entry of a kind is: by document 01's table, with document 02's line at the end of a record's.
+const SIZES: [usize; 7] = [1, 13, 21, 13, 13, 13, 11];
+
+/// How long the catalogue of these records is.
 fn catalogue_len(header: &Header) -> usize {
-    let f = |n: usize| 11 * n;
-    header.header().map_or(0, |m| 9 + f(m.other_fields().len()))
-        + header.reference_sequences().values().map(|m| 17 + f(m.other_fields().len())).sum::<usize>()
-        + header.read_groups().values().map(|m| 9 + f(m.other_fields().len())).sum::<usize>()
-        + header.programs().as_ref().values().map(|m| 9 + f(m.other_fields().len())).sum::<usize>()
-        + 9 * header.comments().len()
+    let f = |n: usize| SIZES[6] * n;
+    header.header().map_or(0, |m| SIZES[1] + f(m.other_fields().len()))
+        + header.reference_sequences().values().map(|m| SIZES[2] + f(m.other_fields().len())).sum::<usize>()
+        + header.read_groups().values().map(|m| SIZES[3] + f(m.other_fields().len())).sum::<usize>()
+        + header.programs().as_ref().values().map(|m| SIZES[4] + f(m.other_fields().len())).sum::<usize>()
+        + SIZES[5] * header.comments().len()
+}
+
+/// Where the records' entries of a catalogue end, each just behind its line.
+fn record_ends(catalogue: &[u8]) -> Vec<usize> {
+    let (mut ends, mut at) = (Vec::new(), 0);
+    while let Some(&kind) = catalogue.get(at) {
+        at += SIZES[usize::from(kind)];
+        if kind != 6 {
+            ends.push(at);
+        }
+    }
+    ends
+}
+
+/// Catalogues that differ from this one in lines alone: one record's is another, one is big-endian, and none is there at all.
+fn relined(catalogue: &[u8], rng: &mut Rng) -> Vec<Vec<u8>> {
+    let ends = record_ends(catalogue);
+    let at = rng.below(ends.len());
+    let line = |to: [u8; 4]| [&catalogue[..ends[at] - 4], &to, &catalogue[ends[at]..]].concat();
+    let mut bare = Vec::new();
+    for (i, &end) in ends.iter().enumerate() {
+        let from = if i == 0 { 0 } else { ends[i - 1] };
+        bare.extend_from_slice(&catalogue[from..end - 4]);
+    }
+    bare.extend_from_slice(&catalogue[ends[ends.len() - 1]..]);
+    let mut all = vec![line((at as u32 ^ 1).to_le_bytes()), bare];
+    if at > 0 {
+        all.push(line((at as u32).to_be_bytes()));
+    }
+    all
 }
 
 /// The bytes of a value. Its place must be the last field of its line with this tag, from its colon to a tab or the line's end.
@@ -144,6 +177,12 @@ impl<'a> Entries<'a> {
         Ok((offset, len))
     }
 
+    // The line at the end of a record's own entry.
+    fn number(&mut self, due: usize) -> Result<(), String> {
+        let line = self.u32()?;
+        if line as usize == due { Ok(()) } else { Err(format!("the entry of line {due} says that it is line {line}")) }
+    }
+
     // A value's place, and the bytes there.
     fn value(&mut self, tag: &[u8; 2]) -> Result<&'a [u8], String> {
         let place = self.place()?;
@@ -196,6 +235,7 @@ fn records(text: &[u8], catalogue: &[u8], header: &Header) -> Result<(), String>
                 if (e.u32()?, e.u32()?) != (hd.version().major(), hd.version().minor()) {
                     return odd("VN");
                 }
+                e.number(i)?;
                 e.fields(hd.other_fields().iter())?;
             }
             2 => {
@@ -206,6 +246,7 @@ fn records(text: &[u8], catalogue: &[u8], header: &Header) -> Result<(), String>
                 if u64::from_le_bytes(e.take()?) != map.length().get() as u64 {
                     return odd("LN");
                 }
+                e.number(i)?;
                 e.fields(map.other_fields().iter())?;
             }
             3 => {
@@ -213,6 +254,7 @@ fn records(text: &[u8], catalogue: &[u8], header: &Header) -> Result<(), String>
                 if e.value(b"ID")? != &id[..] {
                     return odd("ID");
                 }
+                e.number(i)?;
                 e.fields(map.other_fields().iter())?;
             }
             4 => {
@@ -220,6 +262,7 @@ fn records(text: &[u8], catalogue: &[u8], header: &Header) -> Result<(), String>
                 if e.value(b"ID")? != &id[..] {
                     return odd("ID");
                 }
+                e.number(i)?;
                 e.fields(map.other_fields().iter())?;
             }
             _ => {
@@ -228,6 +271,7 @@ fn records(text: &[u8], catalogue: &[u8], header: &Header) -> Result<(), String>
                 if (offset, offset + len) != (line.0 + 4, line.1) || &text[offset..offset + len] != &comment[..] {
                     return odd("the comment");
                 }
+                e.number(i)?;
             }
         }
     }
@@ -270,6 +314,16 @@ fn listed<'a>(text: &[u8], header: &'a Header) -> Vec<Listed<'a>> {
         all.extend(records.map(|(ordinal, (line, fields))| Listed { kind, ordinal, line, fields }));
     }
     all
+}
+
+/// The lines of the text's records, for each kind.
+#[cfg(feature = "lookup")]
+fn lines_by_kind(text: &[u8]) -> [Vec<usize>; 5] {
+    let of = |front: &[u8; 3]| {
+        let lines = oracle::spans(text).enumerate().filter(|&(_, (a, b))| text[a..b].starts_with(front));
+        lines.map(|(i, _)| i).collect()
+    };
+    [of(b"@HD"), of(b"@SQ"), of(b"@RG"), of(b"@PG"), of(b"@CO")]
 }
 
 /// All of the first numbers, or four of them where they are many.
@@ -424,13 +478,14 @@ impl Checker {
         self.held(Call::Read, said);
         let said = outputs(&mut self.bytes, Err(r), |o| library::tidy(text, o));
         self.held(Call::Tidy, said);
-        for catalogue in [&b""[..], b"\x01\x01\x00\x00\x00\x06\x00\x00\x00"] {
+        for catalogue in [&b""[..], b"\x01\x01\x00\x00\x00\x06\x00\x00\x00\x00\x00\x00\x00"] {
             self.still(Call::Check, library::check(text, catalogue), r);
             #[cfg(feature = "lookup")]
             {
                 self.still(Call::Count, library::count(text, catalogue, 1), r);
                 self.still(Call::Count, library::count(text, catalogue, 9), r);
                 self.still(Call::Key, library::key(text, catalogue, 2, 0), r);
+                self.still(Call::Line, library::line(text, catalogue, 1, 0), r);
                 let mut ln = 0x5a5a;
                 self.still(Call::Length, library::length(text, catalogue, 0, &mut ln), r);
                 if ln != 0x5a5a {
@@ -480,6 +535,7 @@ impl Checker {
         if need > 0 {
             damaged.push(catalogue[..need - 1].to_vec());
             damaged.push(Vec::new());
+            damaged.extend(relined(catalogue, &mut rng));
         }
         damaged.extend(self.others(text, catalogue));
         for c in &damaged {
@@ -543,14 +599,18 @@ impl Checker {
             header.programs().as_ref().len(),
             header.comments().len(),
         ];
+        let lines = lines_by_kind(text);
         for kind in [0, 1, 2, 3, 4, 5, 6, 7, 255] {
             let n = usize::from(kind).checked_sub(1).and_then(|k| sizes.get(k)).copied();
             let want = n.map_or(Err(ABSENT), |n| Ok(n as u64));
             self.same(Call::Count, library::count(text, catalogue, kind), want, &format!("kind {kind}"));
             let n = n.unwrap_or(0);
             let ordinals = [0, n, u32::MAX as usize, n.saturating_sub(1), rng.below(n.max(1))];
-            let ordinals = if (2..=4).contains(&kind) { &ordinals[..] } else { &ordinals[..1] };
+            let ordinals = if (1..=5).contains(&kind) { &ordinals[..] } else { &ordinals[..1] };
             for &i in ordinals {
+                let line = usize::from(kind).checked_sub(1).and_then(|k| lines.get(k)?.get(i));
+                let want = line.map_or(Err(ABSENT), |&l| Ok(l as u64));
+                self.same(Call::Line, library::line(text, catalogue, kind, i as u32), want, &format!("kind {kind} ordinal {i}"));
                 // The bytes at the place are the crate's key, and its tag stands before them.
                 let key: Option<(&[u8], &[u8; 4])> = match kind {
                     2 => header.reference_sequences().get_index(i).map(|(k, _)| (&k[..], b"\tSN:")),
@@ -595,6 +655,7 @@ impl Checker {
         let mut ln = 7;
         self.same(Call::Count, library::count(text, &rng.of(damaged)[..], kind), Err(STALE), "a damaged catalogue");
         self.same(Call::Key, library::key(text, &rng.of(damaged)[..], kind, 0), Err(STALE), "a damaged catalogue");
+        self.same(Call::Line, library::line(text, &rng.of(damaged)[..], kind, 0), Err(STALE), "a damaged catalogue");
         self.same(Call::Length, library::length(text, &rng.of(damaged)[..], 0, &mut ln), Err(STALE), "a damaged catalogue");
         if ln != 7 {
             self.differ(Call::Length, None, "a refusal changed the number".into());

@@ -10,6 +10,7 @@ pub enum Call {
     Tidy,
     Count,
     Key,
+    Line,
     Length,
     Field,
     Roots,
@@ -18,12 +19,13 @@ pub enum Call {
     Names,
 }
 
-const CALLS: [Call; 11] = [
+const CALLS: [Call; 12] = [
     Call::Read,
     Call::Check,
     Call::Tidy,
     Call::Count,
     Call::Key,
+    Call::Line,
     Call::Length,
     Call::Field,
     Call::Roots,

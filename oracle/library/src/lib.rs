@@ -20,6 +20,14 @@ unsafe extern "C" {
         kind: u8,
         ordinal: u32,
     ) -> u64;
+    fn sam_header_line(
+        text: *const u8,
+        text_len: usize,
+        catalogue: *const u8,
+        catalogue_len: usize,
+        kind: u8,
+        ordinal: u32,
+    ) -> u64;
     fn sam_header_length(
         text: *const u8,
         text_len: usize,
@@ -127,6 +135,11 @@ pub fn count(text: &[u8], catalogue: &[u8], kind: u8) -> Answer {
 #[cfg(feature = "lookup")]
 pub fn key(text: &[u8], catalogue: &[u8], kind: u8, ordinal: u32) -> Answer {
     answer(unsafe { sam_header_key(text.as_ptr(), text.len(), catalogue.as_ptr(), catalogue.len(), kind, ordinal) })
+}
+
+#[cfg(feature = "lookup")]
+pub fn line(text: &[u8], catalogue: &[u8], kind: u8, ordinal: u32) -> Answer {
+    answer(unsafe { sam_header_line(text.as_ptr(), text.len(), catalogue.as_ptr(), catalogue.len(), kind, ordinal) })
 }
 
 #[cfg(feature = "lookup")]

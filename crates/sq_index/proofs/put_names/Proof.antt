@@ -55,7 +55,7 @@ start l = l .before .before .before .before .before
 
 -- what it is
 abbrev entry : tie.After-e Inv-loop μ-loop → Entry
-entry c = ReferenceSequence (c .e .given .0 .0) (c .e .given .0 .1 .0)
+entry c = ReferenceSequence (c .e .given .0 .0) (c .e .given .0 .1 .0) (c .e .given .0 .1 .1 .0)
 
 found : (c : tie.After-e Inv-loop μ-loop) → entry c ≡ entryOf (drop (c .before .before .before .next-sq .result) (start (loop c) .args .catalogue .now))
 found c = sym (c .e .given .1) ∙ c .before .before .entry-at .ensures
@@ -64,7 +64,7 @@ is-sq : (c : tie.After-e Inv-loop μ-loop) → kindByte (entry c) ≡ 2
 unfolding kindByte
 is-sq c = refl
 
-within : (c : tie.After-e Inv-loop μ-loop) → c .before .before .before .next-sq .result + 17 ≤ length (start (loop c) .args .catalogue .now)
+within : (c : tie.After-e Inv-loop μ-loop) → c .before .before .before .next-sq .result + 21 ≤ length (start (loop c) .args .catalogue .now)
 within c =
     let n = c .before .before .before in
     let l = loop c in
@@ -120,7 +120,7 @@ loop-again c =
     let a = start l .args in
     let slot = c .before .before .before .put-name in
     let is = slot .ensures .1 in
-    let rest = entriesIn (drop (n .next-sq .result + 17) (a .catalogue .now)) in
+    let rest = entriesIn (drop (n .next-sq .result + 21) (a .catalogue .now)) in
     let noted : c .if1 .notes ≡ set (l .loop .notes) (l .loop .k) (slot .result) =
     ⊎-elim (λ w. w .1) (λ w. w .1 ∙ sym (set-out (l .loop .notes) (l .loop .k) (slot .result) (w .0 .left))) (c .if1 .came) in (
       within e,
@@ -148,11 +148,11 @@ same-length-2 c = c .before .before .before .loop .inv .3
 not-sq : (e : Entry) → OneOf (0 ∷ 1 ∷ 3 ∷ 4 ∷ 5 ∷ 6 ∷ []) (tagOf the-type e) → kindByte e ≡ 2 → ⊥
 unfolding kindByte
 not-sq End h q = omega (arith, q)
-not-sq (Header v) h q = omega (arith, q)
-not-sq (ReferenceSequence p n) h q = miss (0 ∷ 1 ∷ 3 ∷ 4 ∷ 5 ∷ 6 ∷ []) 2 tt h
-not-sq (ReadGroup p) h q = omega (arith, q)
-not-sq (Program p) h q = omega (arith, q)
-not-sq (Comment p) h q = omega (arith, q)
+not-sq (Header v l) h q = omega (arith, q)
+not-sq (ReferenceSequence p n l) h q = miss (0 ∷ 1 ∷ 3 ∷ 4 ∷ 5 ∷ 6 ∷ []) 2 tt h
+not-sq (ReadGroup p l) h q = omega (arith, q)
+not-sq (Program p l) h q = omega (arith, q)
+not-sq (Comment p l) h q = omega (arith, q)
 not-sq (Field a b p) h q = omega (arith, q)
 
 returns : tie.Need-returns Inv-loop μ-loop
