@@ -1,0 +1,5 @@
+pub mod Judged
+pub mod Keys
+pub mod Skips
+pub mod Kept
+pub mod Faithful
