@@ -148,7 +148,7 @@ told-taken t rs e (head.Comment q) = refl
 
 after-length : (room : Bool) (v : ℕ) (slots : List ℕ) (s : Sought) → length (after room v slots s) ≡ length slots
 unfolding after
-after-length room v slots Known = refl
+after-length room v slots (Known i) = refl
 after-length true v slots (Free i) = length-set slots i v
 after-length false v slots (Free i) = refl
 after-length room v slots Full = refl
@@ -165,7 +165,7 @@ meeting-length room t slots (head.Comment q) = refl
 -- without room nothing changes
 after-none : (v : ℕ) (slots : List ℕ) (s : Sought) → after false v slots s ≡ slots
 unfolding after
-after-none v slots Known = refl
+after-none v slots (Known i) = refl
 after-none v slots (Free i) = refl
 after-none v slots Full = refl
 
