@@ -16,10 +16,12 @@ use Rattle.format.specs.Slots.{around, full, filled, seat, seek, pick, Held}
 use Rattle.format.proofs.Slots.{around-length, around-at, filled-around, full-lt, held-enter}
 use Rattle.text.proofs.Equal.{same-equal}
 use Rattle.accepted.proofs.Bools.{and-left, and-right}
+use Rattle.record.specs.declared.Head.{Head}
+use Rattle.record.specs.declared.Head.the-variants as head
 use Rattle.key_index.specs.declared.Sought.{Sought}
 use Rattle.key_index.specs.declared.Sought.the-variants.{Known, Free, Full}
 use Rattle.key_index.specs.Word.{word}
-use Rattle.key_index.specs.Told.{mark, value, keyIn, tells, begins, start, looking, sought, isKnown, after}
+use Rattle.key_index.specs.Told.{mark, value, keyIn, tells, begins, start, looking, sought, isKnown, after, soughtOf}
 
 -- ---- a slot after another
 
@@ -82,11 +84,27 @@ looking-below hit n at (suc k ∷ ss) a = go (hit (suc k)) (looking-below hit n 
     go true ih = a
     go false ih = ih
 
-pub free-below : (t slots : List ℕ) (k : ℕ) (id : List ℕ) (i : ℕ) → 0 < length slots → sought t slots k id ≡ Free i → i < length slots
-unfolding Below sought begins
-free-below t slots k id i p e =
+sought-below : (t slots : List ℕ) (k : ℕ) (id : List ℕ) → 0 < length slots → Below (length slots) (sought t slots k id)
+unfolding sought begins
+sought-below t slots k id p =
     let at : ℕ = begins (length slots) k id in
-    subst (Below (length slots)) e (looking-below (tells t k id) (length slots) at (around at slots) (mod-lt _ p))
+    looking-below (tells t k id) (length slots) at (around at slots) (mod-lt _ p)
+
+pub free-below : (t slots : List ℕ) (k : ℕ) (id : List ℕ) (i : ℕ) → 0 < length slots → sought t slots k id ≡ Free i → i < length slots
+unfolding Below
+free-below t slots k id i p e = subst (Below (length slots)) e (sought-below t slots k id p)
+
+pub known-below : (t slots : List ℕ) (x : Head) (i : ℕ) → 0 < length slots → soughtOf t slots x ≡ Known i → i < length slots
+unfolding Below soughtOf
+known-below t slots x i p e = subst (Below (length slots)) e (go x)
+  where
+    go : (x : Head) → Below (length slots) (soughtOf t slots x)
+    go (head.Refused n) = tt
+    go (head.Header v n) = tt
+    go (head.ReferenceSequence q l n) = sought-below t slots 2 (take (q .len) (drop (q .at) t)) p
+    go (head.ReadGroup q n) = sought-below t slots 3 (take (q .len) (drop (q .at) t)) p
+    go (head.Program q n) = sought-below t slots 4 (take (q .len) (drop (q .at) t)) p
+    go (head.Comment q) = tt
 
 -- ---- what it finds
 

@@ -1,3 +1,9 @@
+-- `key_index::look_at` meets its contract: what is looked for is the key at the place.
+use Prim.Native.Nat.{_+_, _-_}
+use mathlib.Core.Path.{_≡_, ap, _∙_}
+use native.Mathlib.Omega.{arith}
+use lib.ListN.{take, drop}
+use Rattle.key_index.specs.Told.{sought}
 use borrow.Author.Needs.{needs}
 use Rattle.key_index.proofs.look_at.Statement.{statement}
 use Rattle.key_index.proofs.look_at.Tie as tie
@@ -25,7 +31,10 @@ look-requires : tie.Need-look-requires
 look-requires c κs = search needs
 
 returns : tie.Need-returns
-returns c = ?
+returns c =
+    let a = c .before .before .before .before .before .before .args in
+    let n : a .place .at + a .place .len - a .place .at ≡ a .place .len = omega arith in
+    c .look .ensures ∙ ap (λ m. sought (a .text .now) (a .area .now) (a .kind) (take m (drop (a .place .at) (a .text .now)))) n
 
 pub look-at-spec : {M : Type 1} → statement M
 look-at-spec =

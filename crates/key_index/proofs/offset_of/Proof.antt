@@ -1,3 +1,6 @@
+-- `key_index::offset_of` meets its contract, head by head.
+use mathlib.Core.Path.{sym, ap}
+use Rattle.key_index.specs.Told.{offsetOf}
 use borrow.Author.Needs.{needs}
 use Rattle.key_index.proofs.offset_of.Statement.{statement}
 use Rattle.key_index.proofs.offset_of.Tie as tie
@@ -23,22 +26,28 @@ enum-told-3 : tie.Need-enum-told-3
 enum-told-3 c = search needs
 
 returns : tie.Need-returns
-returns c = ?
+unfolding offsetOf
+returns c = sym (ap offsetOf (c .enum-told .given .1))
 
 returns-2 : tie.Need-returns-2
-returns-2 c = ?
+unfolding offsetOf
+returns-2 c = sym (ap offsetOf (c .enum-told2 .given .1))
 
 returns-3 : tie.Need-returns-3
-returns-3 c = ?
+unfolding offsetOf
+returns-3 c = sym (ap offsetOf (c .before .head .given .1))
 
 returns-4 : tie.Need-returns-4
-returns-4 c = ?
+unfolding offsetOf
+returns-4 c = sym (ap offsetOf (c .before .head2 .given .1))
 
 returns-5 : tie.Need-returns-5
-returns-5 c = ?
+unfolding offsetOf
+returns-5 c = sym (ap offsetOf (c .before .head3 .given .1))
 
 returns-6 : tie.Need-returns-6
-returns-6 c = ?
+unfolding offsetOf
+returns-6 c = sym (ap offsetOf (c .enum-told3 .given .1))
 
 pub offset-of-spec : {M : Type 1} → statement M
 offset-of-spec =
