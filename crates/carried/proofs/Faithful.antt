@@ -1,18 +1,17 @@
 -- Carrying on is what is demanded of it.
 use Prim.Native.Nat.{ℕ, _≤_}
 use mathlib.Core.Path.{_≡_, refl, sym, ap, _∙_}
-use mathlib.Core.Bool.{Bool, true, false, cond}
+use mathlib.Core.Bool.{Bool, true, false}
 use mathlib.Core.List.{List, [], _∷_}
 use mathlib.Core.Logic.{_↔_}
-use mathlib.Core.Option.{none}
 use native.Mathlib.Omega.{arith}
 use lib.ListN.{length}
 use lib.Dec.{ltb}
 use borrow.Author.Tests.{le-ltb, ltb-false}
 use Rattle.format.specs.Records.{Record, Line}
 use Rattle.format.specs.Reading.{longest, readText}
-use Rattle.format.specs.Tidy.{tidy, unwritable}
-use Rattle.format.specs.Calls.{Answer, no, yes, then, readAnswer, records, fitting, writing, tidying}
+use Rattle.format.specs.Tidy.{tidy}
+use Rattle.format.specs.Calls.{yes, then, readAnswer, records, fitting, writing, tidying}
 use Rattle.accepted.proofs.Bools.{never}
 use Rattle.roundtrip.specs.Bare.{Equal}
 use Rattle.roundtrip.specs.Gathered.{Gathered}
@@ -21,7 +20,7 @@ use Rattle.roundtrip.proofs.Bare.{tidy-equal}
 use Rattle.roundtrip.proofs.Total.{gathered-length}
 use Rattle.roundtrip.proofs.Tidy.{tidy-tells}
 use Rattle.roundtrip.proofs.Faithful.{holds}
-use Rattle.carried.specs.Carrying.{keptOf, carriedLines, Skip, skips, rows, unwritableLine, carrying}
+use Rattle.carried.specs.Carrying.{keptOf, carriedLines, Skip, skips, rows, carrying}
 use Rattle.carried.specs.Carried.{Allowed, Carried, unlessSkipped, Faithful}
 use Rattle.carried.proofs.Skips.{reads}
 use Rattle.carried.proofs.Kept.{carried-gathered, kept-names, unskipped-names}

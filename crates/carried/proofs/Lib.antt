@@ -3,3 +3,4 @@ pub mod Keys
 pub mod Skips
 pub mod Kept
 pub mod Faithful
+pub mod Example

@@ -9,8 +9,8 @@ use borrow.Author.Tests.{le-ltb}
 use Rattle.format.specs.Lines.{Piece, lines}
 use Rattle.format.specs.Fields.{later}
 use Rattle.format.specs.Records.{Record, Line, refused, read}
-use Rattle.format.specs.Reading.{Reading, announced, isStrict, admitted, taken, readFrom, longest, readText}
-use Rattle.format.specs.Calls.{Answer, readAnswer, records}
+use Rattle.format.specs.Reading.{announced, isStrict, admitted, taken, readFrom, longest, readText}
+use Rattle.format.specs.Calls.{readAnswer, records}
 use Rattle.format.specs.declared.Version.{Version}
 use Rattle.carried.specs.Carrying.{keptOf, ruling, carriedFrom, carriedLines, skips}
 use Rattle.carried.specs.Judged.{judgedFrom}

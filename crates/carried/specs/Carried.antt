@@ -1,7 +1,7 @@
 -- What is demanded of carrying on. For texts of at most 16,777,215 bytes whose kept reference names are allowed: the tidy text of the
 -- records kept is accepted and holds them; tidying it, or carrying on over it, changes nothing and skips nothing; two texts have equal
--- tidy texts exactly when what is kept of them is equal. And for every text: reading is carrying on up to the first skip, and where
--- nothing is skipped carrying on is tidying.
+-- tidy texts exactly when what is kept of them is equal. For every text that is not too long, reading is carrying on up to the first
+-- skip; and for every text of which nothing is skipped, carrying on is tidying.
 use Prim.Native.Nat.{ℕ, _+_, _≤_}
 use mathlib.Core.Path.{_≡_}
 use mathlib.Core.Logic.{_↔_}
