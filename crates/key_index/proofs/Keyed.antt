@@ -24,7 +24,7 @@ use Rattle.admission.proofs.Admission.{stood}
 use Rattle.key_index.specs.declared.Sought.{Sought}
 use Rattle.key_index.specs.declared.Sought.the-variants.{Known, Free, Full}
 use Rattle.key_index.specs.Word.{word}
-use Rattle.key_index.specs.Told.{mark, value, tells, begins, start, sought, isKnown, after, isMet, afterMeeting}
+use Rattle.key_index.specs.Told.{mark, value, tells, begins, start, sought, isKnown, after, isMet, afterMeeting, offsetOf}
 use Rattle.key_index.specs.Keyed.{valuesOf, keysOf, Ended, Placed}
 use Rattle.key_index.proofs.LineKeys.{line-ended}
 use Rattle.key_index.proofs.Looking.{mark-same, sought-known, sought-enters, value-start, value-tells}
@@ -148,7 +148,7 @@ told-taken t rs e (head.Comment q) = refl
 
 after-length : (room : Bool) (v : ℕ) (slots : List ℕ) (s : Sought) → length (after room v slots s) ≡ length slots
 unfolding after
-after-length room v slots Known = refl
+after-length room v slots (Known i) = refl
 after-length true v slots (Free i) = length-set slots i v
 after-length false v slots (Free i) = refl
 after-length room v slots Full = refl
@@ -165,7 +165,7 @@ meeting-length room t slots (head.Comment q) = refl
 -- without room nothing changes
 after-none : (v : ℕ) (slots : List ℕ) (s : Sought) → after false v slots s ≡ slots
 unfolding after
-after-none v slots Known = refl
+after-none v slots (Known i) = refl
 after-none v slots (Free i) = refl
 after-none v slots Full = refl
 
@@ -223,6 +223,15 @@ head-placed strict t at small s = go (records.line strict (record { at = at; byt
     go (read r) e =
         let st = stood strict t (record { at = at; bytes = take (firstLine (drop at t) .len) (drop at t) }) s r e in
         record-placed t r (line-ended strict t at r small e st) st
+
+pub offset-small : (size : ℕ) (x : Head) → Placed size x → offsetOf x < 16777216
+unfolding Placed offsetOf
+offset-small size (head.Refused n) h = omega arith
+offset-small size (head.Header v n) h = omega arith
+offset-small size (head.ReferenceSequence p l n) h = h .1
+offset-small size (head.ReadGroup p n) h = h .1
+offset-small size (head.Program p n) h = h .1
+offset-small size (head.Comment p) h = omega arith
 
 -- one value, or none
 pub values-few : (r : Record) → length (valuesOf r) ≤ 1

@@ -16,10 +16,12 @@ use Rattle.format.specs.Slots.{around, full, filled, seat, seek, pick, Held}
 use Rattle.format.proofs.Slots.{around-length, around-at, filled-around, full-lt, held-enter}
 use Rattle.text.proofs.Equal.{same-equal}
 use Rattle.accepted.proofs.Bools.{and-left, and-right}
+use Rattle.record.specs.declared.Head.{Head}
+use Rattle.record.specs.declared.Head.the-variants as head
 use Rattle.key_index.specs.declared.Sought.{Sought}
 use Rattle.key_index.specs.declared.Sought.the-variants.{Known, Free, Full}
 use Rattle.key_index.specs.Word.{word}
-use Rattle.key_index.specs.Told.{mark, value, keyIn, tells, begins, start, looking, sought, isKnown, after}
+use Rattle.key_index.specs.Told.{mark, value, keyIn, tells, begins, start, looking, sought, isKnown, after, soughtOf}
 
 -- ---- a slot after another
 
@@ -28,7 +30,7 @@ module _ (hit : ℕ → Bool) (n at : ℕ) (ss : List ℕ) where
   unfolding looking
   looking-zero v e = rw e refl
 
-  looking-some : (v : ℕ) → (v ≡ 0 → ⊥) → looking hit n at (v ∷ ss) ≡ cond (hit v) Known (looking hit n ((at + 1) % n) ss)
+  looking-some : (v : ℕ) → (v ≡ 0 → ⊥) → looking hit n at (v ∷ ss) ≡ cond (hit v) (Known at) (looking hit n ((at + 1) % n) ss)
   unfolding looking
   looking-some zero e = absurd (e refl)
   looking-some (suc k) e = refl
@@ -45,17 +47,17 @@ module _ (slots : List ℕ) (s i : ℕ) (a : s < length slots) where
     at-empty z = ap (looking hit (length slots) at) (opened h) ∙ looking-zero hit (length slots) at (drop (i + 1) (around s slots)) (getD slots ((s + i) % length slots) 0) (ap (λ j. getD slots j 0) (sym e) ∙ z)
 
     at-value : (getD slots at 0 ≡ 0 → ⊥)
-        → looking hit (length slots) at (drop i (around s slots)) ≡ cond (hit (getD slots at 0)) Known (looking hit (length slots) ((at + 1) % length slots) (drop (i + 1) (around s slots)))
+        → looking hit (length slots) at (drop i (around s slots)) ≡ cond (hit (getD slots at 0)) (Known at) (looking hit (length slots) ((at + 1) % length slots) (drop (i + 1) (around s slots)))
     at-value z =
         ap (λ l. looking hit (length slots) at l) (opened h ∙ ap (λ j. getD slots j 0 ∷ drop (i + 1) (around s slots)) (sym e))
         ∙ looking-some hit (length slots) at (drop (i + 1) (around s slots)) (getD slots at 0) z
 
-    pub at-hit : (getD slots at 0 ≡ 0 → ⊥) → hit (getD slots at 0) ≡ true → looking hit (length slots) at (drop i (around s slots)) ≡ Known
-    at-hit z q = at-value z ∙ ap (λ b. cond b Known (looking hit (length slots) ((at + 1) % length slots) (drop (i + 1) (around s slots)))) q
+    pub at-hit : (getD slots at 0 ≡ 0 → ⊥) → hit (getD slots at 0) ≡ true → looking hit (length slots) at (drop i (around s slots)) ≡ Known at
+    at-hit z q = at-value z ∙ ap (λ b. cond b (Known at) (looking hit (length slots) ((at + 1) % length slots) (drop (i + 1) (around s slots)))) q
 
     pub at-other : (getD slots at 0 ≡ 0 → ⊥) → hit (getD slots at 0) ≡ false
         → looking hit (length slots) at (drop i (around s slots)) ≡ looking hit (length slots) ((at + 1) % length slots) (drop (i + 1) (around s slots))
-    at-other z q = at-value z ∙ ap (λ b. cond b Known (looking hit (length slots) ((at + 1) % length slots) (drop (i + 1) (around s slots)))) q
+    at-other z q = at-value z ∙ ap (λ b. cond b (Known at) (looking hit (length slots) ((at + 1) % length slots) (drop (i + 1) (around s slots)))) q
 
     pub at-next : (at + 1) % length slots ≡ (s + (i + 1)) % length slots
     at-next = ap (λ m. (m + 1) % length slots) e ∙ mod-add-mod (s + i) (length slots) 1 ∙ ap (λ m. m % length slots) (let z : s + i + 1 ≡ s + (i + 1) = omega arith in z)
@@ -66,9 +68,9 @@ module _ (slots : List ℕ) (s i : ℕ) (a : s < length slots) where
       let l : length (around s slots) ≤ i = omega (arith, h, around-length s slots (omega (arith, a))) in
       rw (drop-of-length-le (around s slots) l) refl
 
--- an empty slot is one of the slots
+-- a slot at which it ends is one of the slots
 unfoldable Below : ℕ → Sought → Type 0
-Below n Known = Unit
+Below n (Known i) = i < n
 Below n (Free i) = i < n
 Below n Full = Unit
 
@@ -78,15 +80,31 @@ looking-below hit n at [] a = tt
 looking-below hit n at (zero ∷ ss) a = a
 looking-below hit n at (suc k ∷ ss) a = go (hit (suc k)) (looking-below hit n ((at + 1) % n) ss (mod-lt _ (omega (arith, a))))
   where
-    go : (b : Bool) → Below n (looking hit n ((at + 1) % n) ss) → Below n (cond b Known (looking hit n ((at + 1) % n) ss))
-    go true ih = tt
+    go : (b : Bool) → Below n (looking hit n ((at + 1) % n) ss) → Below n (cond b (Known at) (looking hit n ((at + 1) % n) ss))
+    go true ih = a
     go false ih = ih
 
-pub free-below : (t slots : List ℕ) (k : ℕ) (id : List ℕ) (i : ℕ) → 0 < length slots → sought t slots k id ≡ Free i → i < length slots
-unfolding Below sought begins
-free-below t slots k id i p e =
+sought-below : (t slots : List ℕ) (k : ℕ) (id : List ℕ) → 0 < length slots → Below (length slots) (sought t slots k id)
+unfolding sought begins
+sought-below t slots k id p =
     let at : ℕ = begins (length slots) k id in
-    subst (Below (length slots)) e (looking-below (tells t k id) (length slots) at (around at slots) (mod-lt _ p))
+    looking-below (tells t k id) (length slots) at (around at slots) (mod-lt _ p)
+
+pub free-below : (t slots : List ℕ) (k : ℕ) (id : List ℕ) (i : ℕ) → 0 < length slots → sought t slots k id ≡ Free i → i < length slots
+unfolding Below
+free-below t slots k id i p e = subst (Below (length slots)) e (sought-below t slots k id p)
+
+pub known-below : (t slots : List ℕ) (x : Head) (i : ℕ) → 0 < length slots → soughtOf t slots x ≡ Known i → i < length slots
+unfolding Below soughtOf
+known-below t slots x i p e = subst (Below (length slots)) e (go x)
+  where
+    go : (x : Head) → Below (length slots) (soughtOf t slots x)
+    go (head.Refused n) = tt
+    go (head.Header v n) = tt
+    go (head.ReferenceSequence q l n) = sought-below t slots 2 (take (q .len) (drop (q .at) t)) p
+    go (head.ReadGroup q n) = sought-below t slots 3 (take (q .len) (drop (q .at) t)) p
+    go (head.Program q n) = sought-below t slots 4 (take (q .len) (drop (q .at) t)) p
+    go (head.Comment q) = tt
 
 -- ---- what it finds
 
@@ -96,7 +114,7 @@ known-seek hit n at [] = refl
 known-seek hit n at (zero ∷ ss) = refl
 known-seek hit n at (suc k ∷ ss) = go (hit (suc k)) (known-seek hit n ((at + 1) % n) ss)
   where
-    go : (b : Bool) → isKnown (looking hit n ((at + 1) % n) ss) ≡ ltb 0 (seek hit ss) → isKnown (cond b Known (looking hit n ((at + 1) % n) ss)) ≡ ltb 0 (cond b (suc k) (seek hit ss))
+    go : (b : Bool) → isKnown (looking hit n ((at + 1) % n) ss) ≡ ltb 0 (seek hit ss) → isKnown (cond b (Known at) (looking hit n ((at + 1) % n) ss)) ≡ ltb 0 (cond b (suc k) (seek hit ss))
     go true ih = sym (lt-ltb 0 (suc k) (omega arith))
     go false ih = ih
 
@@ -107,7 +125,7 @@ free-seat hit n at (zero ∷ ss) a l e = ap Free (sym (mod-eq-of-lt a) ∙ ap (�
 free-seat hit n at (suc k ∷ ss) a l e = go (hit (suc k)) e (free-seat hit n ((at + 1) % n) ss (mod-lt _ (omega (arith, a))) (omega (arith, l)))
   where
     go : (b : Bool) → cond b (suc k) (seek hit ss) ≡ 0 → (seek hit ss ≡ 0 → looking hit n ((at + 1) % n) ss ≡ Free (((at + 1) % n + full ss) % n))
-        → cond b Known (looking hit n ((at + 1) % n) ss) ≡ Free ((at + suc (full ss)) % n)
+        → cond b (Known at) (looking hit n ((at + 1) % n) ss) ≡ Free ((at + suc (full ss)) % n)
     go true e ih = absurd (omega (arith, e))
     go false e ih = ih e ∙ ap Free (mod-add-mod (at + 1) n (full ss) ∙ ap (λ m. m % n) (let z : at + 1 + full ss ≡ at + suc (full ss) = omega arith in z))
 

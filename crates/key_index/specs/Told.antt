@@ -2,7 +2,7 @@
 use Prim.Native.Nat.{ℕ, zero, suc, _+_, _*_, _/_, _%_}
 use mathlib.Core.Bool.{Bool, true, false, _&&_, cond}
 use mathlib.Core.List.{List, [], _∷_}
-use lib.ListN.{length, take, drop, set}
+use lib.ListN.{length, take, drop, set, getD}
 use lib.Dec.{eqb}
 use Rattle.format.specs.Bytes.{same}
 use Rattle.key_index.specs.Hash.{hashFrom}
@@ -52,7 +52,7 @@ start t n v = begins n (v / 536870912) (keyIn t v)
 unfoldable pub looking : (ℕ → Bool) → ℕ → ℕ → List ℕ → Sought
 looking hit n at [] = Full
 looking hit n at (zero ∷ ss) = Free at
-looking hit n at (suc k ∷ ss) = cond (hit (suc k)) Known (looking hit n ((at + 1) % n) ss)
+looking hit n at (suc k ∷ ss) = cond (hit (suc k)) (Known at) (looking hit n ((at + 1) % n) ss)
 
 -- for the key `id` of kind `k`
 unfoldable pub sought : List ℕ → List ℕ → ℕ → List ℕ → Sought
@@ -62,13 +62,26 @@ sought t slots k id =
     looking (tells t k id) (length slots) at (around at slots)
 
 unfoldable pub isKnown : Sought → Bool
-isKnown Known = true
+isKnown (Known i) = true
 isKnown (Free i) = false
 isKnown Full = false
 
+-- where a slot tells it, that slot keeps its mark and tells it by the offset `at`
+unfoldable pub pointed : ℕ → List ℕ → Sought → List ℕ
+unfolding value
+pointed at slots (Known i) = set slots i (value (getD slots i 0 / 16777216) at)
+pointed at slots (Free i) = slots
+pointed at slots Full = slots
+
+-- does no slot tell it by another offset than `at`?
+unfoldable pub isOwn : ℕ → List ℕ → Sought → Bool
+isOwn at slots (Known i) = eqb (getD slots i 0 % 16777216) at
+isOwn at slots (Free i) = true
+isOwn at slots Full = true
+
 -- the slots after that: a key that is new enters, where there is room
 unfoldable pub after : Bool → ℕ → List ℕ → Sought → List ℕ
-after room v slots Known = slots
+after room v slots (Known i) = slots
 after room v slots (Free i) = cond room (set slots i v) slots
 after room v slots Full = slots
 
@@ -93,3 +106,32 @@ afterMeeting room t slots (head.ReferenceSequence p l n) = after room (value (ma
 afterMeeting room t slots (head.ReadGroup p n) = after room (value (mark 3 (take (p .len) (drop (p .at) t))) (p .at)) slots (sought t slots 3 (take (p .len) (drop (p .at) t)))
 afterMeeting room t slots (head.Program p n) = after room (value (mark 4 (take (p .len) (drop (p .at) t))) (p .at)) slots (sought t slots 4 (take (p .len) (drop (p .at) t)))
 afterMeeting room t slots (head.Comment p) = slots
+
+-- looking for it; no slot tells a head without a key
+unfoldable pub soughtOf : List ℕ → List ℕ → Head → Sought
+unfolding sought
+soughtOf t slots (head.Refused n) = Full
+soughtOf t slots (head.Header v n) = Full
+soughtOf t slots (head.ReferenceSequence p l n) = sought t slots 2 (take (p .len) (drop (p .at) t))
+soughtOf t slots (head.ReadGroup p n) = sought t slots 3 (take (p .len) (drop (p .at) t))
+soughtOf t slots (head.Program p n) = sought t slots 4 (take (p .len) (drop (p .at) t))
+soughtOf t slots (head.Comment p) = Full
+
+-- where it stands; 0 for a head without a key
+unfoldable pub offsetOf : Head → ℕ
+offsetOf (head.Refused n) = 0
+offsetOf (head.Header v n) = 0
+offsetOf (head.ReferenceSequence p l n) = p .at
+offsetOf (head.ReadGroup p n) = p .at
+offsetOf (head.Program p n) = p .at
+offsetOf (head.Comment p) = 0
+
+-- the slots after a slot that tells it was set to the head's own offset
+unfoldable pub afterPointing : List ℕ → List ℕ → Head → List ℕ
+unfolding pointed offsetOf soughtOf
+afterPointing t slots x = pointed (offsetOf x) slots (soughtOf t slots x)
+
+-- does no slot tell it by another offset than the head's own?
+unfoldable pub isFirst : List ℕ → List ℕ → Head → Bool
+unfolding isOwn offsetOf soughtOf
+isFirst t slots x = isOwn (offsetOf x) slots (soughtOf t slots x)

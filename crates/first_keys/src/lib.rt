@@ -1,0 +1,88 @@
+// Where the keys of a block of lines stood first: each key of the block is told by the offset of its first line there, or by one before
+// the block, where a line before it has the key too.
+use record::Head;
+ghost use mathlib.Core.Path.{_≡_};
+ghost use Prim.Native.Nat.{_≤_, _<_, _+_, _*_, _/_};
+ghost use lib.ListN.{length, take, drop};
+ghost use Rattle.format.specs.Lines.{linesFrom};
+ghost use Rattle.format.specs.Records.{line};
+ghost use Rattle.text.specs.First.{firstLine};
+ghost use Rattle.record.specs.Head.{headOf};
+ghost use Rattle.key_index.specs.Keyed.{Placed};
+ghost use Rattle.first_keys.specs.Blocks.{firstAt, after, earlier, entered, pointedBack, filledFor};
+
+// A line's head, and the offset of the line after it.
+struct Parsed {
+    head: Head,
+    next: usize,
+}
+
+// The line at the offset `at`, parsed.
+fn parse_at(text: &[u8], strict: bool, at: usize) -> Parsed
+    requires { ⌜ length (now text) ≤ 16777216 ⌝ }
+    requires { ⌜ at < length (now text) ⌝ }
+    ensures head { λ r. ⌜ r .head ≡ headOf (line strict (firstAt at (now (text .entry)))) ⌝ }
+    ensures next { λ r. ⌜ r .next ≡ at + firstLine (drop at (now (text .entry))) .next ⌝ }
+    ensures placed { λ r. ⌜ Placed (length (now (text .entry))) (r .head) ⌝ }
+{
+    let cut = text::first_line(&text[at..]);
+    let end = at + cut.len;
+    let head = record::parse_record(&text[at..end], at, strict);
+    Parsed {
+        head,
+        next: at + cut.next,
+    }
+}
+
+// The keys of up to `many` lines from the offset `at` on enter the area, of equal ones the first; the offset after these lines.
+fn enter(text: &[u8], strict: bool, area: &mut [u32], at: usize, many: usize) -> usize
+    requires { ⌜ length (now text) ≤ 16777216 ⌝ }
+    requires { ⌜ 0 < length (now area) ⌝ }
+    requires { ⌜ at ≤ length (now text) ⌝ }
+    ensures end { λ r. ⌜ r ≡ after many at (now (text .entry)) ⌝ }
+    ensures wrote { λ _. ⌜ now (area .exit) ≡ entered strict (now (text .entry)) (now (area .entry)) (take many (linesFrom at (drop at (now (text .entry))))) ⌝ }
+{
+    let mut end = at;
+    let mut n: usize = 0;
+    while n < many {
+        if end == text.len() {
+            return end;
+        }
+        let parsed = parse_at(text, strict, end);
+        key_index::meet(text, area, parsed.head, true);
+        end = parsed.next;
+        n += 1;
+    }
+    end
+}
+
+// The lines that start from the offset `from` on and before `to`: a slot that tells the key of one tells it by that line's offset from now on.
+fn point_back(text: &[u8], strict: bool, area: &mut [u32], from: usize, to: usize)
+    requires { ⌜ length (now text) ≤ 16777216 ⌝ }
+    requires { ⌜ 0 < length (now area) ⌝ }
+    requires { ⌜ to ≤ length (now text) ⌝ }
+    ensures { λ _. ⌜ now (area .exit) ≡ pointedBack strict (now (text .entry)) (now (area .entry)) (earlier to (linesFrom from (drop from (now (text .entry))))) ⌝ }
+{
+    let mut at = from;
+    while at < to {
+        let parsed = parse_at(text, strict, at);
+        key_index::point(text, area, parsed.head);
+        at = parsed.next;
+    }
+}
+
+// Fills the area for the block of lines from the offset `at` on, three lines for each four slots, after the lines from `from` on: whether a
+// line of the block has its key for the first time is told by `key_index::is_first` from now on. The offset after the block.
+pub fn fill(text: &[u8], strict: bool, area: &mut [u32], from: usize, at: usize) -> usize
+    requires { ⌜ length (now text) ≤ 16777216 ⌝ }
+    requires { ⌜ 0 < length (now area) ⌝ }
+    requires { ⌜ at ≤ length (now text) ⌝ }
+    ensures end { λ r. ⌜ r ≡ after (length (now (area .entry)) / 4 * 3) at (now (text .entry)) ⌝ }
+    ensures wrote { λ _. ⌜ now (area .exit) ≡ filledFor strict (now (text .entry)) (length (now (area .entry))) from at ⌝ }
+{
+    key_index::clear(area);
+    let many = area.len() / 4 * 3;
+    let end = enter(text, strict, area, at, many);
+    point_back(text, strict, area, from, at);
+    end
+}

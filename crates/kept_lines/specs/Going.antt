@@ -1,0 +1,58 @@
+-- What holds where judging stands, among the lines from the offset `from` on.
+use Prim.Native.Nat.{ℕ, _+_, _*_, _/_, _≤_, _<_}
+use mathlib.Core.Path.{_≡_}
+use mathlib.Core.Bool.{Bool}
+use mathlib.Core.List.{List, [], _∷_, _++_}
+use lib.ListN.{length, take, drop}
+use Rattle.format.specs.Lines.{Piece, linesFrom}
+use Rattle.format.specs.Records.{Record, Line}
+use Rattle.format.specs.Reading.{ofKind}
+use Rattle.format.specs.Slots.{Held}
+use Rattle.text.specs.Stands.{Each}
+use Rattle.admission.specs.Admission.{refusalOf}
+use Rattle.carried.specs.Carrying.{keptOf}
+use Rattle.carried.specs.Judged.{judgedFrom}
+use Rattle.key_index.specs.Told.{start}
+use Rattle.key_index.specs.Keyed.{keysOf, Ended}
+use Rattle.first_keys.specs.Blocks.{earlier, filledFor}
+use Rattle.kept_lines.specs.declared.Cursor.{Cursor}
+
+-- the lines from an offset on, each judged
+unfoldable pub judgedLines : Bool → List ℕ → ℕ → List Line
+unfolding judgedFrom linesFrom
+judgedLines strict t from = judgedFrom strict [] (linesFrom from (drop from t))
+
+-- 0, or why the first of some lines is refused
+unfoldable pub refusalFirst : List Line → ℕ
+unfolding refusalOf
+refusalFirst [] = 0
+refusalFirst (l ∷ ls) = refusalOf l
+
+-- 0, or why the line with a number is refused
+unfoldable pub refusalAt : ℕ → List Line → ℕ
+unfolding refusalFirst
+refusalAt n ls = refusalFirst (drop n ls)
+
+-- the block: the area is filled for the lines from the offset `begin` on, of which `done` are judged
+pub record Block (strict : Bool) (t : List ℕ) (from : ℕ) (area : List ℕ) (passed : List Piece) (at left : ℕ) : Type 0 where
+  pub begin : ℕ
+  pub done : List Piece
+  pub front : passed ≡ earlier begin (linesFrom from (drop from t)) ++ done
+  pub lines : take (length area / 4 * 3) (linesFrom begin (drop begin t)) ≡ done ++ take left (linesFrom at (drop at t))
+  pub filled : area ≡ filledFor strict t (length area) from begin
+
+pub record Going (strict : Bool) (t : List ℕ) (from : ℕ) (area ids : List ℕ) (c : Cursor) : Type 0 where
+  pub passed : List Piece
+  pub split : linesFrom from (drop from t) ≡ passed ++ linesFrom (c .at) (drop (c .at) t)
+  pub below : Each (λ p. p .at < c .at) passed
+  pub inside : c .at ≤ length t
+  pub slow : c .line ≤ c .at
+  pub number : c .line ≡ length passed
+  pub counted : c .kept ≡ length (keptOf (judgedFrom strict [] passed))
+  pub told : c .programs ≡ length (ofKind 4 (keptOf (judgedFrom strict [] passed)))
+  pub ended : Each (Ended t) (ofKind 4 (keptOf (judgedFrom strict [] passed)))
+  pub held : Held (start t (length ids)) ids (keysOf (ofKind 4 (keptOf (judgedFrom strict [] passed))))
+  pub few : c .programs ≤ 1024
+  pub some : 4 ≤ length area
+  pub room : length ids ≡ 2048
+  pub block : 0 < c .left → Block strict t from area passed (c .at) (c .left)

@@ -1,0 +1,49 @@
+-- What the slots tell of a line's key, and where judging stands after the line.
+use Prim.Native.Nat.{ℕ, zero, suc, _+_, _-_, _*_, _/_}
+use mathlib.Core.Bool.{Bool, not}
+use mathlib.Core.List.{List}
+use lib.ListN.{length}
+use Rattle.record.specs.declared.Head.{Head}
+use Rattle.record.specs.declared.Head.the-variants as head
+use Rattle.admission.specs.Admission.{programsOf}
+use Rattle.key_index.specs.Told.{isMet, afterMeeting, isFirst}
+use Rattle.first_keys.specs.Blocks.{filledFor}
+use Rattle.kept_lines.specs.declared.Cursor.{Cursor}
+
+-- is a head's key used? Programs that are kept are in the slots `ids`; the slots `area` tell where other keys stood first
+unfoldable pub usedBy : List ℕ → List ℕ → List ℕ → Head → Bool
+unfolding isMet isFirst
+usedBy t area ids (head.Refused n) = not (isFirst t area (head.Refused n))
+usedBy t area ids (head.Header v n) = not (isFirst t area (head.Header v n))
+usedBy t area ids (head.ReferenceSequence p l n) = not (isFirst t area (head.ReferenceSequence p l n))
+usedBy t area ids (head.ReadGroup p n) = not (isFirst t area (head.ReadGroup p n))
+usedBy t area ids (head.Program p n) = isMet t ids (head.Program p n)
+usedBy t area ids (head.Comment p) = not (isFirst t area (head.Comment p))
+
+-- the slots `ids` after it
+unfoldable pub idsAfter : Bool → List ℕ → List ℕ → Head → List ℕ
+unfolding afterMeeting
+idsAfter room t ids (head.Refused n) = ids
+idsAfter room t ids (head.Header v n) = ids
+idsAfter room t ids (head.ReferenceSequence p l n) = ids
+idsAfter room t ids (head.ReadGroup p n) = ids
+idsAfter room t ids (head.Program p n) = afterMeeting room t ids (head.Program p n)
+idsAfter room t ids (head.Comment p) = ids
+
+-- how many lines are left in a block of `n` slots, at a line: a block begins where none is
+unfoldable pub leftAt : ℕ → ℕ → ℕ
+leftAt n zero = n / 4 * 3
+leftAt n (suc k) = suc k
+
+-- and the area
+unfoldable pub filledAt : Bool → List ℕ → ℕ → List ℕ → ℕ → ℕ → List ℕ
+unfolding filledFor
+filledAt strict t from area at zero = filledFor strict t (length area) from at
+filledAt strict t from area at (suc k) = area
+
+-- where judging stands after a line: `n` is 0 where it is kept
+unfoldable pub advanced : Cursor → ℕ → ℕ → Head → ℕ → Cursor
+unfolding programsOf
+advanced c next left x zero =
+    record { at = next; line = c .line + 1; left = left - 1; kept = c .kept + 1; programs = c .programs + programsOf x }
+advanced c next left x (suc n) = record { at = next; line = c .line + 1; left = left - 1; kept = c .kept; programs = c .programs }
