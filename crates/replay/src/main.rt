@@ -22,7 +22,7 @@
 //     names TEXT KEPT LIST WORK ROOM ok ORDINALS INDEX LOOKS
 // or `refused NUMBER LINE` in place of `ok ..`. ORDINALS have four hex digits each; those of names have eight, and so have the slots of
 // INDEX; LOOKS is `-` where it is not stored. `program TEXT BYTES` has what the program on standard input writes, `tidy TEXT ROOM ok BYTES` the
-// tidy text. A line of the oracle has its text first; each such text is read, tidied, and asked for its roots and leaves. Of an output that is
+// tidy text, `carry_on TEXT ROOM TABLE ok BYTES ROWS` what is kept and the table, eight digits each number. A line of the oracle has its text first; each such text is read, tidied, and asked for its roots and leaves. Of an output that is
 // lent every element is looked at: what is not the answer must be as it was. Where the field call's answer stands no program can see: its
 // contract says it.
 //
@@ -32,6 +32,7 @@ use calls::KeyAnswer;
 use calls::LeavesAnswer;
 use calls::LengthAnswer;
 use calls::LineAnswer;
+use carry_on::Carried;
 use format::LineNo;
 use libc::STDOUT_FILENO;
 use names::NamesAnswer;
@@ -63,19 +64,21 @@ const PROGRAM: usize = 9;
 
 const TIDIED: usize = 10;
 
-const REFUSED: usize = 11;
+const CARRIED: usize = 11;
 
-const ACCEPTED: usize = 12;
+const REFUSED: usize = 12;
 
-const UNWRITABLE: usize = 13;
+const ACCEPTED: usize = 13;
 
-const UNKNOWN: usize = 14;
+const UNWRITABLE: usize = 14;
 
-const WRONG: usize = 15;
+const UNKNOWN: usize = 15;
 
-const MARKED: usize = 16;
+const WRONG: usize = 16;
 
-const FOUND: usize = 17;
+const MARKED: usize = 17;
+
+const FOUND: usize = 18;
 
 // Whether `s` is `n` in decimal, without leading zeros.
 fn is_number(s: &[u8], n: u64) -> bool {
@@ -397,12 +400,33 @@ fn is_tidied(line: &[u8], text: &[u8], out: &mut [u8]) -> bool {
     }
 }
 
+// Whether what is kept and the table of the skipped lines are the line's, in an output and a table of as many elements as it says.
+fn is_carried(line: &[u8], text: &[u8], out: &mut [u8], table: &mut [u32]) -> bool {
+    let room = stored_cases::least(stored_cases::number(stored_cases::word(line, 2)), out.len());
+    let rows = stored_cases::least(stored_cases::number(stored_cases::word(line, 3)), table.len());
+    match carry_on::carry_on(text, &mut out[..room], &mut table[..rows]) {
+        Carried::Refused(n, no) => {
+            is_refusal(line, 4, n, no) && stored_cases::is_untouched(out) && stored_cases::is_unlisted(table)
+        }
+        Carried::Written(n, skipped) => {
+            is_ok(line, 4, 2)
+                && is_text(stored_cases::word(line, 5), out, n)
+                && skipped <= table.len() / 2
+                && is_list(stored_cases::word(line, 6), table, 2 * skipped, 8)
+        }
+    }
+}
+
 // Whether a call over a text alone answers as the line says.
 fn is_written(line: &[u8], asked: usize, text: &[u8]) -> bool {
     if asked == PROGRAM {
         return is_program(line, text);
     }
     let mut out = bytes();
+    if asked == CARRIED {
+        let mut table = ordinals();
+        return is_carried(line, text, &mut out, &mut table);
+    }
     is_tidied(line, text, &mut out)
 }
 
@@ -533,11 +557,20 @@ fn asked_by(line: &[u8]) -> usize {
     if text::same(call, b"names") {
         return NAMES;
     }
+    written_by(line)
+}
+
+// What a line asks of a text alone.
+fn written_by(line: &[u8]) -> usize {
+    let call = stored_cases::word(line, 0);
     if text::same(call, b"program") {
         return PROGRAM;
     }
     if text::same(call, b"tidy") {
         return TIDIED;
+    }
+    if text::same(call, b"carry_on") {
+        return CARRIED;
     }
     judged_by(stored_cases::word(line, 1))
 }
@@ -689,7 +722,7 @@ fn print_count(name: &[u8], n: u32) {
 
 // Writes how many lines ask each call.
 fn print_asked(tally: &[u32])
-    requires { ⌜ length (now tally) ≡ 18 ⌝ }
+    requires { ⌜ length (now tally) ≡ 19 ⌝ }
 {
     print_count(b" count ", tally[COUNT]);
     print_count(b" key ", tally[KEY]);
@@ -702,11 +735,12 @@ fn print_asked(tally: &[u32])
     print_count(b" names ", tally[NAMES]);
     print_count(b" program ", tally[PROGRAM]);
     print_count(b" tidy ", tally[TIDIED]);
+    print_count(b" carry_on ", tally[CARRIED]);
 }
 
 // Writes how many texts the crate judged in each way, and how many lines ask nothing.
 fn print_judged(tally: &[u32])
-    requires { ⌜ length (now tally) ≡ 18 ⌝ }
+    requires { ⌜ length (now tally) ≡ 19 ⌝ }
 {
     print_count(b" refused ", tally[REFUSED]);
     print_count(b" accepted ", tally[ACCEPTED]);
@@ -716,7 +750,7 @@ fn print_judged(tally: &[u32])
 
 // Writes how many answers were wrong, and how many of the marked lines were found.
 fn print_found(tally: &[u32])
-    requires { ⌜ length (now tally) ≡ 18 ⌝ }
+    requires { ⌜ length (now tally) ≡ 19 ⌝ }
 {
     print_number(b" wrong ", tally[WRONG]);
     print_number(b", known wrong found ", tally[FOUND]);
@@ -733,7 +767,7 @@ fn replay(place: usize) {
         os::fail(&name[..n]);
         return;
     }
-    let mut tally: [u32; 18] = [0; 18];
+    let mut tally: [u32; 19] = [0; 19];
     all_blocks(fd, &mut tally);
     libc::close(fd);
     io::write_all(STDOUT_FILENO, &name[..n]);
