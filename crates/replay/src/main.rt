@@ -21,10 +21,14 @@
 //     add TEXT KEPT ROOM PREFIX FIELDS ok BYTES
 //     names TEXT KEPT LIST WORK ROOM ok ORDINALS INDEX LOOKS
 // or `refused NUMBER LINE` in place of `ok ..`. ORDINALS have four hex digits each; those of names have eight, and so have the slots of
-// INDEX; LOOKS is `-` where it is not stored. `program TEXT BYTES` has what the program on standard input writes, `tidy TEXT ROOM ok BYTES` the
-// tidy text, `carry_on TEXT ROOM TABLE ok BYTES ROWS` what is kept and the table, eight digits each number. A line of the oracle has its text first; each such text is read, tidied, and asked for its roots and leaves. Of an output that is
-// lent every element is looked at: what is not the answer must be as it was. Where the field call's answer stands no program can see: its
-// contract says it.
+// INDEX; LOOKS is `-` where it is not stored. Over a text alone:
+//     program TEXT BYTES
+//     tidy TEXT ROOM ok BYTES
+//     carry_on TEXT ROOM TABLE ok BYTES ROWS
+// have what the program on standard input writes, the tidy text, and the tidy text of what is kept with the table of what is skipped, eight
+// digits for each number. A line of the oracle has its text first; each such text is read, tidied, and asked for its roots and leaves. Of an
+// output that is lent every element is looked at: what is not the answer must be as it was. Where the field call's answer stands no program
+// can see: its contract says it.
 //
 // A line that starts with `!` holds a wrong answer, and the program must find it wrong: so it is seen that each comparison can fail. One that
 // starts with `#` is a note.
