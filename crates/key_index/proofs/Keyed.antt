@@ -31,7 +31,7 @@ use Rattle.key_index.proofs.Looking.{mark-same, sought-known, sought-en
 
 -- ---- which records have a key
 
-value-some : (k : ℕ) (id : List ℕ) (at : ℕ) → 0 < k → value (mark k id) at ≡ 0 → ⊥
+pub value-some : (k : ℕ) (id : List ℕ) (at : ℕ) → 0 < k → value (mark k id) at ≡ 0 → ⊥
 unfolding value mark
 value-some k id at h e = omega (arith, h, e)
 
