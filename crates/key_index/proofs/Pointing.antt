@@ -87,7 +87,7 @@ unfolding tells begins around seek
 toldBy t slots k id = seek (tells t k id) (around (begins (length slots) k id) slots)
 
 -- a value tells one key alone
-tells-one : (t : List ℕ) (k j : ℕ) (id ib : List ℕ) (v : ℕ) → tells t k id v ≡ true → tells t j ib v ≡ true → (k ≡ j) × (id ≡ ib)
+pub tells-one : (t : List ℕ) (k j : ℕ) (id ib : List ℕ) (v : ℕ) → tells t k id v ≡ true → tells t j ib v ≡ true → (k ≡ j) × (id ≡ ib)
 unfolding tells
 tells-one t k j id ib v e f =
     let m : mark k id ≡ v / 16777216 = eqb-true (mark k id) (v / 16777216) (and-left (eqb (mark k id) (v / 16777216)) (same id (keyIn t v)) e) in
