@@ -49,7 +49,8 @@ fn enter(text: &[u8], strict: bool, area: &mut [u32], at: usize, many: usize) ->
             return end;
         }
         let parsed = parse_at(text, strict, end);
-        key_index::meet(text, area, parsed.head, true);
+        let head = parsed.head;
+        key_index::meet(text, area, head, true);
         end = parsed.next;
         n += 1;
     }
@@ -66,7 +67,8 @@ fn point_back(text: &[u8], strict: bool, area: &mut [u32], from: usize, to: usiz
     let mut at = from;
     while at < to {
         let parsed = parse_at(text, strict, at);
-        key_index::point(text, area, parsed.head);
+        let head = parsed.head;
+        key_index::point(text, area, head);
         at = parsed.next;
     }
 }

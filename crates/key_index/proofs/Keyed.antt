@@ -1,10 +1,10 @@
 -- The slots that hold the keys of some records: a key is met exactly where one of them has it, and one more enters.
-use Prim.Native.Nat.{ℕ, zero, suc, _+_, _-_, _*_, _≤_, _<_}
+use Prim.Native.Nat.{ℕ, zero, suc, _+_, _-_, _*_, _/_, _≤_, _<_}
 use mathlib.Core.Path.{_≡_, refl, sym, ap, subst, _∙_}
 use mathlib.Core.Bool.{Bool, true, false, _&&_, _||_, cond, false≢true}
 use mathlib.Core.List.{List, [], _∷_, _++_, map, append-nil, append-assoc}
 use native.Mathlib.Omega.{arith}
-use lib.ListN.{length, take, drop, set, replicate, length-set, length-append}
+use lib.ListN.{length, take, drop, set, getD, replicate, length-set, length-append}
 use lib.Dec.{eqb, ltb, leb}
 use borrow.Author.Tests.{lt-ltb, ltb-false}
 use Rattle.format.specs.Bytes.{any, same}
@@ -24,14 +24,14 @@ use Rattle.admission.proofs.Admission.{stood}
 use Rattle.key_index.specs.declared.Sought.{Sought}
 use Rattle.key_index.specs.declared.Sought.the-variants.{Known, Free, Full}
 use Rattle.key_index.specs.Word.{word}
-use Rattle.key_index.specs.Told.{mark, value, tells, begins, start, sought, isKnown, after, isMet, afterMeeting, offsetOf}
+use Rattle.key_index.specs.Told.{mark, value, tells, begins, start, sought, isKnown, after, isMet, afterMeeting, pointed, soughtOf, offsetOf, afterPointing}
 use Rattle.key_index.specs.Keyed.{valuesOf, keysOf, Ended, Placed}
 use Rattle.key_index.proofs.LineKeys.{line-ended}
 use Rattle.key_index.proofs.Looking.{mark-same, sought-known, sought-enters, value-start, value-tells}
 
 -- ---- which records have a key
 
-value-some : (k : ℕ) (id : List ℕ) (at : ℕ) → 0 < k → value (mark k id) at ≡ 0 → ⊥
+pub value-some : (k : ℕ) (id : List ℕ) (at : ℕ) → 0 < k → value (mark k id) at ≡ 0 → ⊥
 unfolding value mark
 value-some k id at h e = omega (arith, h, e)
 
@@ -161,6 +161,32 @@ meeting-length room t slots (head.ReferenceSequence q l n) = after-length room (
 meeting-length room t slots (head.ReadGroup q n) = after-length room (value (mark 3 (take (q .len) (drop (q .at) t))) (q .at)) slots (sought t slots 3 (take (q .len) (drop (q .at) t)))
 meeting-length room t slots (head.Program q n) = after-length room (value (mark 4 (take (q .len) (drop (q .at) t))) (q .at)) slots (sought t slots 4 (take (q .len) (drop (q .at) t)))
 meeting-length room t slots (head.Comment q) = refl
+
+pointed-length : (at : ℕ) (slots : List ℕ) (s : Sought) → length (pointed at slots s) ≡ length slots
+unfolding pointed
+pointed-length at slots (Known i) = length-set slots i (value (getD slots i 0 / 16777216) at)
+pointed-length at slots (Free i) = refl
+pointed-length at slots Full = refl
+
+pub pointing-length : (t slots : List ℕ) (x : Head) → length (afterPointing t slots x) ≡ length slots
+unfolding afterPointing
+pointing-length t slots x = pointed-length (offsetOf x) slots (soughtOf t slots x)
+
+-- one that is met does not enter
+after-known : (room : Bool) (v : ℕ) (slots : List ℕ) (s : Sought) → isKnown s ≡ true → after room v slots s ≡ slots
+unfolding after isKnown
+after-known room v slots (Known i) e = refl
+after-known room v slots (Free i) e = absurd (false≢true e)
+after-known room v slots Full e = refl
+
+pub meeting-met : (room : Bool) (t slots : List ℕ) (x : Head) → isMet t slots x ≡ true → afterMeeting room t slots x ≡ slots
+unfolding isMet afterMeeting
+meeting-met room t slots (head.Refused n) e = refl
+meeting-met room t slots (head.Header v n) e = refl
+meeting-met room t slots (head.ReferenceSequence q l n) e = after-known room (value (mark 2 (take (q .len) (drop (q .at) t))) (q .at)) slots (sought t slots 2 (take (q .len) (drop (q .at) t))) e
+meeting-met room t slots (head.ReadGroup q n) e = after-known room (value (mark 3 (take (q .len) (drop (q .at) t))) (q .at)) slots (sought t slots 3 (take (q .len) (drop (q .at) t))) e
+meeting-met room t slots (head.Program q n) e = after-known room (value (mark 4 (take (q .len) (drop (q .at) t))) (q .at)) slots (sought t slots 4 (take (q .len) (drop (q .at) t))) e
+meeting-met room t slots (head.Comment q) e = refl
 
 -- without room nothing changes
 after-none : (v : ℕ) (slots : List ℕ) (s : Sought) → after false v slots s ≡ slots
