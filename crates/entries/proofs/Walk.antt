@@ -12,7 +12,7 @@ use Rattle.text.specs.Stands.{Each}
 use Rattle.text.specs.Little.{ofLittle}
 use Rattle.entries.specs.declared.Entry.{Entry}
 use Rattle.entries.specs.declared.Entry.the-variants.{End, Header, ReferenceSequence, ReadGroup, Program, Comment, Field}
-use Rattle.entries.specs.Entries.{kindOf, kindSize, sizeOf, versionOf, placeOf, bodied, entryOf, bytesOf, Fits, entriesWithin, entriesIn, counted, entriesBefore}
+use Rattle.entries.specs.Entries.{kindOf, kindSize, sizeOf, versionOf, placeOf, lineOf, bodied, entryOf, bytesOf, Fits, entriesWithin, entriesIn, counted, entriesBefore}
 use Rattle.entries.proofs.Written.{fit-size, end-size, first-entry, other-entries, no-entry}
 
 -- ---- an entry is within its bytes
@@ -22,12 +22,12 @@ unfolding sizeOf kindOf kindSize bodied
 body-size k s = go (eqb k 1) (eqb k 2) (eqb k 3) (eqb k 4) (eqb k 5) (eqb k 6)
   where
     go : (t u v w x y : Bool)
-        → sizeOf (cond t (Header (versionOf s))
-        (cond u (ReferenceSequence (placeOf s) (ofLittle (take 8 (drop 8 s))))
-        (cond v (ReadGroup (placeOf s))
-        (cond w (Program (placeOf s))
-        (cond x (Comment (placeOf s)) (cond y (Field (getD s 0 0) (getD s 1 0) (placeOf (drop 2 s))) End))))))
-        ≡ cond t 9 (cond u 17 (cond v 9 (cond w 9 (cond x 9 (cond y 11 0)))))
+        → sizeOf (cond t (Header (versionOf s) (lineOf (drop 8 s)))
+        (cond u (ReferenceSequence (placeOf s) (ofLittle (take 8 (drop 8 s))) (lineOf (drop 16 s)))
+        (cond v (ReadGroup (placeOf s) (lineOf (drop 8 s)))
+        (cond w (Program (placeOf s) (lineOf (drop 8 s)))
+        (cond x (Comment (placeOf s) (lineOf (drop 8 s))) (cond y (Field (getD s 0 0) (getD s 1 0) (placeOf (drop 2 s))) End))))))
+        ≡ cond t 13 (cond u 21 (cond v 13 (cond w 13 (cond x 13 (cond y 11 0)))))
     go true u v w x y = refl
     go false true v w x y = refl
     go false false true w x y = refl
@@ -40,11 +40,11 @@ body-size k s = go (eqb k 1) (eqb k 2) (eqb k 3) (eqb k 4) (eqb k 5) (eqb k 6)
 pub size-end : (e : Entry) → sizeOf e ≡ 0 → e ≡ End
 unfolding sizeOf kindOf kindSize
 size-end End h = refl
-size-end (Header v) h = absurd (omega arith)
-size-end (ReferenceSequence p n) h = absurd (omega arith)
-size-end (ReadGroup p) h = absurd (omega arith)
-size-end (Program p) h = absurd (omega arith)
-size-end (Comment p) h = absurd (omega arith)
+size-end (Header v l) h = absurd (omega arith)
+size-end (ReferenceSequence p n l) h = absurd (omega arith)
+size-end (ReadGroup p l) h = absurd (omega arith)
+size-end (Program p l) h = absurd (omega arith)
+size-end (Comment p l) h = absurd (omega arith)
 size-end (Field a b p) h = absurd (omega arith)
 
 -- the six kinds that there are

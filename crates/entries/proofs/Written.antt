@@ -1,6 +1,6 @@
 -- The laws of an entry and its bytes: how long they are, and what is read at their front.
 use Prim.Native.Nat.{ℕ, _+_, _^_, _≤_, _<_}
-use mathlib.Core.Path.{_≡_, refl, sym, ap, _∙_}
+use mathlib.Core.Path.{_≡_, refl, sym, ap, ap₂, _∙_}
 use mathlib.Core.List.{List, [], _∷_, _++_}
 use native.Mathlib.Omega.{arith}
 use lib.ListN.{length, drop, length-append}
@@ -13,18 +13,18 @@ use Rattle.format.specs.declared.Version.{Version}
 use Rattle.entries.specs.declared.Place.{Place}
 use Rattle.entries.specs.declared.Entry.{Entry}
 use Rattle.entries.specs.declared.Entry.the-variants.{End, Header, ReferenceSequence, ReadGroup, Program, Comment, Field}
-use Rattle.entries.specs.Entries.{kindOf, kindSize, sizeOf, versionOf, placeOf, bodied, entryOf, placeBytes, entryBytes, bytesOf, FitsPlace, Fits, sizes}
+use Rattle.entries.specs.Entries.{kindOf, kindSize, sizeOf, versionOf, placeOf, lineOf, bodied, entryOf, placeBytes, entryBytes, bytesOf, FitsPlace, Fits, sizes}
 
 -- ---- how long
 
 pub entry-length : (e : Entry) → length (entryBytes e) ≡ sizeOf e
 unfolding entryBytes sizeOf kindOf kindSize little placeBytes
 entry-length End = refl
-entry-length (Header v) = refl
-entry-length (ReferenceSequence p n) = refl
-entry-length (ReadGroup p) = refl
-entry-length (Program p) = refl
-entry-length (Comment p) = refl
+entry-length (Header v l) = refl
+entry-length (ReferenceSequence p n l) = refl
+entry-length (ReadGroup p l) = refl
+entry-length (Program p l) = refl
+entry-length (Comment p l) = refl
 entry-length (Field a b p) = refl
 
 pub bytes-length : (e : Entry) (es : List Entry) → length (bytesOf (e ∷ es)) ≡ sizeOf e + length (bytesOf es)
@@ -40,11 +40,11 @@ bytes-sizes (e ∷ es) = omega (arith, bytes-length e es, bytes-sizes es)
 pub fit-size : (e : Entry) → Fits e → 0 < sizeOf e
 unfolding Fits sizeOf kindOf kindSize
 fit-size End h = absurd h
-fit-size (Header v) h = omega arith
-fit-size (ReferenceSequence p n) h = omega arith
-fit-size (ReadGroup p) h = omega arith
-fit-size (Program p) h = omega arith
-fit-size (Comment p) h = omega arith
+fit-size (Header v l) h = omega arith
+fit-size (ReferenceSequence p n l) h = omega arith
+fit-size (ReadGroup p l) h = omega arith
+fit-size (Program p l) h = omega arith
+fit-size (Comment p l) h = omega arith
 fit-size (Field a b p) h = omega arith
 
 -- ---- what is read at the front
@@ -63,6 +63,10 @@ place-back p rest h = go _ _ (of-little 4 (p .at) (h .0)) (of-little 4 (p .len) 
     go : (a b : ℕ) → a ≡ p .at → b ≡ p .len → _≡_ {A = Place} (record { at = a; len = b }) p
     go a b p q = rw (p, q) refl
 
+line-back : (l : ℕ) (rest : List ℕ) → l < 2 ^ 32 → lineOf (little 4 l ++ rest) ≡ l
+unfolding lineOf little
+line-back l rest h = of-little 4 l h
+
 -- a body that is there
 whole : (k : ℕ) (s : List ℕ) → kindSize k ≤ length (k ∷ s) → entryOf (k ∷ s) ≡ bodied k s
 unfolding entryOf
@@ -72,14 +76,16 @@ whole k s h = rw (le-leb (kindSize k) (length (k ∷ s)) h) refl
 pub entry-back : (e : Entry) (rest : List ℕ) → Fits e → entryOf (entryBytes e ++ rest) ≡ e
 unfolding Fits entryBytes bodied kindSize
 entry-back End rest h = absurd h
-entry-back (Header v) rest h = whole 1 (little 4 (v .major) ++ little 4 (v .minor) ++ rest) (omega arith) ∙ ap Header (version-back v rest (h .0) (h .1))
-entry-back (ReferenceSequence p n) rest h =
-    whole 2 (placeBytes p ++ little 8 n ++ rest) (omega arith)
-    ∙ ap (λ q. ReferenceSequence q (ofLittle (little 8 n))) (place-back p (little 8 n ++ rest) (h .0))
-    ∙ ap (ReferenceSequence p) (of-little 8 n (h .1))
-entry-back (ReadGroup p) rest h = whole 3 (placeBytes p ++ rest) (omega arith) ∙ ap ReadGroup (place-back p rest h)
-entry-back (Program p) rest h = whole 4 (placeBytes p ++ rest) (omega arith) ∙ ap Program (place-back p rest h)
-entry-back (Comment p) rest h = whole 5 (placeBytes p ++ rest) (omega arith) ∙ ap Comment (place-back p rest h)
+entry-back (Header v l) rest h =
+    whole 1 (little 4 (v .major) ++ little 4 (v .minor) ++ little 4 l ++ rest) (omega arith)
+    ∙ ap₂ Header (version-back v (little 4 l ++ rest) (h .0) (h .1)) (line-back l rest (h .2))
+entry-back (ReferenceSequence p n l) rest h =
+    whole 2 (placeBytes p ++ little 8 n ++ little 4 l ++ rest) (omega arith)
+    ∙ ap (λ q. ReferenceSequence q (ofLittle (little 8 n)) (lineOf (little 4 l ++ rest))) (place-back p (little 8 n ++ little 4 l ++ rest) (h .0))
+    ∙ ap₂ (ReferenceSequence p) (of-little 8 n (h .1)) (line-back l rest (h .2))
+entry-back (ReadGroup p l) rest h = whole 3 (placeBytes p ++ little 4 l ++ rest) (omega arith) ∙ ap₂ ReadGroup (place-back p (little 4 l ++ rest) (h .0)) (line-back l rest (h .1))
+entry-back (Program p l) rest h = whole 4 (placeBytes p ++ little 4 l ++ rest) (omega arith) ∙ ap₂ Program (place-back p (little 4 l ++ rest) (h .0)) (line-back l rest (h .1))
+entry-back (Comment p l) rest h = whole 5 (placeBytes p ++ little 4 l ++ rest) (omega arith) ∙ ap₂ Comment (place-back p (little 4 l ++ rest) (h .0)) (line-back l rest (h .1))
 entry-back (Field a b p) rest h = whole 6 (a ∷ b ∷ placeBytes p ++ rest) (omega arith) ∙ ap (Field a b) (place-back p rest (h .2))
 
 -- ---- a walk from entry to entry

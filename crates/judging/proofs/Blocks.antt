@@ -196,7 +196,7 @@ module _ (strict : Bool) (t area₀ area : List ℕ) (b : Block) (at n programs 
     module _ (small : length t ≤ 16777216) (before : n < b .until) (r : Record) (is : records.line strict (record { at = at; bytes = take (firstLine (drop at t) .len) (drop at t) }) ≡ read r)
         (ok : admitted strict (j .before) (record { at = at; bytes = take (firstLine (drop at t) .len) (drop at t) }) ≡ read r)
         (fresh : (isMet t area (recordHead r) || eqb n (b .clash)) ≡ false)
-        (entry : ℕ) (long : length (catalogue (j .before ++ (r ∷ []))) ≡ length (catalogue (j .before)) + entry) (bound : entry ≤ 28 * firstLine (drop at t) .next) where
+        (entry : ℕ) (long : length (catalogue (j .before ++ (r ∷ []))) ≡ length (catalogue (j .before)) + entry) (bound : entry ≤ 32 * firstLine (drop at t) .next) where
       stand : Each (Stands t 0) (pieces r)
       stand = stood strict t (record { at = at; bytes = take (firstLine (drop at t) .len) (drop at t) }) (line-stands strict t at n programs size j h) r is
 

@@ -37,7 +37,7 @@ pub record Judging (strict : Bool) (t : List ℕ) (at n programs size : ℕ) : T
   pub sized : size ≡ length (catalogue before)
   pub inside : at ≤ length t
   pub slow : n ≤ at
-  pub small : size ≤ 28 * at
+  pub small : size ≤ 32 * at
 
 unfoldable pub judging-start : (strict : Bool) (t : List ℕ) → Judging strict t 0 0 0 0
 unfolding lines Pairs ofKind catalogue
@@ -121,7 +121,7 @@ module _ (strict : Bool) (t : List ℕ) (at n programs size : ℕ) (j : Judging 
     -- the line is a record more
     module _ (r : Record) (is : records.line strict (record { at = at; bytes = take (firstLine (drop at t) .len) (drop at t) }) ≡ read r)
         (ok : admitted strict (j .before) (record { at = at; bytes = take (firstLine (drop at t) .len) (drop at t) }) ≡ read r)
-        (entry : ℕ) (long : length (catalogue (j .before ++ (r ∷ []))) ≡ length (catalogue (j .before)) + entry) (bound : entry ≤ 28 * firstLine (drop at t) .next) where
+        (entry : ℕ) (long : length (catalogue (j .before ++ (r ∷ []))) ≡ length (catalogue (j .before)) + entry) (bound : entry ≤ 32 * firstLine (drop at t) .next) where
       unfoldable pub judging-on : Judging strict t (at + firstLine (drop at t) .next) (n + 1) (programs + programsOf (recordHead r)) (size + entry)
       unfolding taken
       judging-on =

@@ -16,14 +16,14 @@ use Rattle.entries.proofs.Written.{entry-length}
 use Rattle.entries_same.proofs.Starts.{starts-then}
 
 -- none is longer than that of an SQ
-pub size-most : (e : Entry) → sizeOf e ≤ 17
+pub size-most : (e : Entry) → sizeOf e ≤ 21
 unfolding sizeOf kindOf kindSize
 size-most End = omega arith
-size-most (Header v) = omega arith
-size-most (ReferenceSequence p n) = omega arith
-size-most (ReadGroup p) = omega arith
-size-most (Program p) = omega arith
-size-most (Comment p) = omega arith
+size-most (Header v l) = omega arith
+size-most (ReferenceSequence p n l) = omega arith
+size-most (ReadGroup p l) = omega arith
+size-most (Program p l) = omega arith
+size-most (Comment p l) = omega arith
 size-most (Field a b p) = omega arith
 
 -- a run that is written before another is written

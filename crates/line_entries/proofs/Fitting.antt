@@ -1,5 +1,5 @@
 -- The numbers of an accepted line's entries fit: where the text is at most 16,777,216 bytes, offsets and lengths are below 2 ^ 32.
-use Prim.Native.Nat.{ℕ, _+_, _-_, _≤_, _<_}
+use Prim.Native.Nat.{ℕ, _+_, _-_, _^_, _≤_, _<_}
 use mathlib.Core.Path.{_≡_}
 use mathlib.Core.Bool.{Bool, true, _||_}
 use mathlib.Core.List.{List, [], _∷_}
@@ -64,17 +64,17 @@ module _ (strict : Bool) (p : Piece) (r : Record) (e : line strict p ≡ read r)
   each-fits : Each (λ q. FitsPlace (pieceAt q)) (pieces r)
   each-fits = each-map (Stands (p .bytes) (p .at)) (λ q. FitsPlace (pieceAt q)) (piece-fits (p .bytes) (p .at) h) (pieces r) (line-stand strict p r e)
 
-  -- a record's own entry
-  pub head-fits : Fits (headEntry r)
+  -- a record's own entry, with any line of four bytes
+  pub head-fits : (l : ℕ) → l < 2 ^ 32 → Fits (headEntry l r)
   unfolding Fits headEntry sound.Fits Each pieces
-  head-fits = go r (line-sound strict p r e .fits) each-fits
+  head-fits l b = go r (line-sound strict p r e .fits) each-fits
     where
-      go : (r : Record) → sound.Fits r → Each (λ q. FitsPlace (pieceAt q)) (pieces r) → Fits (headEntry r)
-      go (header v fs) s k = s
-      go (reference p n fs) s k = (k .0, omega (arith, s .1))
-      go (group p fs) s k = k .0
-      go (program p fs) s k = k .0
-      go (comment p) s k = k .0
+      go : (r : Record) → sound.Fits r → Each (λ q. FitsPlace (pieceAt q)) (pieces r) → Fits (headEntry l r)
+      go (header v fs) s k = (s .0, s .1, b)
+      go (reference p n fs) s k = (k .0, omega (arith, s .1), b)
+      go (group p fs) s k = (k .0, b)
+      go (program p fs) s k = (k .0, b)
+      go (comment p) s k = (k .0, b)
 
   -- the entries of its other fields
   pub fields-fit : Each (λ f. Fits (fieldEntry f)) (others r)

@@ -66,11 +66,11 @@ module _ (strict : Bool) (p : Piece) where
       go (refused n) e = omega arith
       go (read r) e = omega (arith, own-others r, accepted-few strict (p .at) (p .bytes) r (line-accepted strict p r e))
 
-  pub bytes-few : length (recordBytes (line strict p)) ≤ 8 * length (p .bytes)
+  pub bytes-few : (n : ℕ) → length (recordBytes n (line strict p)) ≤ 8 * length (p .bytes)
   unfolding recordBytes sizeOfHead headOf kindSize
-  bytes-few = go (line strict p) refl
+  bytes-few n = go (line strict p) refl
     where
-      go : (l : Line) → line strict p ≡ l → length (recordBytes l) ≤ 8 * length (p .bytes)
+      go : (l : Line) → line strict p ≡ l → length (recordBytes n l) ≤ 8 * length (p .bytes)
       go (refused n) e = omega arith
       go (read r) e =
-          omega (arith, size-length (read r), size-most (ownEntry (recordHead r)), own-others r, accepted-few strict (p .at) (p .bytes) r (line-accepted strict p r e))
+          omega (arith, size-length n (read r), size-most (ownEntry 0 (recordHead r)), own-others r, accepted-few strict (p .at) (p .bytes) r (line-accepted strict p r e))

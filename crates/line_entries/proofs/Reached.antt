@@ -8,7 +8,7 @@ use lib.ListN.{length, drop}
 use lib.Dec.{eqb}
 use Rattle.format.specs.Bytes.{same, starts}
 use Rattle.format.specs.Records.{Record, read}
-use Rattle.format.specs.Catalogue.{catalogue}
+use Rattle.format.specs.Catalogue.{entriesFrom, catalogue}
 use Rattle.line_entries.specs.Line.{recordBytes}
 use Rattle.line_entries.specs.Matched.{matched, Reached}
 use Rattle.line_entries.specs.declared.Matched.the-variants.{Differs, Upto}
@@ -29,21 +29,21 @@ module _ (c : List ℕ) (rs : List Record) (o : ℕ) (h : Reached c rs o) where
   onward xs = starts-append (catalogue rs) xs c ∙ ap (λ t. t && starts xs (drop (length (catalogue rs)) c)) (h .front) ∙ ap (λ n. starts xs (drop n c)) (sym (h .place))
 
   -- the next record is there
-  pub reached-on : (r : Record) (n : ℕ) → matched o (drop o c) (recordBytes (read r)) ≡ Upto n → Reached c (rs ++ (r ∷ [])) n
+  pub reached-on : (r : Record) (n : ℕ) → matched o (drop o c) (recordBytes (length rs) (read r)) ≡ Upto n → Reached c (rs ++ (r ∷ [])) n
   reached-on r n e =
-      let s = upto-says c o (recordBytes (read r)) n e in
+      let s = upto-says c o (recordBytes (length rs) (read r)) n e in
       record {
         place = omega (arith, s .1, h .place, catalogue-length rs r);
-        front = ap (λ l. starts l c) (catalogue-more rs r) ∙ onward (recordBytes (read r)) ∙ s .0;
+        front = ap (λ l. starts l c) (catalogue-more rs r) ∙ onward (recordBytes (length rs) (read r)) ∙ s .0;
       }
 
   -- it is not: this is the catalogue of no records that go on so
-  pub reached-off : (r : Record) → matched o (drop o c) (recordBytes (read r)) ≡ Differs → (qs : List Record) → same c (catalogue ((rs ++ (r ∷ [])) ++ qs)) ≡ false
+  pub reached-off : (r : Record) → matched o (drop o c) (recordBytes (length rs) (read r)) ≡ Differs → (qs : List Record) → same c (catalogue ((rs ++ (r ∷ [])) ++ qs)) ≡ false
   reached-off r e qs =
-      let f : starts (catalogue (rs ++ (r ∷ []))) c ≡ false = ap (λ l. starts l c) (catalogue-more rs r) ∙ onward (recordBytes (read r)) ∙ differs-says c o (recordBytes (read r)) e in
+      let f : starts (catalogue (rs ++ (r ∷ []))) c ≡ false = ap (λ l. starts l c) (catalogue-more rs r) ∙ onward (recordBytes (length rs) (read r)) ∙ differs-says c o (recordBytes (length rs) (read r)) e in
       ap (same c) (catalogue-append (rs ++ (r ∷ [])) qs)
-      ∙ same-append (catalogue (rs ++ (r ∷ []))) (catalogue qs) c
-      ∙ ap (λ t. t && same (drop (length (catalogue (rs ++ (r ∷ [])))) c) (catalogue qs)) f
+      ∙ same-append (catalogue (rs ++ (r ∷ []))) (entriesFrom (length (rs ++ (r ∷ []))) qs) c
+      ∙ ap (λ t. t && same (drop (length (catalogue (rs ++ (r ∷ [])))) c) (entriesFrom (length (rs ++ (r ∷ []))) qs)) f
 
   -- after the last record: the catalogue is theirs exactly where it ends here
   pub reached-end : same c (catalogue rs) ≡ eqb o (length c)

@@ -1,11 +1,11 @@
 -- The entries of an accepted line: its own, and then those of its other fields.
-use Prim.Native.Nat.{ℕ, _+_, _≤_}
+use Prim.Native.Nat.{ℕ, _+_, _^_, _≤_, _<_}
 use mathlib.Core.Path.{_≡_, refl, sym, ap, _∙_}
 use mathlib.Core.Bool.{Bool, true, false}
 use mathlib.Core.List.{List, [], _++_}
 use lib.ListN.{length, getD}
 use Rattle.format.specs.Records.{Record, header, reference, group, program, comment, others, Line, read, line}
-use Rattle.format.specs.Catalogue.{head, tails}
+use Rattle.format.specs.Catalogue.{little, head, tails}
 use Rattle.format.specs.declared.Kind.{Kind}
 use Rattle.format.specs.declared.Kind.the-variants as kinds
 use Rattle.accepted.specs.Sound.{kind}
@@ -23,29 +23,29 @@ use Rattle.heads.specs.Found.{kindBy, isComment, uncounted}
 use Rattle.heads.proofs.Finds.{accepted-byte, by-record}
 use Rattle.entries.specs.declared.Entry.{Entry}
 use Rattle.entries.specs.Entries.{kindOf, kindSize, sizeOf, entryBytes, Fits, headEntry}
-use Rattle.line_entries.specs.Line.{recordBytes}
+use Rattle.line_entries.specs.Line.{recordBytes, lineBytes}
 use Rattle.line_entries.specs.Parts.{ownEntry, ownSize, fieldBytes}
 use Rattle.line_entries.proofs.Records.{own-entry, own-bytes}
 use Rattle.line_entries.proofs.Fitting.{head-fits}
 
 -- the number of other fields says nothing of the own entry
-pub own-uncounted : (h : Head) → ownEntry (uncounted h) ≡ ownEntry h
+pub own-uncounted : (l : ℕ) (h : Head) → ownEntry l (uncounted h) ≡ ownEntry l h
 unfolding ownEntry uncounted
-own-uncounted (heads.Refused n) = refl
-own-uncounted (heads.Header v n) = refl
-own-uncounted (heads.ReferenceSequence p l n) = refl
-own-uncounted (heads.ReadGroup p n) = refl
-own-uncounted (heads.Program p n) = refl
-own-uncounted (heads.Comment p) = refl
+own-uncounted k (heads.Refused n) = refl
+own-uncounted k (heads.Header v n) = refl
+own-uncounted k (heads.ReferenceSequence p l n) = refl
+own-uncounted k (heads.ReadGroup p n) = refl
+own-uncounted k (heads.Program p n) = refl
+own-uncounted k (heads.Comment p) = refl
 
 -- its size goes by the kind
-own-long : (r : Record) → sizeOf (ownEntry (recordHead r)) ≡ ownSize (kind r)
+own-long : (l : ℕ) (r : Record) → sizeOf (ownEntry l (recordHead r)) ≡ ownSize (kind r)
 unfolding ownEntry recordHead kind sizeOf kindOf kindSize
-own-long (header v fs) = refl
-own-long (reference p n fs) = refl
-own-long (group p fs) = refl
-own-long (program p fs) = refl
-own-long (comment p) = refl
+own-long l (header v fs) = refl
+own-long l (reference p n fs) = refl
+own-long l (group p fs) = refl
+own-long l (program p fs) = refl
+own-long l (comment p) = refl
 
 -- what follows it
 accepted-rest : (strict : Bool) (at : ℕ) (s : List ℕ) (r : Record) → Accepted strict at s r → isComment (kind r) ≡ false → tails (others r) ≡ fieldBytes (kind r) at s 3
@@ -61,34 +61,34 @@ no-rest (group p fs) e = absurd (never (cc))
 no-rest (program p fs) e = absurd (never (cc))
 no-rest (comment p) e = refl
 
-module _ (at : ℕ) (s : List ℕ) (h : isRead (line false (record { at = at; bytes = s })) ≡ true) where
+module _ (n at : ℕ) (s : List ℕ) (h : isRead (line false (record { at = at; bytes = s })) ≡ true) where
   abbrev pub own : Entry
-  own = ownEntry (headOf (line false (record { at = at; bytes = s })))
+  own = ownEntry n (headOf (line false (record { at = at; bytes = s })))
 
-  pub own-fits : at + length s ≤ 16777216 → Fits own
+  pub own-fits : n < 2 ^ 32 → at + length s ≤ 16777216 → Fits own
   unfolding headOf
-  own-fits fit = by-record false at s h (λ l. Fits (ownEntry (headOf l))) (λ r e. rw (own-entry r) (head-fits false (record { at = at; bytes = s }) r e fit))
+  own-fits b fit = by-record false at s h (λ l. Fits (ownEntry n (headOf l))) (λ r e. rw (own-entry n r) (head-fits false (record { at = at; bytes = s }) r e fit n b))
 
   pub own-size : (k : Kind) → kindBy (getD s 1 0) ≡ k → sizeOf own ≡ ownSize k
   unfolding headOf
-  own-size k e = by-record false at s h (λ l. sizeOf (ownEntry (headOf l)) ≡ ownSize k) (λ r d. own-long r ∙ ap ownSize (sym (byte r d) ∙ e))
+  own-size k e = by-record false at s h (λ l. sizeOf (ownEntry n (headOf l)) ≡ ownSize k) (λ r d. own-long n r ∙ ap ownSize (sym (byte r d) ∙ e))
     where
       byte : (r : Record) → line false (record { at = at; bytes = s }) ≡ read r → kindBy (getD s 1 0) ≡ kind r
       byte r d = accepted-byte false at s r (line-accepted false (record { at = at; bytes = s }) r d) .1
 
-  parts : (rest : List ℕ) → ((r : Record) → line false (record { at = at; bytes = s }) ≡ read r → tails (others r) ≡ rest) → recordBytes (line false (record { at = at; bytes = s })) ≡ entryBytes own ++ rest
+  parts : (rest : List ℕ) → ((r : Record) → line false (record { at = at; bytes = s }) ≡ read r → tails (others r) ≡ rest) → lineBytes false n at s ≡ entryBytes own ++ rest
   unfolding recordBytes headOf
-  parts rest f = by-record false at s h (λ l. recordBytes l ≡ entryBytes (ownEntry (headOf l)) ++ rest) (λ r d. ap (λ l. l ++ tails (others r)) (sym (own-bytes r)) ∙ ap (λ l. entryBytes (ownEntry (recordHead r)) ++ l) (f r d))
+  parts rest f = by-record false at s h (λ l. recordBytes n l ≡ entryBytes (ownEntry n (headOf l)) ++ rest) (λ r d. ap (λ l. l ++ tails (others r)) (sym (own-bytes n r)) ∙ ap (λ l. entryBytes (ownEntry n (recordHead r)) ++ l) (f r d))
 
   -- a line of fields
-  pub line-bytes : (k : Kind) → kindBy (getD s 1 0) ≡ k → isComment k ≡ false → recordBytes (line false (record { at = at; bytes = s })) ≡ entryBytes own ++ fieldBytes k at s 3
-  line-bytes k e n =
+  pub line-bytes : (k : Kind) → kindBy (getD s 1 0) ≡ k → isComment k ≡ false → lineBytes false n at s ≡ entryBytes own ++ fieldBytes k at s 3
+  line-bytes k e c =
       parts (fieldBytes k at s 3)
       (λ r d.
       let a = line-accepted false (record { at = at; bytes = s }) r d in
       let b : kind r ≡ k = sym (accepted-byte false at s r a .1) ∙ e in
-      accepted-rest false at s r a (ap isComment b ∙ n) ∙ ap (λ k. fieldBytes k at s 3) b)
+      accepted-rest false at s r a (ap isComment b ∙ c) ∙ ap (λ k. fieldBytes k at s 3) b)
 
   -- a comment
-  pub comment-bytes : kindBy (getD s 1 0) ≡ kinds.Comment → recordBytes (line false (record { at = at; bytes = s })) ≡ entryBytes own ++ []
+  pub comment-bytes : kindBy (getD s 1 0) ≡ kinds.Comment → lineBytes false n at s ≡ entryBytes own ++ []
   comment-bytes e = parts [] (λ r d. no-rest r (sym (accepted-byte false at s r (line-accepted false (record { at = at; bytes = s }) r d) .1) ∙ e))

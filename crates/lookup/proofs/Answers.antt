@@ -1,5 +1,5 @@
 -- What is found in the catalogue of an accepted text is what the records say.
-use Prim.Native.Nat.{ℕ, zero, suc, _≤_, _<_}
+use Prim.Native.Nat.{ℕ, zero, suc, _+_, _≤_, _<_}
 use mathlib.Core.Path.{_≡_, refl, sym, ap, ap₂, _∙_}
 use mathlib.Core.Bool.{Bool, true, false, cond}
 use mathlib.Core.List.{List, [], _∷_, _++_, map}
@@ -14,7 +14,7 @@ use Rattle.format.specs.Fields.{Field, tagged, repeats, later, lastOf}
 use Rattle.format.specs.Records.{Record, header, reference, group, program, comment, code, key, others}
 use Rattle.format.specs.Reading.{readText, accept, ofKind}
 use Rattle.format.specs.Catalogue.{catalogue}
-use Rattle.format.specs.Calls.{keyed, sized, valued}
+use Rattle.format.specs.Calls.{keyed, sized, linesOf, valued}
 use Rattle.text.specs.Stands.{Each}
 use Rattle.accepted.specs.Sound.{Sound}
 use Rattle.accepted.proofs.Bools.{or-left, or-right, and-left, and-right, split}
@@ -23,11 +23,12 @@ use Rattle.accepted.proofs.OfKind.{ofKind-none}
 use Rattle.accepted.proofs.Text.{text-sound}
 use Rattle.entries.specs.declared.Entry.{Entry}
 use Rattle.entries.specs.declared.Entry.the-variants as entry
-use Rattle.entries.specs.Entries.{kindOf, pieceAt, headEntry, fieldEntry, entriesOf, entriesIn}
+use Rattle.entries.specs.Entries.{kindOf, pieceAt, headEntry, fieldEntry, entriesOn, entriesOf, entriesIn}
 use Rattle.entries.proofs.Records.{head-kind}
-use Rattle.entries.proofs.Found.{recordsFrom, first-record}
+use Rattle.entries.proofs.Found.{recordsFrom, lineFrom, first-record}
 use Rattle.lookup.specs.declared.Found.the-variants.{Nothing, At}
-use Rattle.lookup.specs.Lookup.{foundOf, sizedOf, entriesFrom, front, keyOf, lengthOf, valueIn, keyIn, lengthIn, fieldIn}
+use Rattle.lookup.specs.declared.Located.the-variants as located
+use Rattle.lookup.specs.Lookup.{foundOf, sizedOf, locatedOf, entriesFrom, front, keyOf, lengthOf, lineOf, valueIn, keyIn, lengthIn, lineIn, fieldIn}
 use Rattle.lookup.proofs.Kept.{text-entries}
 
 -- ---- a kind of records
@@ -40,20 +41,32 @@ from-fields k h zero (f ∷ fs) es = let n : 6 ≡ k → ⊥ = λ e. omega arith
 from-fields k h (suc i) (f ∷ fs) es = let n : 6 ≡ k → ⊥ = λ e. omega arith in rw (ne-eqb 6 k n) (from-fields k h (suc i) fs es)
 
 -- from a record's entry on they are those of the records from that one on
-from-records : (k i : ℕ) → k < 6 → (rs : List Record) → entriesFrom k i (entriesOf rs) ≡ entriesOf (recordsFrom k i rs)
-unfolding entriesFrom entriesOf recordsFrom
-from-records k i h [] = refl
-from-records k zero h (r ∷ rs) = rw (head-kind r, from-fields k h zero (others r) (entriesOf rs), from-records k zero h rs) (go (eqb (code r) k))
+from-on : (k i : ℕ) → k < 6 → (l : ℕ) (rs : List Record) → entriesFrom k i (entriesOn l rs) ≡ entriesOn (lineFrom k i l rs) (recordsFrom k i rs)
+unfolding entriesFrom entriesOn recordsFrom lineFrom
+from-on k i h l [] = refl
+from-on k zero h l (r ∷ rs) = rw (head-kind l r, from-fields k h zero (others r) (entriesOn (l + 1) rs), from-on k zero h (l + 1) rs) (go (eqb (code r) k))
   where
-    go : (t : Bool) → cond t (entriesOf (r ∷ rs)) (entriesOf (recordsFrom k 0 rs)) ≡ entriesOf (cond t (r ∷ rs) (recordsFrom k 0 rs))
+    go : (t : Bool) → cond t (entriesOn l (r ∷ rs)) (entriesOn (lineFrom k 0 (l + 1) rs) (recordsFrom k 0 rs)) ≡ entriesOn (cond t l (lineFrom k 0 (l + 1) rs)) (cond t (r ∷ rs) (recordsFrom k 0 rs))
     go true = refl
     go false = refl
-from-records k (suc i) h (r ∷ rs) =
-    rw (head-kind r, from-fields k h i (others r) (entriesOf rs), from-fields k h (suc i) (others r) (entriesOf rs), from-records k i h rs, from-records k (suc i) h rs) (go (eqb (code r) k))
+from-on k (suc i) h l (r ∷ rs) =
+    rw (
+      head-kind l r,
+      from-fields k h i (others r) (entriesOn (l + 1) rs),
+      from-fields k h (suc i) (others r) (entriesOn (l + 1) rs),
+      from-on k i h (l + 1) rs,
+      from-on k (suc i) h (l + 1) rs,
+    )
+    (go (eqb (code r) k))
   where
-    go : (t : Bool) → cond t (entriesOf (recordsFrom k i rs)) (entriesOf (recordsFrom k (suc i) rs)) ≡ entriesOf (cond t (recordsFrom k i rs) (recordsFrom k (suc i) rs))
+    go : (t : Bool) → cond t (entriesOn (lineFrom k i (l + 1) rs) (recordsFrom k i rs)) (entriesOn (lineFrom k (suc i) (l + 1) rs) (recordsFrom k (suc i) rs))
+        ≡ entriesOn (cond t (lineFrom k i (l + 1) rs) (lineFrom k (suc i) (l + 1) rs)) (cond t (recordsFrom k i rs) (recordsFrom k (suc i) rs))
     go true = refl
     go false = refl
+
+from-records : (k i : ℕ) → k < 6 → (rs : List Record) → entriesFrom k i (entriesOf rs) ≡ entriesOn (lineFrom k i 0 rs) (recordsFrom k i rs)
+unfolding entriesOf
+from-records k i h rs = from-on k i h 0 rs
 
 each-from : (P : Record → Type 0) (k i : ℕ) (rs : List Record) → Each P rs → Each P (recordsFrom k i rs)
 unfolding Each recordsFrom
@@ -85,76 +98,131 @@ no-records k i h rs = ap (λ qs. getElem? qs i) (ofKind-none k rs (each-all (λ 
 no-key : (k : ℕ) → 5 < k → (e : Entry) → kindOf e ≡ k → keyOf e ≡ Nothing
 unfolding kindOf keyOf
 no-key k h entry.End q = refl
-no-key k h (entry.Header v) q = refl
-no-key k h (entry.ReferenceSequence p n) q = absurd (omega arith)
-no-key k h (entry.ReadGroup p) q = absurd (omega arith)
-no-key k h (entry.Program p) q = absurd (omega arith)
-no-key k h (entry.Comment p) q = refl
+no-key k h (entry.Header v l) q = refl
+no-key k h (entry.ReferenceSequence p n l) q = absurd (omega arith)
+no-key k h (entry.ReadGroup p l) q = absurd (omega arith)
+no-key k h (entry.Program p l) q = absurd (omega arith)
+no-key k h (entry.Comment p l) q = refl
 no-key k h (entry.Field a b p) q = refl
 
-no-keys : (k i : ℕ) → 5 < k → (es : List Entry) → keyOf (front (entriesFrom k i es)) ≡ Nothing
-unfolding front entriesFrom keyOf
-no-keys k i h [] = refl
-no-keys k zero h (e ∷ es) = go (eqb (kindOf e) k) refl (no-keys k zero h es)
+no-line : (k : ℕ) → 5 < k → (e : Entry) → kindOf e ≡ k → lineOf e ≡ located.Nothing
+unfolding kindOf lineOf
+no-line k h entry.End q = refl
+no-line k h (entry.Header v l) q = absurd (omega arith)
+no-line k h (entry.ReferenceSequence p n l) q = absurd (omega arith)
+no-line k h (entry.ReadGroup p l) q = absurd (omega arith)
+no-line k h (entry.Program p l) q = absurd (omega arith)
+no-line k h (entry.Comment p l) q = absurd (omega arith)
+no-line k h (entry.Field a b p) q = refl
+
+-- what no entry of the kind says, and no end, is not found
+no-says : {A : Type 0} (f : Entry → A) (n : A) (k : ℕ) → f entry.End ≡ n → ((e : Entry) → kindOf e ≡ k → f e ≡ n) → (i : ℕ) (es : List Entry) → f (front (entriesFrom k i es)) ≡ n
+unfolding front entriesFrom
+no-says f n k z h i [] = z
+no-says f n k z h zero (e ∷ es) = go (eqb (kindOf e) k) refl (no-says f n k z h zero es)
   where
-    go : (t : Bool) → eqb (kindOf e) k ≡ t → keyOf (front (entriesFrom k 0 es)) ≡ Nothing → keyOf (front (cond t (e ∷ es) (entriesFrom k 0 es))) ≡ Nothing
-    go true q ih = no-key k h e (eqb-true (kindOf e) k q)
+    go : (t : Bool) → eqb (kindOf e) k ≡ t → f (front (entriesFrom k 0 es)) ≡ n → f (front (cond t (e ∷ es) (entriesFrom k 0 es))) ≡ n
+    go true q ih = h e (eqb-true (kindOf e) k q)
     go false q ih = ih
-no-keys k (suc i) h (e ∷ es) = go (eqb (kindOf e) k) (no-keys k i h es) (no-keys k (suc i) h es)
+no-says f n k z h (suc i) (e ∷ es) = go (eqb (kindOf e) k) (no-says f n k z h i es) (no-says f n k z h (suc i) es)
   where
-    go : (t : Bool) → keyOf (front (entriesFrom k i es)) ≡ Nothing → keyOf (front (entriesFrom k (suc i) es)) ≡ Nothing → keyOf (front (cond t (entriesFrom k i es) (entriesFrom k (suc i) es))) ≡ Nothing
+    go : (t : Bool) → f (front (entriesFrom k i es)) ≡ n → f (front (entriesFrom k (suc i) es)) ≡ n → f (front (cond t (entriesFrom k i es) (entriesFrom k (suc i) es))) ≡ n
     go true ih jh = ih
     go false ih jh = jh
 
 -- ---- keys and lengths
 
-first-key : (rs : List Record) → keyOf (front (entriesOf rs)) ≡ foundOf (keyed (getElem? rs 0))
-unfolding keyOf front entriesOf foundOf keyed headEntry key
-first-key [] = refl
-first-key (header v fs ∷ rs) = refl
-first-key (reference p n fs ∷ rs) = refl
-first-key (group p fs ∷ rs) = refl
-first-key (program p fs ∷ rs) = refl
-first-key (comment p ∷ rs) = refl
+first-key : (l : ℕ) (rs : List Record) → keyOf (front (entriesOn l rs)) ≡ foundOf (keyed (getElem? rs 0))
+unfolding keyOf front entriesOn foundOf keyed headEntry key
+first-key l [] = refl
+first-key l (header v fs ∷ rs) = refl
+first-key l (reference p n fs ∷ rs) = refl
+first-key l (group p fs ∷ rs) = refl
+first-key l (program p fs ∷ rs) = refl
+first-key l (comment p ∷ rs) = refl
 
 pub key-records : (k i : ℕ) (rs : List Record) → keyIn k i (entriesOf rs) ≡ foundOf (keyed (getElem? (ofKind k rs) i))
 unfolding keyIn
 key-records k i rs = split (ltb 5 k) (λ q. above (ltb-true 5 k q)) (λ q. below (ltb-false 5 k q))
   where
     above : 5 < k → keyOf (front (entriesFrom k i (entriesOf rs))) ≡ foundOf (keyed (getElem? (ofKind k rs) i))
-    above h = no-keys k i h (entriesOf rs) ∙ unfold foundOf keyed in ap (λ o. foundOf (keyed o)) (sym (no-records k i h rs))
+    above h = no-says keyOf Nothing k (unfold keyOf in refl) (no-key k h) i (entriesOf rs) ∙ unfold foundOf keyed in ap (λ o. foundOf (keyed o)) (sym (no-records k i h rs))
 
     below : k ≤ 5 → keyOf (front (entriesFrom k i (entriesOf rs))) ≡ foundOf (keyed (getElem? (ofKind k rs) i))
     below h =
-        ap (λ es. keyOf (front es)) (from-records k i (omega arith) rs) ∙ first-key (recordsFrom k i rs)
+        ap (λ es. keyOf (front es)) (from-records k i (omega arith) rs) ∙ first-key (lineFrom k i 0 rs) (recordsFrom k i rs)
         ∙ ap (λ o. foundOf (keyed o)) (sym (first-record k i rs))
 
-first-length : (rs : List Record) → lengthOf (front (entriesOf rs)) ≡ sizedOf (sized (getElem? rs 0))
-unfolding lengthOf front entriesOf sizedOf sized headEntry
-first-length [] = refl
-first-length (header v fs ∷ rs) = refl
-first-length (reference p n fs ∷ rs) = refl
-first-length (group p fs ∷ rs) = refl
-first-length (program p fs ∷ rs) = refl
-first-length (comment p ∷ rs) = refl
+first-length : (l : ℕ) (rs : List Record) → lengthOf (front (entriesOn l rs)) ≡ sizedOf (sized (getElem? rs 0))
+unfolding lengthOf front entriesOn sizedOf sized headEntry
+first-length l [] = refl
+first-length l (header v fs ∷ rs) = refl
+first-length l (reference p n fs ∷ rs) = refl
+first-length l (group p fs ∷ rs) = refl
+first-length l (program p fs ∷ rs) = refl
+first-length l (comment p ∷ rs) = refl
 
 pub length-records : (i : ℕ) (rs : List Record) → lengthIn i (entriesOf rs) ≡ sizedOf (sized (getElem? (ofKind 2 rs) i))
 unfolding lengthIn
 length-records i rs =
-    ap (λ es. lengthOf (front es)) (from-records 2 i (omega arith) rs) ∙ first-length (recordsFrom 2 i rs)
+    ap (λ es. lengthOf (front es)) (from-records 2 i (omega arith) rs) ∙ first-length (lineFrom 2 i 0 rs) (recordsFrom 2 i rs)
     ∙ ap (λ o. sizedOf (sized o)) (sym (first-record 2 i rs))
+
+-- ---- lines
+
+own-line : (l : ℕ) (r : Record) → lineOf (headEntry l r) ≡ locatedOf (some l)
+unfolding lineOf locatedOf headEntry
+own-line l (header v fs) = refl
+own-line l (reference p n fs) = refl
+own-line l (group p fs) = refl
+own-line l (program p fs) = refl
+own-line l (comment p) = refl
+
+-- a kind of records
+line-on : (k i : ℕ) → k < 6 → (l : ℕ) (rs : List Record) → lineOf (front (entriesFrom k i (entriesOn l rs))) ≡ locatedOf (getElem? (linesOf k l rs) i)
+unfolding entriesFrom entriesOn linesOf front lineOf locatedOf
+line-on k i h l [] = refl
+line-on k zero h l (r ∷ rs) = rw (head-kind l r, from-fields k h zero (others r) (entriesOn (l + 1) rs)) (go (eqb (code r) k) (line-on k zero h (l + 1) rs))
+  where
+    go : (t : Bool) → lineOf (front (entriesFrom k 0 (entriesOn (l + 1) rs))) ≡ locatedOf (getElem? (linesOf k (l + 1) rs) 0)
+        → lineOf (front (cond t (entriesOn l (r ∷ rs)) (entriesFrom k 0 (entriesOn (l + 1) rs)))) ≡ locatedOf (getElem? (cond t (l ∷ linesOf k (l + 1) rs) (linesOf k (l + 1) rs)) 0)
+    go true ih = own-line l r
+    go false ih = ih
+line-on k (suc i) h l (r ∷ rs) =
+    rw (head-kind l r, from-fields k h i (others r) (entriesOn (l + 1) rs), from-fields k h (suc i) (others r) (entriesOn (l + 1) rs))
+    (go (eqb (code r) k) (line-on k i h (l + 1) rs) (line-on k (suc i) h (l + 1) rs))
+  where
+    go : (t : Bool) → lineOf (front (entriesFrom k i (entriesOn (l + 1) rs))) ≡ locatedOf (getElem? (linesOf k (l + 1) rs) i)
+        → lineOf (front (entriesFrom k (suc i) (entriesOn (l + 1) rs))) ≡ locatedOf (getElem? (linesOf k (l + 1) rs) (suc i))
+        → lineOf (front (cond t (entriesFrom k i (entriesOn (l + 1) rs)) (entriesFrom k (suc i) (entriesOn (l + 1) rs))))
+        ≡ locatedOf (getElem? (cond t (l ∷ linesOf k (l + 1) rs) (linesOf k (l + 1) rs)) (suc i))
+    go true ih jh = ih
+    go false ih jh = jh
+
+-- no kind of records
+no-lines : (k i : ℕ) → 5 < k → (l : ℕ) (rs : List Record) → getElem? (linesOf k l rs) i ≡ none
+unfolding linesOf
+no-lines k i h l [] = refl
+no-lines k i h l (r ∷ rs) = rw (ne-eqb (code r) k (λ e. omega (arith, code-below r))) (no-lines k i h (l + 1) rs)
+
+pub line-records : (k i : ℕ) (rs : List Record) → lineIn k i (entriesOf rs) ≡ locatedOf (getElem? (linesOf k 0 rs) i)
+unfolding lineIn entriesOf
+line-records k i rs = split (ltb 5 k) (λ q. above (ltb-true 5 k q)) (λ q. line-on k i (omega (arith, ltb-false 5 k q)) 0 rs)
+  where
+    above : 5 < k → lineOf (front (entriesFrom k i (entriesOn 0 rs))) ≡ locatedOf (getElem? (linesOf k 0 rs) i)
+    above h = no-says lineOf located.Nothing k (unfold lineOf in refl) (no-line k h) i (entriesOn 0 rs) ∙ unfold locatedOf in ap locatedOf (sym (no-lines k i h 0 rs))
 
 -- ---- fields
 
 -- a record's entry is no field
-no-value : (a b : ℕ) (rs : List Record) → valueIn a b (entriesOf rs) ≡ Nothing
-unfolding valueIn entriesOf headEntry
-no-value a b [] = refl
-no-value a b (header v fs ∷ rs) = refl
-no-value a b (reference p n fs ∷ rs) = refl
-no-value a b (group p fs ∷ rs) = refl
-no-value a b (program p fs ∷ rs) = refl
-no-value a b (comment p ∷ rs) = refl
+no-value : (a b l : ℕ) (rs : List Record) → valueIn a b (entriesOn l rs) ≡ Nothing
+unfolding valueIn entriesOn headEntry
+no-value a b l [] = refl
+no-value a b l (header v fs ∷ rs) = refl
+no-value a b l (reference p n fs ∷ rs) = refl
+no-value a b l (group p fs ∷ rs) = refl
+no-value a b l (program p fs ∷ rs) = refl
+no-value a b l (comment p ∷ rs) = refl
 
 last-none : (a b : ℕ) (fs : List Field) → any (tagged a b) fs ≡ false → lastOf a b fs ≡ none
 unfolding any lastOf later
@@ -174,25 +242,25 @@ tag-same a b f q = (
 )
 
 -- no tag stands twice, so the first value is the last
-pub value-fields : (a b : ℕ) (fs : List Field) (rs : List Record) → repeats fs ≡ false → valueIn a b (map fieldEntry fs ++ entriesOf rs) ≡ foundOf (lastOf a b fs)
+pub value-fields : (a b : ℕ) (fs : List Field) (l : ℕ) (rs : List Record) → repeats fs ≡ false → valueIn a b (map fieldEntry fs ++ entriesOn l rs) ≡ foundOf (lastOf a b fs)
 unfolding valueIn fieldEntry lastOf later repeats foundOf
-value-fields a b [] rs h = no-value a b rs
-value-fields a b (f ∷ fs) rs h = go (tagged a b f) refl (value-fields a b fs rs (or-right (any (tagged (f .tag₀) (f .tag₁)) fs) (repeats fs) h))
+value-fields a b [] l rs h = no-value a b l rs
+value-fields a b (f ∷ fs) l rs h = go (tagged a b f) refl (value-fields a b fs l rs (or-right (any (tagged (f .tag₀) (f .tag₁)) fs) (repeats fs) h))
   where
     once : tagged a b f ≡ true → lastOf a b fs ≡ none
     once q =
         let e = tag-same a b f q in
         last-none a b fs (ap₂ (λ x y. any (tagged x y) fs) (sym (e .0)) (sym (e .1)) ∙ or-left (any (tagged (f .tag₀) (f .tag₁)) fs) (repeats fs) h)
 
-    go : (t : Bool) → tagged a b f ≡ t → valueIn a b (map fieldEntry fs ++ entriesOf rs) ≡ foundOf (lastOf a b fs)
-        → cond t (At (pieceAt (f .value))) (valueIn a b (map fieldEntry fs ++ entriesOf rs)) ≡ foundOf (later (cond t (some (f .value)) none) (lastOf a b fs))
+    go : (t : Bool) → tagged a b f ≡ t → valueIn a b (map fieldEntry fs ++ entriesOn l rs) ≡ foundOf (lastOf a b fs)
+        → cond t (At (pieceAt (f .value))) (valueIn a b (map fieldEntry fs ++ entriesOn l rs)) ≡ foundOf (later (cond t (some (f .value)) none) (lastOf a b fs))
     go true q ih = ap (λ o. foundOf (later (some (f .value)) o)) (sym (once q))
     go false q ih = ih ∙ ap foundOf (sym (later-none (lastOf a b fs)))
 
-first-value : (a b : ℕ) (rs : List Record) → Each Sound rs → valueIn a b (drop 1 (entriesOf rs)) ≡ foundOf (valued a b (getElem? rs 0))
-unfolding Each entriesOf valued foundOf valueIn
-first-value a b [] h = refl
-first-value a b (r ∷ rs) h = value-fields a b (others r) rs (h .0 .once)
+first-value : (a b l : ℕ) (rs : List Record) → Each Sound rs → valueIn a b (drop 1 (entriesOn l rs)) ≡ foundOf (valued a b (getElem? rs 0))
+unfolding Each entriesOn valued foundOf valueIn
+first-value a b l [] h = refl
+first-value a b l (r ∷ rs) h = value-fields a b (others r) (l + 1) rs (h .0 .once)
 
 pub field-records : (k i a b : ℕ) (rs : List Record) → Each Sound rs → fieldIn k i a b (entriesOf rs) ≡ foundOf (valued a b (getElem? (ofKind k rs) i))
 unfolding fieldIn
@@ -203,7 +271,7 @@ field-records k i a b rs s = split (ltb 5 k) (λ q. rw q (above (ltb-true 5 k q)
 
     below : k ≤ 5 → valueIn a b (drop 1 (entriesFrom k i (entriesOf rs))) ≡ foundOf (valued a b (getElem? (ofKind k rs) i))
     below h =
-        ap (λ es. valueIn a b (drop 1 es)) (from-records k i (omega arith) rs) ∙ first-value a b (recordsFrom k i rs) (each-from Sound k i rs s)
+        ap (λ es. valueIn a b (drop 1 es)) (from-records k i (omega arith) rs) ∙ first-value a b (lineFrom k i 0 rs) (recordsFrom k i rs) (each-from Sound k i rs s)
         ∙ ap (λ o. foundOf (valued a b o)) (sym (first-record k i rs))
 
 -- ---- an accepted text
@@ -214,6 +282,9 @@ module _ (t : List ℕ) (rs : List Record) (h : readText t ≡ accept rs) where
 
   pub text-ln : (i : ℕ) → lengthIn i (entriesIn (catalogue rs)) ≡ sizedOf (sized (getElem? (ofKind 2 rs) i))
   text-ln i = rw (text-entries t rs h) (length-records i rs)
+
+  pub text-line : (k i : ℕ) → lineIn k i (entriesIn (catalogue rs)) ≡ locatedOf (getElem? (linesOf k 0 rs) i)
+  text-line k i = rw (text-entries t rs h) (line-records k i rs)
 
   pub text-field : (k i a b : ℕ) → fieldIn k i a b (entriesIn (catalogue rs)) ≡ foundOf (valued a b (getElem? (ofKind k rs) i))
   text-field k i a b = rw (text-entries t rs h) (field-records k i a b rs (text-sound t rs h))

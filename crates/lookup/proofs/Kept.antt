@@ -1,5 +1,5 @@
 -- What holds of the entries of an accepted text: their numbers fit, and no more than 1,024 are programs. Keys and values stand in the text.
-use Prim.Native.Nat.{ℕ, zero, suc, _+_, _≤_, _<_}
+use Prim.Native.Nat.{ℕ, zero, suc, _+_, _^_, _≤_, _<_}
 use mathlib.Core.Path.{_≡_, refl, subst}
 use mathlib.Core.List.{List, [], _∷_, _++_, map}
 use mathlib.Core.Option.{Option, none, some}
@@ -20,9 +20,9 @@ use Rattle.accepted.proofs.Bools.{never}
 use Rattle.accepted.proofs.OfKind.{each-ofKind}
 use Rattle.accepted.proofs.Fields.{Of, lastOf-of}
 use Rattle.accepted.proofs.Clean.{tag-bounds}
-use Rattle.accepted.proofs.Text.{text-stand, text-small, text-sound, text-programs}
+use Rattle.accepted.proofs.Text.{text-fits, text-count, text-stand, text-small, text-sound, text-programs}
 use Rattle.entries.specs.declared.Entry.{Entry}
-use Rattle.entries.specs.Entries.{pieceAt, headEntry, fieldEntry, entriesOf, entriesIn, counted, FitsPlace, Fits}
+use Rattle.entries.specs.Entries.{pieceAt, headEntry, fieldEntry, entriesOn, entriesOf, entriesIn, counted, FitsPlace, Fits}
 use Rattle.entries.proofs.Records.{counted-records}
 use Rattle.entries.proofs.Found.{entries-catalogue}
 
@@ -70,21 +70,21 @@ pub last-value : (P : Piece → Type 0) (a b : ℕ) (fs : List Field) (p : Piece
 last-value P a b fs p h e = let o : Of (λ f. P (f .value)) a b p = lastOf-of (λ f. P (f .value)) a b fs p h e in subst P (o .value) (o .holds)
 
 module _ (P : Piece → Type 0) (Q : Entry → Type 0)
-    (own : (r : Record) → sound.Fits r → Each P (pieces r) → Q (headEntry r))
+    (own : (l : ℕ) → l < 2 ^ 32 → (r : Record) → sound.Fits r → Each P (pieces r) → Q (headEntry l r))
     (field : (k : Kind) (f : Field) → Other k f → P (f .value) → Q (fieldEntry f)) where
   each-fields : (k : Kind) (fs : List Field) → Each (Other k) fs → Each (λ f. P (f .value)) fs → Each Q (map fieldEntry fs)
   unfolding Each
   each-fields k [] h p = tt
   each-fields k (f ∷ fs) h p = (field k f (h .0) (p .0), each-fields k fs (h .1) (p .1))
 
-  pub each-entries : (rs : List Record) → Each Sound rs → Each (λ r. Each P (pieces r)) rs → Each Q (entriesOf rs)
-  unfolding Each entriesOf
-  each-entries [] h p = tt
-  each-entries (r ∷ rs) h p = (
-    own r (h .0 .fits) (p .0),
-    each-append Q (map fieldEntry (others r)) (entriesOf rs)
+  each-entries : (l : ℕ) (rs : List Record) → l + length rs ≤ 2 ^ 32 → Each Sound rs → Each (λ r. Each P (pieces r)) rs → Each Q (entriesOn l rs)
+  unfolding Each entriesOn
+  each-entries l [] n h p = tt
+  each-entries l (r ∷ rs) n h p = (
+    own l (omega arith) r (h .0 .fits) (p .0),
+    each-append Q (map fieldEntry (others r)) (entriesOn (l + 1) rs)
         (each-fields (sound.kind r) (others r) (h .0 .other) (record-values P r (p .0)))
-        (each-entries rs (h .1) (p .1)),
+        (each-entries (l + 1) rs (omega arith) (h .1) (p .1)),
   )
 
 -- ---- numbers that fit
@@ -96,13 +96,13 @@ small-fits : (p : Piece) → Small p → FitsPlace (pieceAt p)
 unfolding pieceAt
 small-fits p h = (omega arith, omega arith)
 
-own-fits : (r : Record) → sound.Fits r → Each Small (pieces r) → Fits (headEntry r)
+own-fits : (l : ℕ) → l < 2 ^ 32 → (r : Record) → sound.Fits r → Each Small (pieces r) → Fits (headEntry l r)
 unfolding sound.Fits Each pieces Fits headEntry
-own-fits (header v fs) h p = h
-own-fits (reference q n fs) h p = (small-fits q (p .0), omega (arith, h .1))
-own-fits (group q fs) h p = small-fits q (p .0)
-own-fits (program q fs) h p = small-fits q (p .0)
-own-fits (comment q) h p = small-fits q (p .0)
+own-fits l b (header v fs) h p = (h .0, h .1, b)
+own-fits l b (reference q n fs) h p = (small-fits q (p .0), omega (arith, h .1), b)
+own-fits l b (group q fs) h p = (small-fits q (p .0), b)
+own-fits l b (program q fs) h p = (small-fits q (p .0), b)
+own-fits l b (comment q) h p = (small-fits q (p .0), b)
 
 field-fits : (k : Kind) (f : Field) → Other k f → Small (f .value) → Fits (fieldEntry f)
 unfolding Fits fieldEntry
@@ -114,7 +114,8 @@ field-fits k f o s =
 
 module _ (t : List ℕ) (rs : List Record) (h : readText t ≡ accept rs) where
   pub text-fit : Each Fits (entriesOf rs)
-  text-fit = each-entries Small Fits own-fits field-fits rs (text-sound t rs h) (text-small t rs h)
+  unfolding entriesOf
+  text-fit = each-entries Small Fits own-fits field-fits 0 rs (omega (arith, text-count t rs h, text-fits t rs h)) (text-sound t rs h) (text-small t rs h)
 
   -- its catalogue is read back
   pub text-entries : entriesIn (catalogue rs) ≡ entriesOf rs

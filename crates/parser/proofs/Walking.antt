@@ -4,7 +4,7 @@ use mathlib.Core.Path.{_≡_, refl, sym, ap, subst, _∙_}
 use mathlib.Core.Bool.{Bool, true, false}
 use mathlib.Core.List.{List, [], _∷_, _++_, append-assoc, append-nil}
 use native.Mathlib.Omega.{arith}
-use lib.ListN.{length, take, drop, length-take, length-drop, drop-of-length-le}
+use lib.ListN.{length, take, drop, length-append, length-take, length-drop, drop-of-length-le}
 use lib.Seq.{drop-drop}
 use Rattle.format.specs.Lines.{Piece, lines, linesFrom}
 use Rattle.format.specs.Records as records
@@ -21,15 +21,16 @@ use Rattle.accepted.proofs.Text.{text-lines, text-fits}
 use Rattle.accepted.specs.Read.{isRead, recordsOf}
 use Rattle.parser.specs.Accepted.{Accepted}
 
--- at the line that starts at `at`
+-- at the line that starts at `at`; each line before it has a byte at least
 pub record Walking (strict : Bool) (t : List ℕ) (at : ℕ) : Type 0 where
   pub done : List Record
   pub rest : List Record
   pub whole : recordsOf t ≡ done ++ rest
   pub ahead : Pairs (λ p r. records.line strict p ≡ read r) (linesFrom at (drop at t)) rest
   pub inside : at ≤ length t
+  pub few : length done ≤ at
 
-text-size : (strict : Bool) (t : List ℕ) → Accepted strict t → length t ≤ 16777216
+pub text-size : (strict : Bool) (t : List ℕ) → Accepted strict t → length t ≤ 16777216
 text-size strict t a = text-fits t (recordsOf t) (a .reads)
 
 unfoldable pub walking-start : (strict : Bool) (t : List ℕ) → Accepted strict t → Walking strict t 0
@@ -41,6 +42,7 @@ walking-start strict t a =
       whole = refl;
       ahead = subst (λ s. Pairs (λ p r. records.line s p ≡ read r) (linesFrom 0 t) (recordsOf t)) (sym (a .rule)) (text-lines t (recordsOf t) (a .reads));
       inside = omega arith;
+      few = omega arith;
     }
 
 module _ (strict : Bool) (t : List ℕ) (at : ℕ) (w : Walking strict t at) where
@@ -74,6 +76,7 @@ module _ (strict : Bool) (t : List ℕ) (at : ℕ) (w : Walking strict t at) whe
       pub line-is : records.line strict (record { at = at; bytes = take (firstLine (drop at t) .len) (drop at t) }) ≡ read here
       pub next : Walking strict t (at + firstLine (drop at t) .next)
       pub done-is : next .done ≡ w .done ++ (here ∷ [])
+      pub count-is : length (next .done) ≡ length (w .done) + 1
       pub whole-is : recordsOf t ≡ (w .done ++ (here ∷ [])) ++ others
 
     walking-turn : Turn
@@ -95,8 +98,16 @@ module _ (strict : Bool) (t : List ℕ) (at : ℕ) (w : Walking strict t at) whe
               others = rs;
               rest-is = e;
               line-is = p .0;
-              next = record { done = w .done ++ (r ∷ []); rest = rs; whole = all; ahead = p .1; inside = next-in };
+              next = record {
+                done = w .done ++ (r ∷ []);
+                rest = rs;
+                whole = all;
+                ahead = p .1;
+                inside = next-in;
+                few = omega (arith, w .few, next-more, length-append (w .done) (r ∷ []));
+              };
               done-is = refl;
+              count-is = length-append (w .done) (r ∷ []);
               whole-is = all;
             }
 

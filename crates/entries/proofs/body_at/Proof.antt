@@ -7,18 +7,39 @@ use mathlib.Core.List.{List}
 use lib.ListN.{take, drop, getD}
 use lib.Seq.{drop-drop, getD-drop}
 use Rattle.entries.specs.declared.Entry.the-variants.{Header, ReferenceSequence, ReadGroup, Program, Comment, Field}
-use Rattle.entries.specs.Entries.{kindSize, placeOf, bodied}
+use Rattle.entries.specs.Entries.{kindSize, versionOf, placeOf, lineOf, bodied}
 use Rattle.text.specs.Little.{ofLittle}
 use Rattle.entries.proofs.Walk.{no-kind, no-body}
 use Rattle.entries.proofs.body_at.Statement.{statement}
 use Rattle.entries.proofs.body_at.Tie as tie
 
+-- the body is behind the byte of kind, and a line behind what else the body says
 module _ (at : ℕ) (s : List ℕ) where
-  sequence : bodied 2 (drop (at + 1) s) ≡ ReferenceSequence (placeOf (drop (at + 1) s)) (ofLittle (take 8 (drop (at + 9) s)))
+  line-at : (n m : ℕ) → at + 1 + n ≡ at + m → lineOf (drop n (drop (at + 1) s)) ≡ ofLittle (take 4 (drop (at + m) s))
+  unfolding lineOf
+  line-at n m e = rw (drop-drop n (at + 1) s, e) refl
+
+  header : bodied 1 (drop (at + 1) s) ≡ Header (versionOf (drop (at + 1) s)) (ofLittle (take 4 (drop (at + 9) s)))
+  unfolding bodied
+  header = ap (Header (versionOf (drop (at + 1) s))) (line-at 8 9 (omega arith))
+
+  sequence : bodied 2 (drop (at + 1) s) ≡ ReferenceSequence (placeOf (drop (at + 1) s)) (ofLittle (take 8 (drop (at + 9) s))) (ofLittle (take 4 (drop (at + 17) s)))
   unfolding bodied
   sequence =
       let e : at + 1 + 8 ≡ at + 9 = omega arith in
-      rw (drop-drop 8 (at + 1) s, e) refl
+      ap (ReferenceSequence (placeOf (drop (at + 1) s)) (ofLittle (take 8 (drop 8 (drop (at + 1) s))))) (line-at 16 17 (omega arith)) ∙ rw (drop-drop 8 (at + 1) s, e) refl
+
+  group : bodied 3 (drop (at + 1) s) ≡ ReadGroup (placeOf (drop (at + 1) s)) (ofLittle (take 4 (drop (at + 9) s)))
+  unfolding bodied
+  group = ap (ReadGroup (placeOf (drop (at + 1) s))) (line-at 8 9 (omega arith))
+
+  program : bodied 4 (drop (at + 1) s) ≡ Program (placeOf (drop (at + 1) s)) (ofLittle (take 4 (drop (at + 9) s)))
+  unfolding bodied
+  program = ap (Program (placeOf (drop (at + 1) s))) (line-at 8 9 (omega arith))
+
+  comment : bodied 5 (drop (at + 1) s) ≡ Comment (placeOf (drop (at + 1) s)) (ofLittle (take 4 (drop (at + 9) s)))
+  unfolding bodied
+  comment = ap (Comment (placeOf (drop (at + 1) s))) (line-at 8 9 (omega arith))
 
   field : bodied 6 (drop (at + 1) s) ≡ Field (getD s (at + 1) 0) (getD s (at + 2) 0) (placeOf (drop (at + 3) s))
   unfolding bodied
@@ -35,6 +56,13 @@ version-at-requires : tie.Need-version-at-requires
 unfolding kindSize
 version-at-requires c κs = omega (arith, ap kindSize (c .match .keys1))
 
+add-get-u32 : tie.Need-add-get-u32
+add-get-u32 c = search needs
+
+get-u32-requires : tie.Need-get-u32-requires
+unfolding kindSize
+get-u32-requires c κs = omega (arith, ap kindSize (c .before .match .keys1))
+
 add-place-at : tie.Need-add-place-at
 add-place-at c = search needs
 
@@ -49,12 +77,26 @@ get-u64-requires : tie.Need-get-u64-requires
 unfolding kindSize
 get-u64-requires c κs = omega (arith, ap kindSize (c .before .match .keys2))
 
+add-get-u32-2 : tie.Need-add-get-u32-2
+add-get-u32-2 c = search needs
+
+get-u32-requires-2 : tie.Need-get-u32-requires-2
+unfolding kindSize
+get-u32-requires-2 c κs = omega (arith, ap kindSize (c .before .before .match .keys2))
+
 add-place-at-2 : tie.Need-add-place-at-2
 add-place-at-2 c = search needs
 
 place-at-requires-2 : tie.Need-place-at-requires-2
 unfolding kindSize
 place-at-requires-2 c κs = omega (arith, ap kindSize (c .match .keys3))
+
+add-get-u32-3 : tie.Need-add-get-u32-3
+add-get-u32-3 c = search needs
+
+get-u32-requires-3 : tie.Need-get-u32-requires-3
+unfolding kindSize
+get-u32-requires-3 c κs = omega (arith, ap kindSize (c .before .match .keys3))
 
 add-place-at-3 : tie.Need-add-place-at-3
 add-place-at-3 c = search needs
@@ -63,6 +105,13 @@ place-at-requires-3 : tie.Need-place-at-requires-3
 unfolding kindSize
 place-at-requires-3 c κs = omega (arith, ap kindSize (c .match .keys4))
 
+add-get-u32-4 : tie.Need-add-get-u32-4
+add-get-u32-4 c = search needs
+
+get-u32-requires-4 : tie.Need-get-u32-requires-4
+unfolding kindSize
+get-u32-requires-4 c κs = omega (arith, ap kindSize (c .before .match .keys4))
+
 add-place-at-4 : tie.Need-add-place-at-4
 add-place-at-4 c = search needs
 
@@ -70,19 +119,26 @@ place-at-requires-4 : tie.Need-place-at-requires-4
 unfolding kindSize
 place-at-requires-4 c κs = omega (arith, ap kindSize (c .match .keys5))
 
-add-t17 : tie.Need-add-t17
-add-t17 c = search needs
+add-get-u32-5 : tie.Need-add-get-u32-5
+add-get-u32-5 c = search needs
 
-shared-slice-read-t19 : tie.Need-shared-slice-read-t19
+get-u32-requires-5 : tie.Need-get-u32-requires-5
 unfolding kindSize
-shared-slice-read-t19 c = omega (arith, ap kindSize (c .before .match .keys6))
+get-u32-requires-5 c κs = omega (arith, ap kindSize (c .before .match .keys5))
 
-add-t20 : tie.Need-add-t20
-add-t20 c = search needs
+add-t27 : tie.Need-add-t27
+add-t27 c = search needs
 
-shared-slice-read-t22 : tie.Need-shared-slice-read-t22
+shared-slice-read-t29 : tie.Need-shared-slice-read-t29
 unfolding kindSize
-shared-slice-read-t22 c = omega (arith, ap kindSize (c .before .before .match .keys6))
+shared-slice-read-t29 c = omega (arith, ap kindSize (c .before .match .keys6))
+
+add-t30 : tie.Need-add-t30
+add-t30 c = search needs
+
+shared-slice-read-t32 : tie.Need-shared-slice-read-t32
+unfolding kindSize
+shared-slice-read-t32 c = omega (arith, ap kindSize (c .before .before .match .keys6))
 
 add-place-at-5 : tie.Need-add-place-at-5
 add-place-at-5 c = search needs
@@ -92,33 +148,29 @@ unfolding kindSize
 place-at-requires-5 c κs = omega (arith, ap kindSize (c .before .before .match .keys6))
 
 returns : tie.Need-returns
-unfolding bodied
 returns c =
-    let a = c .before .before .before .args in
-    ap Header (c .version-at .ensures) ∙ sym (ap (λ k. bodied k (drop (a .at + 1) (a .s .now))) (c .before .match .keys1))
+    let a = c .before .before .before .before .args in
+    cc (header (a .at) (a .s .now), c .before .version-at .ensures, c .get-u32 .ensures, c .before .before .match .keys1)
 
 returns-2 : tie.Need-returns-2
 returns-2 c =
-    let a = c .before .before .before .before .args in
-    cc (sequence (a .at) (a .s .now), c .before .place-at .ensures, c .get-u64 .ensures, c .before .before .match .keys2)
+    let a = c .before .before .before .before .before .args in
+    cc (sequence (a .at) (a .s .now), c .before .before .place-at .ensures, c .before .get-u64 .ensures, c .get-u322 .ensures, c .before .before .before .match .keys2)
 
 returns-3 : tie.Need-returns-3
-unfolding bodied
 returns-3 c =
-    let a = c .before .before .before .args in
-    ap ReadGroup (c .place-at2 .ensures) ∙ sym (ap (λ k. bodied k (drop (a .at + 1) (a .s .now))) (c .before .match .keys3))
+    let a = c .before .before .before .before .args in
+    cc (group (a .at) (a .s .now), c .before .place-at2 .ensures, c .get-u323 .ensures, c .before .before .match .keys3)
 
 returns-4 : tie.Need-returns-4
-unfolding bodied
 returns-4 c =
-    let a = c .before .before .before .args in
-    ap Program (c .place-at3 .ensures) ∙ sym (ap (λ k. bodied k (drop (a .at + 1) (a .s .now))) (c .before .match .keys4))
+    let a = c .before .before .before .before .args in
+    cc (program (a .at) (a .s .now), c .before .place-at3 .ensures, c .get-u324 .ensures, c .before .before .match .keys4)
 
 returns-5 : tie.Need-returns-5
-unfolding bodied
 returns-5 c =
-    let a = c .before .before .before .args in
-    ap Comment (c .place-at4 .ensures) ∙ sym (ap (λ k. bodied k (drop (a .at + 1) (a .s .now))) (c .before .match .keys5))
+    let a = c .before .before .before .before .args in
+    cc (comment (a .at) (a .s .now), c .before .place-at4 .ensures, c .get-u325 .ensures, c .before .before .match .keys5)
 
 returns-6 : tie.Need-returns-6
 returns-6 c =
@@ -134,20 +186,30 @@ body-at-spec =
     (tie.spec
     add-version-at
     version-at-requires
+    add-get-u32
+    get-u32-requires
     add-place-at
     place-at-requires
     add-get-u64
     get-u64-requires
+    add-get-u32-2
+    get-u32-requires-2
     add-place-at-2
     place-at-requires-2
+    add-get-u32-3
+    get-u32-requires-3
     add-place-at-3
     place-at-requires-3
+    add-get-u32-4
+    get-u32-requires-4
     add-place-at-4
     place-at-requires-4
-    add-t17
-    shared-slice-read-t19
-    add-t20
-    shared-slice-read-t22
+    add-get-u32-5
+    get-u32-requires-5
+    add-t27
+    shared-slice-read-t29
+    add-t30
+    shared-slice-read-t32
     add-place-at-5
     place-at-requires-5
     returns

@@ -28,9 +28,9 @@ enum-told c = search needs
 enum-known-e : tie.Need-enum-known-e
 enum-known-e c = search needs
 
-put-kind-requires : tie.Need-put-kind-requires
+put-lined-requires : tie.Need-put-lined-requires
 unfolding sizeOf
-put-kind-requires c κs = omega (arith, ap sizeOf (c .before .before .e .given .1))
+put-lined-requires c κs = omega (arith, ap sizeOf (c .before .before .e .given .1))
 
 enum-known-e-2 : tie.Need-enum-known-e-2
 enum-known-e-2 c = search needs
@@ -42,23 +42,23 @@ put-sequence-requires c κs = omega (arith, ap sizeOf (c .before .before .e2 .gi
 enum-known-e-3 : tie.Need-enum-known-e-3
 enum-known-e-3 c = search needs
 
-put-kind-requires-2 : tie.Need-put-kind-requires-2
+put-lined-requires-2 : tie.Need-put-lined-requires-2
 unfolding sizeOf
-put-kind-requires-2 c κs = omega (arith, ap sizeOf (c .before .before .e3 .given .1))
+put-lined-requires-2 c κs = omega (arith, ap sizeOf (c .before .before .e3 .given .1))
 
 enum-known-e-4 : tie.Need-enum-known-e-4
 enum-known-e-4 c = search needs
 
-put-kind-requires-3 : tie.Need-put-kind-requires-3
+put-lined-requires-3 : tie.Need-put-lined-requires-3
 unfolding sizeOf
-put-kind-requires-3 c κs = omega (arith, ap sizeOf (c .before .before .e4 .given .1))
+put-lined-requires-3 c κs = omega (arith, ap sizeOf (c .before .before .e4 .given .1))
 
 enum-known-e-5 : tie.Need-enum-known-e-5
 enum-known-e-5 c = search needs
 
-put-kind-requires-4 : tie.Need-put-kind-requires-4
+put-lined-requires-4 : tie.Need-put-lined-requires-4
 unfolding sizeOf
-put-kind-requires-4 c κs = omega (arith, ap sizeOf (c .before .before .e5 .given .1))
+put-lined-requires-4 c κs = omega (arith, ap sizeOf (c .before .before .e5 .given .1))
 
 enum-known-e-6 : tie.Need-enum-known-e-6
 enum-known-e-6 c = search needs
@@ -80,7 +80,7 @@ returns-2 : tie.Need-returns-2
 unfolding entryBytes
 returns-2 c =
     let known = c .before .before .before .before .before in
-    arm _ _ _ _ _ _ (known .before .before .size .ensures) (known .e .given .1) (c .before .before .put-kind .ensures)
+    arm _ _ _ _ _ _ (known .before .before .size .ensures) (known .e .given .1) (c .before .before .put-lined .ensures)
 
 same-length-2 : tie.Need-same-length-2
 same-length-2 c = search needs
@@ -98,7 +98,7 @@ returns-4 : tie.Need-returns-4
 unfolding entryBytes
 returns-4 c =
     let known = c .before .before .before .before .before in
-    arm _ _ _ _ _ _ (known .before .before .size .ensures) (known .e3 .given .1) (c .before .before .put-kind2 .ensures)
+    arm _ _ _ _ _ _ (known .before .before .size .ensures) (known .e3 .given .1) (c .before .before .put-lined2 .ensures)
 
 same-length-4 : tie.Need-same-length-4
 same-length-4 c = search needs
@@ -107,7 +107,7 @@ returns-5 : tie.Need-returns-5
 unfolding entryBytes
 returns-5 c =
     let known = c .before .before .before .before .before in
-    arm _ _ _ _ _ _ (known .before .before .size .ensures) (known .e4 .given .1) (c .before .before .put-kind3 .ensures)
+    arm _ _ _ _ _ _ (known .before .before .size .ensures) (known .e4 .given .1) (c .before .before .put-lined3 .ensures)
 
 same-length-5 : tie.Need-same-length-5
 same-length-5 c = search needs
@@ -116,7 +116,7 @@ returns-6 : tie.Need-returns-6
 unfolding entryBytes
 returns-6 c =
     let known = c .before .before .before .before .before in
-    arm _ _ _ _ _ _ (known .before .before .size .ensures) (known .e5 .given .1) (c .before .before .put-kind4 .ensures)
+    arm _ _ _ _ _ _ (known .before .before .size .ensures) (known .e5 .given .1) (c .before .before .put-lined4 .ensures)
 
 same-length-6 : tie.Need-same-length-6
 same-length-6 c = search needs
@@ -135,15 +135,15 @@ put-entry-spec =
     add-next
     enum-told
     enum-known-e
-    put-kind-requires
+    put-lined-requires
     enum-known-e-2
     put-sequence-requires
     enum-known-e-3
-    put-kind-requires-2
+    put-lined-requires-2
     enum-known-e-4
-    put-kind-requires-3
+    put-lined-requires-3
     enum-known-e-5
-    put-kind-requires-4
+    put-lined-requires-4
     enum-known-e-6
     put-field-requires
     returns

@@ -1,4 +1,4 @@
--- `entries_out::put_sequence` meets its contract: the LN stands behind the place of the name.
+-- `entries_out::put_sequence` meets its contract: the LN stands behind the place of the name, and the line behind the LN.
 use Prim.Native.Nat.{_+_}
 use mathlib.Core.Path.{ap, _∙_}
 use mathlib.Core.List.{_∷_, _++_}
@@ -20,20 +20,38 @@ add-put-u64 c = search needs
 put-u64-requires : tie.Need-put-u64-requires
 put-u64-requires c κs = search needs
 
+add-put-u32 : tie.Need-add-put-u32
+add-put-u32 c = search needs
+
+put-u32-requires : tie.Need-put-u32-requires
+put-u32-requires c κs = search needs
+
 same-length : tie.Need-same-length
 same-length c = search needs
 
 returns : tie.Need-returns
 unfolding little entryBytes
 returns c =
-    let second = c .before .before in
+    let third = c .before .before in
+    let second = third .before .before .before .before in
     let first = second .before .before .before .before in
     let a = first .before .before .before .args in
-    let p = a .name in
-    second .put-u64 .ensures
+    let place = 2 ∷ little 4 (a .name .at) ++ little 4 (a .name .len) in
+    third .put-u32 .ensures
+    ∙ ap (λ o. over o (a .at + 17) (little 4 (a .line)))
+    (second .put-u64 .ensures
     ∙ ap (λ o. over o (a .at + 9) (little 8 (a .n))) (first .put-kind .ensures)
-    ∙ over-over (a .out .now) (a .at) (2 ∷ little 4 (p .at) ++ little 4 (p .len)) (little 8 (a .n)) (omega arith)
+    ∙ over-over (a .out .now) (a .at) place (little 8 (a .n)) (omega arith))
+    ∙ over-over (a .out .now) (a .at) (place ++ little 8 (a .n)) (little 4 (a .line)) (omega arith)
 
 pub put-sequence-spec : {M : Type 1} → statement M
 put-sequence-spec =
-    tie.close (tie.spec put-kind-requires add-put-u64 put-u64-requires same-length returns)
+    tie.close
+    (tie.spec
+    put-kind-requires
+    add-put-u64
+    put-u64-requires
+    add-put-u32
+    put-u32-requires
+    same-length
+    returns)

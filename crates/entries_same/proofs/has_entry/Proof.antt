@@ -25,9 +25,9 @@ enum-told c = search needs
 enum-known-e : tie.Need-enum-known-e
 enum-known-e c = search needs
 
-has-kind-requires : tie.Need-has-kind-requires
+has-lined-requires : tie.Need-has-lined-requires
 unfolding sizeOf
-has-kind-requires c κs = long (c .before .before .before .before) _ (c .before .e .given .1)
+has-lined-requires c κs = long (c .before .before .before .before) _ (c .before .e .given .1)
 
 enum-known-e-2 : tie.Need-enum-known-e-2
 enum-known-e-2 c = search needs
@@ -39,23 +39,23 @@ has-sequence-requires c κs = long (c .before .before .before .before) _ (c .bef
 enum-known-e-3 : tie.Need-enum-known-e-3
 enum-known-e-3 c = search needs
 
-has-kind-requires-2 : tie.Need-has-kind-requires-2
+has-lined-requires-2 : tie.Need-has-lined-requires-2
 unfolding sizeOf
-has-kind-requires-2 c κs = long (c .before .before .before .before) _ (c .before .e3 .given .1)
+has-lined-requires-2 c κs = long (c .before .before .before .before) _ (c .before .e3 .given .1)
 
 enum-known-e-4 : tie.Need-enum-known-e-4
 enum-known-e-4 c = search needs
 
-has-kind-requires-3 : tie.Need-has-kind-requires-3
+has-lined-requires-3 : tie.Need-has-lined-requires-3
 unfolding sizeOf
-has-kind-requires-3 c κs = long (c .before .before .before .before) _ (c .before .e4 .given .1)
+has-lined-requires-3 c κs = long (c .before .before .before .before) _ (c .before .e4 .given .1)
 
 enum-known-e-5 : tie.Need-enum-known-e-5
 enum-known-e-5 c = search needs
 
-has-kind-requires-4 : tie.Need-has-kind-requires-4
+has-lined-requires-4 : tie.Need-has-lined-requires-4
 unfolding sizeOf
-has-kind-requires-4 c κs = long (c .before .before .before .before) _ (c .before .e5 .given .1)
+has-lined-requires-4 c κs = long (c .before .before .before .before) _ (c .before .e5 .given .1)
 
 enum-known-e-6 : tie.Need-enum-known-e-6
 enum-known-e-6 c = search needs
@@ -72,7 +72,7 @@ returns c =
 
 returns-2 : tie.Need-returns-2
 unfolding entryBytes placeBytes
-returns-2 c = c .has-kind .ensures ∙ same (c .before .before .before .before .before) _ (c .before .before .e .given .1)
+returns-2 c = c .has-lined .ensures ∙ same (c .before .before .before .before .before) _ (c .before .before .e .given .1)
 
 returns-3 : tie.Need-returns-3
 unfolding entryBytes placeBytes
@@ -80,15 +80,15 @@ returns-3 c = c .has-sequence .ensures ∙ same (c .before .before .before .befo
 
 returns-4 : tie.Need-returns-4
 unfolding entryBytes placeBytes
-returns-4 c = c .has-kind2 .ensures ∙ same (c .before .before .before .before .before) _ (c .before .before .e3 .given .1)
+returns-4 c = c .has-lined2 .ensures ∙ same (c .before .before .before .before .before) _ (c .before .before .e3 .given .1)
 
 returns-5 : tie.Need-returns-5
 unfolding entryBytes placeBytes
-returns-5 c = c .has-kind3 .ensures ∙ same (c .before .before .before .before .before) _ (c .before .before .e4 .given .1)
+returns-5 c = c .has-lined3 .ensures ∙ same (c .before .before .before .before .before) _ (c .before .before .e4 .given .1)
 
 returns-6 : tie.Need-returns-6
 unfolding entryBytes placeBytes
-returns-6 c = c .has-kind4 .ensures ∙ same (c .before .before .before .before .before) _ (c .before .before .e5 .given .1)
+returns-6 c = c .has-lined4 .ensures ∙ same (c .before .before .before .before .before) _ (c .before .before .e5 .given .1)
 
 returns-7 : tie.Need-returns-7
 unfolding entryBytes placeBytes
@@ -100,15 +100,15 @@ has-entry-spec =
     (tie.spec
     enum-told
     enum-known-e
-    has-kind-requires
+    has-lined-requires
     enum-known-e-2
     has-sequence-requires
     enum-known-e-3
-    has-kind-requires-2
+    has-lined-requires-2
     enum-known-e-4
-    has-kind-requires-3
+    has-lined-requires-3
     enum-known-e-5
-    has-kind-requires-4
+    has-lined-requires-4
     enum-known-e-6
     has-field-requires
     returns

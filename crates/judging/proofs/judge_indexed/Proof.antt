@@ -218,13 +218,13 @@ few c =
     let n = len-is (a .strict) (a .text .now) (l .loop .at) (l .loop .line) (l .loop .programs) (l .loop .size) (l .loop .inv .0) (below q) in
     omega (arith, ap othersOf (record-is c), own-others (accepted c .0), others-few (a .strict) (piece q) (accepted c .0) (accepted c .1), n)
 
-head-most : (h : Head) → sizeOfHead h ≤ 17 + 11 * othersOf h
+head-most : (h : Head) → sizeOfHead h ≤ 21 + 11 * othersOf h
 unfolding sizeOfHead
-head-most h = omega (arith, size-most (ownEntry h))
+head-most h = omega (arith, size-most (ownEntry 0 h))
 
 entry-most : (c : tie.Else2 Inv-loop μ-loop)
     → let q = c .before .before .before .before .before .before .before .before .before .before .before .before .before .before in
-    sizeOfHead (c .before .before .before .before .before .before .before .before .before .before .before .parse-record .result) ≤ 28 * q .before .before .first-line .result .next
+    sizeOfHead (c .before .before .before .before .before .before .before .before .before .before .before .parse-record .result) ≤ 32 * q .before .before .first-line .result .next
 entry-most c =
     let q = c .before .before .before .before .before .before .before .before .before .before .before .before .before .before in
     let l = q .before .before .before .before in
@@ -374,9 +374,9 @@ loop-again c =
     let a = l .before .before .before .args in
     let j = l .loop .inv .0 in
     let r = accepted e .0 in
-    let size : c .record-size .result ≡ length (recordBytes (read r)) =
-    c .record-size .ensures ∙ ap sizeOfHead (head-is (e .before .before .before .before .before .before .before .before .before .before .before)) ∙ size-length (line (a .strict) (piece q)) ∙ ap (λ x. length (recordBytes x)) (accepted e .1) in
-    let bound : c .record-size .result ≤ 28 * firstLine (drop (l .loop .at) (a .text .now)) .next = omega (arith, c .record-size .ensures, entry-most e, ap (λ x. x .next) (cut q)) in
+    let size : c .record-size .result ≡ length (recordBytes (length (j .before)) (read r)) =
+    c .record-size .ensures ∙ ap sizeOfHead (head-is (e .before .before .before .before .before .before .before .before .before .before .before)) ∙ size-length (length (j .before)) (line (a .strict) (piece q)) ∙ ap (λ x. length (recordBytes (length (j .before)) x)) (accepted e .1) in
+    let bound : c .record-size .result ≤ 32 * firstLine (drop (l .loop .at) (a .text .now)) .next = omega (arith, c .record-size .ensures, entry-most e, ap (λ x. x .next) (cut q)) in
     let m = e .before .before .before .before .before in
     let w = m .before .before .before .before in
     let long : length (catalogue (j .before ++ (r ∷ []))) ≡ length (catalogue (j .before)) + c .record-size .result = catalogue-length (j .before) r ∙ ap (λ n. length (catalogue (j .before)) + n) (sym size) in

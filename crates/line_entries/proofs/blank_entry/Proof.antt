@@ -26,27 +26,27 @@ enum-told-4 c = search needs
 
 returns : tie.Need-returns
 unfolding sizeOf ownEntry
-returns c = sym (ap (λ h. sizeOf (ownEntry h)) (c .enum-told .given .1))
+returns c = sym (ap (λ h. sizeOf (ownEntry 0 h)) (c .enum-told .given .1))
 
 returns-2 : tie.Need-returns-2
 unfolding sizeOf ownEntry
-returns-2 c = sym (ap (λ h. sizeOf (ownEntry h)) (c .before .head .given .1))
+returns-2 c = sym (ap (λ h. sizeOf (ownEntry 0 h)) (c .before .head .given .1))
 
 returns-3 : tie.Need-returns-3
 unfolding sizeOf ownEntry
-returns-3 c = sym (ap (λ h. sizeOf (ownEntry h)) (c .before .head2 .given .1))
+returns-3 c = sym (ap (λ h. sizeOf (ownEntry 0 h)) (c .before .head2 .given .1))
 
 returns-4 : tie.Need-returns-4
 unfolding sizeOf ownEntry
-returns-4 c = sym (ap (λ h. sizeOf (ownEntry h)) (c .enum-told2 .given .1))
+returns-4 c = sym (ap (λ h. sizeOf (ownEntry 0 h)) (c .enum-told2 .given .1))
 
 returns-5 : tie.Need-returns-5
 unfolding sizeOf ownEntry
-returns-5 c = sym (ap (λ h. sizeOf (ownEntry h)) (c .enum-told3 .given .1))
+returns-5 c = sym (ap (λ h. sizeOf (ownEntry 0 h)) (c .enum-told3 .given .1))
 
 returns-6 : tie.Need-returns-6
 unfolding sizeOf ownEntry
-returns-6 c = sym (ap (λ h. sizeOf (ownEntry h)) (c .enum-told4 .given .1))
+returns-6 c = sym (ap (λ h. sizeOf (ownEntry 0 h)) (c .enum-told4 .given .1))
 
 pub blank-entry-spec : {M : Type 1} → statement M
 blank-entry-spec =

@@ -1,6 +1,7 @@
 -- `line_entries::line_entry` meets its contract: the head by the keys is the line's, and its numbers fit.
 use mathlib.Core.Path.{_≡_, sym, ap, subst, _∙_}
 use native.Mathlib.Omega.{arith}
+use borrow.Author.Needs.{needs}
 use Rattle.record.specs.Head.{headOf}
 use Rattle.entries.specs.Entries.{Fits}
 use Rattle.format.specs.Records.{line}
@@ -11,14 +12,14 @@ use Rattle.line_entries.proofs.line_entry.Tie as tie
 use mathlib.Core.Bool.{false}
 
 -- the entry of the head is the line's
-told : (c : tie.After-head-of) → (let a = c .before .before .args in ownEntry (c .head-of .result) ≡ ownEntry (headOf (line false (record { at = a .at; bytes = a .src .now }))))
-told c = ap ownEntry (c .head-of .ensures) ∙ own-uncounted _
+told : (c : tie.After-head-of) → (let a = c .before .before .args in ownEntry (a .number) (c .head-of .result) ≡ ownEntry (a .number) (headOf (line false (record { at = a .at; bytes = a .src .now }))))
+told c = let n = c .before .before .args .number in ap (ownEntry n) (c .head-of .ensures) ∙ own-uncounted n _
 
 head-of-requires : tie.Need-head-of-requires
 head-of-requires c κs = let s = c .before in (s .pre .0, (s .pre .1 .0, (s .pre .1 .1 .0, omega (arith, s .pre .1 .1 .1))))
 
 own-entry-requires : tie.Need-own-entry-requires
-own-entry-requires c κs = let s = c .before .before in subst Fits (sym (told c)) (own-fits (s .args .at) (s .args .src .now) (s .pre .0) (s .pre .1 .1 .1))
+own-entry-requires c κs = let s = c .before .before in subst Fits (sym (told c)) (own-fits (s .args .number) (s .args .at) (s .args .src .now) (s .pre .0) (search needs) (s .pre .1 .1 .1))
 
 returns : tie.Need-returns
 returns c = c .own-entry .ensures ∙ told (c .before)

@@ -17,52 +17,52 @@ enum-known-head-2 c = search needs
 
 narrow-requires : tie.Need-narrow-requires
 unfolding Fits ownEntry
-narrow-requires c κs = subst (λ h. Fits (ownEntry h)) (c .before .head2 .given .1) (c .before .before .before .pre) .0
+narrow-requires c κs = subst (λ h. Fits (ownEntry (c .before .before .before .args .number) h)) (c .before .head2 .given .1) (c .before .before .before .pre) .0
 
 enum-known-head-3 : tie.Need-enum-known-head-3
 enum-known-head-3 c = search needs
 
 narrow-requires-2 : tie.Need-narrow-requires-2
 unfolding Fits ownEntry
-narrow-requires-2 c κs = subst (λ h. Fits (ownEntry h)) (c .before .head3 .given .1) (c .before .before .before .pre)
+narrow-requires-2 c κs = subst (λ h. Fits (ownEntry (c .before .before .before .args .number) h)) (c .before .head3 .given .1) (c .before .before .before .pre) .0
 
 enum-known-head-4 : tie.Need-enum-known-head-4
 enum-known-head-4 c = search needs
 
 narrow-requires-3 : tie.Need-narrow-requires-3
 unfolding Fits ownEntry
-narrow-requires-3 c κs = subst (λ h. Fits (ownEntry h)) (c .before .head4 .given .1) (c .before .before .before .pre)
+narrow-requires-3 c κs = subst (λ h. Fits (ownEntry (c .before .before .before .args .number) h)) (c .before .head4 .given .1) (c .before .before .before .pre) .0
 
 enum-known-head-5 : tie.Need-enum-known-head-5
 enum-known-head-5 c = search needs
 
 narrow-requires-4 : tie.Need-narrow-requires-4
 unfolding Fits ownEntry
-narrow-requires-4 c κs = subst (λ h. Fits (ownEntry h)) (c .before .head5 .given .1) (c .before .before .before .pre)
+narrow-requires-4 c κs = subst (λ h. Fits (ownEntry (c .before .before .before .args .number) h)) (c .before .head5 .given .1) (c .before .before .before .pre) .0
 
 returns : tie.Need-returns
 unfolding ownEntry
-returns c = sym (ap ownEntry (c .enum-told .given .1))
+returns c = sym (ap (ownEntry _) (c .enum-told .given .1))
 
 returns-2 : tie.Need-returns-2
 unfolding ownEntry
-returns-2 c = sym (ap ownEntry (c .before .head .given .1))
+returns-2 c = sym (ap (ownEntry _) (c .before .head .given .1))
 
 returns-3 : tie.Need-returns-3
 unfolding ownEntry
-returns-3 c = rw (c .narrow .ensures) (sym (ap ownEntry (c .before .before .head2 .given .1)))
+returns-3 c = rw (c .narrow .ensures) (sym (ap (ownEntry _) (c .before .before .head2 .given .1)))
 
 returns-4 : tie.Need-returns-4
 unfolding ownEntry
-returns-4 c = rw (c .narrow2 .ensures) (sym (ap ownEntry (c .before .before .head3 .given .1)))
+returns-4 c = rw (c .narrow2 .ensures) (sym (ap (ownEntry _) (c .before .before .head3 .given .1)))
 
 returns-5 : tie.Need-returns-5
 unfolding ownEntry
-returns-5 c = rw (c .narrow3 .ensures) (sym (ap ownEntry (c .before .before .head4 .given .1)))
+returns-5 c = rw (c .narrow3 .ensures) (sym (ap (ownEntry _) (c .before .before .head4 .given .1)))
 
 returns-6 : tie.Need-returns-6
 unfolding ownEntry
-returns-6 c = rw (c .narrow4 .ensures) (sym (ap ownEntry (c .before .before .head5 .given .1)))
+returns-6 c = rw (c .narrow4 .ensures) (sym (ap (ownEntry _) (c .before .before .head5 .given .1)))
 
 pub own-entry-spec : {M : Type 1} → statement M
 own-entry-spec =

@@ -12,16 +12,16 @@ use Rattle.other_fields.specs.Next.{orValue}
 use Rattle.heads.specs.Keys.{lastKey, lastNumber, keysFrom, keysIn}
 use Rattle.entries.specs.Entries.{entryBytes}
 use Rattle.entries.proofs.Written.{entry-length}
-use Rattle.line_entries.specs.Line.{recordBytes}
+use Rattle.line_entries.specs.Line.{lineBytes}
 use Rattle.line_entries.proofs.Told.{comment-bytes}
 use Rattle.line_entries.proofs.put_comment.Statement.{statement}
 use Rattle.line_entries.proofs.put_comment.Tie as tie
 
 -- the bytes of the line are those of its own entry
-bytes : (c : tie.After-line-entry) → (let a = c .before .before .before .before .before .args in recordBytes (line false (record { at = a .at; bytes = a .src .now })) ≡ entryBytes (c .line-entry .result))
+bytes : (c : tie.After-line-entry) → (let a = c .before .before .before .before .before .args in lineBytes false (a .number) (a .at) (a .src .now) ≡ entryBytes (c .line-entry .result))
 bytes c =
     let s = c .before .before .before .before .before in
-    comment-bytes (s .args .at) (s .args .src .now) (s .pre .0) (s .pre .1 .0) ∙ append-nil _ ∙ ap entryBytes (sym (c .line-entry .ensures))
+    comment-bytes (s .args .number) (s .args .at) (s .args .src .now) (s .pre .0) (s .pre .1 .0) ∙ append-nil _ ∙ ap entryBytes (sym (c .line-entry .ensures))
 
 new-requires : tie.Need-new-requires
 new-requires c κs = search needs

@@ -12,7 +12,7 @@ use Rattle.other_fields.proofs.Start.{once-start, once-walkable}
 use Rattle.heads.specs.Found.{kindBy, isComment}
 use Rattle.heads.proofs.Lax.{line-lax, read-lax}
 use Rattle.heads.proofs.Finds.{comment-is, three, fielded}
-use Rattle.line_entries.specs.Line.{recordBytes}
+use Rattle.line_entries.specs.Line.{recordBytes, lineBytes}
 use Rattle.text.specs.Over.{over}
 use Rattle.line_entries.proofs.put_record.Statement.{statement}
 use Rattle.line_entries.proofs.put_record.Tie as tie
@@ -21,10 +21,10 @@ use Rattle.line_entries.proofs.put_record.Tie as tie
 read : (s : tie.Start) → (let a = s .args in isRead (line false (record { at = a .at; bytes = a .src .now })) ≡ true)
 read s = read-lax (s .args .strict) (record { at = s .args .at; bytes = s .args .src .now }) (s .pre .0)
 
-same : (s : tie.Start) → (let a = s .args in recordBytes (line (a .strict) (record { at = a .at; bytes = a .src .now })) ≡ recordBytes (line false (record { at = a .at; bytes = a .src .now })))
-same s = ap recordBytes (line-lax (s .args .strict) (record { at = s .args .at; bytes = s .args .src .now }) (s .pre .0))
+same : (s : tie.Start) → (let a = s .args in lineBytes (a .strict) (a .number) (a .at) (a .src .now) ≡ lineBytes false (a .number) (a .at) (a .src .now))
+same s = ap (recordBytes (s .args .number)) (line-lax (s .args .strict) (record { at = s .args .at; bytes = s .args .src .now }) (s .pre .0))
 
-room : (s : tie.Start) → (let a = s .args in a .o + length (recordBytes (line false (record { at = a .at; bytes = a .src .now }))) ≤ length (a .out .now))
+room : (s : tie.Start) → (let a = s .args in a .o + length (lineBytes false (a .number) (a .at) (a .src .now)) ≤ length (a .out .now))
 room s = omega (arith, ap length (same s), s .pre .1 .1)
 
 -- the kind is the line's

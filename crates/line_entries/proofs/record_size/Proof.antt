@@ -1,4 +1,4 @@
--- `line_entries::record_size` meets its contract: the sum fits, since no entry is longer than 17 bytes.
+-- `line_entries::record_size` meets its contract: the sum fits, since no entry is longer than 21 bytes.
 use Prim.Native.Nat.{_≤_}
 use mathlib.Core.Path.{_≡_}
 use native.Mathlib.Omega.{arith}
@@ -26,8 +26,8 @@ field-size : (c : tie.After-others-of) → c .before .before .before .size .resu
 unfolding sizeOf
 field-size c = c .before .before .before .size .ensures
 
-own-size : (c : tie.After-others-of) → c .before .size2 .result ≤ 17
-own-size c = omega (arith, c .before .size2 .ensures, c .before .before .blank-entry .ensures, size-most (ownEntry (c .before .before .before .before .args .head)))
+own-size : (c : tie.After-others-of) → c .before .size2 .result ≤ 21
+own-size c = omega (arith, c .before .size2 .ensures, c .before .before .blank-entry .ensures, size-most (ownEntry 0 (c .before .before .before .before .args .head)))
 
 mul-result : tie.Need-mul-result
 mul-result c = rw (field-size c) (record { fits = omega (arith, c .others-of .ensures) })

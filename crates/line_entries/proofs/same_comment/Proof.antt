@@ -12,7 +12,7 @@ use Rattle.format.specs.declared.Kind.the-variants.{Comment}
 use Rattle.other_fields.specs.Next.{orValue}
 use Rattle.heads.specs.Keys.{lastKey, lastNumber, keysFrom, keysIn}
 use Rattle.entries.specs.Entries.{entryBytes}
-use Rattle.line_entries.specs.Line.{recordBytes}
+use Rattle.line_entries.specs.Line.{lineBytes}
 use Rattle.line_entries.proofs.Told.{own, own-size, comment-bytes}
 use Rattle.line_entries.proofs.Starts.{match-there, match-gone}
 use Rattle.line_entries.proofs.Entries.{entry-then}
@@ -20,17 +20,17 @@ use Rattle.line_entries.proofs.same_comment.Statement.{statement}
 use Rattle.line_entries.proofs.same_comment.Tie as tie
 
 -- the bytes of the line are those of its own entry
-bytes : (c : tie.After-line-entry) → (let a = c .before .before .before .before .args in recordBytes (line false (record { at = a .at; bytes = a .src .now })) ≡ entryBytes (c .line-entry .result))
+bytes : (c : tie.After-line-entry) → (let a = c .before .before .before .before .args in lineBytes false (a .number) (a .at) (a .src .now) ≡ entryBytes (c .line-entry .result))
 bytes c =
     let s = c .before .before .before .before in
-    comment-bytes (s .args .at) (s .args .src .now) (s .pre .0) (s .pre .1 .0) ∙ append-nil _ ∙ ap entryBytes (sym (c .line-entry .ensures))
+    comment-bytes (s .args .number) (s .args .at) (s .args .src .now) (s .pre .0) (s .pre .1 .0) ∙ append-nil _ ∙ ap entryBytes (sym (c .line-entry .ensures))
 
--- nine of them
-nine : (c : tie.After-line-entry) → (let a = c .before .before .before .before .args in length (recordBytes (line false (record { at = a .at; bytes = a .src .now }))) ≡ 9)
-nine c =
+-- thirteen of them
+thirteen : (c : tie.After-line-entry) → (let a = c .before .before .before .before .args in length (lineBytes false (a .number) (a .at) (a .src .now)) ≡ 13)
+thirteen c =
     let s = c .before .before .before .before in
     let a = s .args in
-    omega (arith, entry-then (own (a .at) (a .src .now) (s .pre .0)) _ _ (comment-bytes (a .at) (a .src .now) (s .pre .0) (s .pre .1 .0)), own-size (a .at) (a .src .now) (s .pre .0) Comment (s .pre .1 .0))
+    omega (arith, entry-then (own (a .number) (a .at) (a .src .now) (s .pre .0)) _ _ (comment-bytes (a .number) (a .at) (a .src .now) (s .pre .0) (s .pre .1 .0)), own-size (a .number) (a .at) (a .src .now) (s .pre .0) Comment (s .pre .1 .0))
 
 new-requires : tie.Need-new-requires
 new-requires c κs = search needs
@@ -44,19 +44,19 @@ same-entry-requires c κs = search needs
 
 -- the test is the line's
 told : (c : tie.After-same-entry)
-    → (let a = c .before .before .before .before .before .args in c .same-entry .result ≡ starts (recordBytes (line false (record { at = a .at; bytes = a .src .now }))) (drop (a .o) (a .catalogue .now)))
+    → (let a = c .before .before .before .before .before .args in c .same-entry .result ≡ starts (lineBytes false (a .number) (a .at) (a .src .now)) (drop (a .o) (a .catalogue .now)))
 told c =
     let a = c .before .before .before .before .before .args in
     c .same-entry .ensures ∙ ap (λ l. starts l (drop (a .o) (a .catalogue .now))) (sym (bytes (c .before)))
 
-add-t9 : tie.Need-add-t9
-add-t9 c = search needs
+add-t10 : tie.Need-add-t10
+add-t10 c = search needs
 
 returns : tie.Need-returns
 returns c =
     let t = c .before in
     let a = t .before .before .before .before .before .args in
-    match-there (a .catalogue .now) (a .o) _ (a .o + 9) (omega (arith, nine (t .before))) (sym (told t) ∙ c .if1 .taken)
+    match-there (a .catalogue .now) (a .o) _ (a .o + 13) (omega (arith, thirteen (t .before))) (sym (told t) ∙ c .if1 .taken)
 
 returns-2 : tie.Need-returns-2
 returns-2 c =
@@ -67,4 +67,4 @@ returns-2 c =
 pub same-comment-spec : {M : Type 1} → statement M
 same-comment-spec =
     tie.close
-    (tie.spec new-requires line-entry-requires same-entry-requires add-t9 returns returns-2)
+    (tie.spec new-requires line-entry-requires same-entry-requires add-t10 returns returns-2)

@@ -11,7 +11,7 @@ use Rattle.format.specs.Records.{line}
 use Rattle.accepted.proofs.Bools.{never, split}
 use Rattle.entries.specs.Entries.{sizeOf, entryBytes}
 use Rattle.entries_same.proofs.Starts.{starts-short}
-use Rattle.line_entries.specs.Line.{recordBytes}
+use Rattle.line_entries.specs.Line.{lineBytes}
 use Rattle.line_entries.specs.Parts.{fieldBytes}
 use Rattle.line_entries.specs.Matched.{metIn, comparedOf}
 use Rattle.line_entries.specs.declared.Met.{Met}
@@ -34,25 +34,25 @@ differs-says true m e = absurd (never (cc))
 differs-says false m e = refl
 
 -- the entries of the line
-bytes : (s : tie.Start) → (let a = s .args in recordBytes (line false (record { at = a .at; bytes = a .src .now })) ≡ entryBytes (own (a .at) (a .src .now) (s .pre .0)) ++ fieldBytes (a .kind) (a .at) (a .src .now) 3)
-bytes s = let a = s .args in line-bytes (a .at) (a .src .now) (s .pre .0) (a .kind) (s .pre .1 .0 .0) (s .pre .1 .0 .1)
+bytes : (s : tie.Start) → (let a = s .args in lineBytes false (a .number) (a .at) (a .src .now) ≡ entryBytes (own (a .number) (a .at) (a .src .now) (s .pre .0)) ++ fieldBytes (a .kind) (a .at) (a .src .now) 3)
+bytes s = let a = s .args in line-bytes (a .number) (a .at) (a .src .now) (s .pre .0) (a .kind) (s .pre .1 .0 .0) (s .pre .1 .0 .1)
 
 -- how long they are, and how they are compared
 module _ (c : tie.After-own-size) where
-  size : (let s = c .before .before .before .before in let a = s .args in c .own-size .result ≡ sizeOf (own (a .at) (a .src .now) (s .pre .0)))
+  size : (let s = c .before .before .before .before in let a = s .args in c .own-size .result ≡ sizeOf (own (a .number) (a .at) (a .src .now) (s .pre .0)))
   size =
       let s = c .before .before .before .before in
-      c .own-size .ensures ∙ sym (own-size (s .args .at) (s .args .src .now) (s .pre .0) (s .args .kind) (s .pre .1 .0 .0))
+      c .own-size .ensures ∙ sym (own-size (s .args .number) (s .args .at) (s .args .src .now) (s .pre .0) (s .args .kind) (s .pre .1 .0 .0))
 
-  long : (let a = c .before .before .before .before .args in length (recordBytes (line false (record { at = a .at; bytes = a .src .now }))) ≡ c .own-size .result + length (fieldBytes (a .kind) (a .at) (a .src .now) 3))
+  long : (let a = c .before .before .before .before .args in length (lineBytes false (a .number) (a .at) (a .src .now)) ≡ c .own-size .result + length (fieldBytes (a .kind) (a .at) (a .src .now) 3))
   long =
       let s = c .before .before .before .before in
-      entry-then (own (s .args .at) (s .args .src .now) (s .pre .0)) _ _ (bytes s) ∙ ap (λ m. m + length (fieldBytes (s .args .kind) (s .args .at) (s .args .src .now) 3)) (sym size)
+      entry-then (own (s .args .number) (s .args .at) (s .args .src .now) (s .pre .0)) _ _ (bytes s) ∙ ap (λ m. m + length (fieldBytes (s .args .kind) (s .args .at) (s .args .src .now) 3)) (sym size)
 
   told : (let s = c .before .before .before .before in let a = s .args in
-      starts (recordBytes (line false (record { at = a .at; bytes = a .src .now }))) (drop (a .o) (a .catalogue .now))
-      ≡ (starts (entryBytes (own (a .at) (a .src .now) (s .pre .0))) (drop (a .o) (a .catalogue .now)) && starts (fieldBytes (a .kind) (a .at) (a .src .now) 3) (drop (a .o + c .own-size .result) (a .catalogue .now))))
-  told = let s = c .before .before .before .before in compared (own (s .args .at) (s .args .src .now) (s .pre .0)) _ _ (bytes s) (s .args .catalogue .now) (s .args .o) (c .own-size .result) size
+      starts (lineBytes false (a .number) (a .at) (a .src .now)) (drop (a .o) (a .catalogue .now))
+      ≡ (starts (entryBytes (own (a .number) (a .at) (a .src .now) (s .pre .0))) (drop (a .o) (a .catalogue .now)) && starts (fieldBytes (a .kind) (a .at) (a .src .now) 3) (drop (a .o + c .own-size .result) (a .catalogue .now))))
+  told = let s = c .before .before .before .before in compared (own (s .args .number) (s .args .at) (s .args .src .now) (s .pre .0)) _ _ (bytes s) (s .args .catalogue .now) (s .args .o) (c .own-size .result) size
 
 none-right : (t u : Bool) → u ≡ false → t && u ≡ false
 none-right true u e = e
@@ -92,7 +92,7 @@ returns-2 c =
     let s = o .before .before .before .before in
     let a = s .args in
     let e = differs-says _ _ (sym (f .same-fields .ensures) ∙ c .enum-told .given .1) in
-    match-gone (a .catalogue .now) (a .o) _ (told o ∙ none-right (starts (entryBytes (own (a .at) (a .src .now) (s .pre .0))) (drop (a .o) (a .catalogue .now))) (starts (fieldBytes (a .kind) (a .at) (a .src .now) 3) (drop (a .o + o .own-size .result) (a .catalogue .now))) e)
+    match-gone (a .catalogue .now) (a .o) _ (told o ∙ none-right (starts (entryBytes (own (a .number) (a .at) (a .src .now) (s .pre .0))) (drop (a .o) (a .catalogue .now))) (starts (fieldBytes (a .kind) (a .at) (a .src .now) 3) (drop (a .o + o .own-size .result) (a .catalogue .now))) e)
 
 -- the entries of the other fields are there
 there : (k : tie.After-compared)
@@ -113,7 +113,7 @@ same-entry-requires c κs = c .before .before .before .before .before .before .b
 -- the own entry decides
 decides : (c : tie.After-same-entry)
     → (let a = c .before .before .before .before .before .before .before .before .before .before .before .args in
-    starts (recordBytes (line false (record { at = a .at; bytes = a .src .now }))) (drop (a .o) (a .catalogue .now)) ≡ c .same-entry .result)
+    starts (lineBytes false (a .number) (a .at) (a .src .now)) (drop (a .o) (a .catalogue .now)) ≡ c .same-entry .result)
 decides c =
     let k = c .before .before .before in
     let o = k .before .before .before .before in

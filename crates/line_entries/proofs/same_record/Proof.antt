@@ -12,7 +12,7 @@ use Rattle.other_fields.proofs.Start.{once-start, once-walkable}
 use Rattle.heads.specs.Found.{kindBy, isComment}
 use Rattle.heads.proofs.Lax.{line-lax, read-lax}
 use Rattle.heads.proofs.Finds.{comment-is, three, fielded}
-use Rattle.line_entries.specs.Line.{recordBytes}
+use Rattle.line_entries.specs.Line.{recordBytes, lineBytes}
 use Rattle.line_entries.specs.Matched.{matched}
 use Rattle.line_entries.proofs.same_record.Statement.{statement}
 use Rattle.line_entries.proofs.same_record.Tie as tie
@@ -23,11 +23,11 @@ read s = read-lax (s .args .strict) (record { at = s .args .at; bytes = s .args 
 
 same : (s : tie.Start)
     → (let a = s .args in
-    matched (a .o) (drop (a .o) (a .catalogue .now)) (recordBytes (line false (record { at = a .at; bytes = a .src .now })))
-    ≡ matched (a .o) (drop (a .o) (a .catalogue .now)) (recordBytes (line (a .strict) (record { at = a .at; bytes = a .src .now }))))
+    matched (a .o) (drop (a .o) (a .catalogue .now)) (lineBytes false (a .number) (a .at) (a .src .now))
+    ≡ matched (a .o) (drop (a .o) (a .catalogue .now)) (lineBytes (a .strict) (a .number) (a .at) (a .src .now)))
 same s =
     let a = s .args in
-    ap (λ l. matched (a .o) (drop (a .o) (a .catalogue .now)) (recordBytes l)) (sym (line-lax (a .strict) (record { at = a .at; bytes = a .src .now }) (s .pre .0)))
+    ap (λ l. matched (a .o) (drop (a .o) (a .catalogue .now)) (recordBytes (a .number) l)) (sym (line-lax (a .strict) (record { at = a .at; bytes = a .src .now }) (s .pre .0)))
 
 -- the kind is the line's
 fieldless : (c : tie.Else1) → (let a = c .before .before .before .before .before .args in isComment (kindBy (getD (a .src .now) 1 0)) ≡ false)

@@ -28,11 +28,11 @@ no-value : (a b : ℕ) (es : List Entry) → OneOf (0 ∷ 1 ∷ 2 ∷ 3 ∷ 4 �
 unfolding valueIn front
 no-value a b [] h = refl
 no-value a b (End ∷ es) h = refl
-no-value a b (Header v ∷ es) h = refl
-no-value a b (ReferenceSequence p n ∷ es) h = refl
-no-value a b (ReadGroup p ∷ es) h = refl
-no-value a b (Program p ∷ es) h = refl
-no-value a b (Comment p ∷ es) h = refl
+no-value a b (Header v l ∷ es) h = refl
+no-value a b (ReferenceSequence p n l ∷ es) h = refl
+no-value a b (ReadGroup p l ∷ es) h = refl
+no-value a b (Program p l ∷ es) h = refl
+no-value a b (Comment p l ∷ es) h = refl
 no-value a b (Field x y p ∷ es) h = absurd (miss (0 ∷ 1 ∷ 2 ∷ 3 ∷ 4 ∷ 5 ∷ []) 6 tt h)
 
 -- a field is first

@@ -15,11 +15,11 @@ use Rattle.lookup.proofs.key_of.Tie as tie
 no-key : (e : Entry) → OneOf (0 ∷ 1 ∷ 5 ∷ 6 ∷ []) (tagOf the-type e) → Nothing ≡ keyOf e
 unfolding keyOf
 no-key End h = refl
-no-key (Header v) h = refl
-no-key (ReferenceSequence p n) h = absurd (miss (0 ∷ 1 ∷ 5 ∷ 6 ∷ []) 2 tt h)
-no-key (ReadGroup p) h = absurd (miss (0 ∷ 1 ∷ 5 ∷ 6 ∷ []) 3 tt h)
-no-key (Program p) h = absurd (miss (0 ∷ 1 ∷ 5 ∷ 6 ∷ []) 4 tt h)
-no-key (Comment p) h = refl
+no-key (Header v l) h = refl
+no-key (ReferenceSequence p n l) h = absurd (miss (0 ∷ 1 ∷ 5 ∷ 6 ∷ []) 2 tt h)
+no-key (ReadGroup p l) h = absurd (miss (0 ∷ 1 ∷ 5 ∷ 6 ∷ []) 3 tt h)
+no-key (Program p l) h = absurd (miss (0 ∷ 1 ∷ 5 ∷ 6 ∷ []) 4 tt h)
+no-key (Comment p l) h = refl
 no-key (Field a b p) h = refl
 
 enum-known-e : tie.Need-enum-known-e

@@ -15,11 +15,11 @@ use Rattle.lookup.proofs.length_of.Tie as tie
 no-length : (e : Entry) → OneOf (0 ∷ 1 ∷ 3 ∷ 4 ∷ 5 ∷ 6 ∷ []) (tagOf the-type e) → Nothing ≡ lengthOf e
 unfolding lengthOf
 no-length End h = refl
-no-length (Header v) h = refl
-no-length (ReferenceSequence p n) h = absurd (miss (0 ∷ 1 ∷ 3 ∷ 4 ∷ 5 ∷ 6 ∷ []) 2 tt h)
-no-length (ReadGroup p) h = refl
-no-length (Program p) h = refl
-no-length (Comment p) h = refl
+no-length (Header v l) h = refl
+no-length (ReferenceSequence p n l) h = absurd (miss (0 ∷ 1 ∷ 3 ∷ 4 ∷ 5 ∷ 6 ∷ []) 2 tt h)
+no-length (ReadGroup p l) h = refl
+no-length (Program p l) h = refl
+no-length (Comment p l) h = refl
 no-length (Field a b p) h = refl
 
 enum-known-e : tie.Need-enum-known-e

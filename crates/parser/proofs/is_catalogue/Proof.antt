@@ -10,15 +10,15 @@ use Rattle.format.specs.Catalogue.{catalogue}
 use Rattle.line_entries.specs.Line.{recordBytes}
 use Rattle.line_entries.specs.Matched.{matched, Reached}
 use Rattle.line_entries.proofs.Reached.{reached-start, reached-within, reached-on, reached-off, reached-end}
-use Rattle.parser.proofs.Walking.{Walking, walking-start, walking-end, Lent, lent}
+use Rattle.parser.proofs.Walking.{Walking, walking-start, walking-end, text-size, Lent, lent}
 use Rattle.parser.proofs.is_catalogue.Statement.{statement}
 use Rattle.parser.proofs.is_catalogue.Tie as tie
 
 abbrev Inv-loop : tie.InvT-loop
-Inv-loop text strict kept at₀ o₀ at o = (w : Walking strict text at) × Reached kept (w .done) o
+Inv-loop text strict kept at₀ o₀ line₀ at o line = (w : Walking strict text at) × Reached kept (w .done) o × (line ≡ length (w .done))
 
 abbrev μ-loop : tie.MeasureT-loop
-μ-loop text strict kept at₀ o₀ at o = length text - at
+μ-loop text strict kept at₀ o₀ line₀ at o line = length text - at
 
 -- the next line
 next : (c : tie.After-first-line Inv-loop μ-loop)
@@ -33,15 +33,17 @@ next c =
 compared : (c : tie.After-same-record Inv-loop μ-loop)
     → let q = c .before .before .before in
     let l = q .before .before .before in
-    c .same-record .result ≡ matched (l .loop .o) (drop (l .loop .o) (l .before .before .before .args .kept .now)) (recordBytes (read (next q .turn .here)))
+    c .same-record .result ≡ matched (l .loop .o) (drop (l .loop .o) (l .before .before .before .args .kept .now)) (recordBytes (length (l .loop .inv .0 .done)) (read (next q .turn .here)))
 compared c =
     let q = c .before .before .before in
     let l = q .before .before .before in
-    c .same-record .ensures ∙ ap (λ x. matched (l .loop .o) (drop (l .loop .o) (l .before .before .before .args .kept .now)) (recordBytes x)) (next q .line-is)
+    c .same-record .ensures
+    ∙ ap (matched (l .loop .o) (drop (l .loop .o) (l .before .before .before .args .kept .now)))
+    (ap (recordBytes (l .loop .line)) (next q .line-is) ∙ ap (λ n. recordBytes n (read (next q .turn .here))) (l .loop .inv .2))
 
 loop-holds : tie.Need-loop-holds Inv-loop μ-loop
 unfolding walking-start
-loop-holds c = (walking-start (c .before .before .args .strict) (c .before .before .args .text .now) (c .before .before .pre), reached-start (c .before .before .args .kept .now))
+loop-holds c = (walking-start (c .before .before .args .strict) (c .before .before .args .text .now) (c .before .before .pre), reached-start (c .before .before .args .kept .now), refl)
 
 sub-first-line : tie.Need-sub-first-line Inv-loop μ-loop
 sub-first-line c = omega arith
@@ -94,6 +96,13 @@ returns c =
 add-at : tie.Need-add-at Inv-loop μ-loop
 add-at c = omega (arith, next (c .before .before .before .before .before .before .before) .inside)
 
+add-line : tie.Need-add-line Inv-loop μ-loop
+add-line c =
+    let l = c .before .before .before .before .before .before .before .before .before .before in
+    let s = l .before .before .before in
+    let w = l .loop .inv .0 in
+    omega (arith, l .loop .inv .2, w .few, w .inside, text-size (s .args .strict) (s .args .text .now) (s .pre))
+
 loop-less : tie.Need-loop-less Inv-loop μ-loop
 loop-less c = omega (arith, next (c .before .before .before .before .before .before .before) .inside)
 
@@ -106,7 +115,7 @@ loop-again c =
     let w = l .loop .inv .0 in
     let n = c .before .before .next .given .0 .0 in
     rw (next q .cut-is)
-    (next q .turn .next, subst (λ d. Reached (a .kept .now) d n) (sym (next q .turn .done-is)) (reached-on (a .kept .now) (w .done) (l .loop .o) (l .loop .inv .1) (next q .turn .here) n (sym (compared s) ∙ c .before .before .next .given .1)))
+    (next q .turn .next, subst (λ d. Reached (a .kept .now) d n) (sym (next q .turn .done-is)) (reached-on (a .kept .now) (w .done) (l .loop .o) (l .loop .inv .1) (next q .turn .here) n (sym (compared s) ∙ c .before .before .next .given .1)), omega (arith, l .loop .inv .2, next q .turn .count-is))
 
 returns-2 : tie.Need-returns-2 Inv-loop μ-loop
 returns-2 c =
@@ -134,6 +143,7 @@ is-catalogue-spec =
     enum-told
     returns
     add-at
+    add-line
     loop-less
     loop-again
     returns-2)

@@ -6,21 +6,21 @@ use native.Mathlib.Omega.{arith}
 use lib.ListN.{length, length-append}
 use borrow.Author.Needs.{needs}
 use Rattle.format.specs.Records.{read}
-use Rattle.format.specs.Catalogue.{catalogue}
+use Rattle.format.specs.Catalogue.{entriesFrom, catalogue}
 use Rattle.text.specs.Over.{over}
 use Rattle.text.proofs.Over.{over-none, over-over}
 use Rattle.line_entries.specs.Line.{recordBytes}
 use Rattle.line_entries.proofs.Records.{catalogue-length, catalogue-more, catalogue-append}
-use Rattle.parser.proofs.Walking.{Walking, walking-start, walking-end, Lent, lent}
+use Rattle.parser.proofs.Walking.{Walking, walking-start, walking-end, text-size, Lent, lent}
 use Rattle.parser.proofs.put_catalogue.Statement.{statement}
 use Rattle.parser.proofs.put_catalogue.Tie as tie
 
 abbrev Inv-loop : tie.InvT-loop
-Inv-loop text strict out₀ at₀ o₀ out at o =
-    (w : Walking strict text at) × (o ≡ length (catalogue (w .done))) × (out ≡ over out₀ 0 (catalogue (w .done))) × (length out ≡ length out₀)
+Inv-loop text strict out₀ at₀ o₀ line₀ out at o line =
+    (w : Walking strict text at) × (o ≡ length (catalogue (w .done))) × (out ≡ over out₀ 0 (catalogue (w .done))) × (length out ≡ length out₀) × (line ≡ length (w .done))
 
 abbrev μ-loop : tie.MeasureT-loop
-μ-loop text strict out₀ at₀ o₀ out at o = length text - at
+μ-loop text strict out₀ at₀ o₀ line₀ out at o line = length text - at
 
 -- the next line
 next : (c : tie.After-first-line Inv-loop μ-loop)
@@ -35,7 +35,7 @@ next c =
 -- the next record's entries fit
 room : (c : tie.After-first-line Inv-loop μ-loop)
     → let l = c .before .before .before in
-    l .loop .o + length (recordBytes (read (next c .turn .here))) ≤ length (l .loop .out)
+    l .loop .o + length (recordBytes (l .loop .line) (read (next c .turn .here))) ≤ length (l .loop .out)
 room c =
     let l = c .before .before .before in
     let a = l .before .before .before .args in
@@ -46,15 +46,16 @@ room c =
       l .loop .inv .1,
       l .loop .inv .3,
       catalogue-length (w .done) (next c .turn .here),
+      ap (λ n. length (recordBytes n (read (next c .turn .here)))) (l .loop .inv .4),
       ap (λ rs. length (catalogue rs)) (next c .turn .whole-is),
       ap length (catalogue-append done (next c .turn .others)),
-      length-append (catalogue done) (catalogue (next c .turn .others)),
+      length-append (catalogue done) (entriesFrom (length done) (next c .turn .others)),
       l .before .before .before .pre .1,
     )
 
 loop-holds : tie.Need-loop-holds Inv-loop μ-loop
 unfolding catalogue walking-start
-loop-holds c = (walking-start (c .before .before .args .strict) (c .before .before .args .text .now) (c .before .before .pre .0), refl, sym (over-none (c .before .before .args .out .now) 0), refl)
+loop-holds c = (walking-start (c .before .before .args .strict) (c .before .before .args .text .now) (c .before .before .pre .0), refl, sym (over-none (c .before .before .args .out .now) 0), refl, refl)
 
 sub-first-line : tie.Need-sub-first-line Inv-loop μ-loop
 sub-first-line c = omega arith
@@ -83,10 +84,17 @@ part-put-record-end c = omega (arith, next (c .before .before) .inside)
 put-record-requires : tie.Need-put-record-requires Inv-loop μ-loop
 put-record-requires c κs =
     let q = c .before .before .before in
-    (next q .accepted, (next q .fits, omega (arith, room q, ap (λ x. length (recordBytes x)) (next q .line-is))))
+    (next q .accepted, (next q .fits, omega (arith, room q, ap (λ x. length (recordBytes (q .before .before .before .loop .line) x)) (next q .line-is))))
 
 add-at : tie.Need-add-at Inv-loop μ-loop
 add-at c = omega (arith, next (c .before .before .before .before .before .before .before) .inside)
+
+add-line : tie.Need-add-line Inv-loop μ-loop
+add-line c =
+    let l = c .before .before .before .before .before .before .before .before .before .before in
+    let s = l .before .before .before in
+    let w = l .loop .inv .0 in
+    omega (arith, l .loop .inv .4, w .few, w .inside, text-size (s .args .strict) (s .args .text .now) (s .pre .0))
 
 loop-less : tie.Need-loop-less Inv-loop μ-loop
 loop-less c = omega (arith, next (c .before .before .before .before .before .before .before) .inside)
@@ -99,18 +107,20 @@ loop-again c =
     let a = l .before .before .before .args in
     let w = l .loop .inv .0 in
     let r = next q .turn .here in
-    let bytes = ap recordBytes (next q .line-is) in
+    let count = length (w .done) in
+    let bytes = ap (recordBytes (l .loop .line)) (next q .line-is) ∙ ap (λ n. recordBytes n (read r)) (l .loop .inv .4) in
     let place : l .loop .o ≡ 0 + length (catalogue (w .done)) = omega (arith, l .loop .inv .1) in
     rw (next q .cut-is) (
       next q .turn .next,
       omega (arith, s .put-record .ensures .0, ap length bytes, l .loop .inv .1, catalogue-length (w .done) r, ap (λ d. length (catalogue d)) (next q .turn .done-is)),
       s .put-record .ensures .1
           ∙ ap (over (l .loop .out) (l .loop .o)) bytes
-          ∙ ap (λ o. over o (l .loop .o) (recordBytes (read r))) (l .loop .inv .2)
-          ∙ ap (λ n. over (over (a .out .now) 0 (catalogue (w .done))) n (recordBytes (read r))) place
-          ∙ over-over (a .out .now) 0 (catalogue (w .done)) (recordBytes (read r)) (omega (arith, room q, l .loop .inv .1, l .loop .inv .3))
+          ∙ ap (λ o. over o (l .loop .o) (recordBytes count (read r))) (l .loop .inv .2)
+          ∙ ap (λ n. over (over (a .out .now) 0 (catalogue (w .done))) n (recordBytes count (read r))) place
+          ∙ over-over (a .out .now) 0 (catalogue (w .done)) (recordBytes count (read r)) (omega (arith, room q, ap length bytes, ap (λ x. length (recordBytes (l .loop .line) x)) (next q .line-is), l .loop .inv .1, l .loop .inv .3))
           ∙ ap (over (a .out .now) 0) (sym (catalogue-more (w .done) r) ∙ ap catalogue (sym (next q .turn .done-is))),
       s .put-record .kept .0 ∙ l .loop .inv .3,
+      omega (arith, l .loop .inv .4, next q .turn .count-is),
     )
 
 same-length : tie.Need-same-length Inv-loop μ-loop
@@ -139,6 +149,7 @@ put-catalogue-spec =
     part-put-record-end
     put-record-requires
     add-at
+    add-line
     loop-less
     loop-again
     same-length

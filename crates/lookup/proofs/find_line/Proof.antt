@@ -1,0 +1,26 @@
+-- `lookup::find_line` meets its contract: the entry that is found says the line.
+use mathlib.Core.Path.{_∙_, ap}
+use borrow.Author.Needs.{needs}
+use Rattle.lookup.specs.Lookup.{lineOf, lineIn}
+use Rattle.lookup.proofs.Walks.{found-entry}
+use Rattle.lookup.proofs.find_line.Statement.{statement}
+use Rattle.lookup.proofs.find_line.Tie as tie
+
+find-record-requires : tie.Need-find-record-requires
+find-record-requires c κs = search needs
+
+entry-at-requires : tie.Need-entry-at-requires
+entry-at-requires c κs = search needs
+
+line-of-requires : tie.Need-line-of-requires
+line-of-requires c κs = search needs
+
+returns : tie.Need-returns
+unfolding lineIn
+returns c =
+    let a = c .before .before .before .before .args in
+    let f = c .before .before .find-record in
+    c .line-of .ensures ∙ ap lineOf (c .before .entry-at .ensures ∙ found-entry (a .kind) (a .ordinal) (a .catalogue .now) (f .result) (f .ensures))
+
+pub find-line-spec : {M : Type 1} → statement M
+find-line-spec = tie.close (tie.spec find-record-requires entry-at-requires line-of-requires returns)

@@ -1,0 +1,167 @@
+// What a line of stored answers asks, and how often each was asked and answered wrongly (`replay` has the lines' form).
+use libc::STDOUT_FILENO;
+ghost use mathlib.Core.Path.{_≡_};
+ghost use lib.ListN.{length};
+
+// What a line asks, as the place of its count; behind these what went wrong.
+pub const COUNT: usize = 0;
+
+pub const KEY: usize = 1;
+
+pub const LENGTH: usize = 2;
+
+pub const LINE: usize = 3;
+
+pub const FIELD: usize = 4;
+
+pub const ROOTS: usize = 5;
+
+pub const LEAVES: usize = 6;
+
+pub const ADDED: usize = 7;
+
+pub const NAMES: usize = 8;
+
+pub const PROGRAM: usize = 9;
+
+pub const TIDIED: usize = 10;
+
+pub const CARRIED: usize = 11;
+
+pub const REFUSED: usize = 12;
+
+pub const ACCEPTED: usize = 13;
+
+pub const UNWRITABLE: usize = 14;
+
+pub const UNKNOWN: usize = 15;
+
+pub const WRONG: usize = 16;
+
+pub const MARKED: usize = 17;
+
+pub const FOUND: usize = 18;
+
+// What a line asks: its first word is a call, or its second what the crate makes of the text.
+pub fn asked_by(line: &[u8]) -> usize {
+    let call = stored_cases::word(line, 0);
+    if text::same(call, b"count") {
+        return COUNT;
+    }
+    if text::same(call, b"key") {
+        return KEY;
+    }
+    if text::same(call, b"ln") {
+        return LENGTH;
+    }
+    if text::same(call, b"line") {
+        return LINE;
+    }
+    if text::same(call, b"field") {
+        return FIELD;
+    }
+    if text::same(call, b"roots") {
+        return ROOTS;
+    }
+    if text::same(call, b"leaves") {
+        return LEAVES;
+    }
+    if text::same(call, b"add") {
+        return ADDED;
+    }
+    if text::same(call, b"names") {
+        return NAMES;
+    }
+    written_by(line)
+}
+
+// What a line asks of a text alone.
+fn written_by(line: &[u8]) -> usize {
+    let call = stored_cases::word(line, 0);
+    if text::same(call, b"program") {
+        return PROGRAM;
+    }
+    if text::same(call, b"tidy") {
+        return TIDIED;
+    }
+    if text::same(call, b"carry_on") {
+        return CARRIED;
+    }
+    judged_by(stored_cases::word(line, 1))
+}
+
+// What the crate makes of a text, by its name.
+fn judged_by(word: &[u8]) -> usize {
+    if text::same(word, b"refused") {
+        return REFUSED;
+    }
+    if text::same(word, b"accepted") {
+        return ACCEPTED;
+    }
+    if text::same(word, b"unwritable") {
+        return UNWRITABLE;
+    }
+    UNKNOWN
+}
+
+// Adds one to a count.
+pub fn tick(tally: &mut [u32], at: usize)
+    ensures { λ _. ⌜ length (now (tally .exit)) ≡ length (now (tally .entry)) ⌝ }
+{
+    if at < tally.len() {
+        if tally[at] < 1000000 {
+            tally[at] += 1;
+        }
+    }
+}
+
+// Writes a count with its name.
+fn print_number(name: &[u8], n: u32) {
+    io::write_all(STDOUT_FILENO, name);
+    io::print_decimal(STDOUT_FILENO, n as u64);
+}
+
+// Writes a count with its name, if it is not 0.
+fn print_count(name: &[u8], n: u32) {
+    if n != 0 {
+        print_number(name, n);
+    }
+}
+
+// Writes how many lines ask each call.
+pub fn print_asked(tally: &[u32])
+    requires { ⌜ length (now tally) ≡ 19 ⌝ }
+{
+    print_count(b" count ", tally[COUNT]);
+    print_count(b" key ", tally[KEY]);
+    print_count(b" ln ", tally[LENGTH]);
+    print_count(b" line ", tally[LINE]);
+    print_count(b" field ", tally[FIELD]);
+    print_count(b" roots ", tally[ROOTS]);
+    print_count(b" leaves ", tally[LEAVES]);
+    print_count(b" add ", tally[ADDED]);
+    print_count(b" names ", tally[NAMES]);
+    print_count(b" program ", tally[PROGRAM]);
+    print_count(b" tidy ", tally[TIDIED]);
+    print_count(b" carry_on ", tally[CARRIED]);
+}
+
+// Writes how many texts the crate judged in each way, and how many lines ask nothing.
+pub fn print_judged(tally: &[u32])
+    requires { ⌜ length (now tally) ≡ 19 ⌝ }
+{
+    print_count(b" refused ", tally[REFUSED]);
+    print_count(b" accepted ", tally[ACCEPTED]);
+    print_count(b" unwritable ", tally[UNWRITABLE]);
+    print_count(b" unknown ", tally[UNKNOWN]);
+}
+
+// Writes how many answers were wrong, and how many of the marked lines were found.
+pub fn print_found(tally: &[u32])
+    requires { ⌜ length (now tally) ≡ 19 ⌝ }
+{
+    print_number(b" wrong ", tally[WRONG]);
+    print_number(b", known wrong found ", tally[FOUND]);
+    print_number(b" of ", tally[MARKED]);
+    io::write_all(STDOUT_FILENO, b"\n");
+}

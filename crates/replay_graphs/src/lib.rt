@@ -1,0 +1,76 @@
+// Reading, and the calls over program graphs: whether each answers as a line of stored answers says (`replay` has the lines' form).
+use calls::LeavesAnswer;
+use parser::Answer;
+
+// Whether the roots are the line's, in an output of as many elements as it says.
+pub fn is_roots(line: &[u8], text: &[u8], kept: &[u8], out: &mut [u32]) -> bool {
+    let room = stored_answers::ordinal_room(stored_cases::word(line, 3), out);
+    match calls::roots(text, kept, &mut out[..room]) {
+        Answer::Refused(n, no) => stored_answers::is_refusal(line, 4, n, no)
+            && stored_cases::is_unlisted(out),
+        Answer::Count(n) => stored_answers::is_ok(line, 4, 1)
+            && stored_answers::is_list(stored_cases::word(line, 5), out, n, 4),
+    }
+}
+
+// Whether the leaves and the hops are the line's, in an output of as many elements as it says.
+pub fn is_leaves(line: &[u8], text: &[u8], kept: &[u8], out: &mut [u32]) -> bool {
+    let room = stored_answers::ordinal_room(stored_cases::word(line, 3), out);
+    match calls::leaves(text, kept, &mut out[..room]) {
+        LeavesAnswer::Refused(n, no) => stored_answers::is_refusal(line, 4, n, no)
+            && stored_cases::is_unlisted(out),
+        LeavesAnswer::Counted(n, hops) => {
+            stored_answers::is_ok(line, 4, 2)
+                && stored_answers::is_list(stored_cases::word(line, 5), out, n, 4)
+                && stored_answers::is_number(stored_cases::word(line, 6), hops as u64)
+        }
+    }
+}
+
+// Whether the roots are the crate's.
+fn are_roots(word: &[u8], text: &[u8], kept: &[u8], out: &mut [u32]) -> bool {
+    match calls::roots(text, kept, out) {
+        Answer::Refused(_, _) => false,
+        Answer::Count(n) => stored_answers::is_list(word, out, n, 4),
+    }
+}
+
+// Whether the leaves are the crate's, or it found a cycle and the answer is 23.
+fn are_leaves(word: &[u8], text: &[u8], kept: &[u8], out: &mut [u32]) -> bool {
+    match calls::leaves(text, kept, out) {
+        LeavesAnswer::Refused(n, no) => {
+            text::same(word, b"cycle") && n == 23 && no.0 == 0 && stored_cases::is_unlisted(out)
+        }
+        LeavesAnswer::Counted(n, _) => stored_answers::is_list(word, out, n, 4),
+    }
+}
+
+// Whether roots and leaves are words 3 and 4, over the catalogue that is the first `n` bytes of `kept`.
+fn is_graph(line: &[u8], text: &[u8], kept: &[u8], n: usize) -> bool {
+    if kept.len() < n {
+        return false;
+    }
+    let mut first = stored_answers::ordinals();
+    let mut second = stored_answers::ordinals();
+    stored_cases::is_untouched(&kept[n..])
+        && are_roots(stored_cases::word(line, 3), text, &kept[..n], &mut first)
+        && are_leaves(stored_cases::word(line, 4), text, &kept[..n], &mut second)
+        && stored_cases::word(line, 5).len() == 0
+}
+
+// Whether a text is read, and its roots and leaves are the line's.
+pub fn is_read(line: &[u8], text: &[u8], kept: &mut [u8]) -> bool {
+    match parser::read(text, kept) {
+        Answer::Refused(_, _) => false,
+        Answer::Count(n) => is_graph(line, text, kept, n),
+    }
+}
+
+// Whether reading refuses a text as the crate does, and writes nothing.
+pub fn is_read_refused(line: &[u8], text: &[u8], out: &mut [u8]) -> bool {
+    match parser::read(text, out) {
+        Answer::Refused(n, no) => stored_answers::is_refusal(line, 1, n, no)
+            && stored_cases::is_untouched(out),
+        Answer::Count(_) => false,
+    }
+}

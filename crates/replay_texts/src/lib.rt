@@ -1,0 +1,74 @@
+// The calls that write a text: whether each writes what a line of stored answers says (`replay` has the lines' form).
+use parser::Answer;
+ghost use mathlib.Core.Path.{_≡_};
+ghost use lib.ListN.{length};
+
+// Whether the text with programs added is the line's, in an output of as many bytes as it says.
+pub fn is_added(line: &[u8], text: &[u8], kept: &[u8], out: &mut [u8]) -> bool {
+    let mut prefix = io::buffer();
+    let p = stored_cases::decode(stored_cases::word(line, 4), &mut prefix);
+    let mut fields = io::buffer();
+    let f = stored_cases::decode(stored_cases::word(line, 5), &mut fields);
+    let room = stored_answers::byte_room(stored_cases::word(line, 3), out);
+    match add::add(text, kept, &prefix[..p], &fields[..f], &mut out[..room]) {
+        Answer::Refused(n, no) => stored_answers::is_refusal(line, 6, n, no)
+            && stored_cases::is_untouched(out),
+        Answer::Count(n) => stored_answers::is_ok(line, 6, 1)
+            && stored_answers::is_text(stored_cases::word(line, 7), out, n),
+    }
+}
+
+// Whether the program on standard input would write the line's bytes.
+pub fn is_program(line: &[u8], text: &[u8]) -> bool {
+    let mut out = stored_answers::bytes();
+    let n = tidy_answer::answer(text, &mut out);
+    stored_answers::is_text(stored_cases::word(line, 2), &out, n)
+        && stored_cases::word(line, 3).len() == 0
+}
+
+// The tidy call, named in this place alone.
+fn tidied(text: &[u8], out: &mut [u8]) -> Answer
+    ensures { λ _. ⌜ length (now (out .exit)) ≡ length (now (out .entry)) ⌝ }
+{
+    tidy::tidy(text, out)
+}
+
+// Whether the tidy text is the line's, in an output of as many bytes as it says.
+pub fn is_tidied(line: &[u8], text: &[u8], out: &mut [u8]) -> bool {
+    let room = stored_answers::byte_room(stored_cases::word(line, 2), out);
+    match tidied(text, &mut out[..room]) {
+        Answer::Refused(n, no) => stored_answers::is_refusal(line, 3, n, no)
+            && stored_cases::is_untouched(out),
+        Answer::Count(n) => stored_answers::is_ok(line, 3, 1)
+            && stored_answers::is_text(stored_cases::word(line, 4), out, n),
+    }
+}
+
+// Whether tidying refuses a text as reading does, and writes nothing.
+pub fn is_tidy_refused(line: &[u8], text: &[u8], out: &mut [u8]) -> bool {
+    match tidied(text, out) {
+        Answer::Refused(n, no) => stored_answers::is_refusal(line, 1, n, no)
+            && stored_cases::is_untouched(out),
+        Answer::Count(_) => false,
+    }
+}
+
+// Whether the tidy text is the crate's.
+pub fn is_tidy(word: &[u8], text: &[u8], out: &mut [u8]) -> bool {
+    match tidied(text, out) {
+        Answer::Refused(_, _) => false,
+        Answer::Count(n) => stored_answers::is_text(word, out, n),
+    }
+}
+
+// Whether tidying refuses a name, on this line, and writes nothing.
+pub fn is_unwritable(word: &[u8], text: &[u8], out: &mut [u8]) -> bool {
+    match tidied(text, out) {
+        Answer::Refused(n, no) => {
+            n == 24
+                && stored_answers::is_number(word, no.0 as u64)
+                && stored_cases::is_untouched(out)
+        }
+        Answer::Count(_) => false,
+    }
+}
