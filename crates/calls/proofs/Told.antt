@@ -12,7 +12,8 @@ use Rattle.format.specs.Lines.{Piece}
 use Rattle.format.specs.Records.{Record}
 use Rattle.format.specs.Reading.{ofKind}
 use Rattle.format.specs.Catalogue.{catalogue}
-use Rattle.format.specs.Calls.{Answer, no, yes, there, keyed, sized, valued, orStand, fresh, counting, keying, sizing, valuing, looking}
+use Rattle.format.specs.declared.LineNo.{LineNo}
+use Rattle.format.specs.Calls.{Answer, no, yes, there, keyed, sized, linesOf, valued, orStand, fresh, counting, keying, sizing, locating, valuing, looking}
 use Rattle.text.specs.Stands.{Stands}
 use Rattle.accepted.proofs.Bools.{never}
 use Rattle.accepted.proofs.Text.{text-fits}
@@ -21,9 +22,10 @@ use Rattle.entries.specs.declared.Place.{Place}
 use Rattle.entries.specs.Entries.{pieceAt, entriesIn, counted}
 use Rattle.lookup.specs.declared.Found.the-variants.{Nothing, At}
 use Rattle.lookup.specs.declared.Sized.the-variants as ln
-use Rattle.lookup.specs.Lookup.{foundOf, sizedOf, keyIn, lengthIn, fieldIn}
+use Rattle.lookup.specs.declared.Located.the-variants as line
+use Rattle.lookup.specs.Lookup.{foundOf, sizedOf, locatedOf, keyIn, lengthIn, lineIn, fieldIn}
 use Rattle.lookup.proofs.Kept.{text-counted, text-keyed, text-valued}
-use Rattle.lookup.proofs.Answers.{text-key, text-ln, text-field}
+use Rattle.lookup.proofs.Answers.{text-key, text-ln, text-line, text-field}
 use Rattle.calls.specs.declared.KeyAnswer.the-variants as key
 use Rattle.calls.specs.declared.ValuePlace.the-variants as place
 use Rattle.calls.specs.Answers.{keyOf, placeOf, standing}
@@ -36,7 +38,7 @@ unfolding foundOf there
 found-none none e = refl
 found-none (some p) e = absurd (never cc)
 
-there-some : {A : Type 0} (o : Option A) (x : A) → there o ≡ yes x → o ≡ some x
+pub there-some : {A : Type 0} (o : Option A) (x : A) → there o ≡ yes x → o ≡ some x
 unfolding there
 there-some none x e = absurd (never cc)
 there-some (some y) x e = let z : y ≡ x = cc in ap some z
@@ -62,6 +64,16 @@ unfolding sizedOf there
 sized-some none n e = absurd (never cc)
 sized-some (some m) n e = let z : m ≡ n = cc in ap yes z
 
+located-none : (o : Option ℕ) → locatedOf o ≡ line.Nothing → there o ≡ no 25 0
+unfolding locatedOf there
+located-none none e = refl
+located-none (some l) e = absurd (never cc)
+
+located-some : (o : Option ℕ) (l : LineNo) → locatedOf o ≡ line.On l → there o ≡ yes (l .0)
+unfolding locatedOf there
+located-some none l e = absurd (never cc)
+located-some (some m) l e = let z : _≡_ {A = LineNo} (record { 0 = m }) l = cc in ap (λ x. yes (x .0)) z
+
 -- ---- a refusal of the check is every call's
 
 module _ (t c : List ℕ) (n l : ℕ) (e : fresh t c ≡ no n l) where
@@ -76,6 +88,10 @@ module _ (t c : List ℕ) (n l : ℕ) (e : fresh t c ≡ no n l) where
   pub length-refused : (i : ℕ) → sizing t c i ≡ no n l
   unfolding sizing
   length-refused i = stops t c (λ rs. there (sized (getElem? (ofKind 2 rs) i))) n l e
+
+  pub line-refused : (k i : ℕ) → locating t c k i ≡ no n l
+  unfolding locating
+  line-refused k i = stops t c (λ rs. there (getElem? (linesOf k 0 rs) i)) n l e
 
   pub field-refused : (k i a b : ℕ) → valuing t c k i a b ≡ no n l
   unfolding valuing
@@ -140,6 +156,21 @@ module _ (t c : List ℕ) (own : Current t c) where
 
   pub length-found : (i n : ℕ) → lengthIn i (entriesIn c) ≡ ln.Is n → sizing t c i ≡ yes n
   length-found i n e = lengths i ∙ sized-some (sized (getElem? (ofKind 2 rs) i)) n (length-told i ∙ e)
+
+  -- ---- lines
+
+  pub located : (k i : ℕ) → locating t c k i ≡ there (getElem? (linesOf k 0 rs) i)
+  unfolding locating
+  located k i = goes-on t c (λ rs. there (getElem? (linesOf k 0 rs) i)) own
+
+  line-told : (k i : ℕ) → locatedOf (getElem? (linesOf k 0 rs) i) ≡ lineIn k i (entriesIn c)
+  line-told k i = sym (here (λ s. lineIn k i (entriesIn s)) ∙ text-line t rs (own .reads) k i)
+
+  pub line-none : (k i : ℕ) → lineIn k i (entriesIn c) ≡ line.Nothing → locating t c k i ≡ no 25 0
+  line-none k i e = located k i ∙ located-none (getElem? (linesOf k 0 rs) i) (line-told k i ∙ e)
+
+  pub line-found : (k i : ℕ) (l : LineNo) → lineIn k i (entriesIn c) ≡ line.On l → locating t c k i ≡ yes (l .0)
+  line-found k i l e = located k i ∙ located-some (getElem? (linesOf k 0 rs) i) l (line-told k i ∙ e)
 
   -- ---- fields
 

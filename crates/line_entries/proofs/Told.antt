@@ -4,8 +4,8 @@ use mathlib.Core.Path.{_≡_, refl, sym, ap, _∙_}
 use mathlib.Core.Bool.{Bool, true, false}
 use mathlib.Core.List.{List, [], _++_}
 use lib.ListN.{length, getD}
-use Rattle.format.specs.Records.{Record, header, reference, group, program, comment, others, Line, read, line}
-use Rattle.format.specs.Catalogue.{little, head, tails}
+use Rattle.format.specs.Records.{Record, header, reference, group, program, comment, others, read, line}
+use Rattle.format.specs.Catalogue.{tails}
 use Rattle.format.specs.declared.Kind.{Kind}
 use Rattle.format.specs.declared.Kind.the-variants as kinds
 use Rattle.accepted.specs.Sound.{kind}
@@ -22,7 +22,7 @@ use Rattle.other_fields.proofs.Start.{accepted-others}
 use Rattle.heads.specs.Found.{kindBy, isComment, uncounted}
 use Rattle.heads.proofs.Finds.{accepted-byte, by-record}
 use Rattle.entries.specs.declared.Entry.{Entry}
-use Rattle.entries.specs.Entries.{kindOf, kindSize, sizeOf, entryBytes, Fits, headEntry}
+use Rattle.entries.specs.Entries.{kindOf, kindSize, sizeOf, entryBytes, Fits}
 use Rattle.line_entries.specs.Line.{recordBytes, lineBytes}
 use Rattle.line_entries.specs.Parts.{ownEntry, ownSize, fieldBytes}
 use Rattle.line_entries.proofs.Records.{own-entry, own-bytes}

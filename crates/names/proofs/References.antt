@@ -1,5 +1,5 @@
 -- The names that a catalogue's SQ entries say are those of the text's SQ records.
-use Prim.Native.Nat.{ℕ, suc, _-_, _≤_}
+use Prim.Native.Nat.{ℕ, suc, _+_, _-_, _≤_}
 use mathlib.Core.Path.{_≡_, refl, sym, ap, ap₂, _∙_}
 use mathlib.Core.Bool.{Bool, true, false, cond}
 use mathlib.Core.List.{List, [], _∷_, _++_, map}
@@ -16,7 +16,7 @@ use Rattle.text.specs.Stands.{Each, Stands}
 use Rattle.accepted.specs.Pieces.{pieces}
 use Rattle.accepted.proofs.Text.{text-stand, text-count, text-fits}
 use Rattle.entries.specs.declared.Entry.{Entry}
-use Rattle.entries.specs.Entries.{kindOf, pieceAt, headEntry, fieldEntry, entriesOf, entriesIn}
+use Rattle.entries.specs.Entries.{kindOf, pieceAt, headEntry, fieldEntry, entriesOn, entriesOf, entriesIn}
 use Rattle.lookup.proofs.Kept.{text-entries}
 use Rattle.sq_index.specs.Filled.{nameIn, namesIn}
 use Rattle.names.specs.Batch.{references}
@@ -31,14 +31,14 @@ names-fields t (f ∷ fs) es = names-fields t fs es
 pub stands-bytes : (t : List ℕ) (p : Piece) → Stands t 0 p → take (length (p .bytes)) (drop (p .at) t) ≡ p .bytes
 stands-bytes t p s = let z : p .at - 0 ≡ p .at = omega arith in sym (s .bytes ∙ ap (λ n. take (length (p .bytes)) (drop n t)) z)
 
-names-records : (t : List ℕ) (rs : List Record) → Each (λ r. Each (Stands t 0) (pieces r)) rs → namesIn t (entriesOf rs) ≡ references rs
-unfolding Each pieces namesIn nameIn kindOf pieceAt entriesOf headEntry others references ofKind code key bytesOf
-names-records t [] h = refl
-names-records t (header v fs ∷ rs) h = names-fields t fs (entriesOf rs) ∙ names-records t rs (h .1)
-names-records t (reference p n fs ∷ rs) h = ap₂ (λ x xs. x ∷ xs) (stands-bytes t p (h .0 .0)) (names-fields t fs (entriesOf rs) ∙ names-records t rs (h .1))
-names-records t (group p fs ∷ rs) h = names-fields t fs (entriesOf rs) ∙ names-records t rs (h .1)
-names-records t (program p fs ∷ rs) h = names-fields t fs (entriesOf rs) ∙ names-records t rs (h .1)
-names-records t (comment p ∷ rs) h = names-records t rs (h .1)
+names-on : (t : List ℕ) (l : ℕ) (rs : List Record) → Each (λ r. Each (Stands t 0) (pieces r)) rs → namesIn t (entriesOn l rs) ≡ references rs
+unfolding Each pieces namesIn nameIn kindOf pieceAt entriesOn headEntry others references ofKind code key bytesOf
+names-on t l [] h = refl
+names-on t l (header v fs ∷ rs) h = names-fields t fs (entriesOn (l + 1) rs) ∙ names-on t (l + 1) rs (h .1)
+names-on t l (reference p n fs ∷ rs) h = ap₂ (λ x xs. x ∷ xs) (stands-bytes t p (h .0 .0)) (names-fields t fs (entriesOn (l + 1) rs) ∙ names-on t (l + 1) rs (h .1))
+names-on t l (group p fs ∷ rs) h = names-fields t fs (entriesOn (l + 1) rs) ∙ names-on t (l + 1) rs (h .1)
+names-on t l (program p fs ∷ rs) h = names-fields t fs (entriesOn (l + 1) rs) ∙ names-on t (l + 1) rs (h .1)
+names-on t l (comment p ∷ rs) h = names-on t (l + 1) rs (h .1)
 
 kind-few : (k : ℕ) (rs : List Record) → length (ofKind k rs) ≤ length rs
 unfolding ofKind
@@ -51,7 +51,8 @@ kind-few k (r ∷ rs) = go (eqb (code r) k) (kind-few k rs)
 
 module _ (t : List ℕ) (rs : List Record) (h : readText t ≡ accept rs) where
   pub text-names : namesIn t (entriesIn (catalogue rs)) ≡ references rs
-  text-names = ap (namesIn t) (text-entries t rs h) ∙ names-records t rs (text-stand t rs h)
+  unfolding entriesOf
+  text-names = ap (namesIn t) (text-entries t rs h) ∙ names-on t 0 rs (text-stand t rs h)
 
   pub few-names : length (references rs) ≤ 16777216
   unfolding references

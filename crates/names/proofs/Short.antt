@@ -9,7 +9,7 @@ use lib.Seq.{length-take-le}
 use Rattle.format.specs.Lines.{Piece, lines, linesFrom}
 use Rattle.format.specs.Records.{Record, line, read}
 use Rattle.format.specs.Reading.{accept, readText}
-use Rattle.format.specs.Catalogue.{catalogue}
+use Rattle.format.specs.Catalogue.{entriesFrom, catalogue}
 use Rattle.text.specs.First.{firstLine}
 use Rattle.text.proofs.Lines.{lines-none}
 use Rattle.text.proofs.First.{first-some, first-within, first-le, lines-first}
@@ -18,7 +18,7 @@ use Rattle.accepted.specs.Admits.{strictly}
 use Rattle.accepted.specs.Pieces.{Pairs}
 use Rattle.accepted.proofs.Text.{text-lines, text-fits}
 use Rattle.line_entries.specs.Line.{recordBytes}
-use Rattle.line_entries.proofs.Records.{catalogue-cons}
+use Rattle.line_entries.proofs.Records.{from-cons}
 use Rattle.line_entries.proofs.Length.{bytes-few}
 
 -- the bytes of lines
@@ -40,16 +40,16 @@ lines-total = by-parts (λ at s. total (linesFrom at s) ≤ length s) step
         let m : length (take (firstLine t .len) t) ≡ firstLine t .len = length-take-le (firstLine t .len) t (omega (arith, w, first-le t)) in
         rw (lines-first at t (omega arith)) (omega (arith, ih n p w, length-drop n t, m, first-le t))
 
-records-short : (strict : Bool) (ps : List Piece) (rs : List Record) → Pairs (λ p r. line strict p ≡ read r) ps rs → length (catalogue rs) ≤ 8 * total ps
-unfolding Pairs total catalogue
-records-short strict [] [] h = omega arith
-records-short strict [] (r ∷ rs) h = absurd h
-records-short strict (p ∷ ps) [] h = absurd h
-records-short strict (p ∷ ps) (r ∷ rs) h =
-    let one : length (recordBytes (read r)) ≤ 8 * length (p .bytes) = rw (sym (h .0)) (bytes-few strict p) in
-    let all : length (catalogue (r ∷ rs)) ≡ length (recordBytes (read r)) + length (catalogue rs) = ap length (catalogue-cons r rs) ∙ length-append (recordBytes (read r)) (catalogue rs) in
-    omega (arith, one, all, records-short strict ps rs (h .1))
+records-short : (strict : Bool) (l : ℕ) (ps : List Piece) (rs : List Record) → Pairs (λ p r. line strict p ≡ read r) ps rs → length (entriesFrom l rs) ≤ 8 * total ps
+unfolding Pairs total entriesFrom
+records-short strict l [] [] h = omega arith
+records-short strict l [] (r ∷ rs) h = absurd h
+records-short strict l (p ∷ ps) [] h = absurd h
+records-short strict l (p ∷ ps) (r ∷ rs) h =
+    let one : length (recordBytes l (read r)) ≤ 8 * length (p .bytes) = rw (sym (h .0)) (bytes-few strict p l) in
+    let all : length (entriesFrom l (r ∷ rs)) ≡ length (recordBytes l (read r)) + length (entriesFrom (l + 1) rs) = ap length (from-cons l r rs) ∙ length-append (recordBytes l (read r)) (entriesFrom (l + 1) rs) in
+    omega (arith, one, all, records-short strict (l + 1) ps rs (h .1))
 
 pub text-short : (t : List ℕ) (rs : List Record) → readText t ≡ accept rs → length (catalogue rs) ≤ 4294967294
-unfolding lines
-text-short t rs h = omega (arith, records-short (strictly t) (lines t) rs (text-lines t rs h), lines-total 0 t, text-fits t rs h)
+unfolding lines catalogue
+text-short t rs h = omega (arith, records-short (strictly t) 0 (lines t) rs (text-lines t rs h), lines-total 0 t, text-fits t rs h)

@@ -23,7 +23,7 @@ use Rattle.accepted.proofs.Text.{text-lines, text-stand, text-fits}
 use Rattle.key_index.specs.Keyed.{Ended}
 use Rattle.key_index.proofs.LineKeys.{line-ended}
 use Rattle.entries.specs.declared.Entry.{Entry}
-use Rattle.entries.specs.Entries.{pieceAt, headEntry, fieldEntry, entriesOf, entriesIn}
+use Rattle.entries.specs.Entries.{pieceAt, headEntry, fieldEntry, entriesOn, entriesOf, entriesIn}
 use Rattle.lookup.proofs.Kept.{text-entries}
 use Rattle.sq_index.specs.Filled.{Told}
 use Rattle.names.proofs.References.{stands-bytes}
@@ -58,17 +58,17 @@ unfolding Each Told fieldEntry
 told-fields t [] es h = h
 told-fields t (f ∷ fs) es h = (tt, told-fields t fs es h)
 
-told-records : (t : List ℕ) (rs : List Record) → Each (Ended t) rs → Each (λ r. Each (Stands t 0) (pieces r)) rs → Each (Told t) (entriesOf rs)
-unfolding Each Ended Told pieces pieceAt entriesOf headEntry others
-told-records t [] e s = tt
-told-records t (header v fs ∷ rs) e s = (tt, told-fields t fs (entriesOf rs) (told-records t rs (e .1) (s .1)))
-told-records t (reference p n fs ∷ rs) e s = ((e .0 .0, e .0 .1 ∙ sym (stands-bytes t p (s .0 .0))), told-fields t fs (entriesOf rs) (told-records t rs (e .1) (s .1)))
-told-records t (group p fs ∷ rs) e s = (tt, told-fields t fs (entriesOf rs) (told-records t rs (e .1) (s .1)))
-told-records t (program p fs ∷ rs) e s = (tt, told-fields t fs (entriesOf rs) (told-records t rs (e .1) (s .1)))
-told-records t (comment p ∷ rs) e s = (tt, told-records t rs (e .1) (s .1))
+told-on : (t : List ℕ) (l : ℕ) (rs : List Record) → Each (Ended t) rs → Each (λ r. Each (Stands t 0) (pieces r)) rs → Each (Told t) (entriesOn l rs)
+unfolding Each Ended Told pieces pieceAt entriesOn headEntry others
+told-on t l [] e s = tt
+told-on t l (header v fs ∷ rs) e s = (tt, told-fields t fs (entriesOn (l + 1) rs) (told-on t (l + 1) rs (e .1) (s .1)))
+told-on t l (reference p n fs ∷ rs) e s = ((e .0 .0, e .0 .1 ∙ sym (stands-bytes t p (s .0 .0))), told-fields t fs (entriesOn (l + 1) rs) (told-on t (l + 1) rs (e .1) (s .1)))
+told-on t l (group p fs ∷ rs) e s = (tt, told-fields t fs (entriesOn (l + 1) rs) (told-on t (l + 1) rs (e .1) (s .1)))
+told-on t l (program p fs ∷ rs) e s = (tt, told-fields t fs (entriesOn (l + 1) rs) (told-on t (l + 1) rs (e .1) (s .1)))
+told-on t l (comment p ∷ rs) e s = (tt, told-on t (l + 1) rs (e .1) (s .1))
 
 pub text-told : (t : List ℕ) (rs : List Record) → readText t ≡ accept rs → Each (Told t) (entriesIn (catalogue rs))
-unfolding lines
+unfolding lines entriesOf
 text-told t rs h =
     let s : Each (λ r. Each (Stands t 0) (pieces r)) rs = text-stand t rs h in
-    subst (Each (Told t)) (sym (text-entries t rs h)) (told-records t rs (ended-from (strictly t) t (text-fits t rs h) 0 rs (text-lines t rs h) s) s)
+    subst (Each (Told t)) (sym (text-entries t rs h)) (told-on t 0 rs (ended-from (strictly t) t (text-fits t rs h) 0 rs (text-lines t rs h) s) s)

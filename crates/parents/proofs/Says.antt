@@ -1,5 +1,5 @@
 -- The programs that are noted in the catalogue of an accepted text say the text's programs: their IDs, and what their PP link to.
-use Prim.Native.Nat.{ℕ, _-_, _≤_}
+use Prim.Native.Nat.{ℕ, _+_, _-_, _≤_}
 use mathlib.Core.Path.{_≡_, refl, sym, ap, ap₂, subst, _∙_}
 use mathlib.Core.List.{List, [], _∷_, _++_, map}
 use mathlib.Core.Option.{Option, none, some}
@@ -19,7 +19,7 @@ use Rattle.accepted.proofs.Text.{text-sound, text-stand}
 use Rattle.chains.specs.Parents.{nobody}
 use Rattle.entries.specs.declared.Place.{Place}
 use Rattle.entries.specs.declared.Entry.{Entry}
-use Rattle.entries.specs.Entries.{pieceAt, headEntry, fieldEntry, entriesOf, entriesIn}
+use Rattle.entries.specs.Entries.{pieceAt, headEntry, fieldEntry, entriesOn, entriesOf, entriesIn}
 use Rattle.lookup.specs.Lookup.{foundOf, valueIn}
 use Rattle.lookup.proofs.Kept.{record-values, last-value, text-entries}
 use Rattle.lookup.proofs.Answers.{value-fields}
@@ -71,25 +71,29 @@ module _ (t : List ℕ) where
   passed : (fs : List Field) (es : List Entry) (ps : List Program) → Pairs (Says t) (notedIn es) ps → Pairs (Says t) (notedIn (map fieldEntry fs ++ es)) ps
   passed fs es ps h = rw (noted-fields fs es) h
 
-  says-program : (p : Piece) (fs : List Field) (rs : List Record) → Sound (program p fs) → Each (Stands t 0) (pieces (program p fs))
-      → Says t (record { id = pieceAt p; previous = orNowhere (valueIn 80 80 (map fieldEntry fs ++ entriesOf rs)) }) (record { id = p .bytes; previous = lastOf 80 80 fs })
+  says-program : (p : Piece) (fs : List Field) (l : ℕ) (rs : List Record) → Sound (program p fs) → Each (Stands t 0) (pieces (program p fs))
+      → Says t (record { id = pieceAt p; previous = orNowhere (valueIn 80 80 (map fieldEntry fs ++ entriesOn l rs)) }) (record { id = p .bytes; previous = lastOf 80 80 fs })
   unfolding Each pieces others
-  says-program p fs rs s h = record {
+  says-program p fs l rs s h = record {
     inside = stands-inside t p (h .0);
     bytes = stands-bytes t p (h .0);
     previous =
-        subst (λ v. Before t (orNowhere v) (lastOf 80 80 fs)) (sym (value-fields 80 80 fs rs (s .once)))
+        subst (λ v. Before t (orNowhere v) (lastOf 80 80 fs)) (sym (value-fields 80 80 fs l rs (s .once)))
         (before-found t (lastOf 80 80 fs) (λ q e. last-value (Stands t 0) 80 80 fs q (record-values (Stands t 0) (program p fs) h) e));
   }
 
+  says-on : (l : ℕ) (rs : List Record) → Each Sound rs → Each (λ r. Each (Stands t 0) (pieces r)) rs → Pairs (Says t) (notedIn (entriesOn l rs)) (programs rs)
+  unfolding Each Pairs notedIn entriesOn headEntry others programs ofKind code programOf bytesOf key
+  says-on l [] s h = tt
+  says-on l (header v fs ∷ rs) s h = passed fs (entriesOn (l + 1) rs) (programs rs) (says-on (l + 1) rs (s .1) (h .1))
+  says-on l (reference p n fs ∷ rs) s h = passed fs (entriesOn (l + 1) rs) (programs rs) (says-on (l + 1) rs (s .1) (h .1))
+  says-on l (group p fs ∷ rs) s h = passed fs (entriesOn (l + 1) rs) (programs rs) (says-on (l + 1) rs (s .1) (h .1))
+  says-on l (program p fs ∷ rs) s h = (says-program p fs (l + 1) rs (s .0) (h .0), passed fs (entriesOn (l + 1) rs) (programs rs) (says-on (l + 1) rs (s .1) (h .1)))
+  says-on l (comment p ∷ rs) s h = says-on (l + 1) rs (s .1) (h .1)
+
   says-records : (rs : List Record) → Each Sound rs → Each (λ r. Each (Stands t 0) (pieces r)) rs → Pairs (Says t) (notedIn (entriesOf rs)) (programs rs)
-  unfolding Each Pairs notedIn entriesOf headEntry others programs ofKind code programOf bytesOf key
-  says-records [] s h = tt
-  says-records (header v fs ∷ rs) s h = passed fs (entriesOf rs) (programs rs) (says-records rs (s .1) (h .1))
-  says-records (reference p n fs ∷ rs) s h = passed fs (entriesOf rs) (programs rs) (says-records rs (s .1) (h .1))
-  says-records (group p fs ∷ rs) s h = passed fs (entriesOf rs) (programs rs) (says-records rs (s .1) (h .1))
-  says-records (program p fs ∷ rs) s h = (says-program p fs rs (s .0) (h .0), passed fs (entriesOf rs) (programs rs) (says-records rs (s .1) (h .1)))
-  says-records (comment p ∷ rs) s h = says-records rs (s .1) (h .1)
+  unfolding entriesOf
+  says-records rs s h = says-on 0 rs s h
 
 -- ---- IDs and parents
 

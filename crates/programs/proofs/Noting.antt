@@ -25,17 +25,17 @@ use Rattle.programs.specs.Gathered.{Noted, orNowhere, notedIn, arraysOf,
 other-first : (e : Entry) (es : List Entry) → OneOf (0 ∷ 1 ∷ 2 ∷ 3 ∷ 5 ∷ 6 ∷ []) (tagOf the-type e) → (notedIn (e ∷ es) ≡ notedIn es) × (counted 4 (e ∷ es) ≡ counted 4 es)
 unfolding notedIn counted kindOf
 other-first End es h = (refl, refl)
-other-first (Header v) es h = (refl, refl)
-other-first (ReferenceSequence p n) es h = (refl, refl)
-other-first (ReadGroup p) es h = (refl, refl)
-other-first (Program p) es h = absurd (miss (0 ∷ 1 ∷ 2 ∷ 3 ∷ 5 ∷ 6 ∷ []) 4 tt h)
-other-first (Comment p) es h = (refl, refl)
+other-first (Header v l) es h = (refl, refl)
+other-first (ReferenceSequence p n l) es h = (refl, refl)
+other-first (ReadGroup p l) es h = (refl, refl)
+other-first (Program p l) es h = absurd (miss (0 ∷ 1 ∷ 2 ∷ 3 ∷ 5 ∷ 6 ∷ []) 4 tt h)
+other-first (Comment p l) es h = (refl, refl)
 other-first (Field a b p) es h = (refl, refl)
 
-program-first : (p : Place) (es : List Entry)
-    → (notedIn (Program p ∷ es) ≡ record { id = p; previous = orNowhere (valueIn 80 80 es) } ∷ notedIn es) × (counted 4 (Program p ∷ es) ≡ suc (counted 4 es))
+program-first : (p : Place) (l : ℕ) (es : List Entry)
+    → (notedIn (Program p l ∷ es) ≡ record { id = p; previous = orNowhere (valueIn 80 80 es) } ∷ notedIn es) × (counted 4 (Program p l ∷ es) ≡ suc (counted 4 es))
 unfolding notedIn counted kindOf
-program-first p es = (refl, refl)
+program-first p l es = (refl, refl)
 
 -- ---- arrays
 
@@ -107,9 +107,9 @@ module _ (c ats lens from widths : List ℕ) (count at len : ℕ) (e : Entry) (f
           room = omega (arith, x .room, ap (counted 4) o, f .1);
         }
 
-    module _ (p : Place) (is : e ≡ Program p) where
+    module _ (p : Place) (l : ℕ) (is : e ≡ Program p l) where
       fewer : count + suc (counted 4 rest) ≤ 1024
-      fewer = omega (arith, x .room, ap (counted 4) (opened (Program p) is), program-first p rest .1)
+      fewer = omega (arith, x .room, ap (counted 4) (opened (Program p l) is), program-first p l rest .1)
 
       pub listed-room : count < 1024
       listed-room = omega (arith, fewer)
@@ -119,7 +119,7 @@ module _ (c ats lens from widths : List ℕ) (count at len : ℕ) (e : Entry) (f
       listed-more q k =
           let n : Noted = record { id = p; previous = q } in
           let o : notedIn (entriesIn (drop at c)) ≡ n ∷ notedIn rest =
-          ap notedIn (opened (Program p) is) ∙ program-first p rest .0 ∙ ap (λ r. record { id = p; previous = r } ∷ notedIn rest) (sym k) in
+          ap notedIn (opened (Program p l) is) ∙ program-first p l rest .0 ∙ ap (λ r. record { id = p; previous = r } ∷ notedIn rest) (sym k) in
           record {
             ns = x .ns ++ (n ∷ []);
             id-at = kept-more (λ n. n .id .at) (x .ns) n ats count (p .at) (x .id-at) (x .counts) listed-room refl;

@@ -28,11 +28,11 @@ unfoldable pub notedIn : List Entry → List Noted
 unfolding orNowhere valueIn
 notedIn [] = []
 notedIn (End ∷ es) = notedIn es
-notedIn (Header v ∷ es) = notedIn es
-notedIn (ReferenceSequence p n ∷ es) = notedIn es
-notedIn (ReadGroup p ∷ es) = notedIn es
-notedIn (Program p ∷ es) = record { id = p; previous = orNowhere (valueIn 80 80 es) } ∷ notedIn es
-notedIn (Comment p ∷ es) = notedIn es
+notedIn (Header v l ∷ es) = notedIn es
+notedIn (ReferenceSequence p n l ∷ es) = notedIn es
+notedIn (ReadGroup p l ∷ es) = notedIn es
+notedIn (Program p l ∷ es) = record { id = p; previous = orNowhere (valueIn 80 80 es) } ∷ notedIn es
+notedIn (Comment p l ∷ es) = notedIn es
 notedIn (Field a b p ∷ es) = notedIn es
 
 -- one of their places in arrays

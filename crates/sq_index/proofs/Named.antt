@@ -96,11 +96,11 @@ module _ (t : List ℕ) where
   told-word : (e : Entry) → Told t e → word (drop (startIn t e) t) ≡ nameIn t e
   unfolding word nameIn startIn Told
   told-word End h = ap word (drop-length t)
-  told-word (Header v) h = ap word (drop-length t)
-  told-word (ReferenceSequence p n) h = ap (λ at. word (drop at t)) (mod-eq-of-lt (h .0)) ∙ h .1
-  told-word (ReadGroup p) h = ap word (drop-length t)
-  told-word (Program p) h = ap word (drop-length t)
-  told-word (Comment p) h = ap word (drop-length t)
+  told-word (Header v l) h = ap word (drop-length t)
+  told-word (ReferenceSequence p n l) h = ap (λ at. word (drop at t)) (mod-eq-of-lt (h .0)) ∙ h .1
+  told-word (ReadGroup p l) h = ap word (drop-length t)
+  told-word (Program p l) h = ap word (drop-length t)
+  told-word (Comment p l) h = ap word (drop-length t)
   told-word (Field a b p) h = ap word (drop-length t)
 
   -- names that are equal have one mark

@@ -71,7 +71,7 @@ from-none (e ∷ es) h = go (eqb (kindOf e) 2) refl h (from-none es)
     go true q h ih = absurd (h (eqb-true (kindOf e) 2 q))
     go false q h ih = ih h
 
-pub sq-size : (e : Entry) → kindOf e ≡ 2 → 17 ≡ sizeOf e
+pub sq-size : (e : Entry) → kindOf e ≡ 2 → 21 ≡ sizeOf e
 unfolding sizeOf kindSize
 sq-size e q = sym (ap kindSize q)
 
@@ -88,14 +88,14 @@ module _ (c : List ℕ) (at r : ℕ) (is : r ≡ next c at) (e : Entry) (found :
       from-none (entriesIn (drop at c)) (λ z. q (ap kindOf f ∙ z))
 
   module _ (q : kindOf e ≡ 2) where
-    some : _≡_ {A = ℕ} 17 0 → ⊥
+    some : _≡_ {A = ℕ} 21 0 → ⊥
     some z = omega (arith, z)
 
-    one-more : entriesFrom 2 0 (entriesIn (drop at c)) ≡ e ∷ entriesIn (drop (r + 17) c)
-    one-more = sym from ∙ turn-on c r 17 e found (sq-size e q) some
+    one-more : entriesFrom 2 0 (entriesIn (drop at c)) ≡ e ∷ entriesIn (drop (r + 21) c)
+    one-more = sym from ∙ turn-on c r 21 e found (sq-size e q) some
 
-    pub sq-within : r + 17 ≤ length c
-    sq-within = turn-within c r 17 e found (sq-size e q) some
+    pub sq-within : r + 21 ≤ length c
+    sq-within = turn-within c r 21 e found (sq-size e q) some
 
   -- ---- how many there are
 
@@ -113,10 +113,10 @@ module _ (c : List ℕ) (at r : ℕ) (is : r ≡ next c at) (e : Entry) (found :
   unfolding counted
   count-none q = sym (counted-from (entriesIn (drop at c))) ∙ ap (counted 2) (no-more q)
 
-  pub count-on : kindOf e ≡ 2 → counted 2 (entriesIn (drop at c)) ≡ suc (counted 2 (entriesIn (drop (r + 17) c)))
+  pub count-on : kindOf e ≡ 2 → counted 2 (entriesIn (drop at c)) ≡ suc (counted 2 (entriesIn (drop (r + 21) c)))
   unfolding counted
   count-on q =
-      let es : List Entry = entriesIn (drop (r + 17) c) in
+      let es : List Entry = entriesIn (drop (r + 21) c) in
       sym (counted-from (entriesIn (drop at c))) ∙ ap (counted 2) (one-more q) ∙ ap (λ b. cond b (suc (counted 2 es)) (counted 2 es)) (eq-eqb (kindOf e) 2 q)
 
   -- ---- filling
@@ -138,9 +138,9 @@ module _ (c : List ℕ) (at r : ℕ) (is : r ≡ next c at) (e : Entry) (found :
     entered-all q = sym (entering-from (entriesIn (drop at c))) ∙ ap (λ es. entering b t k es slots) (no-more q)
 
     pub entered : kindOf e ≡ 2
-        → entering b t k (entriesIn (drop at c)) slots ≡ entering b t (k + 1) (entriesIn (drop (r + 17) c)) (enter (valueOf b k (hashFrom 0 (nameIn t e)) (startIn t e)) (nameIn t e) slots)
+        → entering b t k (entriesIn (drop at c)) slots ≡ entering b t (k + 1) (entriesIn (drop (r + 21) c)) (enter (valueOf b k (hashFrom 0 (nameIn t e)) (startIn t e)) (nameIn t e) slots)
     unfolding entering
     entered q =
-        let es : List Entry = entriesIn (drop (r + 17) c) in
+        let es : List Entry = entriesIn (drop (r + 21) c) in
         sym (entering-from (entriesIn (drop at c))) ∙ ap (λ es. entering b t k es slots) (one-more q)
         ∙ ap (λ w. cond w (entering b t (k + 1) es (enter (valueOf b k (hashFrom 0 (nameIn t e)) (startIn t e)) (nameIn t e) slots)) (entering b t k es slots)) (eq-eqb (kindOf e) 2 q)

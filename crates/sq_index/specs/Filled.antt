@@ -18,11 +18,11 @@ use Rattle.name_index.specs.Index.{absent, hashFrom, first, path, enter, ordina
 -- the name that an entry says: that of SQ
 unfoldable pub nameIn : List ℕ → Entry → List ℕ
 nameIn t End = []
-nameIn t (Header v) = []
-nameIn t (ReferenceSequence p n) = take (p .len) (drop (p .at) t)
-nameIn t (ReadGroup p) = []
-nameIn t (Program p) = []
-nameIn t (Comment p) = []
+nameIn t (Header v l) = []
+nameIn t (ReferenceSequence p n l) = take (p .len) (drop (p .at) t)
+nameIn t (ReadGroup p l) = []
+nameIn t (Program p l) = []
+nameIn t (Comment p l) = []
 nameIn t (Field a b p) = []
 
 -- the names that the SQ entries say, in order
@@ -34,22 +34,22 @@ namesIn t (e ∷ es) = cond (eqb (kindOf e) 2) (nameIn t e ∷ namesIn t es) (na
 -- where that name starts: behind the text where there is none
 unfoldable pub startIn : List ℕ → Entry → ℕ
 startIn t End = length t
-startIn t (Header v) = length t
-startIn t (ReferenceSequence p n) = p .at % 16777216
-startIn t (ReadGroup p) = length t
-startIn t (Program p) = length t
-startIn t (Comment p) = length t
+startIn t (Header v l) = length t
+startIn t (ReferenceSequence p n l) = p .at % 16777216
+startIn t (ReadGroup p l) = length t
+startIn t (Program p l) = length t
+startIn t (Comment p l) = length t
 startIn t (Field a b p) = length t
 
 -- a name is told by its place: below 2 ^ 24, and it ends where the next byte is below 32
 unfoldable pub Told : List ℕ → Entry → Type 0
 unfolding word
 Told t End = Unit
-Told t (Header v) = Unit
-Told t (ReferenceSequence p n) = (p .at < 16777216) × (word (drop (p .at) t) ≡ take (p .len) (drop (p .at) t))
-Told t (ReadGroup p) = Unit
-Told t (Program p) = Unit
-Told t (Comment p) = Unit
+Told t (Header v l) = Unit
+Told t (ReferenceSequence p n l) = (p .at < 16777216) × (word (drop (p .at) t) ≡ take (p .len) (drop (p .at) t))
+Told t (ReadGroup p l) = Unit
+Told t (Program p l) = Unit
+Told t (Comment p l) = Unit
 Told t (Field a b p) = Unit
 
 -- ---- what a slot is to hold

@@ -6,7 +6,6 @@ use mathlib.Core.List.{append-nil}
 use native.Mathlib.Omega.{arith}
 use lib.ListN.{length}
 use borrow.Author.Needs.{needs}
-use Rattle.format.specs.Records.{line}
 use Rattle.text.specs.Over.{over}
 use Rattle.other_fields.specs.Next.{orValue}
 use Rattle.heads.specs.Keys.{lastKey, lastNumber, keysFrom, keysIn}

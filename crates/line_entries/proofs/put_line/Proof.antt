@@ -6,7 +6,6 @@ use mathlib.Core.List.{_++_}
 use native.Mathlib.Omega.{arith}
 use lib.ListN.{length}
 use borrow.Author.Needs.{needs}
-use Rattle.format.specs.Records.{line}
 use Rattle.text.specs.Over.{over}
 use Rattle.entries.specs.Entries.{sizeOf, entryBytes}
 use Rattle.line_entries.specs.Line.{lineBytes}

@@ -7,7 +7,6 @@ use native.Mathlib.Omega.{arith}
 use lib.ListN.{length, drop}
 use borrow.Author.Needs.{needs}
 use Rattle.format.specs.Bytes.{starts}
-use Rattle.format.specs.Records.{line}
 use Rattle.format.specs.declared.Kind.the-variants.{Comment}
 use Rattle.other_fields.specs.Next.{orValue}
 use Rattle.heads.specs.Keys.{lastKey, lastNumber, keysFrom, keysIn}

@@ -7,7 +7,6 @@ use native.Mathlib.Omega.{arith}
 use lib.ListN.{length, drop, length-drop}
 use borrow.Author.Needs.{needs}
 use Rattle.format.specs.Bytes.{starts}
-use Rattle.format.specs.Records.{line}
 use Rattle.accepted.proofs.Bools.{never, split}
 use Rattle.entries.specs.Entries.{sizeOf, entryBytes}
 use Rattle.entries_same.proofs.Starts.{starts-short}

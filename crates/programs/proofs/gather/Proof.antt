@@ -39,7 +39,7 @@ room : (c : tie.After-e Inv-loop μ-loop) → c .before .before .before .before 
 room c =
     let s = c .before .before .before in
     let l = s .before .before .loop in
-    listed-room _ (l .ats) (l .lens) (l .from) (l .widths) (l .count) (l .at) _ _ (s .before .entry-at .ensures) (s .size .ensures) (l .inv) (c .before .before .if1 .left) (c .e .given .0 .0) (c .e .given .1)
+    listed-room _ (l .ats) (l .lens) (l .from) (l .widths) (l .count) (l .at) _ _ (s .before .entry-at .ensures) (s .size .ensures) (l .inv) (c .before .before .if1 .left) (c .e .given .0 .0) (c .e .given .0 .1 .0) (c .e .given .1)
 
 add-at : tie.Need-add-at Inv-loop μ-loop
 add-at c = omega (arith, within c)
@@ -85,7 +85,7 @@ loop-again c =
     let e = c .before .before in
     let s = e .before .before .before in
     let l = s .before .before .loop in
-    listed-more _ (l .ats) (l .lens) (l .from) (l .widths) (l .count) (l .at) _ _ (s .before .entry-at .ensures) (s .size .ensures) (l .inv) (e .before .before .if1 .left) (e .e .given .0 .0) (e .e .given .1)
+    listed-more _ (l .ats) (l .lens) (l .from) (l .widths) (l .count) (l .at) _ _ (s .before .entry-at .ensures) (s .size .ensures) (l .inv) (e .before .before .if1 .left) (e .e .given .0 .0) (e .e .given .0 .1 .0) (e .e .given .1)
     (c .find-previous .result) (c .find-previous .ensures)
 
 loop-less-2 : tie.Need-loop-less-2 Inv-loop μ-loop

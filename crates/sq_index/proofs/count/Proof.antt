@@ -36,7 +36,7 @@ returns c =
 
 -- ---- an SQ entry
 
-within : (c : tie.Else1 Inv-loop μ-loop) → c .before .before .before .next-sq .result + 17 ≤ length (c .before .before .before .before .before .before .args .catalogue .now)
+within : (c : tie.Else1 Inv-loop μ-loop) → c .before .before .before .next-sq .result + 21 ≤ length (c .before .before .before .before .before .before .args .catalogue .now)
 within c =
     let k = c .before in
     let e = k .before in

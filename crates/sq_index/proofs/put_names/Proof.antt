@@ -47,7 +47,7 @@ start l = l .before .before .before .before
 
 -- what it is
 abbrev entry : tie.After-e Inv-loop μ-loop → Entry
-entry c = ReferenceSequence (c .e .given .0 .0) (c .e .given .0 .1 .0)
+entry c = ReferenceSequence (c .e .given .0 .0) (c .e .given .0 .1 .0) (c .e .given .0 .1 .1 .0)
 
 found : (c : tie.After-e Inv-loop μ-loop) → entry c ≡ entryOf (drop (c .before .before .before .next-sq .result) (start (loop c) .args .catalogue .now))
 found c = sym (c .e .given .1) ∙ c .before .before .entry-at .ensures
@@ -56,7 +56,7 @@ is-sq : (c : tie.After-e Inv-loop μ-loop) → kindOf (entry c) ≡ 2
 unfolding kindOf
 is-sq c = refl
 
-within : (c : tie.After-e Inv-loop μ-loop) → c .before .before .before .next-sq .result + 17 ≤ length (start (loop c) .args .catalogue .now)
+within : (c : tie.After-e Inv-loop μ-loop) → c .before .before .before .next-sq .result + 21 ≤ length (start (loop c) .args .catalogue .now)
 within c =
     let n = c .before .before .before in
     let l = loop c in
@@ -93,7 +93,7 @@ loop-again c =
       ap length is ∙ enter-length _ _ _ ∙ l .loop .inv .2,
       l .loop .inv .3
           ∙ entered (a .catalogue .now) (l .loop .at) (n .next-sq .result) (n .next-sq .ensures) (entry e) (found e) (a .ordinals) (a .text .now) (l .loop .k) (l .loop .slots) (is-sq e)
-          ∙ ap (entering (a .ordinals) (a .text .now) (l .loop .k + 1) (entriesIn (drop (n .next-sq .result + 17) (a .catalogue .now)))) (sym is),
+          ∙ ap (entering (a .ordinals) (a .text .now) (l .loop .k + 1) (entriesIn (drop (n .next-sq .result + 21) (a .catalogue .now)))) (sym is),
     )
 
 same-length : tie.Need-same-length Inv-loop μ-loop
@@ -104,11 +104,11 @@ same-length c = c .before .before .before .loop .inv .2
 not-sq : (e : Entry) → OneOf (0 ∷ 1 ∷ 3 ∷ 4 ∷ 5 ∷ 6 ∷ []) (tagOf the-type e) → kindOf e ≡ 2 → ⊥
 unfolding kindOf
 not-sq End h q = omega (arith, q)
-not-sq (Header v) h q = omega (arith, q)
-not-sq (ReferenceSequence p n) h q = miss (0 ∷ 1 ∷ 3 ∷ 4 ∷ 5 ∷ 6 ∷ []) 2 tt h
-not-sq (ReadGroup p) h q = omega (arith, q)
-not-sq (Program p) h q = omega (arith, q)
-not-sq (Comment p) h q = omega (arith, q)
+not-sq (Header v l) h q = omega (arith, q)
+not-sq (ReferenceSequence p n l) h q = miss (0 ∷ 1 ∷ 3 ∷ 4 ∷ 5 ∷ 6 ∷ []) 2 tt h
+not-sq (ReadGroup p l) h q = omega (arith, q)
+not-sq (Program p l) h q = omega (arith, q)
+not-sq (Comment p l) h q = omega (arith, q)
 not-sq (Field a b p) h q = omega (arith, q)
 
 returns : tie.Need-returns Inv-loop μ-loop
