@@ -1,11 +1,11 @@
 -- What the slots that are filled for a block tell: a line of the block has its key for the first time exactly if the slot that tells the
 -- key has this line's offset.
-use Prim.Native.Nat.{ℕ, zero, suc, _+_, _*_, _/_, _%_, _≤_, _<_}
+use Prim.Native.Nat.{ℕ, zero, suc, _+_, _-_, _*_, _/_, _%_, _≤_, _<_}
 use mathlib.Core.Path.{_≡_, refl, sym, ap, ap₂, subst, _∙_}
 use mathlib.Core.Bool.{Bool, true, false, not, _&&_, _||_, cond, false≢true}
 use mathlib.Core.List.{List, [], _∷_, _++_, append-assoc}
 use native.Mathlib.Omega.{arith}
-use lib.ListN.{length, take, drop, replicate, length-take, length-replicate, take-append-drop}
+use lib.ListN.{length, take, drop, replicate, length-append, length-take, length-replicate, take-append-drop}
 use lib.Dec.{ltb, eqb}
 use borrow.Author.Tests.{lt-ltb, ltb-true, ltb-false, eq-eqb, ne-eqb}
 use Rattle.format.specs.Bytes.{any}
@@ -13,8 +13,10 @@ use Rattle.format.specs.Lines.{Piece, linesFrom}
 use Rattle.format.specs.Records.{Record, header, reference, group, program, comment, Line, refused, read, line}
 use Rattle.format.specs.Reading.{clash}
 use Rattle.format.specs.Slots.{pick}
+use Rattle.text.specs.First.{firstLine}
 use Rattle.text.specs.Stands.{Stands, Each}
 use Rattle.accepted.specs.Pieces.{pieces}
+use Rattle.accepted.proofs.Stands.{line-stand}
 use Rattle.record.specs.Head.{headOf, recordHead, placeOf}
 use Rattle.admission.specs.Admission.{isTaken}
 use Rattle.admission.proofs.Admission.{taken-clash}
@@ -22,11 +24,11 @@ use Rattle.key_index.specs.Word.{word}
 use Rattle.key_index.specs.Told.{mark, value, tells, sought, pointed, isOwn, soughtOf, offsetOf, afterPointing, isFirst}
 use Rattle.key_index.specs.Keyed.{valuesOf, keysOf, Ended}
 use Rattle.key_index.proofs.Looking.{value-place}
-use Rattle.key_index.proofs.Keyed.{value-some, toldIn, told-append, told-taken, pointing-length}
+use Rattle.key_index.proofs.Keyed.{value-some, toldIn, told-append, told-taken, pick-append, pointing-length}
 use Rattle.key_index.proofs.Pointing.{toldBy, own-told, tells-own, latest, pointing-told}
 use Rattle.first_keys.specs.Blocks.{firstAt, earlier, recordsOf, readIn, entered, pointedBack, filledFor}
 use Rattle.first_keys.proofs.Walk.{ahead-none, ahead-one}
-use Rattle.first_keys.proofs.Lines.{each-left, each-right, Sits, lines-sit, sits-stand, sits-ended, Before, lines-before, earlier-all, Low, lines-low}
+use Rattle.first_keys.proofs.Lines.{each-left, each-right, Sits, lines-sit, sits-stand, sits-ended, reads-ended, Before, lines-before, earlier-all, Low, lines-low}
 use Rattle.first_keys.proofs.Entering.{pick-split, entered-length, entered-told}
 
 -- ---- after the earlier lines
@@ -162,3 +164,133 @@ module _ (hit : ℕ → Bool) (n at : ℕ) (es xs ys : List ℕ) (v : ℕ) (told
       go false q false f =
           ap (λ w. eqb (w % 16777216) at) (latest-none hit (pick hit (xs ++ (v ∷ ys))) es (none (ltb-false 0 (pick hit es) q)) ∙ block ∙ ap (λ b. cond b (pick hit xs) v) f)
           ∙ eq-eqb (v % 16777216) at place
+
+-- ---- the block
+
+pointed-length : (strict : Bool) (t slots : List ℕ) (ps : List Piece) → length (pointedBack strict t slots ps) ≡ length slots
+unfolding pointedBack
+pointed-length strict t slots [] = refl
+pointed-length strict t slots (p ∷ ps) = pointed-length strict t (afterPointing t slots (headOf (line strict p))) ps ∙ pointing-length t slots (headOf (line strict p))
+
+-- the lines from `from` on are `es`, and those from `at` on, of which `xs`, `p` and `ys` are the block
+module _ (strict : Bool) (t : List ℕ) (small : length t ≤ 16777216) (n from at : ℕ) (es xs ys : List Piece) (p : Piece)
+    (split : linesFrom from (drop from t) ≡ es ++ linesFrom at (drop at t))
+    (block : take (n / 4 * 3) (linesFrom at (drop at t)) ≡ xs ++ (p ∷ ys)) where
+  rest : List Piece
+  rest = ys ++ drop (n / 4 * 3) (linesFrom at (drop at t))
+
+  whole : linesFrom from (drop from t) ≡ (es ++ xs) ++ (p ∷ rest)
+  unfolding rest
+  whole =
+      split
+      ∙ ap (λ l. es ++ l) (sym (take-append-drop (n / 4 * 3) (linesFrom at (drop at t))) ∙ ap (λ l. l ++ drop (n / 4 * 3) (linesFrom at (drop at t))) block ∙ append-assoc xs (p ∷ ys) (drop (n / 4 * 3) (linesFrom at (drop at t))))
+      ∙ sym (append-assoc es xs (p ∷ rest))
+
+  sits : Each (Sits t) ((es ++ xs) ++ (p ∷ rest))
+  sits = subst (Each (Sits t)) whole (lines-sit t from)
+
+  long : length (xs ++ (p ∷ ys)) ≡ length xs + suc (length ys)
+  long = length-append xs (p ∷ ys)
+
+  -- it has fewer lines than there are slots
+  room : length (xs ++ (p ∷ ys)) < n
+  room = omega (arith, long, ap length block, length-take (n / 4 * 3) (linesFrom at (drop at t)))
+
+  here : at < length t
+  here = go (ltb at (length t)) refl
+    where
+      go : (b : Bool) → ltb at (length t) ≡ b → at < length t
+      go true e = ltb-true at (length t) e
+      go false e = absurd (omega (arith, long, ap length block, length-take (n / 4 * 3) (linesFrom at (drop at t)), ap length (ahead-none t at (ltb-false at (length t) e))))
+
+  earlier-are : earlier at (linesFrom from (drop from t)) ≡ es
+  unfolding firstAt
+  earlier-are =
+      let next : ℕ = at + firstLine (drop at t) .next in
+      let e : linesFrom from (drop from t) ≡ es ++ (firstAt at t ∷ linesFrom next (drop next t)) = split ∙ ap (λ l. es ++ l) (ahead-one t at here) in
+      ap (earlier at) e ∙ earlier-all at es (firstAt at t) (linesFrom next (drop next t)) (lines-before t from es (firstAt at t) (linesFrom next (drop next t)) e) (omega arith)
+
+  slots : List ℕ
+  slots = filledFor strict t n from at
+
+  slots-are : slots ≡ pointedBack strict t (entered strict t (replicate n 0) (xs ++ (p ∷ ys))) es
+  unfolding slots filledFor
+  slots-are = ap₂ (λ b e. pointedBack strict t (entered strict t (replicate n 0) b) e) block earlier-are
+
+  entered-some : 0 < length (entered strict t (replicate n 0) (xs ++ (p ∷ ys)))
+  entered-some = omega (arith, room, entered-length strict t (replicate n 0) (xs ++ (p ∷ ys)), length-replicate {A = ℕ} n 0)
+
+  slots-some : 0 < length slots
+  slots-some = omega (arith, ap length slots-are, pointed-length strict t (entered strict t (replicate n 0) (xs ++ (p ∷ ys))) es, entered-some)
+
+  -- what tells a key
+  told-by : (k : ℕ) (id : List ℕ) → toldBy t slots k id ≡ latest (tells t k id) (pick (tells t k id) (keysOf (readIn strict (xs ++ (p ∷ ys))))) (keysOf (readIn strict es))
+  told-by k id =
+      let b : Each (Sits t) (xs ++ (p ∷ ys)) =
+      subst (Each (Sits t)) block
+      (each-left (Sits t) (take (n / 4 * 3) (linesFrom at (drop at t))) (drop (n / 4 * 3) (linesFrom at (drop at t))) (subst (Each (Sits t)) (sym (take-append-drop (n / 4 * 3) (linesFrom at (drop at t)))) (lines-sit t at))) in
+      ap (λ s. toldBy t s k id) slots-are
+      ∙ pointed-told strict t small (entered strict t (replicate n 0) (xs ++ (p ∷ ys))) entered-some es (each-left (Sits t) es xs (each-left (Sits t) (es ++ xs) (p ∷ rest) sits)) k id
+      ∙ ap (λ w. latest (tells t k id) w (keysOf (readIn strict es))) (entered-told strict t small n (xs ++ (p ∷ ys)) b room k id)
+
+  sit : Sits t p
+  unfolding Each
+  sit = each-right (Sits t) (es ++ xs) (p ∷ rest) sits .0
+
+  before : Each (Sits t) (es ++ xs)
+  before = each-left (Sits t) (es ++ xs) (p ∷ rest) sits
+
+  -- the keys of the lines before `p` stand before it
+  low : Each (Low (p .at)) (keysOf (readIn strict es) ++ keysOf (readIn strict xs))
+  low =
+      subst (Each (Low (p .at))) (ap keysOf (read-append strict es xs) ∙ keys-append (readIn strict es) (readIn strict xs))
+      (lines-low strict t small (p .at) (es ++ xs) (lines-before t from (es ++ xs) p rest whole) before)
+
+  module _ (r : Record) (is : line strict p ≡ read r) where
+    keys-are : keysOf (readIn strict (xs ++ (p ∷ ys))) ≡ keysOf (readIn strict xs) ++ (valuesOf r ++ keysOf (readIn strict ys))
+    unfolding readIn recordsOf keysOf
+    keys-are =
+        ap keysOf (read-append strict xs (p ∷ ys) ∙ ap (λ l. readIn strict xs ++ (recordsOf l ++ readIn strict ys)) is) ∙ keys-append (readIn strict xs) (r ∷ readIn strict ys)
+
+    -- its key, in its kind
+    one-first : (j : ℕ) → 0 < j → (q : Piece) → (q .at < 16777216) × (word (drop (q .at) t) ≡ q .bytes) → Stands t 0 q → p .at ≤ q .at → valuesOf r ≡ value (mark j (q .bytes)) (q .at) ∷ []
+        → let id : List ℕ = take (length (q .bytes)) (drop (q .at) t) in
+        isOwn (q .at) slots (sought t slots j id) ≡ not (ltb 0 (pick (tells t j id) (keysOf (readIn strict (es ++ xs)))))
+    one-first j h q e s far vs =
+        let id : List ℕ = take (length (q .bytes)) (drop (q .at) t) in
+        let hit = tells t j id in
+        let v : ℕ = value (mark j (q .bytes)) (q .at) in
+        let i : q .bytes ≡ id = s .bytes ∙ ap (λ m. take (length (q .bytes)) (drop m t)) (let z : q .at - 0 ≡ q .at = omega arith in z) in
+        let evs : List ℕ = keysOf (readIn strict es) in
+        let xvs : List ℕ = keysOf (readIn strict xs) in
+        let yvs : List ℕ = keysOf (readIn strict ys) in
+        let told : hit v ≡ true = subst (λ b. tells t j b (value (mark j (q .bytes)) (q .at)) ≡ true) i (tells-own t j (q .bytes) (q .at) (e .0) (e .1)) in
+        let some : v ≡ 0 → ⊥ = value-some j (q .bytes) (q .at) h in
+        let place : v % 16777216 ≡ q .at = value-place (mark j (q .bytes)) (q .at) (e .0) in
+        let le = each-left (Low (p .at)) evs xvs low in
+        let lx = each-right (Low (p .at)) evs xvs low in
+        let w : toldBy t slots j id ≡ latest hit (pick hit (xvs ++ (v ∷ yvs))) evs = told-by j id ∙ ap (λ l. latest hit (pick hit l) evs) (keys-are ∙ ap (λ l. xvs ++ (l ++ yvs)) vs) in
+        own-told t slots j id (q .at) slots-some (omega (arith, w, told-some hit (p .at) (q .at) evs xvs yvs v told some place far le lx))
+        ∙ ap (λ x. eqb (x % 16777216) (q .at)) w
+        ∙ told-first hit (p .at) (q .at) evs xvs yvs v told some place far le lx
+        ∙ ap not (sym (pick-append hit evs xvs) ∙ ap (λ l. ltb 0 (pick hit l)) (sym (ap keysOf (read-append strict es xs) ∙ keys-append (readIn strict es) (readIn strict xs))))
+
+  first-told : (r : Record) → line strict p ≡ read r → isFirst t slots (recordHead r) ≡ not (toldIn t (keysOf (readIn strict (es ++ xs))) (recordHead r))
+  unfolding isFirst isOwn soughtOf offsetOf recordHead placeOf toldIn valuesOf Ended pieces Each
+  first-told r is = go r is (sits-ended strict t small p sit r is) (sits-stand strict t small p sit r is) (line-stand strict p r is)
+    where
+      go : (r : Record) → line strict p ≡ read r → Ended t r → Each (Stands t 0) (pieces r) → Each (Stands (p .bytes) (p .at)) (pieces r)
+          → isFirst t slots (recordHead r) ≡ not (toldIn t (keysOf (readIn strict (es ++ xs))) (recordHead r))
+      go (header v fs) is e s a = refl
+      go (reference q l fs) is e s a = one-first (reference q l fs) is 2 (omega arith) q e (s .0) (a .0 .from) refl
+      go (group q fs) is e s a = one-first (group q fs) is 3 (omega arith) q e (s .0) (a .0 .from) refl
+      go (program q fs) is e s a = one-first (program q fs) is 4 (omega arith) q e (s .0) (a .0 .from) refl
+      go (comment q) is e s a = refl
+
+  -- a line of the block is the first with its key exactly where no line before it clashes with it
+  pub firsts : (r : Record) → line strict p ≡ read r → isFirst t (filledFor strict t n from at) (recordHead r) ≡ not (any (clash r) (readIn strict (es ++ xs)))
+  unfolding slots
+  firsts r is =
+      first-told r is
+      ∙ ap not (told-taken t (readIn strict (es ++ xs)) (reads-ended strict t small (es ++ xs) before) (recordHead r)
+      ∙ taken-clash t (readIn strict (es ++ xs)) r (sits-stand strict t small p sit r is))
