@@ -172,50 +172,24 @@ unfolding pointedBack
 pointed-length strict t slots [] = refl
 pointed-length strict t slots (p ∷ ps) = pointed-length strict t (afterPointing t slots (headOf (line strict p))) ps ∙ pointing-length t slots (headOf (line strict p))
 
--- the lines from `from` on are `es`, and those from `at` on, of which `xs`, `p` and `ys` are the block
-module _ (strict : Bool) (t : List ℕ) (small : length t ≤ 16777216) (n from at : ℕ) (es xs ys : List Piece) (p : Piece)
-    (split : linesFrom from (drop from t) ≡ es ++ linesFrom at (drop at t))
+-- the lines from `from` on are `es`, which start before `at`, and then `xs`, `p` and `rest`; the block from `at` on is `xs`, `p` and `ys`
+module _ (strict : Bool) (t : List ℕ) (small : length t ≤ 16777216) (n from at : ℕ) (es xs ys rest : List Piece) (p : Piece)
+    (front : earlier at (linesFrom from (drop from t)) ≡ es)
+    (whole : linesFrom from (drop from t) ≡ (es ++ xs) ++ (p ∷ rest))
     (block : take (n / 4 * 3) (linesFrom at (drop at t)) ≡ xs ++ (p ∷ ys)) where
-  rest : List Piece
-  rest = ys ++ drop (n / 4 * 3) (linesFrom at (drop at t))
-
-  whole : linesFrom from (drop from t) ≡ (es ++ xs) ++ (p ∷ rest)
-  unfolding rest
-  whole =
-      split
-      ∙ ap (λ l. es ++ l) (sym (take-append-drop (n / 4 * 3) (linesFrom at (drop at t))) ∙ ap (λ l. l ++ drop (n / 4 * 3) (linesFrom at (drop at t))) block ∙ append-assoc xs (p ∷ ys) (drop (n / 4 * 3) (linesFrom at (drop at t))))
-      ∙ sym (append-assoc es xs (p ∷ rest))
-
   sits : Each (Sits t) ((es ++ xs) ++ (p ∷ rest))
   sits = subst (Each (Sits t)) whole (lines-sit t from)
 
-  long : length (xs ++ (p ∷ ys)) ≡ length xs + suc (length ys)
-  long = length-append xs (p ∷ ys)
-
   -- it has fewer lines than there are slots
   room : length (xs ++ (p ∷ ys)) < n
-  room = omega (arith, long, ap length block, length-take (n / 4 * 3) (linesFrom at (drop at t)))
-
-  here : at < length t
-  here = go (ltb at (length t)) refl
-    where
-      go : (b : Bool) → ltb at (length t) ≡ b → at < length t
-      go true e = ltb-true at (length t) e
-      go false e = absurd (omega (arith, long, ap length block, length-take (n / 4 * 3) (linesFrom at (drop at t)), ap length (ahead-none t at (ltb-false at (length t) e))))
-
-  earlier-are : earlier at (linesFrom from (drop from t)) ≡ es
-  unfolding firstAt
-  earlier-are =
-      let next : ℕ = at + firstLine (drop at t) .next in
-      let e : linesFrom from (drop from t) ≡ es ++ (firstAt at t ∷ linesFrom next (drop next t)) = split ∙ ap (λ l. es ++ l) (ahead-one t at here) in
-      ap (earlier at) e ∙ earlier-all at es (firstAt at t) (linesFrom next (drop next t)) (lines-before t from es (firstAt at t) (linesFrom next (drop next t)) e) (omega arith)
+  room = omega (arith, length-append xs (p ∷ ys), ap length block, length-take (n / 4 * 3) (linesFrom at (drop at t)))
 
   slots : List ℕ
   slots = filledFor strict t n from at
 
   slots-are : slots ≡ pointedBack strict t (entered strict t (replicate n 0) (xs ++ (p ∷ ys))) es
   unfolding slots filledFor
-  slots-are = ap₂ (λ b e. pointedBack strict t (entered strict t (replicate n 0) b) e) block earlier-are
+  slots-are = ap₂ (λ b e. pointedBack strict t (entered strict t (replicate n 0) b) e) block front
 
   entered-some : 0 < length (entered strict t (replicate n 0) (xs ++ (p ∷ ys)))
   entered-some = omega (arith, room, entered-length strict t (replicate n 0) (xs ++ (p ∷ ys)), length-replicate {A = ℕ} n 0)
@@ -287,10 +261,39 @@ module _ (strict : Bool) (t : List ℕ) (small : length t ≤ 16777216) (n from 
       go (program q fs) is e s a = one-first (program q fs) is 4 (omega arith) q e (s .0) (a .0 .from) refl
       go (comment q) is e s a = refl
 
-  -- a line of the block is the first with its key exactly where no line before it clashes with it
-  pub firsts : (r : Record) → line strict p ≡ read r → isFirst t (filledFor strict t n from at) (recordHead r) ≡ not (any (clash r) (readIn strict (es ++ xs)))
+  pub firsts-among : (r : Record) → line strict p ≡ read r → isFirst t (filledFor strict t n from at) (recordHead r) ≡ not (any (clash r) (readIn strict (es ++ xs)))
   unfolding slots
-  firsts r is =
+  firsts-among r is =
       first-told r is
-      ∙ ap not (told-taken t (readIn strict (es ++ xs)) (reads-ended strict t small (es ++ xs) before) (recordHead r)
-      ∙ taken-clash t (readIn strict (es ++ xs)) r (sits-stand strict t small p sit r is))
+      ∙ ap not (told-taken t (readIn strict (es ++ xs)) (reads-ended strict t small (es ++ xs) before) (recordHead r) ∙ taken-clash t (readIn strict (es ++ xs)) r (sits-stand strict t small p sit r is))
+
+-- a line of the block from `at` on is the first with its key exactly where no line before it, from `from` on, clashes with it
+module _ (strict : Bool) (t : List ℕ) (n from at : ℕ) (es xs ys : List Piece) (p : Piece)
+    (split : linesFrom from (drop from t) ≡ es ++ linesFrom at (drop at t))
+    (block : take (n / 4 * 3) (linesFrom at (drop at t)) ≡ xs ++ (p ∷ ys)) where
+  behind : List Piece
+  behind = drop (n / 4 * 3) (linesFrom at (drop at t))
+
+  whole : linesFrom from (drop from t) ≡ (es ++ xs) ++ (p ∷ (ys ++ behind))
+  unfolding behind
+  whole =
+      split
+      ∙ ap (λ l. es ++ l) (sym (take-append-drop (n / 4 * 3) (linesFrom at (drop at t))) ∙ ap (λ l. l ++ behind) block ∙ append-assoc xs (p ∷ ys) behind)
+      ∙ sym (append-assoc es xs (p ∷ (ys ++ behind)))
+
+  here : at < length t
+  here = go (ltb at (length t)) refl
+    where
+      go : (b : Bool) → ltb at (length t) ≡ b → at < length t
+      go true e = ltb-true at (length t) e
+      go false e = absurd (omega (arith, length-append xs (p ∷ ys), ap length block, length-take (n / 4 * 3) (linesFrom at (drop at t)), ap length (ahead-none t at (ltb-false at (length t) e))))
+
+  front : earlier at (linesFrom from (drop from t)) ≡ es
+  unfolding firstAt
+  front =
+      let next : ℕ = at + firstLine (drop at t) .next in
+      let e : linesFrom from (drop from t) ≡ es ++ (firstAt at t ∷ linesFrom next (drop next t)) = split ∙ ap (λ l. es ++ l) (ahead-one t at here) in
+      ap (earlier at) e ∙ earlier-all at es (firstAt at t) (linesFrom next (drop next t)) (lines-before t from es (firstAt at t) (linesFrom next (drop next t)) e) (omega arith)
+
+  pub firsts : length t ≤ 16777216 → (r : Record) → line strict p ≡ read r → isFirst t (filledFor strict t n from at) (recordHead r) ≡ not (any (clash r) (readIn strict (es ++ xs)))
+  firsts small = firsts-among strict t small n from at es xs ys (ys ++ behind) p front whole block
