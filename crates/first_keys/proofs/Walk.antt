@@ -14,7 +14,9 @@ use Rattle.text.proofs.Lines.{lines-none}
 use Rattle.text.proofs.First.{first-within, first-some}
 use Rattle.record.specs.Head.{headOf}
 use Rattle.key_index.specs.Told.{afterMeeting, afterPointing}
-use Rattle.key_index.proofs.Ahead.{first-ahead}
+use Rattle.key_index.specs.Keyed.{Placed}
+use Rattle.key_index.proofs.Ahead.{first-ahead, ahead-stands}
+use Rattle.key_index.proofs.Keyed.{head-placed}
 use Rattle.first_keys.specs.Blocks.{firstAt, after, earlier, entered, pointedBack}
 
 -- no line is left
@@ -25,6 +27,11 @@ ahead-none t at h = ap (linesFrom at) (drop-of-length-le t h) ∙ lines-none at
 pub ahead-one : (t : List ℕ) (at : ℕ) → at < length t → linesFrom at (drop at t) ≡ firstAt at t ∷ linesFrom (at + firstLine (drop at t) .next) (drop (at + firstLine (drop at t) .next) t)
 unfolding firstAt
 ahead-one t at h = first-ahead t at h
+
+-- its key stands in the text
+pub placed-at : (strict : Bool) (t : List ℕ) (at : ℕ) → length t ≤ 16777216 → at < length t → Placed (length t) (headOf (line strict (firstAt at t)))
+unfolding firstAt
+placed-at strict t at small h = head-placed strict t at small (ahead-stands t at h)
 
 pub next-within : (t : List ℕ) (at : ℕ) → at < length t → at + firstLine (drop at t) .next ≤ length t
 next-within t at h = omega (arith, first-within (drop at t), length-drop at t, h)
