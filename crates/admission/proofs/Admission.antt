@@ -74,7 +74,7 @@ new true n e = absurd (omega (arith, e))
 new false n e = refl
 
 module _ (t : List ℕ) (before : List Record) where
-  used-is : (r : Record) (k : ℕ) (p : Piece) → code r ≡ k → key r ≡ some p → Stands t 0 p → isUsed before t k (placeOf p) ≡ any (clash r) before
+  pub used-is : (r : Record) (k : ℕ) (p : Piece) → code r ≡ k → key r ≡ some p → Stands t 0 p → isUsed before t k (placeOf p) ≡ any (clash r) before
   unfolding isUsed placeOf
   used-is r k p c e s =
       ap (λ b. any (hasKey k b) before) (sym bytes) ∙ any-same (hasKey k (p .bytes)) (clash r) (λ q. sym (keyed-clash r k p c e q)) before

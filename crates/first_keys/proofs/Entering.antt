@@ -21,6 +21,7 @@ use Rattle.key_index.proofs.Looking.{sought-known, found}
 use Rattle.key_index.proofs.Keyed.{value-some, keys-snoc, values-few, meeting-length, meeting-met, meeting-holds}
 use Rattle.key_index.proofs.Pointing.{toldBy, tells-one, tells-own}
 use Rattle.first_keys.specs.Blocks.{recordsOf, readIn, entered}
+use Rattle.first_keys.proofs.Lines.{Sits, sits-stand, sits-ended}
 
 -- ---- the first of some values that is accepted
 
@@ -117,3 +118,36 @@ holds-on t slots rs x room r e s = go (isMet t slots (recordHead r)) refl
               ∙ ap (λ n. cond (ltb 0 n) n (pick (tells t k id) (valuesOf r))) (x .firsts k id)
               ∙ sym (ap (pick (tells t k id)) (keys-snoc rs r) ∙ pick-split (tells t k id) (keysOf rs) (valuesOf r));
         }
+
+-- ---- line by line
+
+pub entered-length : (strict : Bool) (t slots : List ℕ) (ps : List Piece) → length (entered strict t slots ps) ≡ length slots
+unfolding entered
+entered-length strict t slots [] = refl
+entered-length strict t slots (p ∷ ps) =
+    entered-length strict t (afterMeeting true t slots (headOf (line strict p))) ps ∙ meeting-length true t slots (headOf (line strict p))
+
+module _ (strict : Bool) (t : List ℕ) (small : length t ≤ 16777216) where
+  entered-holds : (slots : List ℕ) (rs : List Record) (ps : List Piece) → Each (Sits t) ps → length rs + length ps < length slots → Holds t slots rs
+      → Holds t (entered strict t slots ps) (rs ++ readIn strict ps)
+  unfolding entered readIn recordsOf Each headOf afterMeeting
+  entered-holds slots rs [] s room x = subst (Holds t slots) (sym (append-nil rs)) x
+  entered-holds slots rs (p ∷ ps) s room x = go (line strict p) refl (λ l q. entered-holds l q ps (s .1))
+    where
+      go : (l : Line) → line strict p ≡ l → ((slots : List ℕ) (rs : List Record) → length rs + length ps < length slots → Holds t slots rs → Holds t (entered strict t slots ps) (rs ++ readIn strict ps))
+          → Holds t (entered strict t (afterMeeting true t slots (headOf l)) ps) (rs ++ (recordsOf l ++ readIn strict ps))
+      go (refused n) e ih = ih slots rs (omega (arith, room)) x
+      go (read r) e ih =
+          subst (Holds t (entered strict t (afterMeeting true t slots (recordHead r)) ps)) (append-assoc rs (r ∷ []) (readIn strict ps))
+          (ih (afterMeeting true t slots (recordHead r)) (rs ++ (r ∷ [])) (omega (arith, room, length-append rs (r ∷ []), meeting-length true t slots (recordHead r)))
+          (holds-on t slots rs x (omega (arith, room)) r (sits-ended strict t small p (s .0) r e) (sits-stand strict t small p (s .0) r e)))
+
+  -- of fewer lines than there are slots
+  pub entered-told : (n : ℕ) (ps : List Piece) → Each (Sits t) ps → length ps < n → (k : ℕ) (id : List ℕ)
+      → toldBy t (entered strict t (replicate n 0) ps) k id ≡ pick (tells t k id) (keysOf (readIn strict ps))
+  unfolding toldBy keysOf pick
+  entered-told n ps s room k id =
+      let none : List ℕ = replicate n 0 in
+      let l : length none ≡ n = length-replicate n 0 in
+      let x = entered-holds none [] ps s (omega (arith, room, l)) (record { vs = []; held = held-none (start t (length none)) n; few = omega arith; firsts = λ j ib. refl }) in
+      found t (entered strict t none ps) (x .vs) (omega (arith, room, l, entered-length strict t none ps)) (x .held) k id ∙ x .firsts k id

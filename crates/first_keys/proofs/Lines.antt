@@ -77,6 +77,15 @@ module _ (strict : Bool) (t : List ℕ) (small : length t ≤ 16777216) (q : Pie
   unfolding Sits firstAt
   sits-ended = line-ended strict t (q .at) r small (ap (line strict) (sym (s .1)) ∙ is) sits-stand
 
+pub reads-ended : (strict : Bool) (t : List ℕ) → length t ≤ 16777216 → (qs : List Piece) → Each (Sits t) qs → Each (Ended t) (readIn strict qs)
+unfolding Each readIn recordsOf
+reads-ended strict t small [] s = tt
+reads-ended strict t small (q ∷ qs) s = go (line strict q) refl (reads-ended strict t small qs (s .1))
+  where
+    go : (l : Line) → line strict q ≡ l → Each (Ended t) (readIn strict qs) → Each (Ended t) (recordsOf l ++ readIn strict qs)
+    go (refused n) e ih = ih
+    go (read r) e ih = (sits-ended strict t small q (s .0) r e, ih)
+
 -- ---- lines before an offset
 
 unfoldable pub Before : ℕ → Piece → Type 0

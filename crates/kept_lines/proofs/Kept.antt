@@ -27,6 +27,12 @@ module _ (c : Cursor) (next left : ℕ) (x : Head) where
   advanced-skipped zero h = absurd (h refl)
   advanced-skipped (suc n) h = refl
 
+  -- kept or skipped
+  pub advanced-to : (n : ℕ) → (advanced c next left x n .at ≡ next) × (advanced c next left x n .line ≡ c .line + 1)
+  unfolding advanced
+  advanced-to zero = (refl, refl)
+  advanced-to (suc n) = (refl, refl)
+
 pub left-some : (n left : ℕ) → 0 < left → leftAt n left ≡ left
 unfolding leftAt
 left-some n zero h = absurd (omega arith)

@@ -1,1 +1,3 @@
 pub mod Kept
+pub mod Ids
+pub mod Going

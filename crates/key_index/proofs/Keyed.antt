@@ -85,7 +85,7 @@ ended-snoc t (q ∷ rs) r a e = (a .0, ended-snoc t rs r (a .1) e)
 
 -- ---- a key that one of some values tells
 
-pick-append : (hit : ℕ → Bool) (vs ws : List ℕ) → ltb 0 (pick hit (vs ++ ws)) ≡ (ltb 0 (pick hit vs) || ltb 0 (pick hit ws))
+pub pick-append : (hit : ℕ → Bool) (vs ws : List ℕ) → ltb 0 (pick hit (vs ++ ws)) ≡ (ltb 0 (pick hit vs) || ltb 0 (pick hit ws))
 unfolding pick
 pick-append hit [] ws = refl
 pick-append hit (zero ∷ vs) ws = pick-append hit vs ws

@@ -1,5 +1,5 @@
 -- `kept_lines::advance` meets its contract: a line further, and a record more where it is kept.
-use mathlib.Core.Path.{refl, sym, ap, _∙_}
+use mathlib.Core.Path.{sym}
 use native.Mathlib.Omega.{arith}
 use Rattle.admission.proofs.Programs.{programs-most}
 use Rattle.kept_lines.proofs.Kept.{advanced-kept, advanced-skipped}

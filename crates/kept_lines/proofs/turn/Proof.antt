@@ -1,6 +1,6 @@
 -- `kept_lines::turn` meets its contract: the same block, or the next one, for which the area is filled.
 use Prim.Native.Nat.{_*_, _/_}
-use mathlib.Core.Path.{_≡_, refl, sym, ap, _∙_}
+use mathlib.Core.Path.{_≡_, sym, ap, _∙_}
 use native.Mathlib.Omega.{arith}
 use lib.ListN.{length}
 use Rattle.kept_lines.proofs.Kept.{left-some, left-none, filled-some, filled-none, filled-length}
