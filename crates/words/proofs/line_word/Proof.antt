@@ -14,15 +14,18 @@ refusal-word-requires c κs = search needs
 enum-known-answer-2 : tie.Need-enum-known-answer-2
 enum-known-answer-2 c = search needs
 
+cast-result : tie.Need-cast-result
+cast-result c = search needs
+
 returns : tie.Need-returns
 unfolding lineWord
 returns c = c .refusal-word .ensures ∙ sym (ap lineWord (c .before .before .answer .given .1))
 
 returns-2 : tie.Need-returns-2
 unfolding lineWord
-returns-2 c = sym (ap lineWord (c .before .answer2 .given .1))
+returns-2 c = sym (ap lineWord (c .before .before .answer2 .given .1))
 
 pub line-word-spec : {M : Type 1} → statement M
 line-word-spec =
     tie.close
-    (tie.spec enum-known-answer refusal-word-requires enum-known-answer-2 returns returns-2)
+    (tie.spec enum-known-answer refusal-word-requires enum-known-answer-2 cast-result returns returns-2)
