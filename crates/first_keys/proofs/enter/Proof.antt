@@ -97,8 +97,7 @@ returns-2 c =
     let l = c .before in
     let a = l .before .before .before .args in
     let v = l .loop .inv in
-    let z : a .many - l .loop .n ≡ 0 = omega (arith, c .loop-test .left) in
-    (
+    let z : a .many - l .loop .n ≡ 0 = omega (arith, c .loop-test .left) in (
       sym (v .3 ∙ ap (λ m. after m (l .loop .end) (a .text .now)) z),
       sym (v .4 ∙ ap (λ m. entered (a .strict) (a .text .now) (l .loop .area) (take m (linesFrom (l .loop .end) (drop (l .loop .end) (a .text .now))))) z),
     )
