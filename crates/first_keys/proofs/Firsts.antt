@@ -2,7 +2,7 @@
 -- key has this line's offset.
 use Prim.Native.Nat.{ℕ, zero, suc, _+_, _-_, _*_, _/_, _%_, _≤_, _<_}
 use mathlib.Core.Path.{_≡_, refl, sym, ap, ap₂, subst, _∙_}
-use mathlib.Core.Bool.{Bool, true, false, not, _&&_, _||_, cond, false≢true}
+use mathlib.Core.Bool.{Bool, true, false, not, _&&_, _||_, cond}
 use mathlib.Core.List.{List, [], _∷_, _++_, append-assoc}
 use native.Mathlib.Omega.{arith}
 use lib.ListN.{length, take, drop, replicate, length-append, length-take, length-replicate, take-append-drop}
@@ -18,17 +18,16 @@ use Rattle.text.specs.Stands.{Stands, Each}
 use Rattle.accepted.specs.Pieces.{pieces}
 use Rattle.accepted.proofs.Stands.{line-stand}
 use Rattle.record.specs.Head.{headOf, recordHead, placeOf}
-use Rattle.admission.specs.Admission.{isTaken}
 use Rattle.admission.proofs.Admission.{taken-clash}
 use Rattle.key_index.specs.Word.{word}
 use Rattle.key_index.specs.Told.{mark, value, tells, sought, pointed, isOwn, soughtOf, offsetOf, afterPointing, isFirst}
 use Rattle.key_index.specs.Keyed.{valuesOf, keysOf, Ended}
 use Rattle.key_index.proofs.Looking.{value-place}
-use Rattle.key_index.proofs.Keyed.{value-some, toldIn, told-append, told-taken, pick-append, pointing-length}
+use Rattle.key_index.proofs.Keyed.{value-some, toldIn, told-taken, pick-append, pointing-length}
 use Rattle.key_index.proofs.Pointing.{toldBy, own-told, tells-own, latest, pointing-told}
 use Rattle.first_keys.specs.Blocks.{firstAt, earlier, recordsOf, readIn, entered, pointedBack, filledFor}
 use Rattle.first_keys.proofs.Walk.{ahead-none, ahead-one}
-use Rattle.first_keys.proofs.Lines.{each-left, each-right, Sits, lines-sit, sits-stand, sits-ended, reads-ended, Before, lines-before, earlier-all, Low, lines-low}
+use Rattle.first_keys.proofs.Lines.{each-left, each-right, Sits, lines-sit, sits-stand, sits-ended, reads-ended, lines-before, earlier-all, Low, lines-low}
 use Rattle.first_keys.proofs.Entering.{pick-split, entered-length, entered-told}
 
 -- ---- after the earlier lines

@@ -1,11 +1,10 @@
 -- Where the lines of a text and their keys stand: the key of a line stands before every later line.
-use Prim.Native.Nat.{ℕ, zero, suc, _+_, _-_, _%_, _≤_, _<_}
+use Prim.Native.Nat.{ℕ, zero, suc, _+_, _%_, _≤_, _<_}
 use mathlib.Core.Path.{_≡_, refl, sym, ap, subst, _∙_}
-use mathlib.Core.Bool.{Bool, true, false, not, _&&_, cond, false≢true}
+use mathlib.Core.Bool.{Bool, true, false, cond, false≢true}
 use mathlib.Core.List.{List, [], _∷_, _++_}
-use mathlib.Core.Option.{Option, none, some}
 use native.Mathlib.Omega.{arith}
-use lib.ListN.{length, take, drop, getD, length-take}
+use lib.ListN.{length, drop, getD, length-take}
 use lib.Dec.{ltb}
 use borrow.Author.Tests.{lt-ltb, le-ltb, ltb-true, ltb-false}
 use Rattle.format.specs.Bytes.{none?}
@@ -27,7 +26,7 @@ use Rattle.key_index.proofs.Ahead.{ahead-stands}
 use Rattle.key_index.proofs.Looking.{value-place}
 use Rattle.key_index.proofs.LineKeys.{line-ended}
 use Rattle.first_keys.specs.Blocks.{firstAt, earlier, recordsOf, readIn}
-use Rattle.first_keys.proofs.Walk.{ahead-none, ahead-one, next-within, next-more}
+use Rattle.first_keys.proofs.Walk.{ahead-none, ahead-one, next-more}
 
 -- ---- each of a list
 

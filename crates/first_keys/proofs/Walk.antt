@@ -1,13 +1,13 @@
 -- The lines of a block, and the lines before it, one by one.
 use Prim.Native.Nat.{ℕ, zero, suc, _+_, _≤_, _<_}
-use mathlib.Core.Path.{_≡_, refl, sym, ap, _∙_}
+use mathlib.Core.Path.{_≡_, refl, ap, _∙_}
 use mathlib.Core.Bool.{Bool, true, false, cond}
 use mathlib.Core.List.{List, [], _∷_, _++_}
 use native.Mathlib.Omega.{arith}
 use lib.ListN.{length, take, drop, length-drop, drop-of-length-le}
 use lib.Dec.{ltb}
 use borrow.Author.Tests.{lt-ltb, le-ltb, ltb-true, ltb-false}
-use Rattle.format.specs.Lines.{Piece, linesFrom}
+use Rattle.format.specs.Lines.{linesFrom}
 use Rattle.format.specs.Records.{line}
 use Rattle.text.specs.First.{firstLine}
 use Rattle.text.proofs.Lines.{lines-none}
@@ -17,7 +17,7 @@ use Rattle.key_index.specs.Told.{afterMeeting, afterPointing}
 use Rattle.key_index.specs.Keyed.{Placed}
 use Rattle.key_index.proofs.Ahead.{first-ahead, ahead-stands}
 use Rattle.key_index.proofs.Keyed.{head-placed}
-use Rattle.first_keys.specs.Blocks.{firstAt, after, earlier, entered, pointedBack}
+use Rattle.first_keys.specs.Blocks.{firstAt, afterLines, earlier, entered, pointedBack}
 
 -- no line is left
 pub ahead-none : (t : List ℕ) (at : ℕ) → length t ≤ at → linesFrom at (drop at t) ≡ []
@@ -46,14 +46,14 @@ take-none zero = refl
 take-none (suc m) = refl
 
 module _ (t : List ℕ) (at : ℕ) where
-  pub after-end : (m : ℕ) → length t ≤ at → after m at t ≡ at
-  unfolding after
+  pub after-end : (m : ℕ) → length t ≤ at → afterLines m at t ≡ at
+  unfolding afterLines
   after-end zero h = refl
-  after-end (suc m) h = ap (λ b. cond b (after m (at + firstLine (drop at t) .next) t) at) (le-ltb at (length t) h)
+  after-end (suc m) h = ap (λ b. cond b (afterLines m (at + firstLine (drop at t) .next) t) at) (le-ltb at (length t) h)
 
-  pub after-on : (m k : ℕ) → m ≡ suc k → at < length t → after m at t ≡ after k (at + firstLine (drop at t) .next) t
-  unfolding after
-  after-on m k e h = ap (λ j. after j at t) e ∙ ap (λ b. cond b (after k (at + firstLine (drop at t) .next) t) at) (lt-ltb at (length t) h)
+  pub after-on : (m k : ℕ) → m ≡ suc k → at < length t → afterLines m at t ≡ afterLines k (at + firstLine (drop at t) .next) t
+  unfolding afterLines
+  after-on m k e h = ap (λ j. afterLines j at t) e ∙ ap (λ b. cond b (afterLines k (at + firstLine (drop at t) .next) t) at) (lt-ltb at (length t) h)
 
   module _ (strict : Bool) (slots : List ℕ) where
     pub entered-end : (m : ℕ) → length t ≤ at → entered strict t slots (take m (linesFrom at (drop at t))) ≡ slots
@@ -67,14 +67,14 @@ module _ (t : List ℕ) (at : ℕ) where
     entered-on m k e h = ap (λ j. entered strict t slots (take j (linesFrom at (drop at t)))) e ∙ ap (λ l. entered strict t slots (take (suc k) l)) (ahead-one t at h)
 
 -- the lines of the block, and those from the offset after it on
-pub block-split : (t : List ℕ) (m at : ℕ) → linesFrom at (drop at t) ≡ take m (linesFrom at (drop at t)) ++ linesFrom (after m at t) (drop (after m at t) t)
-unfolding after
+pub block-split : (t : List ℕ) (m at : ℕ) → linesFrom at (drop at t) ≡ take m (linesFrom at (drop at t)) ++ linesFrom (afterLines m at t) (drop (afterLines m at t) t)
+unfolding afterLines
 block-split t zero at = refl
 block-split t (suc m) at = go (ltb at (length t)) refl (block-split t m (at + firstLine (drop at t) .next))
   where
     go : (b : Bool) → ltb at (length t) ≡ b
-        → (let next : ℕ = at + firstLine (drop at t) .next in linesFrom next (drop next t) ≡ take m (linesFrom next (drop next t)) ++ linesFrom (after m next t) (drop (after m next t) t))
-        → let end : ℕ = cond b (after m (at + firstLine (drop at t) .next) t) at in
+        → (let next : ℕ = at + firstLine (drop at t) .next in linesFrom next (drop next t) ≡ take m (linesFrom next (drop next t)) ++ linesFrom (afterLines m next t) (drop (afterLines m next t) t))
+        → let end : ℕ = cond b (afterLines m (at + firstLine (drop at t) .next) t) at in
         linesFrom at (drop at t) ≡ take (suc m) (linesFrom at (drop at t)) ++ linesFrom end (drop end t)
     go true e ih = rw (ahead-one t at (ltb-true at (length t) e)) (ap (λ l. firstAt at t ∷ l) ih)
     go false e ih = rw (ahead-none t at (ltb-false at (length t) e)) refl

@@ -16,10 +16,10 @@ unfolding firstLine
 firstAt at t = record { at = at; bytes = take (firstLine (drop at t) .len) (drop at t) }
 
 -- the offset after so many lines, or the end of the text
-unfoldable pub after : ℕ → ℕ → List ℕ → ℕ
+unfoldable pub afterLines : ℕ → ℕ → List ℕ → ℕ
 unfolding firstLine
-after zero at t = at
-after (suc n) at t = cond (ltb at (length t)) (after n (at + firstLine (drop at t) .next) t) at
+afterLines zero at t = at
+afterLines (suc n) at t = cond (ltb at (length t)) (afterLines n (at + firstLine (drop at t) .next) t) at
 
 -- of some lines, in the order of the text, those that start before the offset `to`
 unfoldable pub earlier : ℕ → List Piece → List Piece

@@ -8,7 +8,7 @@ ghost use Rattle.format.specs.Lines.{linesFrom};
 ghost use Rattle.format.specs.Records.{line};
 ghost use Rattle.text.specs.First.{firstLine};
 ghost use Rattle.record.specs.Head.{headOf};
-ghost use Rattle.first_keys.specs.Blocks.{firstAt, after, earlier, entered, pointedBack, filledFor};
+ghost use Rattle.first_keys.specs.Blocks.{firstAt, afterLines, earlier, entered, pointedBack, filledFor};
 
 // A line's head, and the offset of the line after it.
 struct Parsed {
@@ -37,7 +37,7 @@ fn enter(text: &[u8], strict: bool, area: &mut [u32], at: usize, many: usize) ->
     requires { ⌜ length (now text) ≤ 16777216 ⌝ }
     requires { ⌜ 0 < length (now area) ⌝ }
     requires { ⌜ at ≤ length (now text) ⌝ }
-    ensures end { λ r. ⌜ r ≡ after many at (now (text .entry)) ⌝ }
+    ensures end { λ r. ⌜ r ≡ afterLines many at (now (text .entry)) ⌝ }
     ensures wrote { λ _. ⌜ now (area .exit) ≡ entered strict (now (text .entry)) (now (area .entry)) (take many (linesFrom at (drop at (now (text .entry))))) ⌝ }
 {
     let mut end = at;
@@ -77,7 +77,7 @@ pub fn fill(text: &[u8], strict: bool, area: &mut [u32], from: usize, at: usize)
     requires { ⌜ length (now text) ≤ 16777216 ⌝ }
     requires { ⌜ 0 < length (now area) ⌝ }
     requires { ⌜ at ≤ length (now text) ⌝ }
-    ensures end { λ r. ⌜ r ≡ after (length (now (area .entry)) / 4 * 3) at (now (text .entry)) ⌝ }
+    ensures end { λ r. ⌜ r ≡ afterLines (length (now (area .entry)) / 4 * 3) at (now (text .entry)) ⌝ }
     ensures wrote { λ _. ⌜ now (area .exit) ≡ filledFor strict (now (text .entry)) (length (now (area .entry))) from at ⌝ }
 {
     key_index::clear(area);

@@ -1,13 +1,13 @@
 -- A slot that tells a key is set to another offset of that key: it tells the key by this one from now on, and every other key is told as before.
-use Prim.Native.Nat.{ℕ, zero, suc, _+_, _-_, _/_, _%_, _≤_, _<_}
-use mathlib.Core.Path.{_≡_, refl, sym, ap, ap₂, subst, _∙_}
+use Prim.Native.Nat.{ℕ, zero, suc, _+_, _-_, _/_, _%_, _<_}
+use mathlib.Core.Path.{_≡_, refl, sym, ap, ap₂, _∙_}
 use mathlib.Core.Bool.{Bool, true, false, _&&_, cond, false≢true}
 use mathlib.Core.List.{List, [], _∷_}
 use native.Mathlib.Omega.{arith}
 use native.Mathlib.Nat.{mod-lt, mod-eq-of-lt, mod-add-mod}
 use lib.ListN.{length, take, drop, getD, set, length-set}
 use lib.Dec.{ltb, eqb}
-use borrow.Author.Tests.{eqb-true, eq-eqb, lt-ltb, ltb-true, ltb-false}
+use borrow.Author.Tests.{eqb-true, eq-eqb, lt-ltb}
 use Rattle.format.specs.Bytes.{same}
 use Rattle.format.specs.Lines.{Piece}
 use Rattle.format.specs.Records.{Record, header, reference, group, program, comment}
@@ -21,9 +21,9 @@ use Rattle.record.specs.Head.{recordHead, placeOf}
 use Rattle.key_index.specs.declared.Sought.{Sought}
 use Rattle.key_index.specs.declared.Sought.the-variants.{Known, Free, Full}
 use Rattle.key_index.specs.Word.{word}
-use Rattle.key_index.specs.Told.{mark, value, keyIn, tells, begins, looking, sought, isKnown, pointed, isOwn, soughtOf, offsetOf, afterPointing, isFirst}
+use Rattle.key_index.specs.Told.{mark, value, keyIn, tells, begins, looking, sought, isKnown, pointed, isOwn, soughtOf, offsetOf, afterPointing}
 use Rattle.key_index.specs.Keyed.{valuesOf, Ended}
-use Rattle.key_index.proofs.Looking.{sought-lt, mark-kind, known-seek, value-mark, value-tells}
+use Rattle.key_index.proofs.Looking.{sought-lt, mark-kind, known-seek, value-tells}
 use Rattle.key_index.proofs.Keyed.{value-some}
 
 -- ---- the slot at which looking for a key ends

@@ -66,6 +66,12 @@ isKnown (Known i) = true
 isKnown (Free i) = false
 isKnown Full = false
 
+-- the slots after that: a key that is new enters, where there is room
+unfoldable pub after : Bool → ℕ → List ℕ → Sought → List ℕ
+after room v slots (Known i) = slots
+after room v slots (Free i) = cond room (set slots i v) slots
+after room v slots Full = slots
+
 -- where a slot tells it, that slot keeps its mark and tells it by the offset `at`
 unfoldable pub pointed : ℕ → List ℕ → Sought → List ℕ
 unfolding value
@@ -78,12 +84,6 @@ unfoldable pub isOwn : ℕ → List ℕ → Sought → Bool
 isOwn at slots (Known i) = eqb (getD slots i 0 % 16777216) at
 isOwn at slots (Free i) = true
 isOwn at slots Full = true
-
--- the slots after that: a key that is new enters, where there is room
-unfoldable pub after : Bool → ℕ → List ℕ → Sought → List ℕ
-after room v slots (Known i) = slots
-after room v slots (Free i) = cond room (set slots i v) slots
-after room v slots Full = slots
 
 -- ---- the key of a head
 

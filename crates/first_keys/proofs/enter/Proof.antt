@@ -11,7 +11,7 @@ use Rattle.record.specs.Head.{headOf}
 use Rattle.key_index.specs.Told.{afterMeeting}
 use Rattle.key_index.specs.Keyed.{Placed}
 use Rattle.key_index.proofs.Keyed.{meeting-length}
-use Rattle.first_keys.specs.Blocks.{firstAt, after, entered}
+use Rattle.first_keys.specs.Blocks.{firstAt, afterLines, entered}
 use Rattle.first_keys.proofs.Walk.{after-end, after-on, entered-end, entered-on, placed-at, next-within}
 use Rattle.first_keys.proofs.enter.Statement.{statement}
 use Rattle.first_keys.proofs.enter.Tie as tie
@@ -22,7 +22,7 @@ use Rattle.key_index.proofs.meet.Reads as meet-reads
 
 abbrev Inv-loop : tie.InvT-loop
 Inv-loop text strict area₀ at many end₀ n₀ area end n =
-    (n ≤ many) × (end ≤ length text) × (length area ≡ length area₀) × (after many at text ≡ after (many - n) end text)
+    (n ≤ many) × (end ≤ length text) × (length area ≡ length area₀) × (afterLines many at text ≡ afterLines (many - n) end text)
     × (entered strict text area₀ (take many (linesFrom at (drop at text))) ≡ entered strict text area (take (many - n) (linesFrom end (drop end text))))
 
 abbrev μ-loop : tie.MeasureT-loop
@@ -36,7 +36,7 @@ loop-holds : tie.Need-loop-holds Inv-loop μ-loop
 loop-holds c =
     let a = c .before .before .args in
     let z : a .many ≡ a .many - 0 = omega arith in
-    (omega arith, c .before .before .pre .1 .1, refl, ap (λ m. after m (a .at) (a .text .now)) z, ap (λ m. entered (a .strict) (a .text .now) (a .area .now) (take m (linesFrom (a .at) (drop (a .at) (a .text .now))))) z)
+    (omega arith, c .before .before .pre .1 .1, refl, ap (λ m. afterLines m (a .at) (a .text .now)) z, ap (λ m. entered (a .strict) (a .text .now) (a .area .now) (take m (linesFrom (a .at) (drop (a .at) (a .text .now))))) z)
 
 same-length : tie.Need-same-length Inv-loop μ-loop
 same-length c = c .before .before .loop .inv .2
@@ -83,7 +83,7 @@ loop-again c =
       omega arith,
       omega (arith, sym next, next-within t at h),
       ap length (m .meet .ensures .1) ∙ meeting-length true t (l .loop .area) x ∙ v .2,
-      v .3 ∙ after-on t at (a .many - l .loop .n) (a .many - (l .loop .n + 1)) e h ∙ ap (λ k. after (a .many - (l .loop .n + 1)) k t) next,
+      v .3 ∙ after-on t at (a .many - l .loop .n) (a .many - (l .loop .n + 1)) e h ∙ ap (λ k. afterLines (a .many - (l .loop .n + 1)) k t) next,
       v .4 ∙ entered-on t at (a .strict) (l .loop .area) (a .many - l .loop .n) (a .many - (l .loop .n + 1)) e h
           ∙ ap₂ (λ s k. entered (a .strict) t s (take (a .many - (l .loop .n + 1)) (linesFrom k (drop k t)))) area next,
     )
@@ -92,14 +92,13 @@ same-length-2 : tie.Need-same-length-2 Inv-loop μ-loop
 same-length-2 c = c .before .loop .inv .2
 
 returns-2 : tie.Need-returns-2 Inv-loop μ-loop
-unfolding after entered
+unfolding afterLines entered
 returns-2 c =
     let l = c .before in
     let a = l .before .before .before .args in
     let v = l .loop .inv in
-    let z : a .many - l .loop .n ≡ 0 = omega (arith, c .loop-test .left) in
-    (
-      sym (v .3 ∙ ap (λ m. after m (l .loop .end) (a .text .now)) z),
+    let z : a .many - l .loop .n ≡ 0 = omega (arith, c .loop-test .left) in (
+      sym (v .3 ∙ ap (λ m. afterLines m (l .loop .end) (a .text .now)) z),
       sym (v .4 ∙ ap (λ m. entered (a .strict) (a .text .now) (l .loop .area) (take m (linesFrom (l .loop .end) (drop (l .loop .end) (a .text .now))))) z),
     )
 
