@@ -1,0 +1,4 @@
+pub mod Split
+pub mod Turn
+pub mod Begun
+pub mod Steps
