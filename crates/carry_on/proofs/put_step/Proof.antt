@@ -1,34 +1,43 @@
+-- `carry_on::put_step` meets its contract: a record is written, or a row.
+use Prim.Native.Nat.{ℕ, _<_}
+use mathlib.Core.Path.{_≡_, sym, _∙_}
+use native.Mathlib.Omega.{arith}
 use borrow.Author.Needs.{needs}
+use Rattle.carry_on.proofs.Steps.{places-kept, places-skipped, out-kept, out-skipped, table-kept, table-skipped}
 use Rattle.carry_on.proofs.put_step.Statement.{statement}
 use Rattle.carry_on.proofs.put_step.Tie as tie
-use Rattle.carry_on.proofs.put_step.Reads as reads
-use Rattle.carry_on.proofs.put_step.Lts as lts
-use Rattle.early_lines.proofs.put_row.Reads as put-row-reads
-use Rattle.tidy_text.proofs.put_line.Reads as put-line-reads
 
--- src/lib.rt:118:9
 put-row-requires : tie.Need-put-row-requires
-put-row-requires c κs = ?
+put-row-requires c κs = let s = c .before .before .before .before .before in let z : 0 < s .args .n = omega (arith, c .before .if1 .taken) in s .pre .1 .1 .1 z
 
--- src/lib.rt:119:9
 same-length : tie.Need-same-length
 same-length c = search needs
 
--- src/lib.rt:119:9
 returns : tie.Need-returns
-returns c = ?
+returns c =
+    let a = c .before .before .before .before .before .before .before .before .args in
+    let z = c .before .before .before .before .if1 .taken in (
+      sym (places-skipped (a .n) _ _ (a .places) z),
+      (sym (out-skipped (a .n) _ _ (a .places) (a .out .now) z), c .before .before .put-row .ensures ∙ sym (table-skipped (a .n) (a .row) (a .number) (a .table .now) z)),
+    )
 
--- src/lib.rt:121:5
 put-line-requires : tie.Need-put-line-requires
-put-line-requires c κs = ?
+put-line-requires c κs =
+    let s = c .before .before .before .before .before in
+    let z : s .args .n ≡ 0 = omega (arith, c .before .if1 .left) in
+    (s .pre .0 z, (s .pre .1 .0, s .pre .1 .1 .0 z))
 
--- src/lib.rt:98:1
 same-length-2 : tie.Need-same-length-2
 same-length-2 c = search needs
 
--- src/lib.rt:98:1
 returns-2 : tie.Need-returns-2
-returns-2 c = ?
+returns-2 c =
+    let a = c .before .before .before .before .before .before .before .before .args in
+    let z : a .n ≡ 0 = omega (arith, c .before .before .before .before .if1 .left) in
+    let w = c .before .before .put-line .ensures in (
+      w .0 ∙ sym (places-kept (a .n) _ _ (a .places) z),
+      (w .1 ∙ sym (out-kept (a .n) _ _ (a .places) (a .out .now) z), sym (table-kept (a .n) (a .row) (a .number) (a .table .now) z)),
+    )
 
 pub put-step-spec : {M : Type 1} → statement M
 put-step-spec =
