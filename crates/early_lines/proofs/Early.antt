@@ -10,7 +10,7 @@ use borrow.Author.Tests.{ltb-true, ltb-false}
 use Rattle.format.specs.Bytes.{any}
 use Rattle.format.specs.Lines.{Piece}
 use Rattle.format.specs.Records as records
-use Rattle.format.specs.Records.{Record, Line, refused, read}
+use Rattle.format.specs.Records.{Line, refused, read}
 use Rattle.format.specs.Reading.{announced, ofKind, admitted}
 use Rattle.text.specs.Stands.{Stands}
 use Rattle.record.specs.Head.{headOf}

@@ -2,7 +2,7 @@
 use Prim.Native.Nat.{ℕ, zero, suc, _+_, _≤_, _<_}
 use mathlib.Core.Path.{_≡_, refl, sym, ap, _∙_}
 use mathlib.Core.Bool.{Bool, true, false, cond}
-use mathlib.Core.List.{List, [], _∷_}
+use mathlib.Core.List.{List, [], _∷_, _++_}
 use native.Mathlib.Omega.{arith}
 use lib.ListN.{length, take, drop, length-drop, drop-of-length-le}
 use lib.Dec.{ltb}
@@ -14,7 +14,9 @@ use Rattle.text.proofs.Lines.{lines-none}
 use Rattle.text.proofs.First.{first-within, first-some}
 use Rattle.record.specs.Head.{headOf}
 use Rattle.key_index.specs.Told.{afterMeeting, afterPointing}
-use Rattle.key_index.proofs.Ahead.{first-ahead}
+use Rattle.key_index.specs.Keyed.{Placed}
+use Rattle.key_index.proofs.Ahead.{first-ahead, ahead-stands}
+use Rattle.key_index.proofs.Keyed.{head-placed}
 use Rattle.first_keys.specs.Blocks.{firstAt, after, earlier, entered, pointedBack}
 
 -- no line is left
@@ -25,6 +27,11 @@ ahead-none t at h = ap (linesFrom at) (drop-of-length-le t h) ∙ lines-none at
 pub ahead-one : (t : List ℕ) (at : ℕ) → at < length t → linesFrom at (drop at t) ≡ firstAt at t ∷ linesFrom (at + firstLine (drop at t) .next) (drop (at + firstLine (drop at t) .next) t)
 unfolding firstAt
 ahead-one t at h = first-ahead t at h
+
+-- its key stands in the text
+pub placed-at : (strict : Bool) (t : List ℕ) (at : ℕ) → length t ≤ 16777216 → at < length t → Placed (length t) (headOf (line strict (firstAt at t)))
+unfolding firstAt
+placed-at strict t at small h = head-placed strict t at small (ahead-stands t at h)
 
 pub next-within : (t : List ℕ) (at : ℕ) → at < length t → at + firstLine (drop at t) .next ≤ length t
 next-within t at h = omega (arith, first-within (drop at t), length-drop at t, h)
@@ -58,6 +65,19 @@ module _ (t : List ℕ) (at : ℕ) where
         ≡ entered strict t (afterMeeting true t slots (headOf (line strict (firstAt at t)))) (take k (linesFrom (at + firstLine (drop at t) .next) (drop (at + firstLine (drop at t) .next) t)))
     unfolding entered
     entered-on m k e h = ap (λ j. entered strict t slots (take j (linesFrom at (drop at t)))) e ∙ ap (λ l. entered strict t slots (take (suc k) l)) (ahead-one t at h)
+
+-- the lines of the block, and those from the offset after it on
+pub block-split : (t : List ℕ) (m at : ℕ) → linesFrom at (drop at t) ≡ take m (linesFrom at (drop at t)) ++ linesFrom (after m at t) (drop (after m at t) t)
+unfolding after
+block-split t zero at = refl
+block-split t (suc m) at = go (ltb at (length t)) refl (block-split t m (at + firstLine (drop at t) .next))
+  where
+    go : (b : Bool) → ltb at (length t) ≡ b
+        → (let next : ℕ = at + firstLine (drop at t) .next in linesFrom next (drop next t) ≡ take m (linesFrom next (drop next t)) ++ linesFrom (after m next t) (drop (after m next t) t))
+        → let end : ℕ = cond b (after m (at + firstLine (drop at t) .next) t) at in
+        linesFrom at (drop at t) ≡ take (suc m) (linesFrom at (drop at t)) ++ linesFrom end (drop end t)
+    go true e ih = rw (ahead-one t at (ltb-true at (length t) e)) (ap (λ l. firstAt at t ∷ l) ih)
+    go false e ih = rw (ahead-none t at (ltb-false at (length t) e)) refl
 
 -- ---- the lines before it
 

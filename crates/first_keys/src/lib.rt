@@ -8,7 +8,6 @@ ghost use Rattle.format.specs.Lines.{linesFrom};
 ghost use Rattle.format.specs.Records.{line};
 ghost use Rattle.text.specs.First.{firstLine};
 ghost use Rattle.record.specs.Head.{headOf};
-ghost use Rattle.key_index.specs.Keyed.{Placed};
 ghost use Rattle.first_keys.specs.Blocks.{firstAt, after, earlier, entered, pointedBack, filledFor};
 
 // A line's head, and the offset of the line after it.
@@ -23,7 +22,6 @@ fn parse_at(text: &[u8], strict: bool, at: usize) -> Parsed
     requires { ⌜ at < length (now text) ⌝ }
     ensures head { λ r. ⌜ r .head ≡ headOf (line strict (firstAt at (now (text .entry)))) ⌝ }
     ensures next { λ r. ⌜ r .next ≡ at + firstLine (drop at (now (text .entry))) .next ⌝ }
-    ensures placed { λ r. ⌜ Placed (length (now (text .entry))) (r .head) ⌝ }
 {
     let cut = text::first_line(&text[at..]);
     let end = at + cut.len;

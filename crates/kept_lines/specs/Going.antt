@@ -1,11 +1,11 @@
 -- What holds where judging stands, among the lines from the offset `from` on.
-use Prim.Native.Nat.{ℕ, _+_, _*_, _/_, _≤_, _<_}
+use Prim.Native.Nat.{ℕ, _*_, _/_, _≤_, _<_}
 use mathlib.Core.Path.{_≡_}
 use mathlib.Core.Bool.{Bool}
 use mathlib.Core.List.{List, [], _∷_, _++_}
 use lib.ListN.{length, take, drop}
 use Rattle.format.specs.Lines.{Piece, linesFrom}
-use Rattle.format.specs.Records.{Record, Line}
+use Rattle.format.specs.Records.{Line}
 use Rattle.format.specs.Reading.{ofKind}
 use Rattle.format.specs.Slots.{Held}
 use Rattle.text.specs.Stands.{Each}
@@ -14,7 +14,7 @@ use Rattle.carried.specs.Carrying.{keptOf}
 use Rattle.carried.specs.Judged.{judgedFrom}
 use Rattle.key_index.specs.Told.{start}
 use Rattle.key_index.specs.Keyed.{keysOf, Ended}
-use Rattle.first_keys.specs.Blocks.{earlier, filledFor}
+use Rattle.first_keys.specs.Blocks.{filledFor}
 use Rattle.kept_lines.specs.declared.Cursor.{Cursor}
 
 -- the lines from an offset on, each judged
@@ -33,18 +33,19 @@ unfoldable pub refusalAt : ℕ → List Line → ℕ
 unfolding refusalFirst
 refusalAt n ls = refusalFirst (drop n ls)
 
--- the block: the area is filled for the lines from the offset `begin` on, of which `done` are judged
+-- the block: the area is filled for the lines from the offset `begin` on, of which `done` are judged, after the lines `old`
 pub record Block (strict : Bool) (t : List ℕ) (from : ℕ) (area : List ℕ) (passed : List Piece) (at left : ℕ) : Type 0 where
   pub begin : ℕ
+  pub old : List Piece
   pub done : List Piece
-  pub front : passed ≡ earlier begin (linesFrom from (drop from t)) ++ done
+  pub split : linesFrom from (drop from t) ≡ old ++ linesFrom begin (drop begin t)
+  pub front : passed ≡ old ++ done
   pub lines : take (length area / 4 * 3) (linesFrom begin (drop begin t)) ≡ done ++ take left (linesFrom at (drop at t))
   pub filled : area ≡ filledFor strict t (length area) from begin
 
 pub record Going (strict : Bool) (t : List ℕ) (from : ℕ) (area ids : List ℕ) (c : Cursor) : Type 0 where
   pub passed : List Piece
   pub split : linesFrom from (drop from t) ≡ passed ++ linesFrom (c .at) (drop (c .at) t)
-  pub below : Each (λ p. p .at < c .at) passed
   pub inside : c .at ≤ length t
   pub slow : c .line ≤ c .at
   pub number : c .line ≡ length passed

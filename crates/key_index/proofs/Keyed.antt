@@ -31,7 +31,7 @@ use Rattle.key_index.proofs.Looking.{mark-same, sought-known, sought-en
 
 -- ---- which records have a key
 
-value-some : (k : ℕ) (id : List ℕ) (at : ℕ) → 0 < k → value (mark k id) at ≡ 0 → ⊥
+pub value-some : (k : ℕ) (id : List ℕ) (at : ℕ) → 0 < k → value (mark k id) at ≡ 0 → ⊥
 unfolding value mark
 value-some k id at h e = omega (arith, h, e)
 
@@ -85,7 +85,7 @@ ended-snoc t (q ∷ rs) r a e = (a .0, ended-snoc t rs r (a .1) e)
 
 -- ---- a key that one of some values tells
 
-pick-append : (hit : ℕ → Bool) (vs ws : List ℕ) → ltb 0 (pick hit (vs ++ ws)) ≡ (ltb 0 (pick hit vs) || ltb 0 (pick hit ws))
+pub pick-append : (hit : ℕ → Bool) (vs ws : List ℕ) → ltb 0 (pick hit (vs ++ ws)) ≡ (ltb 0 (pick hit vs) || ltb 0 (pick hit ws))
 unfolding pick
 pick-append hit [] ws = refl
 pick-append hit (zero ∷ vs) ws = pick-append hit vs ws
@@ -171,6 +171,22 @@ pointed-length at slots Full = refl
 pub pointing-length : (t slots : List ℕ) (x : Head) → length (afterPointing t slots x) ≡ length slots
 unfolding afterPointing
 pointing-length t slots x = pointed-length (offsetOf x) slots (soughtOf t slots x)
+
+-- one that is met does not enter
+after-known : (room : Bool) (v : ℕ) (slots : List ℕ) (s : Sought) → isKnown s ≡ true → after room v slots s ≡ slots
+unfolding after isKnown
+after-known room v slots (Known i) e = refl
+after-known room v slots (Free i) e = absurd (false≢true e)
+after-known room v slots Full e = refl
+
+pub meeting-met : (room : Bool) (t slots : List ℕ) (x : Head) → isMet t slots x ≡ true → afterMeeting room t slots x ≡ slots
+unfolding isMet afterMeeting
+meeting-met room t slots (head.Refused n) e = refl
+meeting-met room t slots (head.Header v n) e = refl
+meeting-met room t slots (head.ReferenceSequence q l n) e = after-known room (value (mark 2 (take (q .len) (drop (q .at) t))) (q .at)) slots (sought t slots 2 (take (q .len) (drop (q .at) t))) e
+meeting-met room t slots (head.ReadGroup q n) e = after-known room (value (mark 3 (take (q .len) (drop (q .at) t))) (q .at)) slots (sought t slots 3 (take (q .len) (drop (q .at) t))) e
+meeting-met room t slots (head.Program q n) e = after-known room (value (mark 4 (take (q .len) (drop (q .at) t))) (q .at)) slots (sought t slots 4 (take (q .len) (drop (q .at) t))) e
+meeting-met room t slots (head.Comment q) e = refl
 
 -- without room nothing changes
 after-none : (v : ℕ) (slots : List ℕ) (s : Sought) → after false v slots s ≡ slots

@@ -4,3 +4,4 @@ pub mod Looking
 pub mod Ahead
 pub mod LineKeys
 pub mod Keyed
+pub mod Pointing

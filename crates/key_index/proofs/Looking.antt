@@ -94,6 +94,10 @@ pub free-below : (t slots : List ℕ) (k : ℕ) (id : List ℕ) (i : ℕ) → 0 
 unfolding Below
 free-below t slots k id i p e = subst (Below (length slots)) e (sought-below t slots k id p)
 
+pub sought-lt : (t slots : List ℕ) (k : ℕ) (id : List ℕ) (i : ℕ) → 0 < length slots → sought t slots k id ≡ Known i → i < length slots
+unfolding Below
+sought-lt t slots k id i p e = subst (Below (length slots)) e (sought-below t slots k id p)
+
 pub known-below : (t slots : List ℕ) (x : Head) (i : ℕ) → 0 < length slots → soughtOf t slots x ≡ Known i → i < length slots
 unfolding Below soughtOf
 known-below t slots x i p e = subst (Below (length slots)) e (go x)
@@ -108,7 +112,7 @@ known-below t slots x i p e = subst (Below (length slots)) e (go x)
 
 -- ---- what it finds
 
-known-seek : (hit : ℕ → Bool) (n at : ℕ) (ss : List ℕ) → isKnown (looking hit n at ss) ≡ ltb 0 (seek hit ss)
+pub known-seek : (hit : ℕ → Bool) (n at : ℕ) (ss : List ℕ) → isKnown (looking hit n at ss) ≡ ltb 0 (seek hit ss)
 unfolding isKnown looking seek
 known-seek hit n at [] = refl
 known-seek hit n at (zero ∷ ss) = refl
@@ -162,7 +166,7 @@ mark-same k j id b = go (same id b) refl
 -- ---- a key among the values that entered
 
 module _ (t slots vs : List ℕ) (p : 0 < length slots) (g : Held (start t (length slots)) slots vs) (k : ℕ) (id : List ℕ) where
-  begins-lt : begins (length slots) k id < length slots
+  pub begins-lt : begins (length slots) k id < length slots
   unfolding begins
   begins-lt = mod-lt _ p
 
@@ -173,7 +177,7 @@ module _ (t slots vs : List ℕ) (p : 0 < length slots) (g : Held (start t (leng
       ap₂ (λ j w. begins (length slots) j w) (marked-kind v ∙ ap (λ n. n / 32) (sym m) ∙ mark-kind k id)
       (sym (same-equal id (keyIn t v) (and-right (eqb (mark k id) (v / 16777216)) (same id (keyIn t v)) e)))
 
-  found : seek (tells t k id) (around (begins (length slots) k id) slots) ≡ pick (tells t k id) vs
+  pub found : seek (tells t k id) (around (begins (length slots) k id) slots) ≡ pick (tells t k id) vs
   found = g .finds (tells t k id) (begins (length slots) k id) begins-lt starts
 
   -- it is known exactly where one of them tells it

@@ -1,19 +1,18 @@
 -- `early_lines::find_first` meets its contract: what is asked of the whole text is asked of the lines still to come.
 use Prim.Native.Nat.{ℕ, _+_, _-_, _≤_}
-use mathlib.Core.Path.{_≡_, refl, sym, ap, ap₂, _∙_}
+use mathlib.Core.Path.{_≡_, refl, sym, ap, _∙_}
 use mathlib.Core.Bool.{Bool, false}
 use mathlib.Core.List.{List, [], _∷_}
 use native.Mathlib.Omega.{arith}
 use borrow.Author.Needs.{needs}
-use lib.ListN.{length, take, drop, length-take}
-use Rattle.format.specs.Lines.{Piece, lines, linesFrom}
+use lib.ListN.{length}
+use Rattle.format.specs.Lines.{lines}
 use Rattle.format.specs.Records.{line}
 use Rattle.format.specs.Reading.{announced, admitted}
-use Rattle.record.specs.Head.{headOf}
 use Rattle.admission.specs.Admission.{refusalOf, barring}
 use Rattle.repeat_rule.specs.Rule.{strictAfter}
-use Rattle.early_lines.specs.Early.{Early, earlyFrom, earlyOf}
-use Rattle.early_lines.proofs.Ahead.{lent, pieceAt, ahead, Ahead, ahead-turn, ahead-none}
+use Rattle.early_lines.specs.Early.{earlyFrom, earlyOf}
+use Rattle.early_lines.proofs.Ahead.{pieceAt, ahead, Ahead, ahead-turn, ahead-none}
 use Rattle.early_lines.proofs.Early.{barring-first, early-kept, early-skipped}
 use Rattle.early_lines.proofs.find_first.Statement.{statement}
 use Rattle.early_lines.proofs.find_first.Tie as tie

@@ -1,21 +1,20 @@
 -- `early_lines::put_early` meets its contract: what is written, and the rows of the lines still to come, is all.
-use Prim.Native.Nat.{ℕ, suc, _+_, _*_, _-_, _≤_, _<_}
-use mathlib.Core.Path.{_≡_, refl, sym, ap, ap₂, _∙_}
-use mathlib.Core.Bool.{Bool, false}
+use Prim.Native.Nat.{ℕ, _+_, _*_, _-_, _≤_, _<_}
+use mathlib.Core.Path.{_≡_, refl, sym, ap, _∙_}
+use mathlib.Core.Bool.{false}
 use mathlib.Core.List.{List, [], _∷_}
 use native.Mathlib.Omega.{arith}
 use borrow.Author.Needs.{needs}
-use lib.ListN.{length, length-take}
-use Rattle.format.specs.Lines.{Piece, lines, linesFrom}
+use lib.ListN.{length}
+use Rattle.format.specs.Lines.{lines}
 use Rattle.format.specs.Records.{line}
 use Rattle.format.specs.Reading.{announced, admitted}
-use Rattle.record.specs.Head.{headOf}
 use Rattle.admission.specs.Admission.{refusalOf, barring}
 use Rattle.repeat_rule.specs.Rule.{strictAfter}
 use Rattle.text.specs.Over.{over}
 use Rattle.text.proofs.Over.{over-none, over-length, over-over}
 use Rattle.early_lines.specs.Early.{earlyFrom, earlyOf, rowsFrom}
-use Rattle.early_lines.proofs.Ahead.{lent, pieceAt, ahead, Ahead, ahead-turn, ahead-none}
+use Rattle.early_lines.proofs.Ahead.{pieceAt, ahead, Ahead, ahead-turn}
 use Rattle.early_lines.proofs.Early.{barring-first, early-some, early-ahead}
 use Rattle.early_lines.proofs.put_early.Statement.{statement}
 use Rattle.early_lines.proofs.put_early.Tie as tie

@@ -1,6 +1,5 @@
 -- `early_lines::put_row` meets its contract: two stores in a row.
-use Prim.Native.Nat.{_+_, _*_}
-use mathlib.Core.Path.{refl, sym, ap, _∙_}
+use Prim.Native.Nat.{_*_}
 use mathlib.Core.List.{[], _∷_}
 use native.Mathlib.Omega.{arith}
 use native.Mathlib.Numerals.{add-one}

@@ -1,6 +1,6 @@
 -- `first_keys::enter` meets its contract: what is left of the block's lines is to enter still.
 use Prim.Native.Nat.{ℕ, suc, _+_, _-_, _≤_, _<_}
-use mathlib.Core.Path.{_≡_, refl, sym, ap, ap₂, _∙_}
+use mathlib.Core.Path.{_≡_, refl, sym, ap, ap₂, subst, _∙_}
 use mathlib.Core.Bool.{true}
 use native.Mathlib.Omega.{arith}
 use lib.ListN.{length, take, drop}
@@ -9,9 +9,10 @@ use Rattle.format.specs.Records.{line}
 use Rattle.text.specs.First.{firstLine}
 use Rattle.record.specs.Head.{headOf}
 use Rattle.key_index.specs.Told.{afterMeeting}
+use Rattle.key_index.specs.Keyed.{Placed}
 use Rattle.key_index.proofs.Keyed.{meeting-length}
 use Rattle.first_keys.specs.Blocks.{firstAt, after, entered}
-use Rattle.first_keys.proofs.Walk.{after-end, after-on, entered-end, entered-on, next-within}
+use Rattle.first_keys.proofs.Walk.{after-end, after-on, entered-end, entered-on, placed-at, next-within}
 use Rattle.first_keys.proofs.enter.Statement.{statement}
 use Rattle.first_keys.proofs.enter.Tie as tie
 use Rattle.first_keys.proofs.enter.Reads as reads
@@ -26,6 +27,10 @@ Inv-loop text strict area₀ at many end₀ n₀ area end n =
 
 abbrev μ-loop : tie.MeasureT-loop
 μ-loop text strict area₀ at many end₀ n₀ area end n = many - n
+
+-- there is a line ahead
+ahead : (c : tie.Else1 Inv-loop μ-loop) → c .before .before .loop .end < length (c .before .before .before .before .before .args .text .now)
+ahead c = omega (arith, c .before .before .loop .inv .1, c .if1 .left)
 
 loop-holds : tie.Need-loop-holds Inv-loop μ-loop
 loop-holds c =
@@ -45,16 +50,15 @@ returns c =
     (sym (v .3 ∙ after-end (a .text .now) (l .loop .end) (a .many - l .loop .n) h), sym (v .4 ∙ entered-end (a .text .now) (l .loop .end) (a .strict) (l .loop .area) (a .many - l .loop .n) h))
 
 parse-at-requires : tie.Need-parse-at-requires Inv-loop μ-loop
-parse-at-requires c κs =
-    let l = c .before .before in
-    (l .before .before .before .pre .0, omega (arith, l .loop .inv .1, c .if1 .left))
+parse-at-requires c κs = (c .before .before .before .before .before .pre .0, ahead c)
 
 meet-requires : tie.Need-meet-requires Inv-loop μ-loop
 meet-requires c κs =
     let p = c .before in
     let l = p .before .before .before in
     let s = l .before .before .before in
-    (s .pre .0, (omega (arith, l .loop .inv .2, s .pre .1 .0), p .parse-at .ensures .1 .1))
+    let t = s .args .text .now in
+    (s .pre .0, (omega (arith, l .loop .inv .2, s .pre .1 .0), subst (Placed (length t)) (sym (p .parse-at .ensures .0)) (placed-at (s .args .strict) t (l .loop .end) (s .pre .0) (ahead (p .before)))))
 
 add-n : tie.Need-add-n Inv-loop μ-loop
 add-n c = omega arith
@@ -71,10 +75,10 @@ loop-again c =
     let t = a .text .now in
     let v = l .loop .inv in
     let at : ℕ = l .loop .end in
-    let h : at < length t = omega (arith, v .1, p .before .if1 .left) in
+    let h : at < length t = ahead (p .before) in
     let e : a .many - l .loop .n ≡ suc (a .many - (l .loop .n + 1)) = omega arith in
     let x = p .parse-at .result .head in
-    let next : at + firstLine (drop at t) .next ≡ p .parse-at .result .next = sym (p .parse-at .ensures .1 .0) in
+    let next : at + firstLine (drop at t) .next ≡ p .parse-at .result .next = sym (p .parse-at .ensures .1) in
     let area : afterMeeting true t (l .loop .area) (headOf (line (a .strict) (firstAt at t))) ≡ m .meet .last .1 .0 = ap (afterMeeting true t (l .loop .area)) (sym (p .parse-at .ensures .0)) ∙ sym (m .meet .ensures .1) in (
       omega arith,
       omega (arith, sym next, next-within t at h),

@@ -1,6 +1,6 @@
 -- `first_keys::parse_at` meets its contract: the first line of what is ahead.
 use Prim.Native.Nat.{ℕ, _+_, _-_, _≤_, _<_}
-use mathlib.Core.Path.{_≡_, sym, ap, subst, _∙_}
+use mathlib.Core.Path.{_≡_, ap, _∙_}
 use mathlib.Core.List.{List}
 use native.Mathlib.Omega.{arith}
 use lib.ListN.{length, take, drop, length-take, length-drop}
@@ -9,9 +9,6 @@ use Rattle.text.specs.First.{firstLine}
 use Rattle.text.proofs.First.{first-le, first-within}
 use Rattle.field.proofs.Before.{rest}
 use Rattle.record.specs.Head.{headOf}
-use Rattle.key_index.specs.Keyed.{Placed}
-use Rattle.key_index.proofs.Ahead.{ahead-stands}
-use Rattle.key_index.proofs.Keyed.{head-placed}
 use Rattle.first_keys.specs.Blocks.{firstAt}
 use borrow.Author.Needs.{needs}
 use Rattle.first_keys.proofs.parse_at.Statement.{statement}
@@ -78,18 +75,11 @@ add-t8 : tie.Need-add-t8
 add-t8 c = omega (arith, inside (c .before .before .before .before))
 
 returns : tie.Need-returns
-unfolding firstAt
 returns c =
     let p = c .before in
     let q = p .before .before .before in
     let s = q .before .before .before in
-    let a = s .args in (
-      head-is p,
-      (
-        ap (λ x. a .at + x .next) (cut q),
-        subst (Placed (length (a .text .now))) (sym (head-is p)) (head-placed (a .strict) (a .text .now) (a .at) (s .pre .0) (ahead-stands (a .text .now) (a .at) (s .pre .1))),
-      ),
-    )
+    (head-is p, ap (λ x. s .args .at + x .next) (cut q))
 
 pub parse-at-spec : {M : Type 1} → statement M
 parse-at-spec =

@@ -1,6 +1,6 @@
 -- `first_keys::point_back` meets its contract: what is left of the earlier lines is to be pointed to still.
 use Prim.Native.Nat.{ℕ, _+_, _-_, _≤_, _<_}
-use mathlib.Core.Path.{_≡_, refl, sym, ap, ap₂, _∙_}
+use mathlib.Core.Path.{_≡_, refl, sym, ap, ap₂, subst, _∙_}
 use native.Mathlib.Omega.{arith}
 use lib.ListN.{length, drop}
 use Rattle.format.specs.Lines.{linesFrom}
@@ -8,9 +8,10 @@ use Rattle.format.specs.Records.{line}
 use Rattle.text.specs.First.{firstLine}
 use Rattle.record.specs.Head.{headOf}
 use Rattle.key_index.specs.Told.{afterPointing}
+use Rattle.key_index.specs.Keyed.{Placed}
 use Rattle.key_index.proofs.Keyed.{pointing-length}
 use Rattle.first_keys.specs.Blocks.{firstAt, earlier, pointedBack}
-use Rattle.first_keys.proofs.Walk.{pointed-end, pointed-on, next-more}
+use Rattle.first_keys.proofs.Walk.{pointed-end, pointed-on, placed-at, next-more}
 use Rattle.first_keys.proofs.point_back.Statement.{statement}
 use Rattle.first_keys.proofs.point_back.Tie as tie
 use Rattle.first_keys.proofs.point_back.Reads as reads
@@ -40,14 +41,15 @@ point-requires c κs =
     let p = c .before in
     let l = p .before .before in
     let s = l .before .before .before in
-    (s .pre .0, (omega (arith, l .loop .inv .0, s .pre .1 .0), p .parse-at .ensures .1 .1))
+    let t = s .args .text .now in
+    (s .pre .0, (omega (arith, l .loop .inv .0, s .pre .1 .0), subst (Placed (length t)) (sym (p .parse-at .ensures .0)) (placed-at (s .args .strict) t (l .loop .at) (s .pre .0) (ahead (p .before)))))
 
 loop-less : tie.Need-loop-less Inv-loop μ-loop
 loop-less c =
     let p = c .before .before .before .before in
     let l = p .before .before in
     let t = l .before .before .before .args .text .now in
-    omega (arith, ahead (p .before), p .parse-at .ensures .1 .0, next-more t (l .loop .at) (ahead (p .before)))
+    omega (arith, ahead (p .before), p .parse-at .ensures .1, next-more t (l .loop .at) (ahead (p .before)))
 
 loop-again : tie.Need-loop-again Inv-loop μ-loop
 loop-again c =
@@ -58,7 +60,7 @@ loop-again c =
     let t = a .text .now in
     let v = l .loop .inv in
     let at : ℕ = l .loop .at in
-    let next : at + firstLine (drop at t) .next ≡ p .parse-at .result .next = sym (p .parse-at .ensures .1 .0) in
+    let next : at + firstLine (drop at t) .next ≡ p .parse-at .result .next = sym (p .parse-at .ensures .1) in
     let area : afterPointing t (l .loop .area) (headOf (line (a .strict) (firstAt at t))) ≡ m .point .last .1 .0 = ap (afterPointing t (l .loop .area)) (sym (p .parse-at .ensures .0)) ∙ sym (m .point .ensures) in (
       ap length (m .point .ensures) ∙ pointing-length t (l .loop .area) (p .parse-at .result .head) ∙ v .0,
       v .1 ∙ pointed-on (a .to) t at (a .strict) (l .loop .area) (p .before .loop-test .taken) (ahead (p .before)) ∙ ap₂ (λ s k. pointedBack (a .strict) t s (earlier (a .to) (linesFrom k (drop k t)))) area next,
