@@ -34,5 +34,4 @@ begun t b area ids f s =
       some = s .some;
       room = s .room;
       block = λ z. absurd (omega (arith, z));
-      stub = ?;
     }

@@ -1,4 +1,6 @@
-pub mod Split
 pub mod Turn
+pub mod Split
 pub mod Begun
 pub mod Steps
+pub mod Told
+pub mod Bound

@@ -1,20 +1,21 @@
 -- Carrying on is skipping the lines before the first that is kept, and then judging under one rule.
-use Prim.Native.Nat.{ℕ, _+_, _≤_}
+use Prim.Native.Nat.{ℕ, _+_, _*_, _≤_}
 use mathlib.Core.Path.{_≡_, refl, sym, ap, _∙_}
 use mathlib.Core.Bool.{Bool, false}
 use mathlib.Core.List.{List, [], _∷_, _++_, map}
 use mathlib.Core.Option.{Option, none, some}
 use native.Mathlib.Omega.{arith}
-use lib.ListN.{length}
-use Rattle.format.specs.Lines.{Piece, lines}
+use lib.ListN.{length, drop, length-append, length-drop}
+use Rattle.format.specs.Lines.{Piece, lines, linesFrom}
 use Rattle.format.specs.Fields.{later}
 use Rattle.format.specs.Records.{Record, Line, refused, read}
 use Rattle.format.specs.Reading.{announced, isStrict, admitted}
 use Rattle.format.specs.Tidy.{tidy}
 use Rattle.format.specs.declared.Version.{Version}
 use Rattle.repeat_rule.specs.Rule.{strictAfter}
+use Rattle.accepted.proofs.Onward.{lines-count}
 use Rattle.roundtrip.proofs.Total.{gathered-length}
-use Rattle.carried.specs.Carrying.{keptOf, ruling, carriedFrom, carriedLines, skips, rows, unwritableLine}
+use Rattle.carried.specs.Carrying.{keptOf, ruling, carriedFrom, carriedLines, Skip, skips, rows, unwritableLine}
 use Rattle.carried.specs.Judged.{judgedFrom}
 use Rattle.carried.proofs.Judged.{steady}
 use Rattle.carried.proofs.Kept.{carried-gathered}
@@ -22,6 +23,7 @@ use Rattle.early_lines.specs.Early.{Early, withLine, earlyFrom, earlyOf, rowsFr
 use Rattle.early_lines.specs.declared.Begin.{Begin}
 use Rattle.kept_lines.specs.Going.{judgedLines}
 use Rattle.carry_on.specs.First.{First, keptFrom, rowsOf}
+use Rattle.carry_on.proofs.Turn.{judged-length, skips-kept}
 
 -- the rule by the version, a line further
 rule-later : (v a : Option Version) → strictAfter (isStrict v) a ≡ isStrict (later v a)
@@ -57,9 +59,6 @@ unfolding keptOf
 kept-after [] ls = refl
 kept-after (n ∷ ns) ls = kept-after ns ls
 
-next-line : (l n : ℕ) → l + 1 + n ≡ l + (1 + n)
-next-line l n = omega arith
-
 names-after : (l : ℕ) (ns : List ℕ) (ls : List Line) → unwritableLine l (map refused ns ++ ls) ≡ unwritableLine (l + length ns) ls
 unfolding unwritableLine
 names-after l [] ls = ap (λ k. unwritableLine k ls) (let z : l ≡ l + 0 = omega arith in z)
@@ -75,6 +74,11 @@ rows-early : (l : ℕ) (ns : List ℕ) → length (rowsFrom l ns) ≡ length ns 
 unfolding rowsFrom
 rows-early l [] = refl
 rows-early l (n ∷ ns) = omega (arith, rows-early (l + 1) ns)
+
+pub rows-length : (ss : List Skip) → length (rows ss) ≡ length ss + length ss
+unfolding rows
+rows-length [] = refl
+rows-length (s ∷ ss) = omega (arith, rows-length ss)
 
 -- ---- by where the first line that is kept stands
 
@@ -107,3 +111,27 @@ module _ (t : List ℕ) (b : Begin) (f : First t b) where
   -- a byte longer than the text at most
   pub first-small : length (tidy (keptFrom t b)) ≤ length t + 1
   first-small = rw (← first-kept) (gathered-length t (keptOf (carriedLines t)) (carried-gathered t))
+
+  -- two numbers for each line that is skipped
+  pub first-count : length (rows (skips 0 (carriedLines t))) ≡ (b .line + length (skips (b .line) (judgedLines (b .strict) t (b .at)))) * 2
+  unfolding rowsOf
+  first-count =
+      omega (
+        arith,
+        ap length first-rows,
+        length-append (rowsFrom 0 (earlyOf t .refusals)) (rowsOf t b),
+        early-rows,
+        rows-length (skips (b .line) (judgedLines (b .strict) t (b .at))),
+      )
+
+  pub skips-few : length (skips (b .line) (judgedLines (b .strict) t (b .at))) ≤ length t
+  unfolding judgedLines
+  skips-few =
+      let ps = linesFrom (b .at) (drop (b .at) t) in
+      omega (
+        arith,
+        skips-kept (b .line) (judgedLines (b .strict) t (b .at)),
+        judged-length (b .strict) [] ps,
+        lines-count (b .at) (drop (b .at) t),
+        length-drop (b .at) t,
+      )

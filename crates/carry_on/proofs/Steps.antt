@@ -11,6 +11,7 @@ use Rattle.format.specs.Records.{Record, Line, refused, read, line}
 use Rattle.format.specs.Tidy.{tidy}
 use Rattle.format.specs.declared.Kind.{Kind}
 use Rattle.text.specs.Over.{over}
+use Rattle.text.proofs.Over.{over-over}
 use Rattle.accepted.specs.Read.{isRead}
 use Rattle.accepted.proofs.Bools.{never}
 use Rattle.heads.specs.Found.{kindBy}
@@ -20,12 +21,15 @@ use Rattle.per_kind.specs.declared.PerKind.{PerKind}
 use Rattle.tidy_text.specs.Accepted.{onto}
 use Rattle.tidy_text.specs.Kinds.{kindText}
 use Rattle.tidy_text.specs.Sizes.{grownBy}
+use Rattle.tidy_text.specs.Placed.{placed, parts, Apart}
 use Rattle.tidy_text.specs.declared.Grown.the-variants as grown
 use Rattle.tidy_text.proofs.OfKind.{only, line-kind}
 use Rattle.tidy_text.proofs.Total.{size}
 use Rattle.tidy_text.proofs.Sizes.{size-turn, own-size, size-le}
 use Rattle.tidy_text.proofs.Names.{cond-is, grew-bad, grew-is}
-use Rattle.carried.specs.Carrying.{keptOf, unwritableLine}
+use Rattle.tidy_text.proofs.Placed.{Split}
+use Rattle.tidy_text.proofs.Parts.{split-turn}
+use Rattle.carried.specs.Carrying.{keptOf, skips, rows, unwritableLine}
 use Rattle.kept_lines.specs.Going.{judgedLines}
 use Rattle.kept_lines.specs.declared.Cursor.{Cursor}
 use Rattle.carry_on.specs.Steps.{grownAt, placesAt, outAt, tableAt}
@@ -95,6 +99,21 @@ unfolding unwritableLine lineWritable
 line-names k (refused n) ls = refl
 line-names k (read r) ls = refl
 
+read-unskipped : (k : ℕ) (l : Line) (ls : List Line) → isRead l ≡ true → skips k (l ∷ ls) ≡ skips (k + 1) ls
+unfolding skips isRead
+read-unskipped k (refused n) ls h = absurd (never cc)
+read-unskipped k (read r) ls h = refl
+
+one-kept : (l : Line) → isRead l ≡ true → length (keptOf (l ∷ [])) ≡ 1
+unfolding keptOf isRead
+one-kept (refused n) h = absurd (never cc)
+one-kept (read r) h = refl
+
+-- how many rows a line has
+unfoldable pub skipped : ℕ → ℕ
+skipped zero = 0
+skipped (suc n) = 1
+
 -- ---- a turn
 
 module _ (strict : Bool) (t : List ℕ) (from : ℕ) (c : Cursor) (end : ℕ) where
@@ -163,3 +182,55 @@ module _ (strict : Bool) (t : List ℕ) (from : ℕ) (c : Cursor) (end : ℕ) wh
       → get kindAt s + size kindAt (keptOf left) ≡ size kindAt rs → length (tidy rs) ≤ 16777217 → get kindAt s + length (lineText lineAt) ≤ 18446744073709551615
   size-fits n u z s rs e h =
       omega (arith, e, h, ap (size kindAt) (records-kept n u z), own-size kindAt lineAt (keptOf rest) (goes n u z kindAt), size-le kindAt rs)
+
+  -- its record is written at the place of its kind, or nothing is
+  pub out-more : (n : ℕ) → Turn strict t from c end n → (out : List ℕ) (m : ℕ) (p : PerKind) → m ≤ length out → Apart (parts p (keptOf left)) m
+      → Apart (parts (placesAt n kindAt lineAt p) (keptOf rest)) m
+      × (placed (outAt n kindAt lineAt p out) (parts (placesAt n kindAt lineAt p) (keptOf rest)) ≡ placed out (parts p (keptOf left)))
+  unfolding placesAt outAt
+  out-more zero u out m p h a =
+      let e = records-kept 0 u refl in
+      let s = split-turn kindAt out m p lineAt (keptOf rest) (goes 0 u refl) h (subst (λ rs. Apart (parts p rs) m) e a) in
+      (s .apart, sym (ap (λ rs. placed out (parts p rs)) e ∙ s .same))
+  out-more (suc n) u out m p h a =
+      let e = records-skipped (suc n) u (omega arith) in
+      (subst (λ rs. Apart (parts p rs) m) e a, ap (λ rs. placed out (parts p rs)) (sym e))
+
+  pub out-fits : (n : ℕ) → Turn strict t from c end n → n ≡ 0 → (out : List ℕ) (m : ℕ) (p : PerKind) → m ≤ length out → Apart (parts p (keptOf left)) m
+      → get kindAt p + length (lineText lineAt) ≤ m
+  out-fits n u z out m p h a = split-turn kindAt out m p lineAt (keptOf rest) (goes n u z) h (subst (λ rs. Apart (parts p rs) m) (records-kept n u z) a) .room
+
+  -- its row is written, or none is
+  rows-kept : (n : ℕ) → Turn strict t from c end n → n ≡ 0 → (k : ℕ) → rows (skips k left) ≡ rows (skips (k + 1) rest)
+  rows-kept n u z k = ap (λ ls. rows (skips k ls)) (left-kept n u z) ∙ ap rows (read-unskipped k lineAt rest (turn-read n u z))
+
+  rows-skipped : (n : ℕ) → Turn strict t from c end n → 0 < n → (k : ℕ) → rows (skips k left) ≡ k ∷ n ∷ rows (skips (k + 1) rest)
+  unfolding rows skips
+  rows-skipped n u z k = ap (λ ls. rows (skips k ls)) (left-skipped n u z)
+
+  pub row-fits : (n : ℕ) → Turn strict t from c end n → 0 < n → (k row : ℕ) (table : List ℕ) → row * 2 + length (rows (skips k left)) ≤ length table → row * 2 + 2 ≤ length table
+  row-fits n u z k row table h = omega (arith, h, ap length (rows-skipped n u z k))
+
+  -- the rows to come stand behind it
+  pub table-more : (n : ℕ) → Turn strict t from c end n → (k row : ℕ) (table : List ℕ) → row * 2 + length (rows (skips k left)) ≤ length table
+      → (row + skipped n) * 2 + length (rows (skips (k + 1) rest)) ≤ length table
+  unfolding skipped
+  table-more zero u k row table h = omega (arith, h, ap length (rows-kept 0 u refl k))
+  table-more (suc n) u k row table h = omega (arith, h, ap length (rows-skipped (suc n) u (omega arith) k))
+
+  pub table-same : (n : ℕ) → Turn strict t from c end n → (k row : ℕ) (table : List ℕ) → row * 2 + length (rows (skips k left)) ≤ length table
+      → over (tableAt n row k table) ((row + skipped n) * 2) (rows (skips (k + 1) rest)) ≡ over table (row * 2) (rows (skips k left))
+  unfolding tableAt skipped
+  table-same zero u k row table h =
+      ap (λ r. over table r (rows (skips (k + 1) rest))) (let z : (row + 0) * 2 ≡ row * 2 = omega arith in z) ∙ ap (over table (row * 2)) (sym (rows-kept 0 u refl k))
+  table-same (suc n) u k row table h =
+      let e = rows-skipped (suc n) u (omega arith) k in
+      ap (λ r. over (over table (row * 2) (k ∷ suc n ∷ [])) r (rows (skips (k + 1) rest))) (let z : (row + 1) * 2 ≡ row * 2 + 2 = omega arith in z)
+      ∙ over-over table (row * 2) (k ∷ suc n ∷ []) (rows (skips (k + 1) rest)) (omega (arith, h, ap length e))
+      ∙ ap (over table (row * 2)) (sym e)
+
+  -- how many are kept of it
+  pub kept-one : (n : ℕ) → (u : Turn strict t from c end n) → length (keptOf (u .judged ∷ [])) + skipped n ≡ 1
+  unfolding skipped keptOf
+  kept-one zero u = ap (λ k. k + 0) (one-kept (u .judged) (u .kept refl .1))
+  kept-one (suc n) u = ap (λ l. length (keptOf (l ∷ [])) + 1) (u .skipped (omega arith))

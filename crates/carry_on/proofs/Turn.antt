@@ -21,7 +21,7 @@ use Rattle.early_lines.proofs.Ahead.{ahead, pieceAt, Ahead, ahead-turn, ahead-n
 use Rattle.kept_lines.specs.Going.{Going, judgedLines, refusalAt, refusalFirst}
 use Rattle.kept_lines.specs.declared.Cursor.{Cursor}
 
-judged-length : (strict : Bool) (before : List Record) (ps : List Piece) → length (judgedFrom strict before ps) ≡ length ps
+pub judged-length : (strict : Bool) (before : List Record) (ps : List Piece) → length (judgedFrom strict before ps) ≡ length ps
 unfolding judgedFrom
 judged-length strict before [] = refl
 judged-length strict before (p ∷ ps) = ap suc (judged-length strict (before ++ keptOf (admitted strict before p ∷ [])) ps)

@@ -48,12 +48,19 @@ turned : (c : tie.After-next-line Inv-loop μ-loop)
 turned c =
     let l = c .before .before .before .before .before .loop in
     let a = c .before .before .before .before .before .before .before .before .before .before .args in
-    turn (a .b .strict) (a .text .now) (a .b .at) (l .area) (l .ids) (l .c) (l .inv .0) (c .before .before .before .loop-test .taken) (c .next-line .result .end) (c .next-line .result .refusal)
+    turn (a .b .strict) (a .text .now) (a .b .at) (l .area) (l .ids) (l .c) (l .inv .0) (c .before .before .before .if1 .taken) (c .next-line .result .end) (c .next-line .result .refusal)
     (c .next-line .ensures .0) (c .next-line .ensures .1 .0)
 
 -- line numbers are small
-small : (l : tie.At-loop Inv-loop μ-loop) → (l .loop .c .line ≤ l .loop .c .at) × (l .loop .c .at ≤ length (l .before .before .before .before .before .args .text .now))
-small l = (l .loop .inv .0 .slow, l .loop .inv .0 .inside)
+small : (c : tie.At-loop Inv-loop μ-loop) → (let s = c .before .before .before .before .before in (c .loop .c .kept ≤ c .loop .c .line) × (c .loop .c .line ≤ 16777216) × (s .args .b .line ≤ 16777216))
+small c =
+    let s = c .before .before .before .before .before in
+    let a = s .args in
+    let l = c .loop in (
+      kept-le (a .b .strict) (a .text .now) (a .b .at) (l .area) (l .ids) (l .c) (l .inv .0),
+      omega (arith, l .inv .0 .slow, l .inv .0 .inside, s .pre .0),
+      omega (arith, s .pre .1 .0 .slow, s .pre .1 .0 .inside, s .pre .0),
+    )
 
 new-requires : tie.Need-new-requires Inv-loop μ-loop
 new-requires c κs = tt
@@ -71,7 +78,7 @@ loop-holds c =
     )
 
 next-line-requires : tie.Need-next-line-requires Inv-loop μ-loop
-next-line-requires c κs = (c .before .before .before .before .before .before .before .before .before .pre .0, (c .before .before .before .before .loop .inv .0, c .before .before .loop-test .taken))
+next-line-requires c κs = (c .before .before .before .before .before .before .before .before .before .pre .0, (c .before .before .before .before .loop .inv .0, c .before .before .if1 .taken))
 
 sub-with-step : tie.Need-sub-with-step Inv-loop μ-loop
 sub-with-step c = turned (c .before .before .before .before) .start
@@ -105,10 +112,10 @@ enum-told : tie.Need-enum-told Inv-loop μ-loop
 enum-told c = search needs
 
 cast-t21 : tie.Need-cast-t21 Inv-loop μ-loop
-cast-t21 c = omega (arith, small (c .before .before .before .before .before .before .before .before .before .before .before .before .before .before), c .before .before .before .before .before .before .before .before .before .before .before .before .before .before .before .before .before .before .before .pre .0)
+cast-t21 c = omega (arith, small (c .before .before .before .before .before .before .before .before .before .before .before .before .before .before))
 
 add-t22 : tie.Need-add-t22 Inv-loop μ-loop
-add-t22 c = omega (arith, small (c .before .before .before .before .before .before .before .before .before .before .before .before .before .before .before), c .before .before .before .before .before .before .before .before .before .before .before .before .before .before .before .before .before .before .before .before .pre .0, c .before .before .before .before .before .before .before .before .before .before .before .before .before .before .before .before .before .before .before .before .pre .1 .0 .slow, c .before .before .before .before .before .before .before .before .before .before .before .before .before .before .before .before .before .before .before .before .pre .1 .0 .inside)
+add-t22 c = omega (arith, small (c .before .before .before .before .before .before .before .before .before .before .before .before .before .before .before))
 
 same-length : tie.Need-same-length Inv-loop μ-loop
 same-length c = c .before .before .before .before .before .before .before .before .before .before .next-line .ensures .1 .1 .1 .1 .1 .0 ∙ c .before .before .before .before .before .before .before .before .before .before .before .before .before .before .before .loop .inv .3
@@ -128,7 +135,7 @@ returns c =
     )
 
 loop-less : tie.Need-loop-less Inv-loop μ-loop
-loop-less c = omega (arith, c .before .before .before .before .before .before .before .before .before .before .before .before .before .loop-test .taken, turned (c .before .before .before .before .before .before .before .before .before .before) .onward, c .before .before .before .before .before .before .before .before .before .before .next-line .ensures .1 .1 .0)
+loop-less c = omega (arith, c .before .before .before .before .before .before .before .before .before .before .before .before .before .if1 .taken, turned (c .before .before .before .before .before .before .before .before .before .before) .onward, c .before .before .before .before .before .before .before .before .before .before .next-line .ensures .1 .1 .0)
 
 loop-again : tie.Need-loop-again Inv-loop μ-loop
 loop-again c =
@@ -152,10 +159,7 @@ loop-again c =
     )
 
 sub-t24 : tie.Need-sub-t24 Inv-loop μ-loop
-sub-t24 c =
-    let a = c .before .before .before .before .before .before .before .before .args in
-    let l = c .before .before .before .loop in
-    kept-le (a .b .strict) (a .text .now) (a .b .at) (l .area) (l .ids) (l .c) (l .inv .0)
+sub-t24 c = small (c .before .before .before) .0
 
 same-length-3 : tie.Need-same-length-3 Inv-loop μ-loop
 same-length-3 c = c .before .before .before .loop .inv .3
@@ -169,7 +173,7 @@ returns-2 c =
     let a = c .before .before .before .before .before .before .before .before .args in
     let l = c .before .before .before .loop in
     let rs = keptFrom (a .text .now) (a .b) in
-    let left = c .before .loop-test .left in
+    let left = c .before .if1 .left in
     let e = none-left (a .b .strict) (a .text .now) (a .b .at) (l .area) (l .ids) (l .c) (l .inv .0) left in
     let all : l .sizes ≡ sizesOf rs = each-get (l .sizes) (λ k. size k rs) (λ k. omega (arith, l .inv .2 k, ap (λ ls. size k (keptOf ls)) e, ap length (size-none k))) in
     let count = all-count (a .b .strict) (a .text .now) (a .b .at) (l .area) (l .ids) (l .c) (l .inv .0) left (a .b .line) in (
