@@ -53,6 +53,15 @@ rows-few t h =
       lines-count 0 t,
     )
 
+-- what is answered
+unfoldable answered : Answer (List ℕ × List ℕ) → List ℕ × List ℕ
+answered (no n l) = ([], [])
+answered (yes a) = a
+
+same-answers : (zs ws xs ys : List ℕ) → _≡_ {A = Answer (List ℕ × List ℕ)} (yes (zs, ws)) (yes (xs, ys)) → (zs ≡ xs) × (ws ≡ ys)
+unfolding answered
+same-answers zs ws xs ys e = (ap (λ a. answered a .0) e, ap (λ a. answered a .1) e)
+
 pub carried-few : (t : List ℕ) (room table : ℕ) (xs ys : List ℕ) → carrying t room table ≡ yes (xs, ys) → (length xs ≤ 16777216) × (length ys / 2 ≤ 16777216)
 unfolding carrying longest then fitting
 carried-few t room table xs ys is =
@@ -68,8 +77,7 @@ carried-few t room table xs ys is =
     go false q (no n l) w d e = absurd (never cc)
     go false q (yes zs) w true e = absurd (never cc)
     go false q (yes zs) w false e =
-        let first : zs ≡ xs = cc in
-        let second : found ≡ ys = cc in (
-          subst (λ s. length s ≤ 16777216) first (written-few room (unwritableLine 0 (carriedLines t)) (tidy (keptOf (carriedLines t))) zs w),
-          subst (λ s. length s / 2 ≤ 16777216) second (rows-few t (ltb-false 16777216 (length t) q)),
+        let same = same-answers zs found xs ys e in (
+          subst (λ s. length s ≤ 16777216) (same .0) (written-few room (unwritableLine 0 (carriedLines t)) (tidy (keptOf (carriedLines t))) zs w),
+          subst (λ s. length s / 2 ≤ 16777216) (same .1) (rows-few t (ltb-false 16777216 (length t) q)),
         )
