@@ -1,9 +1,8 @@
 -- Before the first turn nothing is judged.
-use Prim.Native.Nat.{ℕ, _≤_}
-use mathlib.Core.Path.{_≡_, refl, sym, subst}
+use Prim.Native.Nat.{ℕ}
+use mathlib.Core.Path.{refl, sym, subst}
 use mathlib.Core.List.{List, []}
 use native.Mathlib.Omega.{arith}
-use lib.ListN.{length}
 use Rattle.format.specs.Reading.{ofKind}
 use Rattle.format.specs.Slots.{Held}
 use Rattle.text.specs.Stands.{Each}
@@ -22,7 +21,6 @@ begun t b area ids f s =
     record {
       passed = [];
       split = refl;
-      below = tt;
       inside = f .inside;
       slow = omega arith;
       number = refl;

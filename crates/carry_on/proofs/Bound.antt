@@ -1,6 +1,6 @@
 -- What is written and what is skipped is small: both counts are at most 16,777,216.
 use Prim.Native.Nat.{ℕ, suc, _+_, _/_, _≤_}
-use mathlib.Core.Path.{_≡_, refl, sym, ap, subst, _∙_}
+use mathlib.Core.Path.{_≡_, refl, ap, subst}
 use mathlib.Core.Bool.{Bool, true, false, cond}
 use mathlib.Core.List.{List, [], _∷_, _++_}
 use mathlib.Core.Option.{Option, none, some}
@@ -9,7 +9,7 @@ use lib.ListN.{length}
 use lib.Dec.{ltb}
 use borrow.Author.Tests.{ltb-false}
 use Rattle.format.specs.Lines.{Piece, lines}
-use Rattle.format.specs.Records.{Record, Line}
+use Rattle.format.specs.Records.{Record}
 use Rattle.format.specs.Reading.{isStrict, admitted, longest}
 use Rattle.format.specs.Tidy.{tidy}
 use Rattle.format.specs.Calls.{Answer, no, yes, then, fitting, writing}

@@ -1,14 +1,13 @@
 -- Carrying on is skipping the lines before the first that is kept, and then judging under one rule.
 use Prim.Native.Nat.{ℕ, _+_, _*_, _≤_}
 use mathlib.Core.Path.{_≡_, refl, sym, ap, _∙_}
-use mathlib.Core.Bool.{Bool, false}
 use mathlib.Core.List.{List, [], _∷_, _++_, map}
 use mathlib.Core.Option.{Option, none, some}
 use native.Mathlib.Omega.{arith}
 use lib.ListN.{length, drop, length-append, length-drop}
 use Rattle.format.specs.Lines.{Piece, lines, linesFrom}
 use Rattle.format.specs.Fields.{later}
-use Rattle.format.specs.Records.{Record, Line, refused, read}
+use Rattle.format.specs.Records.{Line, refused, read}
 use Rattle.format.specs.Reading.{announced, isStrict, admitted}
 use Rattle.format.specs.Tidy.{tidy}
 use Rattle.format.specs.declared.Version.{Version}

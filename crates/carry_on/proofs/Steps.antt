@@ -2,11 +2,10 @@
 use Prim.Native.Nat.{ℕ, zero, suc, _+_, _*_, _≤_, _<_}
 use mathlib.Core.Path.{_≡_, refl, sym, ap, subst, _∙_}
 use mathlib.Core.Bool.{Bool, true, false, cond}
-use mathlib.Core.List.{List, [], _∷_, _++_}
+use mathlib.Core.List.{List, [], _∷_}
 use mathlib.Core.Option.{some}
 use native.Mathlib.Omega.{arith}
 use lib.ListN.{length, drop, getD}
-use Rattle.format.specs.Lines.{Piece}
 use Rattle.format.specs.Records.{Record, Line, refused, read, line}
 use Rattle.format.specs.Tidy.{tidy}
 use Rattle.format.specs.declared.Kind.{Kind}
@@ -27,7 +26,6 @@ use Rattle.tidy_text.proofs.OfKind.{only, line-kind}
 use Rattle.tidy_text.proofs.Total.{size}
 use Rattle.tidy_text.proofs.Sizes.{size-turn, own-size, size-le}
 use Rattle.tidy_text.proofs.Names.{cond-is, grew-bad, grew-is}
-use Rattle.tidy_text.proofs.Placed.{Split}
 use Rattle.tidy_text.proofs.Parts.{split-turn}
 use Rattle.carried.specs.Carrying.{keptOf, skips, rows, unwritableLine}
 use Rattle.kept_lines.specs.Going.{judgedLines}

@@ -1,12 +1,12 @@
 -- A turn: the next line, judged after the lines that were kept before it.
-use Prim.Native.Nat.{ℕ, zero, suc, _+_, _-_, _≤_, _<_}
-use mathlib.Core.Path.{_≡_, refl, sym, ap, subst, _∙_}
+use Prim.Native.Nat.{ℕ, suc, _+_, _-_, _≤_, _<_}
+use mathlib.Core.Path.{_≡_, refl, sym, ap, _∙_}
 use mathlib.Core.Bool.{Bool, true}
 use mathlib.Core.List.{List, [], _∷_, _++_, append-nil}
 use native.Mathlib.Omega.{arith}
 use lib.ListN.{length, take, drop, length-append, length-drop}
 use lib.Seq.{take-at, drop-at, drop-drop, take-add, take-all}
-use Rattle.format.specs.Lines.{Piece, linesFrom}
+use Rattle.format.specs.Lines.{Piece}
 use Rattle.format.specs.Records.{Record, Line, refused, read, line}
 use Rattle.format.specs.Reading.{admitted}
 use Rattle.text.specs.First.{firstLine}

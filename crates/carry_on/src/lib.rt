@@ -15,7 +15,7 @@ ghost use Rattle.accepted.specs.Read.{isRead};
 ghost use Rattle.text.specs.Over.{over};
 ghost use Rattle.heads.specs.Found.{kindBy};
 ghost use Rattle.writer.specs.Line.{lineText};
-ghost use Rattle.per_kind.specs.Numbers.{get, plus, starts};
+ghost use Rattle.per_kind.specs.Numbers.{get, starts};
 ghost use Rattle.tidy_text.specs.Sizes.{sizesOf};
 ghost use Rattle.tidy_text.specs.Placed.{placed, parts, Apart};
 ghost use Rattle.parser.specs.Answers.{outputOf};

@@ -1,7 +1,5 @@
 -- `carry_on::carry_indexed` meets its contract: the first line that is kept is found, the lines from there on are measured, then written.
-use Prim.Native.Nat.{ℕ, _≤_}
-use mathlib.Core.Path.{_≡_, sym, ap, _∙_}
-use mathlib.Core.Option.{none}
+use mathlib.Core.Path.{sym, _∙_}
 use native.Mathlib.Omega.{arith}
 use lib.ListN.{length}
 use Rattle.format.specs.Tidy.{tidy}

@@ -2,7 +2,6 @@
 use Prim.Native.Nat.{ℕ, _+_, _-_, _≤_}
 use mathlib.Core.Path.{_≡_, refl, sym, ap, ap₂, _∙_}
 use mathlib.Core.List.{List}
-use mathlib.Core.Option.{none, some}
 use native.Mathlib.Omega.{arith}
 use lib.ListN.{length, drop}
 use Rattle.format.specs.Records.{Line}
@@ -15,13 +14,13 @@ use Rattle.tidy_text.proofs.Sizes.{get-none, size-none, each-get}
 use Rattle.carried.specs.Carrying.{keptOf, unwritableLine, skips}
 use Rattle.early_lines.specs.declared.Begin.{Begin}
 use Rattle.kept_lines.specs.Going.{Going, judgedLines}
-use Rattle.carry_on.specs.First.{First, Fresh, keptFrom}
+use Rattle.carry_on.specs.First.{keptFrom}
 use Rattle.carry_on.specs.Answers.{measuredOf}
 use Rattle.carry_on.specs.declared.Measured.the-variants as measured
 use Rattle.carry_on.proofs.Split.{first-small}
 use Rattle.carry_on.proofs.Begun.{begun}
 use Rattle.carry_on.proofs.Turn.{Turn, turn, kept-le, none-left, all-count}
-use Rattle.carry_on.proofs.Steps.{lineAt, kindAt, turn-read, names-bad, names-more, sizes-more, size-fits}
+use Rattle.carry_on.proofs.Steps.{kindAt, turn-read, names-bad, names-more, sizes-more, size-fits}
 use borrow.Author.Needs.{needs}
 use Rattle.carry_on.proofs.measure_lines.Statement.{statement}
 use Rattle.carry_on.proofs.measure_lines.Tie as tie
@@ -150,9 +149,9 @@ loop-again c =
     let e = sym (c .before .before .before .before .with-step .ensures) ∙ c .before .before .grown .given .1 in (
       w .ensures .1 .1 .1 .1 .0,
       l .inv .1
-      ∙ names-more (b .strict) (a .text .now) (b .at) (l .c) (w .result .end) (w .result .refusal) u (l .sizes) s e (b .line + l .c .line)
-      ∙ ap (λ k. unwritableLine k (drop (l .c .line + 1) ls)) (let z : b .line + l .c .line + 1 ≡ b .line + (l .c .line + 1) = omega arith in z)
-      ∙ ap (λ k. unwritableLine (b .line + k) (drop k ls)) (sym on),
+          ∙ names-more (b .strict) (a .text .now) (b .at) (l .c) (w .result .end) (w .result .refusal) u (l .sizes) s e (b .line + l .c .line)
+          ∙ ap (λ k. unwritableLine k (drop (l .c .line + 1) ls)) (let z : b .line + l .c .line + 1 ≡ b .line + (l .c .line + 1) = omega arith in z)
+          ∙ ap (λ k. unwritableLine (b .line + k) (drop k ls)) (sym on),
       (λ k. ap (λ m. get k s + size k (keptOf (drop m ls))) on ∙ sizes-more (b .strict) (a .text .now) (b .at) (l .c) (w .result .end) (w .result .refusal) u (l .sizes) s e k ∙ l .inv .2 k),
       w .ensures .1 .1 .1 .1 .1 .0 ∙ l .inv .3,
       w .ensures .1 .1 .1 .1 .1 .1 ∙ l .inv .4,
@@ -178,7 +177,7 @@ returns-2 c =
     let all : l .sizes ≡ sizesOf rs = each-get (l .sizes) (λ k. size k rs) (λ k. omega (arith, l .inv .2 k, ap (λ ls. size k (keptOf ls)) e, ap length (size-none k))) in
     let count = all-count (a .b .strict) (a .text .now) (a .b .at) (l .area) (l .ids) (l .c) (l .inv .0) left (a .b .line) in (
       ap₂ measured.Is all count
-      ∙ sym (ap (λ o. measuredOf o (sizesOf rs) (length (skips (a .b .line) (lines (a .text .now) (a .b))))) (l .inv .1 ∙ ap (unwritableLine (a .b .line + l .c .line)) e)),
+          ∙ sym (ap (λ o. measuredOf o (sizesOf rs) (length (skips (a .b .line) (lines (a .text .now) (a .b))))) (l .inv .1 ∙ ap (unwritableLine (a .b .line + l .c .line)) e)),
       l .inv .3,
     )
 

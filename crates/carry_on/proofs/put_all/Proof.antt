@@ -1,17 +1,17 @@
 -- `carry_on::put_all` meets its contract: the rows before the first line that is kept, then all from there on.
-use Prim.Native.Nat.{ℕ, _+_, _*_, _≤_}
+use Prim.Native.Nat.{_+_, _*_, _≤_}
 use mathlib.Core.Path.{_≡_, sym, ap, subst, _∙_}
 use native.Mathlib.Omega.{arith}
-use lib.ListN.{length, length-append}
+use lib.ListN.{length}
 use Rattle.format.specs.Tidy.{tidy}
 use Rattle.format.proofs.Slots.{held-none}
 use Rattle.text.specs.Over.{over}
-use Rattle.text.proofs.Over.{over-over, over-length}
+use Rattle.text.proofs.Over.{over-over}
 use Rattle.key_index.specs.Told.{start}
 use Rattle.tidy_text.specs.Placed.{placed, parts, Apart}
 use Rattle.tidy_text.proofs.Parts.{starts-apart, starts-placed, around-none}
 use Rattle.early_lines.specs.Early.{earlyOf, rowsFrom}
-use Rattle.carry_on.specs.First.{First, keptFrom, rowsOf}
+use Rattle.carry_on.specs.First.{keptFrom, rowsOf}
 use Rattle.carry_on.proofs.Split.{first-kept, first-rows, early-rows}
 use borrow.Author.Needs.{needs}
 use Rattle.carry_on.proofs.put_all.Statement.{statement}
@@ -65,15 +65,15 @@ returns c =
     let early = rowsFrom 0 (earlyOf t .refusals) in
     let room : length (tidy rs) + 0 ≤ length (a .out .now) = omega (arith, p .1 .0) in (
       w .0
-      ∙ ap (λ q. placed (a .out .now) (parts q rs)) (p .0)
-      ∙ starts-placed (a .out .now) 0 rs room
-      ∙ around-none (a .out .now) rs (p .1 .0)
-      ∙ ap (λ rs. over (a .out .now) 0 (tidy rs)) (sym (first-kept t (a .b) f)),
+          ∙ ap (λ q. placed (a .out .now) (parts q rs)) (p .0)
+          ∙ starts-placed (a .out .now) 0 rs room
+          ∙ around-none (a .out .now) rs (p .1 .0)
+          ∙ ap (λ rs. over (a .out .now) 0 (tidy rs)) (sym (first-kept t (a .b) f)),
       w .1
-      ∙ ap (λ o. over o (a .b .line * 2) (rowsOf t (a .b))) (c .before .before .before .before .before .before .before .before .before .before .before .before .before .before .put-early .ensures)
-      ∙ ap (λ k. over (over (a .table .now) 0 early) k (rowsOf t (a .b))) (let z : a .b .line * 2 ≡ 0 + length early = omega (arith, early-rows t (a .b) f) in z)
-      ∙ over-over (a .table .now) 0 early (rowsOf t (a .b)) (omega (arith, p .1 .1, early-rows t (a .b) f))
-      ∙ ap (over (a .table .now) 0) (sym (first-rows t (a .b) f)),
+          ∙ ap (λ o. over o (a .b .line * 2) (rowsOf t (a .b))) (c .before .before .before .before .before .before .before .before .before .before .before .before .before .before .put-early .ensures)
+          ∙ ap (λ k. over (over (a .table .now) 0 early) k (rowsOf t (a .b))) (let z : a .b .line * 2 ≡ 0 + length early = omega (arith, early-rows t (a .b) f) in z)
+          ∙ over-over (a .table .now) 0 early (rowsOf t (a .b)) (omega (arith, p .1 .1, early-rows t (a .b) f))
+          ∙ ap (over (a .table .now) 0) (sym (first-rows t (a .b) f)),
     )
 
 pub put-all-spec : {M : Type 1} → statement M

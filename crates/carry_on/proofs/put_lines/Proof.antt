@@ -13,12 +13,11 @@ use Rattle.carried.specs.Carrying.{keptOf, skips, rows}
 use Rattle.early_lines.specs.declared.Begin.{Begin}
 use Rattle.kept_lines.specs.Going.{Going, judgedLines}
 use Rattle.kept_lines.specs.declared.Cursor.{Cursor}
-use Rattle.carry_on.specs.First.{First, Fresh, keptFrom, rowsOf}
-use Rattle.carry_on.specs.Steps.{placesAt, outAt, tableAt}
+use Rattle.carry_on.specs.First.{keptFrom, rowsOf}
+use Rattle.carry_on.specs.Steps.{placesAt}
 use Rattle.carry_on.proofs.Begun.{begun}
 use Rattle.carry_on.proofs.Turn.{Turn, turn, kept-le, kept-next, none-left}
 use Rattle.carry_on.proofs.Steps.{lineAt, kindAt, turn-read, out-more, out-fits, row-fits, table-more, table-same, skipped, kept-one}
-use borrow.Author.Needs.{needs}
 use Rattle.carry_on.proofs.put_lines.Statement.{statement}
 use Rattle.carry_on.proofs.put_lines.Tie as tie
 
@@ -174,16 +173,16 @@ loop-again c =
     let o = out-more (b .strict) t (b .at) (l .c) (w .result .end) n u (l .out) (length (l .out)) (l .next) (omega arith) (l .inv .1) in (
       w .ensures .1 .1 .1 .1 .0,
       subst (λ q. Apart (parts q (keptOf (ahead t b (w .result .next .line)))) (length (p .last .0))) (sym (p .ensures .0))
-      (subst (λ m. Apart (parts (placesAt n j i (l .next)) (keptOf (ahead t b m))) (length (p .last .0))) (sym on) (subst (Apart _) (sym (p .kept .0)) (o .0))),
+          (subst (λ m. Apart (parts (placesAt n j i (l .next)) (keptOf (ahead t b m))) (length (p .last .0))) (sym on) (subst (Apart _) (sym (p .kept .0)) (o .0))),
       ap (λ m. placed (p .last .0) (parts (p .result) (keptOf (ahead t b m)))) on
-      ∙ ap₂ (λ o q. placed o (parts q (keptOf (ahead t b (l .c .line + 1))))) (p .ensures .1 .0) (p .ensures .0)
-      ∙ o .1
-      ∙ l .inv .2,
+          ∙ ap₂ (λ o q. placed o (parts q (keptOf (ahead t b (l .c .line + 1))))) (p .ensures .1 .0) (p .ensures .0)
+          ∙ o .1
+          ∙ l .inv .2,
       omega (arith, rows-on, ap length come, p .kept .1 .0, table-more (b .strict) t (b .at) (l .c) (w .result .end) n u k (row b (l .c)) (l .table) (l .inv .3)),
       ap₂ (over (p .last .1 .0)) (ap (λ r. r * 2) rows-on) come
-      ∙ ap (λ o. over o ((row b (l .c) + skipped n) * 2) (rows (skips (k + 1) (ahead t b (l .c .line + 1))))) (p .ensures .1 .1)
-      ∙ table-same (b .strict) t (b .at) (l .c) (w .result .end) n u k (row b (l .c)) (l .table) (l .inv .3)
-      ∙ l .inv .4,
+          ∙ ap (λ o. over o ((row b (l .c) + skipped n) * 2) (rows (skips (k + 1) (ahead t b (l .c .line + 1))))) (p .ensures .1 .1)
+          ∙ table-same (b .strict) t (b .at) (l .c) (w .result .end) n u k (row b (l .c)) (l .table) (l .inv .3)
+          ∙ l .inv .4,
       w .ensures .1 .1 .1 .1 .1 .0 ∙ l .inv .5,
       w .ensures .1 .1 .1 .1 .1 .1 ∙ l .inv .6,
       p .kept .0 ∙ l .inv .7,

@@ -1,5 +1,4 @@
 -- `carry_on::with_step` meets its contract: a line that is skipped adds nothing.
-use Prim.Native.Nat.{ℕ}
 use mathlib.Core.Path.{_≡_, sym, _∙_}
 use native.Mathlib.Omega.{arith}
 use Rattle.carry_on.proofs.Steps.{grown-kept, grown-skipped}

@@ -1,19 +1,16 @@
 -- `carry_on::write_kept` meets its contract: 1, then 20 and 20, then all is written.
-use Prim.Native.Nat.{ℕ, _+_, _*_, _/_, _≤_, _<_}
-use mathlib.Core.Path.{_≡_, refl, sym, ap, _∙_}
+use Prim.Native.Nat.{ℕ, _+_, _*_, _/_, _≤_}
+use mathlib.Core.Path.{_≡_, sym, ap, _∙_}
 use mathlib.Core.List.{List}
 use native.Mathlib.Omega.{arith}
 use lib.ListN.{length, length-append}
 use Rattle.format.specs.Tidy.{tidy}
-
 use Rattle.per_kind.specs.Numbers.{total, front, starts}
-use Rattle.tidy_text.specs.Sizes.{sizesOf}
-use Rattle.tidy_text.proofs.Total.{front-sizes, tidy-sizes}
-use Rattle.tidy_text.proofs.Sizes.{total-size, front-size}
+use Rattle.tidy_text.proofs.Sizes.{total-size}
 use Rattle.tidy.proofs.Writing.{write-long, write-short, write-fits}
 use Rattle.carried.specs.Carrying.{keptOf, carriedLines, skips, rows, unwritableLine, carrying}
 use Rattle.early_lines.specs.Early.{earlyOf, rowsFrom}
-use Rattle.carry_on.specs.First.{First, keptFrom, rowsOf}
+use Rattle.carry_on.specs.First.{keptFrom, rowsOf}
 use Rattle.carry_on.proofs.Split.{first-kept, first-small, first-count, skips-few, first-rows, early-rows}
 use Rattle.carry_on.proofs.Told.{told-refused, told-short, told-fits, refused-all, written-all}
 use borrow.Author.Needs.{needs}
