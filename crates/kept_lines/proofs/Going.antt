@@ -102,18 +102,20 @@ module _ (strict : Bool) (t : List ℕ) (from : ℕ) (area ids : List ℕ) (c : 
       let m : ℕ = length area / 4 * 3 in
       let u : until ≡ afterKeyed strict m (c .at) t = until-next strict t (c .at) (c .until) (length area) e in
       let front : keyedFront strict m (ahead t (c .at)) ≡ p ∷ keyedFront strict (m - keysIn (headOf (records.line strict p))) (ahead t next) =
-      ap (keyedFront strict m) (ahead-one t (c .at) h) ∙ front-one strict p (ahead t next) m (m - keysIn (headOf (records.line strict p))) (omega (arith, g .some)) refl in
-      (record {
-        begin = c .at;
-        old = g .passed;
-        done = [];
-        rest = keyedFront strict m (ahead t (c .at));
-        split = g .split;
-        front = sym (append-nil (g .passed));
-        lines = ap (λ n. keyedFront strict (n / 4 * 3) (ahead t (c .at))) filled-long;
-        ahead = block-split strict t m (c .at) (g .inside) ∙ ap (λ n. keyedFront strict m (ahead t (c .at)) ++ ahead t n) (sym u);
-        filled = filled-next strict t (c .at) (c .until) from area e ∙ ap (λ n. filledFor strict t n from (c .at)) (sym filled-long);
-      }, omega (arith, ap length front))
+      ap (keyedFront strict m) (ahead-one t (c .at) h) ∙ front-one strict p (ahead t next) m (m - keysIn (headOf (records.line strict p))) (omega (arith, g .some)) refl in (
+        record {
+          begin = c .at;
+          old = g .passed;
+          done = [];
+          rest = keyedFront strict m (ahead t (c .at));
+          split = g .split;
+          front = sym (append-nil (g .passed));
+          lines = ap (λ n. keyedFront strict (n / 4 * 3) (ahead t (c .at))) filled-long;
+          ahead = block-split strict t m (c .at) (g .inside) ∙ ap (λ n. keyedFront strict m (ahead t (c .at)) ++ ahead t n) (sym u);
+          filled = filled-next strict t (c .at) (c .until) from area e ∙ ap (λ n. filledFor strict t n from (c .at)) (sym filled-long);
+        },
+        omega (arith, ap length front),
+      )
 
   -- lines from another place on are others
   apart : (c .at ≡ c .until → ⊥) → ahead t (c .at) ≡ ahead t (c .until) → ⊥

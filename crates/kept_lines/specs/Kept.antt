@@ -31,7 +31,7 @@ idsAfter room t ids (head.ReadGroup p n) = ids
 idsAfter room t ids (head.Program p n) = afterMeeting room t ids (head.Program p n)
 idsAfter room t ids (head.Comment p) = ids
 
--- where the block after the line at an offset begins, by `n` slots: a block begins at `until`
+-- where the block ends that the line at an offset is in, with `n` slots: at the end of a block the next one begins
 unfoldable pub untilAt : Bool → List ℕ → ℕ → ℕ → ℕ → ℕ
 unfolding afterKeyed
 untilAt strict t n at until = cond (eqb at until) (afterKeyed strict (n / 4 * 3) at t) until

@@ -1,18 +1,16 @@
 // Carrying on, line by line from the first that is kept: each line is judged after the lines that were kept before it.
 use record::Head;
 ghost use mathlib.Core.Path.{_≡_};
-ghost use mathlib.Core.Bool.{Bool};
-ghost use mathlib.Core.List.{List};
-ghost use Prim.Native.Nat.{_≤_, _<_, _+_, _*_, _/_};
-ghost use lib.ListN.{length, take, drop};
+ghost use Prim.Native.Nat.{_≤_, _<_, _+_};
+ghost use lib.ListN.{length, drop};
 ghost use lib.Dec.{ltb};
 ghost use Rattle.text.specs.First.{firstLine};
 ghost use Rattle.key_index.specs.Keyed.{Placed};
 ghost use Rattle.kept_lines.specs.Kept.{usedBy, idsAfter, advanced, filledAt, untilAt};
 ghost use Rattle.kept_lines.specs.Going.{Going, judgedLines, refusalAt};
 
-// Where judging stands: the offset of the next line, how many lines are judged, the offset where the next block begins, to which the area
-// is to be filled anew, and how many lines, and programs among them, are kept.
+// Where judging stands: the offset of the next line, how many lines are judged, the offset where the block ends for which the area is
+// filled, and how many lines, and programs among them, are kept. Where judging begins no block has begun, and both offsets are the same.
 pub struct Cursor {
     pub at: usize,
     pub line: usize,
@@ -42,7 +40,7 @@ fn is_used(text: &[u8], area: &[u32], ids: &mut [u32], head: Head, programs: usi
     }
 }
 
-// Where a block begins, which is at `until`, the area is filled for it. The offset where the block after it begins.
+// At the end of a block, `until`, the next one begins, and the area is filled for it. The offset where the block ends that the line is in.
 fn turn(text: &[u8], strict: bool, from: usize, area: &mut [u32], at: usize, until: usize) -> usize
     requires { ⌜ length (now text) ≤ 16777216 ⌝ }
     requires { ⌜ 4 ≤ length (now area) ⌝ }

@@ -149,14 +149,25 @@ returns c =
     c .advance .ensures ∙ rw (at-next, w .turn .ensures .0, head-is p) refl in
     let to = advanced-to (a .c) (a .c .at + firstLine (drop (a .c .at) t) .next) (untilAt (a .strict) t (length (a .area .now)) (a .c .at) (a .c .until)) (headOf (line (a .strict) (firstAt (a .c .at) t))) n in
     let ids : u .is-used .last .1 .1 .0 ≡ idsAfter (ltb (a .c .programs) 1024) t (a .ids .now) (headOf (line (a .strict) (firstAt (a .c .at) t))) =
-    u .is-used .ensures .1 ∙ ap (idsAfter (ltb (a .c .programs) 1024) t (a .ids .now)) (head-is p) in
-    (ap (λ x. a .c .at + x .len) (cut f),
-    (refusal ∙ sym (refusal-here (a .strict) t (a .from) (a .area .now) (a .ids .now) (a .c) (s .pre .0) (s .pre .1 .0) (s .pre .1 .1)),
-    (ap (λ x. x .at) after ∙ to .0,
-    (ap (λ x. x .line) after ∙ to .1,
-    (rw (after, ids, w .turn .ensures .1) (going-on (a .strict) t (a .from) (a .area .now) (a .ids .now) (a .c) (s .pre .0) (s .pre .1 .0) (s .pre .1 .1) n refusal),
-    (long w,
-    ap length ids ∙ ids-length (a .strict) t (a .from) (a .area .now) (a .ids .now) (a .c) (s .pre .0) (s .pre .1 .0) (s .pre .1 .1) (ltb (a .c .programs) 1024) (headOf (line (a .strict) (firstAt (a .c .at) t)))))))))
+    u .is-used .ensures .1 ∙ ap (idsAfter (ltb (a .c .programs) 1024) t (a .ids .now)) (head-is p) in (
+      ap (λ x. a .c .at + x .len) (cut f),
+      (
+        refusal ∙ sym (refusal-here (a .strict) t (a .from) (a .area .now) (a .ids .now) (a .c) (s .pre .0) (s .pre .1 .0) (s .pre .1 .1)),
+        (
+          ap (λ x. x .at) after ∙ to .0,
+          (
+            ap (λ x. x .line) after ∙ to .1,
+            (
+              rw (after, ids, w .turn .ensures .1) (going-on (a .strict) t (a .from) (a .area .now) (a .ids .now) (a .c) (s .pre .0) (s .pre .1 .0) (s .pre .1 .1) n refusal),
+              (
+                long w,
+                ap length ids ∙ ids-length (a .strict) t (a .from) (a .area .now) (a .ids .now) (a .c) (s .pre .0) (s .pre .1 .0) (s .pre .1 .1) (ltb (a .c .programs) 1024) (headOf (line (a .strict) (firstAt (a .c .at) t))),
+              ),
+            ),
+          ),
+        ),
+      ),
+    )
 
 pub next-line-spec : {M : Type 1} → statement M
 next-line-spec =

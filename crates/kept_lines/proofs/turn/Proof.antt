@@ -27,9 +27,10 @@ returns-2 c =
     let f = c .before .before in
     let e = f .before .before in
     let a = e .before .before .before .args in
-    let here : a .at ≡ a .until = omega (arith, e .if1 .left) in
-    (f .fill .ensures .0 ∙ sym (until-next (a .strict) (a .text .now) (a .at) (a .until) (length (a .area .now)) here),
-     f .fill .ensures .1 ∙ sym (filled-next (a .strict) (a .text .now) (a .at) (a .until) (a .from) (a .area .now) here))
+    let here : a .at ≡ a .until = omega (arith, e .if1 .left) in (
+      f .fill .ensures .0 ∙ sym (until-next (a .strict) (a .text .now) (a .at) (a .until) (length (a .area .now)) here),
+      f .fill .ensures .1 ∙ sym (filled-next (a .strict) (a .text .now) (a .at) (a .until) (a .from) (a .area .now) here),
+    )
 
 pub turn-spec : {M : Type 1} → statement M
 turn-spec = tie.close (tie.spec returns fill-requires same-length returns-2)
