@@ -18,7 +18,7 @@ use Rattle.key_index.specs.Word.{word}
 use Rattle.key_index.specs.Told.{mark, value, tells, start, sought, isKnown, isMet, afterMeeting}
 use Rattle.key_index.specs.Keyed.{valuesOf, keysOf, Ended}
 use Rattle.key_index.proofs.Looking.{sought-known, found}
-use Rattle.key_index.proofs.Keyed.{value-some, keys-snoc, values-few, meeting-length, meeting-met, meeting-holds}
+use Rattle.key_index.proofs.Keyed.{value-some, keys-snoc, meeting-length, meeting-met, meeting-holds}
 use Rattle.key_index.proofs.Pointing.{toldBy, tells-one, tells-own}
 use Rattle.first_keys.specs.Blocks.{recordsOf, readIn, entered}
 use Rattle.first_keys.proofs.Lines.{Sits, sits-stand, sits-ended}
@@ -48,7 +48,7 @@ pick-one hit (suc j) z = refl
 record Holds (t slots : List ℕ) (rs : List Record) : Type 0 where
   vs : List ℕ
   held : Held (start t (length slots)) slots vs
-  few : length vs ≤ length rs
+  few : length vs ≤ length (keysOf rs)
   firsts : (k : ℕ) (id : List ℕ) → pick (tells t k id) vs ≡ pick (tells t k id) (keysOf rs)
 
 module _ (t slots : List ℕ) (rs : List Record) (x : Holds t slots rs) (p : 0 < length slots) (k : ℕ) (id : List ℕ) where
@@ -91,12 +91,12 @@ module _ (t slots : List ℕ) (rs : List Record) (x : Holds t slots rs) (p : 0 <
           none (ltb-false 0 (pick (tells t k id) (keysOf rs)) y)
           ∙ sym (ap (λ b. cond b (pick (tells t k id) (keysOf rs)) (pick (tells t k id) (valuesOf r))) y ∙ old r e s m y)
 
-holds-on : (t slots : List ℕ) (rs : List Record) → Holds t slots rs → length rs < length slots → (r : Record) → Ended t r → Each (Stands t 0) (pieces r)
+holds-on : (t slots : List ℕ) (rs : List Record) → Holds t slots rs → length (keysOf rs) < length slots → (r : Record) → Ended t r → Each (Stands t 0) (pieces r)
     → Holds t (afterMeeting true t slots (recordHead r)) (rs ++ (r ∷ []))
 holds-on t slots rs x room r e s = go (isMet t slots (recordHead r)) refl
   where
-    one : length (rs ++ (r ∷ [])) ≡ length rs + 1
-    one = length-append rs (r ∷ [])
+    one : length (keysOf (rs ++ (r ∷ []))) ≡ length (keysOf rs) + length (valuesOf r)
+    one = ap length (keys-snoc rs r) ∙ length-append (keysOf rs) (valuesOf r)
 
     go : (b : Bool) → isMet t slots (recordHead r) ≡ b → Holds t (afterMeeting true t slots (recordHead r)) (rs ++ (r ∷ []))
     go true m =
@@ -112,7 +112,7 @@ holds-on t slots rs x room r e s = go (isMet t slots (recordHead r)) refl
           vs = x .vs ++ valuesOf r;
           held = subst (λ n. Held (start t n) (afterMeeting true t slots (recordHead r)) (x .vs ++ valuesOf r)) (sym (meeting-length true t slots (recordHead r)))
               (meeting-holds t slots (x .vs) (omega (arith, room)) (x .held) (omega (arith, room, x .few)) r e s m);
-          few = omega (arith, x .few, one, length-append (x .vs) (valuesOf r), values-few r);
+          few = omega (arith, x .few, one, length-append (x .vs) (valuesOf r));
           firsts = λ k id.
               pick-split (tells t k id) (x .vs) (valuesOf r)
               ∙ ap (λ n. cond (ltb 0 n) n (pick (tells t k id) (valuesOf r))) (x .firsts k id)
@@ -128,22 +128,25 @@ entered-length strict t slots (p ∷ ps) =
     entered-length strict t (afterMeeting true t slots (headOf (line strict p))) ps ∙ meeting-length true t slots (headOf (line strict p))
 
 module _ (strict : Bool) (t : List ℕ) (small : length t ≤ 16777216) where
-  entered-holds : (slots : List ℕ) (rs : List Record) (ps : List Piece) → Each (Sits t) ps → length rs + length ps < length slots → Holds t slots rs
+  entered-holds : (slots : List ℕ) (rs : List Record) (ps : List Piece) → Each (Sits t) ps → length (keysOf rs) + length (keysOf (readIn strict ps)) < length slots → Holds t slots rs
       → Holds t (entered strict t slots ps) (rs ++ readIn strict ps)
-  unfolding entered readIn recordsOf Each headOf afterMeeting
+  unfolding entered readIn recordsOf keysOf Each headOf afterMeeting
   entered-holds slots rs [] s room x = subst (Holds t slots) (sym (append-nil rs)) x
-  entered-holds slots rs (p ∷ ps) s room x = go (line strict p) refl (λ l q. entered-holds l q ps (s .1))
+  entered-holds slots rs (p ∷ ps) s room x = go (line strict p) refl room (λ l q. entered-holds l q ps (s .1))
     where
-      go : (l : Line) → line strict p ≡ l → ((slots : List ℕ) (rs : List Record) → length rs + length ps < length slots → Holds t slots rs → Holds t (entered strict t slots ps) (rs ++ readIn strict ps))
+      go : (l : Line) → line strict p ≡ l → length (keysOf rs) + length (keysOf (recordsOf l ++ readIn strict ps)) < length slots
+          → ((slots : List ℕ) (rs : List Record) → length (keysOf rs) + length (keysOf (readIn strict ps)) < length slots → Holds t slots rs → Holds t (entered strict t slots ps) (rs ++ readIn strict ps))
           → Holds t (entered strict t (afterMeeting true t slots (headOf l)) ps) (rs ++ (recordsOf l ++ readIn strict ps))
-      go (refused n) e ih = ih slots rs (omega (arith, room)) x
-      go (read r) e ih =
+      go (refused n) e room ih = ih slots rs room x
+      go (read r) e room ih =
+          let one : length (keysOf (rs ++ (r ∷ []))) ≡ length (keysOf rs) + length (valuesOf r) = ap length (keys-snoc rs r) ∙ length-append (keysOf rs) (valuesOf r) in
+          let many : length (valuesOf r ++ keysOf (readIn strict ps)) ≡ length (valuesOf r) + length (keysOf (readIn strict ps)) = length-append (valuesOf r) (keysOf (readIn strict ps)) in
           subst (Holds t (entered strict t (afterMeeting true t slots (recordHead r)) ps)) (append-assoc rs (r ∷ []) (readIn strict ps))
-          (ih (afterMeeting true t slots (recordHead r)) (rs ++ (r ∷ [])) (omega (arith, room, length-append rs (r ∷ []), meeting-length true t slots (recordHead r)))
+          (ih (afterMeeting true t slots (recordHead r)) (rs ++ (r ∷ [])) (omega (arith, room, one, many, meeting-length true t slots (recordHead r)))
           (holds-on t slots rs x (omega (arith, room)) r (sits-ended strict t small p (s .0) r e) (sits-stand strict t small p (s .0) r e)))
 
-  -- of fewer lines than there are slots
-  pub entered-told : (n : ℕ) (ps : List Piece) → Each (Sits t) ps → length ps < n → (k : ℕ) (id : List ℕ)
+  -- of fewer keys than there are slots
+  pub entered-told : (n : ℕ) (ps : List Piece) → Each (Sits t) ps → length (keysOf (readIn strict ps)) < n → (k : ℕ) (id : List ℕ)
       → toldBy t (entered strict t (replicate n 0) ps) k id ≡ pick (tells t k id) (keysOf (readIn strict ps))
   unfolding toldBy keysOf pick
   entered-told n ps s room k id =

@@ -5,7 +5,7 @@ use mathlib.Core.Path.{_≡_, refl, sym, ap, ap₂, subst, _∙_}
 use mathlib.Core.Bool.{Bool, true, false, not, _&&_, _||_, cond}
 use mathlib.Core.List.{List, [], _∷_, _++_, append-assoc}
 use native.Mathlib.Omega.{arith}
-use lib.ListN.{length, take, drop, replicate, length-append, length-take, length-replicate, take-append-drop}
+use lib.ListN.{length, take, drop, replicate, length-append, length-replicate}
 use lib.Dec.{ltb, eqb}
 use borrow.Author.Tests.{lt-ltb, ltb-true, ltb-false, eq-eqb, ne-eqb}
 use Rattle.format.specs.Bytes.{any}
@@ -23,10 +23,10 @@ use Rattle.key_index.specs.Word.{word}
 use Rattle.key_index.specs.Told.{mark, value, tells, sought, pointed, isOwn, soughtOf, offsetOf, afterPointing, isFirst}
 use Rattle.key_index.specs.Keyed.{valuesOf, keysOf, Ended}
 use Rattle.key_index.proofs.Looking.{value-place}
-use Rattle.key_index.proofs.Keyed.{value-some, toldIn, told-taken, pick-append, pointing-length}
+use Rattle.key_index.proofs.Keyed.{value-some, values-few, toldIn, told-taken, pick-append, pointing-length}
 use Rattle.key_index.proofs.Pointing.{toldBy, own-told, tells-own, latest, pointing-told}
-use Rattle.first_keys.specs.Blocks.{firstAt, earlier, recordsOf, readIn, entered, pointedBack, filledFor}
-use Rattle.first_keys.proofs.Walk.{ahead-none, ahead-one}
+use Rattle.first_keys.specs.Blocks.{firstAt, keysIn, keyedFront, keyedBehind, earlier, recordsOf, readIn, entered, pointedBack, filledFor}
+use Rattle.first_keys.proofs.Walk.{ahead-none, ahead-one, front-none, front-behind}
 use Rattle.first_keys.proofs.Lines.{each-left, each-right, Sits, lines-sit, sits-stand, sits-ended, reads-ended, lines-before, earlier-all, Low, lines-low}
 use Rattle.first_keys.proofs.Entering.{pick-split, entered-length, entered-told}
 
@@ -166,6 +166,41 @@ module _ (hit : ℕ → Bool) (n at : ℕ) (es xs ys : List ℕ) (v : ℕ) (told
 
 -- ---- the block
 
+-- a record has as many keys as its head
+record-keys : (r : Record) → length (valuesOf r) ≡ keysIn (recordHead r)
+unfolding valuesOf keysIn recordHead
+record-keys (header v fs) = refl
+record-keys (reference p n fs) = refl
+record-keys (group p fs) = refl
+record-keys (program p fs) = refl
+record-keys (comment p) = refl
+
+-- no more than `m` keys enter
+front-keys : (strict : Bool) (m : ℕ) (ps : List Piece) → length (keysOf (readIn strict (keyedFront strict m ps))) ≤ m
+unfolding keyedFront readIn recordsOf keysOf headOf keysIn
+front-keys strict m [] = omega arith
+front-keys strict m (p ∷ ps) = go (ltb 0 m) refl (λ k. front-keys strict k ps)
+  where
+    one : (l : Line) → 0 < m → ((k : ℕ) → length (keysOf (readIn strict (keyedFront strict k ps))) ≤ k) → length (keysOf (recordsOf l ++ readIn strict (keyedFront strict (m - keysIn (headOf l)) ps))) ≤ m
+    one (refused n) h ih = omega (arith, ih (m - 0))
+    one (read r) h ih =
+        let k : ℕ = m - keysIn (recordHead r) in
+        let n = length-append (valuesOf r) (keysOf (readIn strict (keyedFront strict k ps))) in
+        omega (arith, n, ih k, record-keys r, values-few r, h)
+
+    go : (b : Bool) → ltb 0 m ≡ b → ((k : ℕ) → length (keysOf (readIn strict (keyedFront strict k ps))) ≤ k)
+        → length (keysOf (readIn strict (cond b (p ∷ keyedFront strict (m - keysIn (headOf (line strict p))) ps) []))) ≤ m
+    go true e ih = one (line strict p) (ltb-true 0 m e) ih
+    go false e ih = omega arith
+
+-- and some line is among them only where one may
+front-more : (strict : Bool) (m : ℕ) (ps : List Piece) → 0 < length (keyedFront strict m ps) → 0 < m
+front-more strict m ps h = go (ltb 0 m) refl
+  where
+    go : (b : Bool) → ltb 0 m ≡ b → 0 < m
+    go true e = ltb-true 0 m e
+    go false e = absurd (omega (arith, h, ap length (front-none strict m (omega (arith, ltb-false 0 m e)) ps)))
+
 pointed-length : (strict : Bool) (t slots : List ℕ) (ps : List Piece) → length (pointedBack strict t slots ps) ≡ length slots
 unfolding pointedBack
 pointed-length strict t slots [] = refl
@@ -175,13 +210,16 @@ pointed-length strict t slots (p ∷ ps) = pointed-length strict t (afterPointin
 module _ (strict : Bool) (t : List ℕ) (small : length t ≤ 16777216) (n from at : ℕ) (es xs ys rest : List Piece) (p : Piece)
     (front : earlier at (linesFrom from (drop from t)) ≡ es)
     (whole : linesFrom from (drop from t) ≡ (es ++ xs) ++ (p ∷ rest))
-    (block : take (n / 4 * 3) (linesFrom at (drop at t)) ≡ xs ++ (p ∷ ys)) where
+    (block : keyedFront strict (n / 4 * 3) (linesFrom at (drop at t)) ≡ xs ++ (p ∷ ys)) where
   sits : Each (Sits t) ((es ++ xs) ++ (p ∷ rest))
   sits = subst (Each (Sits t)) whole (lines-sit t from)
 
-  -- it has fewer lines than there are slots
-  room : length (xs ++ (p ∷ ys)) < n
-  room = omega (arith, length-append xs (p ∷ ys), ap length block, length-take (n / 4 * 3) (linesFrom at (drop at t)))
+  -- it has fewer keys than there are slots
+  room : length (keysOf (readIn strict (xs ++ (p ∷ ys)))) < n
+  room =
+      let few = front-keys strict (n / 4 * 3) (linesFrom at (drop at t)) in
+      let more = front-more strict (n / 4 * 3) (linesFrom at (drop at t)) in
+      omega (arith, more (omega (arith, length-append xs (p ∷ ys), ap length block)), few, ap (λ l. length (keysOf (readIn strict l))) block)
 
   slots : List ℕ
   slots = filledFor strict t n from at
@@ -201,7 +239,7 @@ module _ (strict : Bool) (t : List ℕ) (small : length t ≤ 16777216) (n from 
   told-by k id =
       let b : Each (Sits t) (xs ++ (p ∷ ys)) =
       subst (Each (Sits t)) block
-      (each-left (Sits t) (take (n / 4 * 3) (linesFrom at (drop at t))) (drop (n / 4 * 3) (linesFrom at (drop at t))) (subst (Each (Sits t)) (sym (take-append-drop (n / 4 * 3) (linesFrom at (drop at t)))) (lines-sit t at))) in
+      (each-left (Sits t) (keyedFront strict (n / 4 * 3) (linesFrom at (drop at t))) (keyedBehind strict (n / 4 * 3) (linesFrom at (drop at t))) (subst (Each (Sits t)) (front-behind strict (n / 4 * 3) (linesFrom at (drop at t))) (lines-sit t at))) in
       ap (λ s. toldBy t s k id) slots-are
       ∙ pointed-told strict t small (entered strict t (replicate n 0) (xs ++ (p ∷ ys))) entered-some es (each-left (Sits t) es xs (each-left (Sits t) (es ++ xs) (p ∷ rest) sits)) k id
       ∙ ap (λ w. latest (tells t k id) w (keysOf (readIn strict es))) (entered-told strict t small n (xs ++ (p ∷ ys)) b room k id)
@@ -269,23 +307,24 @@ module _ (strict : Bool) (t : List ℕ) (small : length t ≤ 16777216) (n from 
 -- a line of the block from `at` on is the first with its key exactly where no line before it, from `from` on, clashes with it
 module _ (strict : Bool) (t : List ℕ) (n from at : ℕ) (es xs ys : List Piece) (p : Piece)
     (split : linesFrom from (drop from t) ≡ es ++ linesFrom at (drop at t))
-    (block : take (n / 4 * 3) (linesFrom at (drop at t)) ≡ xs ++ (p ∷ ys)) where
+    (block : keyedFront strict (n / 4 * 3) (linesFrom at (drop at t)) ≡ xs ++ (p ∷ ys)) where
   behind : List Piece
-  behind = drop (n / 4 * 3) (linesFrom at (drop at t))
+  behind = keyedBehind strict (n / 4 * 3) (linesFrom at (drop at t))
 
   whole : linesFrom from (drop from t) ≡ (es ++ xs) ++ (p ∷ (ys ++ behind))
   unfolding behind
   whole =
       split
-      ∙ ap (λ l. es ++ l) (sym (take-append-drop (n / 4 * 3) (linesFrom at (drop at t))) ∙ ap (λ l. l ++ behind) block ∙ append-assoc xs (p ∷ ys) behind)
+      ∙ ap (λ l. es ++ l) (front-behind strict (n / 4 * 3) (linesFrom at (drop at t)) ∙ ap (λ l. l ++ behind) block ∙ append-assoc xs (p ∷ ys) behind)
       ∙ sym (append-assoc es xs (p ∷ (ys ++ behind)))
 
   here : at < length t
+  unfolding keyedFront
   here = go (ltb at (length t)) refl
     where
       go : (b : Bool) → ltb at (length t) ≡ b → at < length t
       go true e = ltb-true at (length t) e
-      go false e = absurd (omega (arith, length-append xs (p ∷ ys), ap length block, length-take (n / 4 * 3) (linesFrom at (drop at t)), ap length (ahead-none t at (ltb-false at (length t) e))))
+      go false e = absurd (omega (arith, length-append xs (p ∷ ys), ap length (sym (ap (keyedFront strict (n / 4 * 3)) (ahead-none t at (ltb-false at (length t) e))) ∙ block)))
 
   front : earlier at (linesFrom from (drop from t)) ≡ es
   unfolding firstAt

@@ -1,23 +1,25 @@
 -- The lines of a block, and the lines before it, one by one.
-use Prim.Native.Nat.{ℕ, zero, suc, _+_, _≤_, _<_}
-use mathlib.Core.Path.{_≡_, refl, ap, _∙_}
+use Prim.Native.Nat.{ℕ, zero, suc, _+_, _-_, _≤_, _<_}
+use mathlib.Core.Path.{_≡_, refl, sym, ap, _∙_}
 use mathlib.Core.Bool.{Bool, true, false, cond}
 use mathlib.Core.List.{List, [], _∷_, _++_}
 use native.Mathlib.Omega.{arith}
-use lib.ListN.{length, take, drop, length-drop, drop-of-length-le}
+use lib.ListN.{length, drop, length-drop, drop-of-length-le}
 use lib.Dec.{ltb}
 use borrow.Author.Tests.{lt-ltb, le-ltb, ltb-true, ltb-false}
-use Rattle.format.specs.Lines.{linesFrom}
+use Rattle.format.specs.Lines.{Piece, linesFrom}
 use Rattle.format.specs.Records.{line}
 use Rattle.text.specs.First.{firstLine}
 use Rattle.text.proofs.Lines.{lines-none}
 use Rattle.text.proofs.First.{first-within, first-some}
 use Rattle.record.specs.Head.{headOf}
+use Rattle.record.specs.declared.Head.{Head}
+use Rattle.record.specs.declared.Head.the-variants as head
 use Rattle.key_index.specs.Told.{afterMeeting, afterPointing}
 use Rattle.key_index.specs.Keyed.{Placed}
 use Rattle.key_index.proofs.Ahead.{first-ahead, ahead-stands}
 use Rattle.key_index.proofs.Keyed.{head-placed}
-use Rattle.first_keys.specs.Blocks.{firstAt, afterLines, earlier, entered, pointedBack}
+use Rattle.first_keys.specs.Blocks.{firstAt, keysIn, keyedFront, keyedBehind, startOf, afterKeyed, earlier, entered, pointedBack}
 
 -- no line is left
 pub ahead-none : (t : List ℕ) (at : ℕ) → length t ≤ at → linesFrom at (drop at t) ≡ []
@@ -41,43 +43,122 @@ next-more t at h = omega (arith, first-some (drop at t) (omega (arith, length-dr
 
 -- ---- the lines of the block
 
-take-none : {A : Type 0} (m : ℕ) → take {A = A} m [] ≡ []
-take-none zero = refl
-take-none (suc m) = refl
+pub keys-most : (x : Head) → keysIn x ≤ 1
+unfolding keysIn
+keys-most (head.Refused n) = omega arith
+keys-most (head.Header v n) = omega arith
+keys-most (head.ReferenceSequence p l n) = omega arith
+keys-most (head.ReadGroup p n) = omega arith
+keys-most (head.Program p n) = omega arith
+keys-most (head.Comment p) = omega arith
 
-module _ (t : List ℕ) (at : ℕ) where
-  pub after-end : (m : ℕ) → length t ≤ at → afterLines m at t ≡ at
-  unfolding afterLines
-  after-end zero h = refl
-  after-end (suc m) h = ap (λ b. cond b (afterLines m (at + firstLine (drop at t) .next) t) at) (le-ltb at (length t) h)
+module _ (strict : Bool) where
+  -- no key is left to enter
+  pub front-none : (m : ℕ) → m ≡ 0 → (ps : List Piece) → keyedFront strict m ps ≡ []
+  unfolding keyedFront
+  front-none m e [] = refl
+  front-none m e (p ∷ ps) = ap (λ b. cond b (p ∷ keyedFront strict (m - keysIn (headOf (line strict p))) ps) []) (le-ltb 0 m (omega (arith, e)))
 
-  pub after-on : (m k : ℕ) → m ≡ suc k → at < length t → afterLines m at t ≡ afterLines k (at + firstLine (drop at t) .next) t
-  unfolding afterLines
-  after-on m k e h = ap (λ j. afterLines j at t) e ∙ ap (λ b. cond b (afterLines k (at + firstLine (drop at t) .next) t) at) (lt-ltb at (length t) h)
+  behind-all : (m : ℕ) → m ≡ 0 → (ps : List Piece) → keyedBehind strict m ps ≡ ps
+  unfolding keyedBehind
+  behind-all m e [] = refl
+  behind-all m e (p ∷ ps) = ap (λ b. cond b (keyedBehind strict (m - keysIn (headOf (line strict p))) ps) (p ∷ ps)) (le-ltb 0 m (omega (arith, e)))
 
-  module _ (strict : Bool) (slots : List ℕ) where
-    pub entered-end : (m : ℕ) → length t ≤ at → entered strict t slots (take m (linesFrom at (drop at t))) ≡ slots
-    unfolding entered
-    entered-end m h = ap (λ l. entered strict t slots (take m l)) (ahead-none t at h) ∙ ap (entered strict t slots) (take-none m)
+  -- a line, and `k` keys are left to enter after it
+  module _ (p : Piece) (ps : List Piece) (m k : ℕ) (h : 0 < m) (e : m - keysIn (headOf (line strict p)) ≡ k) where
+    pub front-one : keyedFront strict m (p ∷ ps) ≡ p ∷ keyedFront strict k ps
+    unfolding keyedFront
+    front-one = ap (λ b. cond b (p ∷ keyedFront strict (m - keysIn (headOf (line strict p))) ps) []) (lt-ltb 0 m h) ∙ ap (λ j. p ∷ keyedFront strict j ps) e
 
-    pub entered-on : (m k : ℕ) → m ≡ suc k → at < length t
-        → entered strict t slots (take m (linesFrom at (drop at t)))
-        ≡ entered strict t (afterMeeting true t slots (headOf (line strict (firstAt at t)))) (take k (linesFrom (at + firstLine (drop at t) .next) (drop (at + firstLine (drop at t) .next) t)))
-    unfolding entered
-    entered-on m k e h = ap (λ j. entered strict t slots (take j (linesFrom at (drop at t)))) e ∙ ap (λ l. entered strict t slots (take (suc k) l)) (ahead-one t at h)
+    behind-one : keyedBehind strict m (p ∷ ps) ≡ keyedBehind strict k ps
+    unfolding keyedBehind
+    behind-one = ap (λ b. cond b (keyedBehind strict (m - keysIn (headOf (line strict p))) ps) (p ∷ ps)) (lt-ltb 0 m h) ∙ ap (λ j. keyedBehind strict j ps) e
 
--- the lines of the block, and those from the offset after it on
-pub block-split : (t : List ℕ) (m at : ℕ) → linesFrom at (drop at t) ≡ take m (linesFrom at (drop at t)) ++ linesFrom (afterLines m at t) (drop (afterLines m at t) t)
-unfolding afterLines
-block-split t zero at = refl
-block-split t (suc m) at = go (ltb at (length t)) refl (block-split t m (at + firstLine (drop at t) .next))
+  pub front-behind : (m : ℕ) (ps : List Piece) → ps ≡ keyedFront strict m ps ++ keyedBehind strict m ps
+  unfolding keyedFront keyedBehind
+  front-behind m [] = refl
+  front-behind m (p ∷ ps) = go (ltb 0 m) (front-behind (m - keysIn (headOf (line strict p))) ps)
+    where
+      go : (b : Bool) → (let k : ℕ = m - keysIn (headOf (line strict p)) in ps ≡ keyedFront strict k ps ++ keyedBehind strict k ps)
+          → let k : ℕ = m - keysIn (headOf (line strict p)) in
+          p ∷ ps ≡ cond b (p ∷ keyedFront strict k ps) [] ++ cond b (keyedBehind strict k ps) (p ∷ ps)
+      go true ih = ap (λ l. p ∷ l) ih
+      go false ih = refl
+
+-- the lines from an offset on start there
+pub start-ahead : (t : List ℕ) (at : ℕ) → at ≤ length t → startOf (length t) (linesFrom at (drop at t)) ≡ at
+unfolding startOf firstAt
+start-ahead t at l = go (ltb at (length t)) refl
   where
-    go : (b : Bool) → ltb at (length t) ≡ b
-        → (let next : ℕ = at + firstLine (drop at t) .next in linesFrom next (drop next t) ≡ take m (linesFrom next (drop next t)) ++ linesFrom (afterLines m next t) (drop (afterLines m next t) t))
-        → let end : ℕ = cond b (afterLines m (at + firstLine (drop at t) .next) t) at in
-        linesFrom at (drop at t) ≡ take (suc m) (linesFrom at (drop at t)) ++ linesFrom end (drop end t)
-    go true e ih = rw (ahead-one t at (ltb-true at (length t) e)) (ap (λ l. firstAt at t ∷ l) ih)
-    go false e ih = rw (ahead-none t at (ltb-false at (length t) e)) refl
+    go : (b : Bool) → ltb at (length t) ≡ b → startOf (length t) (linesFrom at (drop at t)) ≡ at
+    go true e = ap (startOf (length t)) (ahead-one t at (ltb-true at (length t) e))
+    go false e = ap (startOf (length t)) (ahead-none t at (ltb-false at (length t) e)) ∙ (let z : length t ≡ at = omega (arith, l, ltb-false at (length t) e) in z)
+
+module _ (t : List ℕ) (at : ℕ) (strict : Bool) where
+  pub after-end : (m : ℕ) → at ≡ length t → afterKeyed strict m at t ≡ at
+  unfolding afterKeyed startOf keyedBehind
+  after-end m e = ap (λ l. startOf (length t) (keyedBehind strict m l)) (ahead-none t at (omega (arith, e))) ∙ sym e
+
+  pub after-none : (m : ℕ) → m ≡ 0 → at ≤ length t → afterKeyed strict m at t ≡ at
+  unfolding afterKeyed
+  after-none m e l = ap (startOf (length t)) (behind-all strict m e (linesFrom at (drop at t))) ∙ start-ahead t at l
+
+  pub after-on : (m k : ℕ) → 0 < m → m - keysIn (headOf (line strict (firstAt at t))) ≡ k → at < length t → afterKeyed strict m at t ≡ afterKeyed strict k (at + firstLine (drop at t) .next) t
+  unfolding afterKeyed
+  after-on m k p e h =
+      let next : ℕ = at + firstLine (drop at t) .next in
+      ap (λ l. startOf (length t) (keyedBehind strict m l)) (ahead-one t at h) ∙ ap (startOf (length t)) (behind-one strict (firstAt at t) (linesFrom next (drop next t)) m k p e)
+
+  module _ (slots : List ℕ) where
+    pub entered-end : (m : ℕ) → length t ≤ at → entered strict t slots (keyedFront strict m (linesFrom at (drop at t))) ≡ slots
+    unfolding entered keyedFront
+    entered-end m h = ap (λ l. entered strict t slots (keyedFront strict m l)) (ahead-none t at h)
+
+    pub entered-none : (m : ℕ) → m ≡ 0 → entered strict t slots (keyedFront strict m (linesFrom at (drop at t))) ≡ slots
+    unfolding entered
+    entered-none m e = ap (entered strict t slots) (front-none strict m e (linesFrom at (drop at t)))
+
+    pub entered-on : (m k : ℕ) → 0 < m → m - keysIn (headOf (line strict (firstAt at t))) ≡ k → at < length t
+        → entered strict t slots (keyedFront strict m (linesFrom at (drop at t)))
+        ≡ entered strict t (afterMeeting true t slots (headOf (line strict (firstAt at t)))) (keyedFront strict k (linesFrom (at + firstLine (drop at t) .next) (drop (at + firstLine (drop at t) .next) t)))
+    unfolding entered
+    entered-on m k p e h =
+        let next : ℕ = at + firstLine (drop at t) .next in
+        ap (λ l. entered strict t slots (keyedFront strict m l)) (ahead-one t at h) ∙ ap (entered strict t slots) (front-one strict (firstAt at t) (linesFrom next (drop next t)) m k p e)
+
+module _ (strict : Bool) (t : List ℕ) where
+  -- the lines behind the block are those from the offset after it on
+  abbrev Behind : ℕ → ℕ → Type 0
+  Behind m at = keyedBehind strict m (linesFrom at (drop at t)) ≡ linesFrom (afterKeyed strict m at t) (drop (afterKeyed strict m at t) t)
+
+  behind-end : (m at : ℕ) → at ≡ length t → Behind m at
+  unfolding keyedBehind
+  behind-end m at e =
+      ap (keyedBehind strict m) (ahead-none t at (omega (arith, e))) ∙ sym (ahead-none t at (omega (arith, e))) ∙ ap (λ k. linesFrom k (drop k t)) (sym (after-end t at strict m e))
+
+  behind-ahead : (f m at : ℕ) → at ≤ length t → length t ≤ at + f → Behind m at
+  behind-ahead zero m at l h = behind-end m at (omega (arith, l, h))
+  behind-ahead (suc f) m at l h = go (ltb at (length t)) refl (ltb 0 m) refl (λ k n d. behind-ahead f k (at + firstLine (drop at t) .next) n d)
+    where
+      go : (b : Bool) → ltb at (length t) ≡ b → (c : Bool) → ltb 0 m ≡ c
+          → ((k : ℕ) → at + firstLine (drop at t) .next ≤ length t → length t ≤ at + firstLine (drop at t) .next + f → Behind k (at + firstLine (drop at t) .next)) → Behind m at
+      go false e c d ih = behind-end m at (omega (arith, l, ltb-false at (length t) e))
+      go true e false d ih =
+          let z : m ≡ 0 = omega (arith, ltb-false 0 m d) in
+          behind-all strict m z (linesFrom at (drop at t)) ∙ ap (λ k. linesFrom k (drop k t)) (sym (after-none t at strict m z l))
+      go true e true d ih =
+          let i : at < length t = ltb-true at (length t) e in
+          let next : ℕ = at + firstLine (drop at t) .next in
+          let k : ℕ = m - keysIn (headOf (line strict (firstAt at t))) in
+          ap (keyedBehind strict m) (ahead-one t at i)
+          ∙ behind-one strict (firstAt at t) (linesFrom next (drop next t)) m k (ltb-true 0 m d) refl
+          ∙ ih k (next-within t at i) (omega (arith, h, next-more t at i))
+          ∙ ap (λ k. linesFrom k (drop k t)) (sym (after-on t at strict m k (ltb-true 0 m d) refl i))
+
+  -- the lines of the block, and those from the offset after it on
+  pub block-split : (m at : ℕ) → at ≤ length t
+      → linesFrom at (drop at t) ≡ keyedFront strict m (linesFrom at (drop at t)) ++ linesFrom (afterKeyed strict m at t) (drop (afterKeyed strict m at t) t)
+  block-split m at l = front-behind strict m (linesFrom at (drop at t)) ∙ ap (λ l. keyedFront strict m (linesFrom at (drop at t)) ++ l) (behind-ahead (length t) m at l (omega arith))
 
 -- ---- the lines before it
 

@@ -1,5 +1,5 @@
 -- A block of lines, and the slots that tell where its keys stood first.
-use Prim.Native.Nat.{ℕ, zero, suc, _+_, _*_, _/_}
+use Prim.Native.Nat.{ℕ, _-_, _*_, _/_}
 use mathlib.Core.Bool.{Bool, true, cond}
 use mathlib.Core.List.{List, [], _∷_, _++_}
 use lib.ListN.{length, take, drop, replicate}
@@ -8,6 +8,8 @@ use Rattle.format.specs.Lines.{Piece, linesFrom}
 use Rattle.format.specs.Records.{Record, Line, refused, read, line}
 use Rattle.text.specs.First.{firstLine}
 use Rattle.record.specs.Head.{headOf}
+use Rattle.record.specs.declared.Head.{Head}
+use Rattle.record.specs.declared.Head.the-variants as head
 use Rattle.key_index.specs.Told.{afterMeeting, afterPointing}
 
 -- the line at an offset, without its ending
@@ -15,11 +17,36 @@ unfoldable pub firstAt : ℕ → List ℕ → Piece
 unfolding firstLine
 firstAt at t = record { at = at; bytes = take (firstLine (drop at t) .len) (drop at t) }
 
--- the offset after so many lines, or the end of the text
-unfoldable pub afterLines : ℕ → ℕ → List ℕ → ℕ
-unfolding firstLine
-afterLines zero at t = at
-afterLines (suc n) at t = cond (ltb at (length t)) (afterLines n (at + firstLine (drop at t) .next) t) at
+-- how many keys a head has that may enter
+unfoldable pub keysIn : Head → ℕ
+keysIn (head.Refused n) = 0
+keysIn (head.Header v n) = 0
+keysIn (head.ReferenceSequence p l n) = 1
+keysIn (head.ReadGroup p n) = 1
+keysIn (head.Program p n) = 1
+keysIn (head.Comment p) = 0
+
+-- of some lines those up to the one with the `n`-th key, or all where there are fewer
+unfoldable pub keyedFront : Bool → ℕ → List Piece → List Piece
+unfolding keysIn headOf line
+keyedFront strict n [] = []
+keyedFront strict n (p ∷ ps) = cond (ltb 0 n) (p ∷ keyedFront strict (n - keysIn (headOf (line strict p))) ps) []
+
+-- and those behind them
+unfoldable pub keyedBehind : Bool → ℕ → List Piece → List Piece
+unfolding keysIn headOf line
+keyedBehind strict n [] = []
+keyedBehind strict n (p ∷ ps) = cond (ltb 0 n) (keyedBehind strict (n - keysIn (headOf (line strict p))) ps) (p ∷ ps)
+
+-- the offset of the first of some lines, or `end` where there is none
+unfoldable pub startOf : ℕ → List Piece → ℕ
+startOf end [] = end
+startOf end (p ∷ ps) = p .at
+
+-- the offset after the lines from `at` on up to the one with the `n`-th key, or the end of the text
+unfoldable pub afterKeyed : Bool → ℕ → ℕ → List ℕ → ℕ
+unfolding keyedBehind linesFrom startOf
+afterKeyed strict n at t = startOf (length t) (keyedBehind strict n (linesFrom at (drop at t)))
 
 -- of some lines, in the order of the text, those that start before the offset `to`
 unfoldable pub earlier : ℕ → List Piece → List Piece
@@ -50,6 +77,6 @@ pointedBack strict t slots (p ∷ ps) = pointedBack strict t (afterPointing t sl
 
 -- `n` slots for the block of lines from the offset `at` on, after the lines from `from` on
 unfoldable pub filledFor : Bool → List ℕ → ℕ → ℕ → ℕ → List ℕ
-unfolding entered pointedBack earlier linesFrom
+unfolding entered pointedBack keyedFront earlier linesFrom
 filledFor strict t n from at =
-    pointedBack strict t (entered strict t (replicate n 0) (take (n / 4 * 3) (linesFrom at (drop at t)))) (earlier at (linesFrom from (drop from t)))
+    pointedBack strict t (entered strict t (replicate n 0) (keyedFront strict (n / 4 * 3) (linesFrom at (drop at t)))) (earlier at (linesFrom from (drop from t)))

@@ -3,12 +3,12 @@
 use record::Head;
 ghost use mathlib.Core.Path.{_≡_};
 ghost use Prim.Native.Nat.{_≤_, _<_, _+_, _*_, _/_};
-ghost use lib.ListN.{length, take, drop};
+ghost use lib.ListN.{length, drop};
 ghost use Rattle.format.specs.Lines.{linesFrom};
 ghost use Rattle.format.specs.Records.{line};
 ghost use Rattle.text.specs.First.{firstLine};
 ghost use Rattle.record.specs.Head.{headOf};
-ghost use Rattle.first_keys.specs.Blocks.{firstAt, afterLines, earlier, entered, pointedBack, filledFor};
+ghost use Rattle.first_keys.specs.Blocks.{firstAt, keysIn, keyedFront, afterKeyed, earlier, entered, pointedBack, filledFor};
 
 // A line's head, and the offset of the line after it.
 struct Parsed {
@@ -32,13 +32,28 @@ fn parse_at(text: &[u8], strict: bool, at: usize) -> Parsed
     }
 }
 
-// The keys of up to `many` lines from the offset `at` on enter the area, of equal ones the first; the offset after these lines.
+// How many keys a head has that may enter: one, or none.
+fn keys_in(head: Head) -> usize
+    ensures { λ r. ⌜ r ≡ keysIn head ⌝ }
+{
+    match head {
+        Head::Refused(_) => 0,
+        Head::Header(_, _) => 0,
+        Head::ReferenceSequence(_, _, _) => 1,
+        Head::ReadGroup(_, _) => 1,
+        Head::Program(_, _) => 1,
+        Head::Comment(_) => 0,
+    }
+}
+
+// The keys of the lines from the offset `at` on, up to the one with the `many`-th key, enter the area, of equal ones the first; the offset
+// after these lines.
 fn enter(text: &[u8], strict: bool, area: &mut [u32], at: usize, many: usize) -> usize
     requires { ⌜ length (now text) ≤ 16777216 ⌝ }
     requires { ⌜ 0 < length (now area) ⌝ }
     requires { ⌜ at ≤ length (now text) ⌝ }
-    ensures end { λ r. ⌜ r ≡ afterLines many at (now (text .entry)) ⌝ }
-    ensures wrote { λ _. ⌜ now (area .exit) ≡ entered strict (now (text .entry)) (now (area .entry)) (take many (linesFrom at (drop at (now (text .entry))))) ⌝ }
+    ensures end { λ r. ⌜ r ≡ afterKeyed strict many at (now (text .entry)) ⌝ }
+    ensures wrote { λ _. ⌜ now (area .exit) ≡ entered strict (now (text .entry)) (now (area .entry)) (keyedFront strict many (linesFrom at (drop at (now (text .entry))))) ⌝ }
 {
     let mut end = at;
     let mut n: usize = 0;
@@ -50,7 +65,7 @@ fn enter(text: &[u8], strict: bool, area: &mut [u32], at: usize, many: usize) ->
         let head = parsed.head;
         key_index::meet(text, area, head, true);
         end = parsed.next;
-        n += 1;
+        n += keys_in(head);
     }
     end
 }
@@ -71,13 +86,13 @@ fn point_back(text: &[u8], strict: bool, area: &mut [u32], from: usize, to: usiz
     }
 }
 
-// Fills the area for the block of lines from the offset `at` on, three lines for each four slots, after the lines from `from` on: whether a
-// line of the block has its key for the first time is told by `key_index::is_first` from now on. The offset after the block.
+// Fills the area for the block of lines from the offset `at` on, three with a key for each four slots, after the lines from `from` on:
+// whether a line of the block has its key for the first time is told by `key_index::is_first` from now on. The offset after the block.
 pub fn fill(text: &[u8], strict: bool, area: &mut [u32], from: usize, at: usize) -> usize
     requires { ⌜ length (now text) ≤ 16777216 ⌝ }
     requires { ⌜ 0 < length (now area) ⌝ }
     requires { ⌜ at ≤ length (now text) ⌝ }
-    ensures end { λ r. ⌜ r ≡ afterLines (length (now (area .entry)) / 4 * 3) at (now (text .entry)) ⌝ }
+    ensures end { λ r. ⌜ r ≡ afterKeyed strict (length (now (area .entry)) / 4 * 3) at (now (text .entry)) ⌝ }
     ensures wrote { λ _. ⌜ now (area .exit) ≡ filledFor strict (now (text .entry)) (length (now (area .entry))) from at ⌝ }
 {
     key_index::clear(area);

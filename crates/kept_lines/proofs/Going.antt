@@ -4,10 +4,10 @@ use mathlib.Core.Path.{_≡_, refl, sym, ap, subst, _∙_}
 use mathlib.Core.Bool.{Bool, true, false, not, cond}
 use mathlib.Core.List.{List, [], _∷_, _++_, map, append-assoc, append-nil}
 use native.Mathlib.Omega.{arith}
-use lib.ListN.{length, take, drop, length-append}
+use lib.ListN.{length, drop, getD, length-append}
 use lib.Seq.{drop-at}
 use lib.Dec.{eqb, leb, ltb}
-use borrow.Author.Tests.{ltb-true, ltb-false}
+use borrow.Author.Tests.{eqb-true, eqb-false, ltb-true, ltb-false}
 use Rattle.format.specs.Bytes.{any}
 use Rattle.format.specs.Lines.{Piece, linesFrom}
 use Rattle.format.specs.Records as records
@@ -33,13 +33,13 @@ use Rattle.key_index.specs.Keyed.{keysOf, Ended}
 use Rattle.key_index.proofs.Keyed.{meeting-length}
 use Rattle.key_index.proofs.Ahead.{ahead-stands}
 use Rattle.key_index.proofs.LineKeys.{line-ended}
-use Rattle.first_keys.specs.Blocks.{firstAt, recordsOf, readIn, filledFor}
-use Rattle.first_keys.proofs.Walk.{ahead-one, next-within, next-more}
+use Rattle.first_keys.specs.Blocks.{firstAt, keysIn, keyedFront, startOf, afterKeyed, recordsOf, readIn, filledFor}
+use Rattle.first_keys.proofs.Walk.{ahead-none, ahead-one, next-within, next-more, front-one, start-ahead, block-split}
 use Rattle.first_keys.proofs.Firsts.{firsts}
-use Rattle.kept_lines.specs.Kept.{usedBy, idsAfter, leftAt, filledAt, advanced}
+use Rattle.kept_lines.specs.Kept.{usedBy, idsAfter, untilAt, filledAt, advanced}
 use Rattle.kept_lines.specs.Going.{judgedLines, refusalFirst, refusalAt, Block, Going}
 use Rattle.kept_lines.specs.declared.Cursor.{Cursor}
-use Rattle.kept_lines.proofs.Kept.{advanced-kept, advanced-skipped, left-some, left-none, filled-some, filled-none, filled-length}
+use Rattle.kept_lines.proofs.Kept.{advanced-kept, advanced-skipped, until-same, until-next, filled-same, filled-next, filled-length}
 use Rattle.kept_lines.proofs.Ids.{met-taken, kept-ended, kept-held, kept-few, skipped-ids}
 
 -- the lines from a place on
@@ -56,10 +56,6 @@ unfolding keptOf
 kept-less [] = omega arith
 kept-less (refused n ∷ ls) = omega (arith, kept-less ls)
 kept-less (read r ∷ ls) = omega (arith, kept-less ls)
-
-take-more : (n : ℕ) (p : Piece) (ps : List Piece) → 0 < n → take n (p ∷ ps) ≡ p ∷ take (n - 1) ps
-take-more zero p ps h = absurd (omega arith)
-take-more (suc n) p ps h = ap (λ m. p ∷ take m ps) (let z : n ≡ suc n - 1 = omega arith in z)
 
 read-kept : (strict : Bool) (ps : List Piece) → readIn strict ps ≡ keptOf (map (records.line strict) ps)
 unfolding readIn keptOf recordsOf
@@ -88,43 +84,73 @@ module _ (strict : Bool) (t : List ℕ) (from : ℕ) (area ids : List ℕ) (c : 
   -- ---- the block
 
   abbrev filled : List ℕ
-  filled = filledAt strict t from area (c .at) (c .left)
+  filled = filledAt strict t from area (c .at) (c .until)
 
-  abbrev left : ℕ
-  left = leftAt (length area) (c .left)
+  abbrev until : ℕ
+  until = untilAt strict t (length area) (c .at) (c .until)
 
   pub filled-long : length filled ≡ length area
-  filled-long = go (ltb 0 (c .left)) refl
+  filled-long = go (eqb (c .at) (c .until)) refl
     where
-      go : (b : Bool) → ltb 0 (c .left) ≡ b → length filled ≡ length area
-      go true e = ap length (filled-some strict t from area (c .at) (c .left) (ltb-true 0 (c .left) e))
-      go false e = ap length (filled-none strict t from area (c .at) (c .left) (omega (arith, ltb-false 0 (c .left) e))) ∙ filled-length strict t (length area) from (c .at)
+      go : (b : Bool) → eqb (c .at) (c .until) ≡ b → length filled ≡ length area
+      go true e = ap length (filled-next strict t (c .at) (c .until) from area (eqb-true (c .at) (c .until) e)) ∙ filled-length strict t (length area) from (c .at)
+      go false e = ap length (filled-same strict t (c .at) (c .until) from area (eqb-false (c .at) (c .until) e))
 
-  pub left-more : 0 < left
-  left-more = go (ltb 0 (c .left)) refl
-    where
-      go : (b : Bool) → ltb 0 (c .left) ≡ b → 0 < left
-      go true e = rw (left-some (length area) (c .left) (ltb-true 0 (c .left) e)) (ltb-true 0 (c .left) e)
-      go false e = rw (left-none (length area) (c .left) (omega (arith, ltb-false 0 (c .left) e))) (omega (arith, g .some))
+  -- where it begins, and this line is in it
+  fresh : c .at ≡ c .until → (k : Block strict t from filled (g .passed) (c .at) until) × (0 < length (k .rest))
+  fresh e =
+      let m : ℕ = length area / 4 * 3 in
+      let u : until ≡ afterKeyed strict m (c .at) t = until-next strict t (c .at) (c .until) (length area) e in
+      let front : keyedFront strict m (ahead t (c .at)) ≡ p ∷ keyedFront strict (m - keysIn (headOf (records.line strict p))) (ahead t next) =
+      ap (keyedFront strict m) (ahead-one t (c .at) h) ∙ front-one strict p (ahead t next) m (m - keysIn (headOf (records.line strict p))) (omega (arith, g .some)) refl in (
+        record {
+          begin = c .at;
+          old = g .passed;
+          done = [];
+          rest = keyedFront strict m (ahead t (c .at));
+          split = g .split;
+          front = sym (append-nil (g .passed));
+          lines = ap (λ n. keyedFront strict (n / 4 * 3) (ahead t (c .at))) filled-long;
+          ahead = block-split strict t m (c .at) (g .inside) ∙ ap (λ n. keyedFront strict m (ahead t (c .at)) ++ ahead t n) (sym u);
+          filled = filled-next strict t (c .at) (c .until) from area e ∙ ap (λ n. filledFor strict t n from (c .at)) (sym filled-long);
+        },
+        omega (arith, ap length front),
+      )
 
-  block : Block strict t from filled (g .passed) (c .at) left
-  block = go (ltb 0 (c .left)) refl
+  -- lines from another place on are others
+  apart : (c .at ≡ c .until → ⊥) → ahead t (c .at) ≡ ahead t (c .until) → ⊥
+  apart n e = go (ltb (c .until) (length t)) refl
     where
-      go : (b : Bool) → ltb 0 (c .left) ≡ b → Block strict t from filled (g .passed) (c .at) left
-      go true e =
-          let s = ltb-true 0 (c .left) e in
-          rw (filled-some strict t from area (c .at) (c .left) s, left-some (length area) (c .left) s) (g .block s)
-      go false e =
-          let z : c .left ≡ 0 = omega (arith, ltb-false 0 (c .left) e) in
-          record {
-            begin = c .at;
-            old = g .passed;
-            done = [];
-            split = g .split;
-            front = sym (append-nil (g .passed));
-            lines = ap (λ n. take n (ahead t (c .at))) (ap (λ n. n / 4 * 3) filled-long ∙ sym (left-none (length area) (c .left) z));
-            filled = filled-none strict t from area (c .at) (c .left) z ∙ ap (λ n. filledFor strict t n from (c .at)) (sym filled-long);
-          }
+      go : (b : Bool) → ltb (c .until) (length t) ≡ b → ⊥
+      go true q = n (sym (start-ahead t (c .at) (g .inside)) ∙ ap (startOf (length t)) e ∙ start-ahead t (c .until) (omega (arith, ltb-true (c .until) (length t) q)))
+      go false q = let z : suc (length (ahead t next)) ≡ 0 = ap length (sym (ahead-one t (c .at) h) ∙ e ∙ ahead-none t (c .until) (ltb-false (c .until) (length t) q)) in omega (arith, z)
+
+  -- or is not left yet
+  same : (c .at ≡ c .until → ⊥) → (k : Block strict t from filled (g .passed) (c .at) until) × (0 < length (k .rest))
+  same n =
+      rw (filled-same strict t (c .at) (c .until) from area n, until-same strict t (c .at) (c .until) (length area) n) (g .block n, some (g .block n .rest) (g .block n .ahead))
+    where
+      some : (rest : List Piece) → ahead t (c .at) ≡ rest ++ ahead t (c .until) → 0 < length rest
+      some [] e = absurd (apart n e)
+      some (q ∷ rest) e = omega arith
+
+  inside : (k : Block strict t from filled (g .passed) (c .at) until) × (0 < length (k .rest))
+  inside = go (eqb (c .at) (c .until)) refl
+    where
+      go : (b : Bool) → eqb (c .at) (c .until) ≡ b → (k : Block strict t from filled (g .passed) (c .at) until) × (0 < length (k .rest))
+      go true e = fresh (eqb-true (c .at) (c .until) e)
+      go false e = same (eqb-false (c .at) (c .until) e)
+
+  abbrev block : Block strict t from filled (g .passed) (c .at) until
+  block = inside .0
+
+  -- this line is the first of those left
+  rest-one : (rest : List Piece) (us : List Piece) → 0 < length rest → p ∷ ahead t next ≡ rest ++ us → (qs : List Piece) × (rest ≡ p ∷ qs) × (ahead t next ≡ qs ++ us)
+  rest-one [] us s e = absurd (omega (arith, s))
+  rest-one (q ∷ qs) us s e = (qs, ap (λ y. y ∷ qs) (sym (ap (λ x. getD x 0 q) e)), ap (drop 1) e)
+
+  after : (qs : List Piece) × (block .rest ≡ p ∷ qs) × (ahead t next ≡ qs ++ ahead t until)
+  after = rest-one (block .rest) (ahead t until) (inside .1) (sym (ahead-one t (c .at) h) ∙ block .ahead)
 
   -- ---- the line's key
 
@@ -140,11 +166,9 @@ module _ (strict : Bool) (t : List ℕ) (from : ℕ) (area ids : List ℕ) (c : 
   unfolding any
   first-used r is a b =
       let k = block in
-      let rest : List Piece = take (left - 1) (ahead t next) in
-      let lines : take (length filled / 4 * 3) (ahead t (k .begin)) ≡ k .done ++ (p ∷ rest) =
-      k .lines ∙ ap (λ l. k .done ++ l) (ap (take left) (ahead-one t (c .at) h) ∙ take-more left p (ahead t next) left-more) in
+      let lines : keyedFront strict (length filled / 4 * 3) (ahead t (k .begin)) ≡ k .done ++ (p ∷ after .0) = k .lines ∙ ap (λ l. k .done ++ l) (after .1) in
       ap (λ s. not (isFirst t s (recordHead r))) (k .filled)
-      ∙ ap not (firsts strict t (length filled) from (k .begin) (k .old) (k .done) rest p (k .split) lines small r is)
+      ∙ ap not (firsts strict t (length filled) from (k .begin) (k .old) (k .done) (after .0) p (k .split) lines small r is)
       ∙ not-not (any (clash r) (readIn strict (k .old ++ k .done)))
       ∙ ap (any (clash r)) (ap (readIn strict) (sym (k .front)) ∙ read-kept strict (g .passed))
       ∙ sym (key-lines strict r a b [] (g .passed))
@@ -206,19 +230,18 @@ module _ (strict : Bool) (t : List ℕ) (from : ℕ) (area ids : List ℕ) (c : 
   split-on : ahead t from ≡ passed ++ ahead t next
   split-on = g .split ∙ ap (λ l. g .passed ++ l) (ahead-one t (c .at) h) ∙ sym (append-assoc (g .passed) (p ∷ []) (ahead t next))
 
-  block-on : Block strict t from filled passed next (left - 1)
+  block-on : Block strict t from filled passed next until
   block-on =
       let k = block in
       record {
         begin = k .begin;
         old = k .old;
         done = k .done ++ (p ∷ []);
+        rest = after .0;
         split = k .split;
         front = ap (λ l. l ++ (p ∷ [])) (k .front) ∙ append-assoc (k .old) (k .done) (p ∷ []);
-        lines =
-            k .lines
-            ∙ ap (λ l. k .done ++ l) (ap (take left) (ahead-one t (c .at) h) ∙ take-more left p (ahead t next) left-more)
-            ∙ sym (append-assoc (k .done) (p ∷ []) (take (left - 1) (ahead t next)));
+        lines = k .lines ∙ ap (λ l. k .done ++ l) (after .1) ∙ sym (append-assoc (k .done) (p ∷ []) (after .0));
+        ahead = after .2;
         filled = k .filled;
       }
 
@@ -235,14 +258,14 @@ module _ (strict : Bool) (t : List ℕ) (from : ℕ) (area ids : List ℕ) (c : 
   slots = idsAfter (ltb (c .programs) 1024) t ids x
 
   -- it is skipped
-  going-skipped : (n : ℕ) → n ≡ refusalOf (admitted strict before p) → (n ≡ 0 → ⊥) → Going strict t from filled slots (advanced c next left x n)
+  going-skipped : (n : ℕ) → n ≡ refusalOf (admitted strict before p) → (n ≡ 0 → ⊥) → Going strict t from filled slots (advanced c next until x n)
   unfolding keptOf
   going-skipped n e s =
       let k : keptOf (judgedFrom strict [] passed) ≡ before = kept-on ∙ ap (λ l. before ++ keptOf (l ∷ [])) (refusal-some strict before p n (sym e) s) ∙ append-nil before in
       let same : slots ≡ ids =
       skipped-ids t ids before (g .room) (g .held) (g .ended) (c .programs) (g .told) (g .few) x
       (λ z. s (e ∙ sym barring-here ∙ z)) in
-      rw (advanced-skipped c next left x n s, same)
+      rw (advanced-skipped c next until x n s, same)
       (record {
         passed = passed;
         split = split-on;
@@ -260,7 +283,7 @@ module _ (strict : Bool) (t : List ℕ) (from : ℕ) (area ids : List ℕ) (c : 
       })
 
   -- it is kept
-  going-kept : 0 ≡ refusalOf (admitted strict before p) → Going strict t from filled slots (advanced c next left x 0)
+  going-kept : 0 ≡ refusalOf (admitted strict before p) → Going strict t from filled slots (advanced c next until x 0)
   unfolding keptOf headOf firstAt
   going-kept e =
       let a = refusal-none strict before p (sym e) in
@@ -272,7 +295,7 @@ module _ (strict : Bool) (t : List ℕ) (from : ℕ) (area ids : List ℕ) (c : 
       let free : barring (isTaken before t (recordHead r)) (length before) (c .programs) (recordHead r) ≡ 0 =
       ap (λ y. barring (isTaken before t y) (length before) (c .programs) y) (sym is) ∙ barring-here ∙ sym e in
       let long : length slots ≡ length ids = ids-length (ltb (c .programs) 1024) x in
-      rw (advanced-kept c next left x 0 refl)
+      rw (advanced-kept c next until x 0 refl)
       (record {
         passed = passed;
         split = split-on;
@@ -290,6 +313,6 @@ module _ (strict : Bool) (t : List ℕ) (from : ℕ) (area ids : List ℕ) (c : 
         block = λ _. block-on;
       })
 
-  pub going-on : (n : ℕ) → n ≡ refusalOf (admitted strict before p) → Going strict t from filled slots (advanced c next left x n)
+  pub going-on : (n : ℕ) → n ≡ refusalOf (admitted strict before p) → Going strict t from filled slots (advanced c next until x n)
   going-on zero e = going-kept e
   going-on (suc n) e = going-skipped (suc n) e (λ z. omega (arith, z))

@@ -1,9 +1,9 @@
 -- What holds where judging stands, among the lines from the offset `from` on.
-use Prim.Native.Nat.{ℕ, _*_, _/_, _≤_, _<_}
+use Prim.Native.Nat.{ℕ, _*_, _/_, _≤_}
 use mathlib.Core.Path.{_≡_}
 use mathlib.Core.Bool.{Bool}
 use mathlib.Core.List.{List, [], _∷_, _++_}
-use lib.ListN.{length, take, drop}
+use lib.ListN.{length, drop}
 use Rattle.format.specs.Lines.{Piece, linesFrom}
 use Rattle.format.specs.Records.{Line}
 use Rattle.format.specs.Reading.{ofKind}
@@ -14,7 +14,7 @@ use Rattle.carried.specs.Carrying.{keptOf}
 use Rattle.carried.specs.Judged.{judgedFrom}
 use Rattle.key_index.specs.Told.{start}
 use Rattle.key_index.specs.Keyed.{keysOf, Ended}
-use Rattle.first_keys.specs.Blocks.{filledFor}
+use Rattle.first_keys.specs.Blocks.{keyedFront, filledFor}
 use Rattle.kept_lines.specs.declared.Cursor.{Cursor}
 
 -- the lines from an offset on, each judged
@@ -33,14 +33,17 @@ unfoldable pub refusalAt : ℕ → List Line → ℕ
 unfolding refusalFirst
 refusalAt n ls = refusalFirst (drop n ls)
 
--- the block: the area is filled for the lines from the offset `begin` on, of which `done` are judged, after the lines `old`
-pub record Block (strict : Bool) (t : List ℕ) (from : ℕ) (area : List ℕ) (passed : List Piece) (at left : ℕ) : Type 0 where
+-- the block: the area is filled for the lines from the offset `begin` on and before `until`, of which `done` are judged and `rest` are
+-- not, after the lines `old`
+pub record Block (strict : Bool) (t : List ℕ) (from : ℕ) (area : List ℕ) (passed : List Piece) (at until : ℕ) : Type 0 where
   pub begin : ℕ
   pub old : List Piece
   pub done : List Piece
+  pub rest : List Piece
   pub split : linesFrom from (drop from t) ≡ old ++ linesFrom begin (drop begin t)
   pub front : passed ≡ old ++ done
-  pub lines : take (length area / 4 * 3) (linesFrom begin (drop begin t)) ≡ done ++ take left (linesFrom at (drop at t))
+  pub lines : keyedFront strict (length area / 4 * 3) (linesFrom begin (drop begin t)) ≡ done ++ rest
+  pub ahead : linesFrom at (drop at t) ≡ rest ++ linesFrom until (drop until t)
   pub filled : area ≡ filledFor strict t (length area) from begin
 
 pub record Going (strict : Bool) (t : List ℕ) (from : ℕ) (area ids : List ℕ) (c : Cursor) : Type 0 where
@@ -56,4 +59,4 @@ pub record Going (strict : Bool) (t : List ℕ) (from : ℕ) (area ids : List �
   pub few : c .programs ≤ 1024
   pub some : 4 ≤ length area
   pub room : length ids ≡ 2048
-  pub block : 0 < c .left → Block strict t from area passed (c .at) (c .left)
+  pub block : (c .at ≡ c .until → ⊥) → Block strict t from area passed (c .at) (c .until)

@@ -1,22 +1,20 @@
 // Carrying on, line by line from the first that is kept: each line is judged after the lines that were kept before it.
 use record::Head;
 ghost use mathlib.Core.Path.{_≡_};
-ghost use mathlib.Core.Bool.{Bool};
-ghost use mathlib.Core.List.{List};
-ghost use Prim.Native.Nat.{_≤_, _<_, _+_, _*_, _/_};
-ghost use lib.ListN.{length, take, drop};
+ghost use Prim.Native.Nat.{_≤_, _<_, _+_};
+ghost use lib.ListN.{length, drop};
 ghost use lib.Dec.{ltb};
 ghost use Rattle.text.specs.First.{firstLine};
 ghost use Rattle.key_index.specs.Keyed.{Placed};
-ghost use Rattle.kept_lines.specs.Kept.{usedBy, idsAfter, advanced, filledAt, leftAt};
+ghost use Rattle.kept_lines.specs.Kept.{usedBy, idsAfter, advanced, filledAt, untilAt};
 ghost use Rattle.kept_lines.specs.Going.{Going, judgedLines, refusalAt};
 
-// Where judging stands: the offset of the next line, how many lines are judged, how many are left in the block for which the area is
-// filled, and how many lines, and programs among them, are kept.
+// Where judging stands: the offset of the next line, how many lines are judged, the offset where the block ends for which the area is
+// filled, and how many lines, and programs among them, are kept. Where judging begins no block has begun, and both offsets are the same.
 pub struct Cursor {
     pub at: usize,
     pub line: usize,
-    pub left: usize,
+    pub until: usize,
     pub kept: usize,
     pub programs: usize,
 }
@@ -42,30 +40,29 @@ fn is_used(text: &[u8], area: &[u32], ids: &mut [u32], head: Head, programs: usi
     }
 }
 
-// Where a block begins the area is filled for it. How many of its lines are left.
-fn turn(text: &[u8], strict: bool, from: usize, area: &mut [u32], at: usize, left: usize) -> usize
+// At the end of a block, `until`, the next one begins, and the area is filled for it. The offset where the block ends that the line is in.
+fn turn(text: &[u8], strict: bool, from: usize, area: &mut [u32], at: usize, until: usize) -> usize
     requires { ⌜ length (now text) ≤ 16777216 ⌝ }
     requires { ⌜ 4 ≤ length (now area) ⌝ }
     requires { ⌜ at ≤ length (now text) ⌝ }
-    ensures left { λ r. ⌜ r ≡ leftAt (length (now (area .entry))) left ⌝ }
-    ensures wrote { λ _. ⌜ now (area .exit) ≡ filledAt strict (now (text .entry)) from (now (area .entry)) at left ⌝ }
+    ensures until { λ r. ⌜ r ≡ untilAt strict (now (text .entry)) (length (now (area .entry))) at until ⌝ }
+    ensures wrote { λ _. ⌜ now (area .exit) ≡ filledAt strict (now (text .entry)) from (now (area .entry)) at until ⌝ }
 {
-    if 0 < left {
-        return left;
+    if at != until {
+        return until;
     }
-    first_keys::fill(text, strict, area, from, at);
-    area.len() / 4 * 3
+    first_keys::fill(text, strict, area, from, at)
 }
 
 // After a line with this head, which ends before `next`; `n` is 0 where it is kept.
-fn advance(c: Cursor, next: usize, left: usize, head: Head, n: u8) -> Cursor
-    requires { ⌜ (c .line < 16777216) × (c .kept < 16777216) × (c .programs < 16777216) × (0 < left) ⌝ }
-    ensures { λ r. ⌜ r ≡ advanced c next left head n ⌝ }
+fn advance(c: Cursor, next: usize, until: usize, head: Head, n: u8) -> Cursor
+    requires { ⌜ (c .line < 16777216) × (c .kept < 16777216) × (c .programs < 16777216) ⌝ }
+    ensures { λ r. ⌜ r ≡ advanced c next until head n ⌝ }
 {
     let mut after = c;
     after.at = next;
     after.line = c.line + 1;
-    after.left = left - 1;
+    after.until = until;
     if n == 0 {
         after.kept = c.kept + 1;
         after.programs = c.programs + admission::programs_of(head);
@@ -94,7 +91,7 @@ pub fn next_line(
     ensures room2 { λ _. ⌜ length (now (ids .exit)) ≡ length (now (ids .entry)) ⌝ }
 {
     let at = c.at;
-    let left = turn(text, strict, from, area, at, c.left);
+    let until = turn(text, strict, from, area, at, c.until);
     let cut = text::first_line(&text[at..]);
     let end = at + cut.len;
     let head = record::parse_record(&text[at..end], at, strict);
@@ -103,6 +100,6 @@ pub fn next_line(
     Step {
         end,
         refusal: n,
-        next: advance(c, at + cut.next, left, head, n),
+        next: advance(c, at + cut.next, until, head, n),
     }
 }

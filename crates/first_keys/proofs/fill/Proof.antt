@@ -1,9 +1,9 @@
 -- `first_keys::fill` meets its contract: its three steps in a row.
 use Prim.Native.Nat.{ℕ, _*_, _/_}
 use mathlib.Core.Path.{_≡_, ap, ap₂, _∙_}
-use lib.ListN.{length, take, drop, length-replicate}
+use lib.ListN.{length, drop, length-replicate}
 use Rattle.format.specs.Lines.{linesFrom}
-use Rattle.first_keys.specs.Blocks.{afterLines, earlier, entered, pointedBack, filledFor}
+use Rattle.first_keys.specs.Blocks.{keyedFront, afterKeyed, earlier, entered, pointedBack, filledFor}
 use borrow.Author.Needs.{needs}
 use Rattle.first_keys.proofs.fill.Statement.{statement}
 use Rattle.first_keys.proofs.fill.Tie as tie
@@ -38,10 +38,10 @@ returns c =
     let t = a .text .now in
     let n : ℕ = length (a .area .now) in
     let long : length (k .clear .last .0) ≡ n = ap length (k .clear .ensures) ∙ length-replicate n 0 in (
-      e .enter .ensures .0 ∙ ap (λ m. afterLines (m / 4 * 3) (a .at) t) long,
+      e .enter .ensures .0 ∙ ap (λ m. afterKeyed (a .strict) (m / 4 * 3) (a .at) t) long,
       b .point-back .ensures
           ∙ ap (λ s. pointedBack (a .strict) t s (earlier (a .at) (linesFrom (a .from) (drop (a .from) t))))
-          (e .enter .ensures .1 ∙ ap₂ (λ s m. entered (a .strict) t s (take (m / 4 * 3) (linesFrom (a .at) (drop (a .at) t)))) (k .clear .ensures) long),
+          (e .enter .ensures .1 ∙ ap₂ (λ s m. entered (a .strict) t s (keyedFront (a .strict) (m / 4 * 3) (linesFrom (a .at) (drop (a .at) t)))) (k .clear .ensures) long),
     )
 
 pub fill-spec : {M : Type 1} → statement M

@@ -13,9 +13,6 @@ use Rattle.admission.proofs.programs_of.Reads as programs-of-reads
 add-after : tie.Need-add-after
 add-after c = search needs
 
-sub-after : tie.Need-sub-after
-sub-after c = search needs
-
 add-after-2 : tie.Need-add-after-2
 add-after-2 c = search needs
 
@@ -28,14 +25,14 @@ add-after-3 c = omega (arith, c .before .programs-of .ensures, programs-most (c 
 returns : tie.Need-returns
 returns c =
     let a = c .before .before .before .before .before .args in
-    rw (c .before .programs-of .ensures) (sym (advanced-kept (a .c) (a .next) (a .left) (a .head) (a .n) (c .before .before .before .if1 .taken)))
+    rw (c .before .programs-of .ensures) (sym (advanced-kept (a .c) (a .next) (a .until) (a .head) (a .n) (c .before .before .before .if1 .taken)))
 
 returns-2 : tie.Need-returns-2
 returns-2 c =
     let a = c .before .before .args in
-    sym (advanced-skipped (a .c) (a .next) (a .left) (a .head) (a .n) (c .if1 .left))
+    sym (advanced-skipped (a .c) (a .next) (a .until) (a .head) (a .n) (c .if1 .left))
 
 pub advance-spec : {M : Type 1} → statement M
 advance-spec =
     tie.close
-    (tie.spec add-after sub-after add-after-2 programs-of-requires add-after-3 returns returns-2)
+    (tie.spec add-after add-after-2 programs-of-requires add-after-3 returns returns-2)

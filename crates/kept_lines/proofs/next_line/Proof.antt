@@ -15,9 +15,9 @@ use Rattle.key_index.specs.Keyed.{Placed}
 use Rattle.key_index.proofs.Keyed.{head-placed}
 use Rattle.key_index.proofs.Ahead.{ahead-stands}
 use Rattle.first_keys.specs.Blocks.{firstAt}
-use Rattle.kept_lines.specs.Kept.{usedBy, idsAfter, leftAt, filledAt, advanced}
+use Rattle.kept_lines.specs.Kept.{usedBy, idsAfter, untilAt, filledAt, advanced}
 use Rattle.kept_lines.proofs.Kept.{advanced-to}
-use Rattle.kept_lines.proofs.Going.{filled-long, left-more, judged, refusal-here, going-on, ids-length, kept-lines, before}
+use Rattle.kept_lines.proofs.Going.{filled-long, judged, refusal-here, going-on, ids-length, kept-lines, before}
 use borrow.Author.Needs.{needs}
 use Rattle.kept_lines.proofs.next_line.Statement.{statement}
 use Rattle.kept_lines.proofs.next_line.Tie as tie
@@ -120,8 +120,7 @@ advance-requires c κs =
     let a = s .args in
     let g = s .pre .1 .0 in
     let most = kept-lines (a .strict) (a .text .now) (a .from) (a .area .now) (a .ids .now) (a .c) (s .pre .0) g (s .pre .1 .1) in
-    let more = left-more (a .strict) (a .text .now) (a .from) (a .area .now) (a .ids .now) (a .c) (s .pre .0) g (s .pre .1 .1) in
-    (omega (arith, g .slow, s .pre .0, s .pre .1 .1), omega (arith, most, g .slow, s .pre .0, s .pre .1 .1), omega (arith, g .few), omega (arith, c .before .before .before .before .before .before .before .before .before .before .before .before .before .before .turn .ensures .0, more))
+    (omega (arith, g .slow, s .pre .0, s .pre .1 .1), omega (arith, most, g .slow, s .pre .0, s .pre .1 .1), omega (arith, g .few))
 
 same-length : tie.Need-same-length
 same-length c = search needs
@@ -141,23 +140,34 @@ returns c =
     let t = a .text .now in
     let n = b .barred .result in
     let at-next : a .c .at + f .first-line .result .next ≡ a .c .at + firstLine (drop (a .c .at) t) .next = ap (λ x. a .c .at + x .next) (cut f) in
-    let used : u .is-used .result ≡ usedBy t (filledAt (a .strict) t (a .from) (a .area .now) (a .c .at) (a .c .left)) (a .ids .now) (headOf (line (a .strict) (firstAt (a .c .at) t))) =
+    let used : u .is-used .result ≡ usedBy t (filledAt (a .strict) t (a .from) (a .area .now) (a .c .at) (a .c .until)) (a .ids .now) (headOf (line (a .strict) (firstAt (a .c .at) t))) =
     u .is-used .ensures .0 ∙ ap₂ (λ s x. usedBy t s (a .ids .now) x) (w .turn .ensures .1) (head-is p) in
     let refusal : n ≡ refusalOf (admitted (a .strict) (before (a .strict) t (a .from) (a .area .now) (a .ids .now) (a .c) (s .pre .0) (s .pre .1 .0) (s .pre .1 .1)) (firstAt (a .c .at) t)) =
     b .barred .ensures ∙ ap₂ (λ d x. barring d (a .c .kept) (a .c .programs) x) used (head-is p)
     ∙ judged (a .strict) t (a .from) (a .area .now) (a .ids .now) (a .c) (s .pre .0) (s .pre .1 .0) (s .pre .1 .1) in
-    let after : c .advance .result ≡ advanced (a .c) (a .c .at + firstLine (drop (a .c .at) t) .next) (leftAt (length (a .area .now)) (a .c .left)) (headOf (line (a .strict) (firstAt (a .c .at) t))) n =
+    let after : c .advance .result ≡ advanced (a .c) (a .c .at + firstLine (drop (a .c .at) t) .next) (untilAt (a .strict) t (length (a .area .now)) (a .c .at) (a .c .until)) (headOf (line (a .strict) (firstAt (a .c .at) t))) n =
     c .advance .ensures ∙ rw (at-next, w .turn .ensures .0, head-is p) refl in
-    let to = advanced-to (a .c) (a .c .at + firstLine (drop (a .c .at) t) .next) (leftAt (length (a .area .now)) (a .c .left)) (headOf (line (a .strict) (firstAt (a .c .at) t))) n in
+    let to = advanced-to (a .c) (a .c .at + firstLine (drop (a .c .at) t) .next) (untilAt (a .strict) t (length (a .area .now)) (a .c .at) (a .c .until)) (headOf (line (a .strict) (firstAt (a .c .at) t))) n in
     let ids : u .is-used .last .1 .1 .0 ≡ idsAfter (ltb (a .c .programs) 1024) t (a .ids .now) (headOf (line (a .strict) (firstAt (a .c .at) t))) =
-    u .is-used .ensures .1 ∙ ap (idsAfter (ltb (a .c .programs) 1024) t (a .ids .now)) (head-is p) in
-    (ap (λ x. a .c .at + x .len) (cut f),
-    (refusal ∙ sym (refusal-here (a .strict) t (a .from) (a .area .now) (a .ids .now) (a .c) (s .pre .0) (s .pre .1 .0) (s .pre .1 .1)),
-    (ap (λ x. x .at) after ∙ to .0,
-    (ap (λ x. x .line) after ∙ to .1,
-    (rw (after, ids, w .turn .ensures .1) (going-on (a .strict) t (a .from) (a .area .now) (a .ids .now) (a .c) (s .pre .0) (s .pre .1 .0) (s .pre .1 .1) n refusal),
-    (long w,
-    ap length ids ∙ ids-length (a .strict) t (a .from) (a .area .now) (a .ids .now) (a .c) (s .pre .0) (s .pre .1 .0) (s .pre .1 .1) (ltb (a .c .programs) 1024) (headOf (line (a .strict) (firstAt (a .c .at) t)))))))))
+    u .is-used .ensures .1 ∙ ap (idsAfter (ltb (a .c .programs) 1024) t (a .ids .now)) (head-is p) in (
+      ap (λ x. a .c .at + x .len) (cut f),
+      (
+        refusal ∙ sym (refusal-here (a .strict) t (a .from) (a .area .now) (a .ids .now) (a .c) (s .pre .0) (s .pre .1 .0) (s .pre .1 .1)),
+        (
+          ap (λ x. x .at) after ∙ to .0,
+          (
+            ap (λ x. x .line) after ∙ to .1,
+            (
+              rw (after, ids, w .turn .ensures .1) (going-on (a .strict) t (a .from) (a .area .now) (a .ids .now) (a .c) (s .pre .0) (s .pre .1 .0) (s .pre .1 .1) n refusal),
+              (
+                long w,
+                ap length ids ∙ ids-length (a .strict) t (a .from) (a .area .now) (a .ids .now) (a .c) (s .pre .0) (s .pre .1 .0) (s .pre .1 .1) (ltb (a .c .programs) 1024) (headOf (line (a .strict) (firstAt (a .c .at) t))),
+              ),
+            ),
+          ),
+        ),
+      ),
+    )
 
 pub next-line-spec : {M : Type 1} → statement M
 next-line-spec =

@@ -1,9 +1,8 @@
 -- `kept_lines::turn` meets its contract: the same block, or the next one, for which the area is filled.
-use Prim.Native.Nat.{_*_, _/_}
-use mathlib.Core.Path.{_≡_, sym, ap, _∙_}
+use mathlib.Core.Path.{_≡_, sym, _∙_}
 use native.Mathlib.Omega.{arith}
 use lib.ListN.{length}
-use Rattle.kept_lines.proofs.Kept.{left-some, left-none, filled-some, filled-none, filled-length}
+use Rattle.kept_lines.proofs.Kept.{until-same, until-next, filled-same, filled-next}
 use borrow.Author.Needs.{needs}
 use Rattle.kept_lines.proofs.turn.Statement.{statement}
 use Rattle.kept_lines.proofs.turn.Tie as tie
@@ -14,13 +13,11 @@ use Rattle.first_keys.proofs.fill.Reads as fill-reads
 returns : tie.Need-returns
 returns c =
     let a = c .before .before .before .args in
-    (sym (left-some (length (a .area .now)) (a .left) (c .if1 .taken)), sym (filled-some (a .strict) (a .text .now) (a .from) (a .area .now) (a .at) (a .left) (c .if1 .taken)))
+    let n : a .at ≡ a .until → ⊥ = c .if1 .taken in
+    (sym (until-same (a .strict) (a .text .now) (a .at) (a .until) (length (a .area .now)) n), sym (filled-same (a .strict) (a .text .now) (a .at) (a .until) (a .from) (a .area .now) n))
 
 fill-requires : tie.Need-fill-requires
 fill-requires c κs = search needs
-
-mul-result : tie.Need-mul-result
-mul-result c = search needs
 
 same-length : tie.Need-same-length
 same-length c = search needs
@@ -30,10 +27,10 @@ returns-2 c =
     let f = c .before .before in
     let e = f .before .before in
     let a = e .before .before .before .args in
-    let none : a .left ≡ 0 = omega (arith, e .if1 .left) in
-    let long = ap length (f .fill .ensures .1) ∙ filled-length (a .strict) (a .text .now) (length (a .area .now)) (a .from) (a .at) in
-    (ap (λ n. n / 4 * 3) long ∙ sym (left-none (length (a .area .now)) (a .left) none),
-     f .fill .ensures .1 ∙ sym (filled-none (a .strict) (a .text .now) (a .from) (a .area .now) (a .at) (a .left) none))
+    let here : a .at ≡ a .until = omega (arith, e .if1 .left) in (
+      f .fill .ensures .0 ∙ sym (until-next (a .strict) (a .text .now) (a .at) (a .until) (length (a .area .now)) here),
+      f .fill .ensures .1 ∙ sym (filled-next (a .strict) (a .text .now) (a .at) (a .until) (a .from) (a .area .now) here),
+    )
 
 pub turn-spec : {M : Type 1} → statement M
-turn-spec = tie.close (tie.spec returns fill-requires mul-result same-length returns-2)
+turn-spec = tie.close (tie.spec returns fill-requires same-length returns-2)
