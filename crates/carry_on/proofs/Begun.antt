@@ -15,7 +15,7 @@ use Rattle.kept_lines.specs.Going.{Going}
 use Rattle.carry_on.specs.First.{First, Fresh}
 
 pub begun : (t : List ℕ) (b : Begin) (area ids : List ℕ) → First t b → Fresh t area ids
-    → Going (b .strict) t (b .at) area ids (record { at = b .at; line = 0; left = 0; kept = 0; programs = 0 })
+    → Going (b .strict) t (b .at) area ids (record { at = b .at; line = 0; until = b .at; kept = 0; programs = 0 })
 unfolding judgedFrom keptOf ofKind keysOf Each
 begun t b area ids f s =
     record {
@@ -31,5 +31,5 @@ begun t b area ids f s =
       few = omega arith;
       some = s .some;
       room = s .room;
-      block = λ z. absurd (omega (arith, z));
+      block = λ z. absurd (z refl);
     }

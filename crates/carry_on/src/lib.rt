@@ -63,7 +63,7 @@ fn measure_lines(text: &[u8], b: Begin, area: &mut [u32], ids: &mut [u32]) -> Me
     let mut c = Cursor {
         at: b.at,
         line: 0,
-        left: 0,
+        until: b.at,
         kept: 0,
         programs: 0,
     };
@@ -143,7 +143,7 @@ fn put_lines(
     let mut c = Cursor {
         at: b.at,
         line: 0,
-        left: 0,
+        until: b.at,
         kept: 0,
         programs: 0,
     };
