@@ -4,7 +4,7 @@
  * PTRDIFF_MAX; and no slice that a call writes overlaps another slice of that call. Calls keep no state and lend nothing on: they may run side by side.
  * A call takes less than 1 MiB of stack.
  *
- * Room that always suffices: for read 3 * text_len + 1 bytes; for tidy text_len + 1; for roots and leaves 1,024 ordinals; for names as many ordinals as the
+ * Room that always suffices: for read 3 * text_len + 1 bytes; for tidy and carry_on text_len + 1, and two numbers for each line in carry_on's table; for roots and leaves 1,024 ordinals; for names as many ordinals as the
  * list has names, and the slots that are said there; for add what tidy needs and for each new program, one after each leaf, prefix_len + fields_len, twice
  * the leaf's ID and 13 bytes more. An output that is too short is refusal 20.
  *
@@ -24,11 +24,13 @@ extern "C" {
 #define SAM_HEADER_NUMBER(answer) ((unsigned)((uint64_t)(answer) >> 32 & 255))
 #define SAM_HEADER_LINE(answer) ((uint32_t)((uint64_t)(answer) & UINT32_MAX))
 
-/* The parts of an answer that is no refusal: of key and field, and of leaves. */
+/* The parts of an answer that is no refusal: of key and field, of leaves, and of carry_on. */
 #define SAM_HEADER_OFFSET(answer) ((uint32_t)((uint64_t)(answer) >> 32))
 #define SAM_HEADER_LENGTH(answer) ((uint32_t)((uint64_t)(answer) & UINT32_MAX))
 #define SAM_HEADER_HOPS(answer) ((uint32_t)((uint64_t)(answer) >> 32))
 #define SAM_HEADER_COUNT(answer) ((uint32_t)((uint64_t)(answer) & UINT32_MAX))
+#define SAM_HEADER_SKIPPED(answer) ((uint32_t)((uint64_t)(answer) >> 32))
+#define SAM_HEADER_WRITTEN(answer) ((uint32_t)((uint64_t)(answer) & UINT32_MAX))
 
 /* Refusal numbers. */
 enum {
@@ -79,6 +81,13 @@ uint64_t sam_header_check(const uint8_t *text, size_t text_len, const uint8_t *c
 
 /* Writes the tidy text of a header. */
 uint64_t sam_header_tidy(const uint8_t *text, size_t text_len, uint8_t *out, size_t out_len);
+
+/* Goes on after lines that are refused: skips them and writes the tidy text of the others. In `table`, at its front, two numbers for each skipped
+ * line, in order: the line and the refusal's number; table_len counts numbers. The answer is the skipped lines shifted left by 32, and the bytes written.
+ * While no line is kept, each line that starts @HD and a tab and whose first VN can be read sets the rule for repeated tags, also where it is skipped,
+ * and an HD may still be kept; a key of a skipped line is free. 1 for the text, then 24, 1 for the text to be written, 20 for a short output or a
+ * short table; then neither of them changes. */
+uint64_t sam_header_carry_on(const uint8_t *text, size_t text_len, uint8_t *out, size_t out_len, uint32_t *table, size_t table_len);
 
 /* ---- over a text and its catalogue: reading's own refusal comes first, then 21.
  * Kinds are HD 1, SQ 2, RG 3, PG 4, CO 5; ordinals count from 0 within a kind. */

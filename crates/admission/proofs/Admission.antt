@@ -74,13 +74,22 @@ new true n e = absurd (omega (arith, e))
 new false n e = refl
 
 module _ (t : List ℕ) (before : List Record) where
-  used-is : (r : Record) (k : ℕ) (p : Piece) → code r ≡ k → key r ≡ some p → Stands t 0 p → isUsed before t k (stretchOf p) ≡ any (clash r) before
+  pub used-is : (r : Record) (k : ℕ) (p : Piece) → code r ≡ k → key r ≡ some p → Stands t 0 p → isUsed before t k (stretchOf p) ≡ any (clash r) before
   unfolding isUsed stretchOf
   used-is r k p c e s =
       ap (λ b. any (hasKey k b) before) (sym bytes) ∙ any-same (hasKey k (p .bytes)) (clash r) (λ q. sym (keyed-clash r k p c e q)) before
     where
       bytes : p .bytes ≡ take (length (p .bytes)) (drop (p .at) t)
       bytes = s .bytes ∙ ap (λ m. take (length (p .bytes)) (drop m t)) (let z : p .at - 0 ≡ p .at = omega arith in z)
+
+  -- a record's key is taken exactly where one of them clashes with it
+  pub taken-clash : (r : Record) → Each (Stands t 0) (pieces r) → isTaken before t (recordHead r) ≡ any (clash r) before
+  unfolding isTaken recordHead pieces Each code key
+  taken-clash (header v fs) s = sym (unkeyed-clash (header v fs) refl before)
+  taken-clash (reference p n fs) s = used-is (reference p n fs) 2 p refl refl (s .0)
+  taken-clash (group p fs) s = used-is (group p fs) 3 p refl refl (s .0)
+  taken-clash (program p fs) s = used-is (program p fs) 4 p refl refl (s .0)
+  taken-clash (comment p) s = sym (unkeyed-clash (comment p) refl before)
 
   record-barring : (r : Record) → Each (Stands t 0) (pieces r) → barring (isTaken before t (recordHead r)) (length before) (length (ofKind 4 before)) (recordHead r) ≡ reading.barred before r
   unfolding barring isTaken recordHead reading.barred pieces Each code key any none?
@@ -89,10 +98,10 @@ module _ (t : List ℕ) (before : List Record) where
       go : (rs : List Record) → _≡_ {A = ℕ} (cond (eqb (length rs) 0) 0 17) (cond (not (none? rs)) 17 (cond (any (clash (header v fs)) rs) 18 0))
       go [] = refl
       go (q ∷ rs) = ap (λ u. cond u 0 17) (ne-eqb (length (q ∷ rs)) 0 (λ e. omega arith))
-  record-barring (reference p n fs) s = ap (λ u. cond u 18 0) (used-is (reference p n fs) 2 p refl refl (s .0))
-  record-barring (group p fs) s = ap (λ u. cond u 18 0) (used-is (group p fs) 3 p refl refl (s .0))
-  record-barring (program p fs) s = ap (λ u. cond u 18 (cond (leb 1024 (length (ofKind 4 before))) 19 0)) (used-is (program p fs) 4 p refl refl (s .0))
-  record-barring (comment p) s = sym (ap (λ u. cond u 18 0) (unkeyed-clash (comment p) refl before))
+  record-barring (reference p n fs) s = ap (λ u. cond u 18 0) (taken-clash (reference p n fs) s)
+  record-barring (group p fs) s = ap (λ u. cond u 18 0) (taken-clash (group p fs) s)
+  record-barring (program p fs) s = ap (λ u. cond u 18 (cond (leb 1024 (length (ofKind 4 before))) 19 0)) (taken-clash (program p fs) s)
+  record-barring (comment p) s = ap (λ u. cond u 18 0) (taken-clash (comment p) s)
 
   pub barring-is : (strict : Bool) (p : Piece) → Stands t 0 p
       → barring (isTaken before t (headOf (records.line strict p))) (length before) (length (ofKind 4 before)) (headOf (records.line strict p)) ≡ lineRefusal (admitted strict before p)

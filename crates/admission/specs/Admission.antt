@@ -50,3 +50,12 @@ barring taken count programs (head.ReferenceSequence p l n) = cond taken 18 0
 barring taken count programs (head.ReadGroup p n) = cond taken 18 0
 barring taken count programs (head.Program p n) = cond taken 18 (cond (leb 1024 programs) 19 0)
 barring taken count programs (head.Comment p) = 0
+
+-- a program counts
+unfoldable pub programsOf : Head → ℕ
+programsOf (head.Refused n) = 0
+programsOf (head.Header v n) = 0
+programsOf (head.ReferenceSequence p l n) = 0
+programsOf (head.ReadGroup p n) = 0
+programsOf (head.Program p n) = 1
+programsOf (head.Comment p) = 0

@@ -1,7 +1,7 @@
 // What a line may be after the lines before it: 17, 18 and 19.
 use record::Head;
 ghost use mathlib.Core.Path.{_≡_};
-ghost use Rattle.admission.specs.Admission.{barring};
+ghost use Rattle.admission.specs.Admission.{barring, programsOf};
 
 // 0, or the refusal of a line with this head after `count` lines, among which are `programs` programs. `taken` says whether one of
 // them has its key.
@@ -38,5 +38,15 @@ pub fn barred(head: Head, taken: bool, count: usize, programs: usize) -> u8
             0
         }
         Head::Comment(_) => 0,
+    }
+}
+
+// A program counts.
+pub fn programs_of(head: Head) -> usize
+    ensures { λ r. ⌜ r ≡ programsOf head ⌝ }
+{
+    match head {
+        Head::Program(_, _) => 1,
+        _ => 0,
     }
 }

@@ -1,5 +1,5 @@
--- An answer of leaves, key or field that is no refusal and not the stand-in keeps bit 63 clear.
-use Prim.Native.Nat.{ℕ, _+_, _*_, _^_, _≤_, _<_}
+-- An answer of carrying on, leaves, key or field that is no refusal and not the stand-in keeps bit 63 clear.
+use Prim.Native.Nat.{ℕ, _+_, _*_, _/_, _^_, _≤_, _<_}
 use mathlib.Core.Path.{_≡_, sym, ap, subst}
 use mathlib.Core.List.{List}
 use native.Mathlib.Omega.{arith}
@@ -9,11 +9,21 @@ use Rattle.format.specs.Calls.{yes, keying, valuing, leafing}
 use Rattle.calls.specs.Answers.{keyAnswerOf, valuePlaceOf, leavesAnswerOf}
 use Rattle.calls.proofs.Bound.{hops-few, leaves-few}
 use Rattle.calls.proofs.Told.{key-short, value-short}
-use Rattle.words.specs.Words.{leavesWord, pairWord, keyWord, fieldWord}
+use Rattle.carried.specs.Carrying.{carrying}
+use Rattle.carry_on.specs.Answers.{carriedOf}
+use Rattle.carry_on.proofs.Bound.{carried-few}
+use Rattle.words.specs.Words.{carriedWord, leavesWord, pairWord, keyWord, fieldWord}
 
 place-clear : (p : Piece) → p .at + length (p .bytes) ≤ 16777216 → pairWord (p .at) (length (p .bytes)) < 2 ^ 63
 unfolding pairWord
 place-clear p h = omega (arith, h)
+
+pub carried-clear : (t : List ℕ) (room table : ℕ) (xs ys : List ℕ) → carrying t room table ≡ yes (xs, ys) → carriedWord (carriedOf (carrying t room table)) < 2 ^ 63
+unfolding carriedWord carriedOf pairWord
+carried-clear t room table xs ys is =
+    let f = carried-few t room table xs ys is in
+    let z : length ys / 2 * 2 ^ 32 + length xs < 2 ^ 63 = omega (arith, f) in
+    subst (λ a. carriedWord (carriedOf a) < 2 ^ 63) (sym is) z
 
 module _ (t c : List ℕ) where
   pub leaves-clear : (room : ℕ) (xs : List ℕ) (h : ℕ) → leafing t c room ≡ yes (xs, h) → leavesWord (leavesAnswerOf (leafing t c room)) < 2 ^ 63

@@ -115,6 +115,11 @@ pub around-at : (slots : List ℕ) (at q : ℕ) → at < length slots → q < le
 around-at slots at q h l =
     ap (λ p. getD (around at slots) p 0) (sym (pos-of (length slots) at q h l)) ∙ around-get slots at ((at + q) % length slots) (mod-lt _ (omega (arith, h)))
 
+-- and after a store there
+pub around-put : (slots : List ℕ) (at q v : ℕ) → at < length slots → q < length slots → around at (set slots ((at + q) % length slots) v) ≡ set (around at slots) q v
+around-put slots at q v h l =
+    around-set slots at ((at + q) % length slots) v (mod-lt _ (omega (arith, h))) ∙ ap (λ p. set (around at slots) p v) (pos-of (length slots) at q h l)
+
 -- ---- no value is accepted
 
 clear-append : (hit : ℕ → Bool) (s t : List ℕ) → Clear hit s → Clear hit t → Clear hit (s ++ t)
@@ -180,6 +185,22 @@ unfolding seek Clear full
 seek-enter hit [] k a l h = absurd (omega (arith, l))
 seek-enter hit (zero ∷ ss) k a l h = rw h refl
 seek-enter hit (suc j ∷ ss) k a l h = rw (a .0) (seek-enter hit ss k (a .1) (omega (arith, l)) h)
+
+-- nor does another value in the place of one change it, where neither is accepted
+seek-other : (hit : ℕ → Bool) (ss : List ℕ) (p v : ℕ) → (getD ss p 0 ≡ 0 → ⊥) → (v ≡ 0 → ⊥) → hit (getD ss p 0) ≡ false → hit v ≡ false → seek hit (set ss p v) ≡ seek hit ss
+unfolding seek
+seek-other hit [] p v z y e f = refl
+seek-other hit (zero ∷ ss) zero v z y e f = absurd (z refl)
+seek-other hit (suc j ∷ ss) zero zero z y e f = absurd (y refl)
+seek-other hit (suc j ∷ ss) zero (suc k) z y e f = rw (e, f) refl
+seek-other hit (zero ∷ ss) (suc p) v z y e f = refl
+seek-other hit (suc j ∷ ss) (suc p) v z y e f = ap (cond (hit (suc j)) (suc j)) (seek-other hit ss p v z y e f)
+
+pub seek-replaced : (hit : ℕ → Bool) (slots : List ℕ) (at i v : ℕ) → i < length slots → (getD slots i 0 ≡ 0 → ⊥) → (v ≡ 0 → ⊥) → hit (getD slots i 0) ≡ false → hit v ≡ false
+    → seek hit (around at (set slots i v)) ≡ seek hit (around at slots)
+seek-replaced hit slots at i v l z y e f =
+    let g : getD (around at slots) (pos (length slots) at i) 0 ≡ getD slots i 0 = around-get slots at i l in
+    ap (seek hit) (around-set slots at i v l) ∙ seek-other hit (around at slots) (pos (length slots) at i) v (λ q. z (sym g ∙ q)) y (ap hit g ∙ e) f
 
 -- one value more
 pick-old : (hit : ℕ → Bool) (vs ws : List ℕ) (k : ℕ) → pick hit vs ≡ suc k → pick hit (vs ++ ws) ≡ suc k

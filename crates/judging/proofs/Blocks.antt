@@ -1,12 +1,11 @@
 -- The index beside the loop over lines: it holds the keys of the lines of one block, and of the lines ahead it is known which one, if any,
 -- is the first with a key of an earlier block.
-use Prim.Native.Nat.{ℕ, zero, suc, _+_, _-_, _*_, _/_, _≤_, _<_}
+use Prim.Native.Nat.{ℕ, zero, suc, _+_, _*_, _/_, _≤_, _<_}
 use mathlib.Core.Path.{_≡_, refl, sym, ap, ap₂, subst, _∙_}
 use mathlib.Core.Bool.{Bool, true, false, _||_, cond, false≢true}
 use mathlib.Core.List.{List, [], _∷_, _++_, append-assoc, append-nil}
 use native.Mathlib.Omega.{arith}
-use lib.ListN.{length, take, drop, replicate, length-append, length-drop, length-replicate, drop-of-length-le}
-use lib.Seq.{drop-drop, length-take-le}
+use lib.ListN.{length, take, drop, replicate, length-append, length-replicate, drop-of-length-le}
 use lib.Dec.{eqb, ltb}
 use borrow.Author.Tests.{ne-eqb, eq-eqb, eqb-true, eqb-false, ltb-true, ltb-false, lt-ltb, le-ltb}
 use Rattle.format.specs.Lines.{Piece, lines, linesFrom}
@@ -19,20 +18,19 @@ use Rattle.format.proofs.Slots.{held-none}
 use Rattle.text.specs.First.{firstLine}
 use Rattle.text.specs.Stands.{Stands, Each}
 use Rattle.text.proofs.Lines.{lines-none}
-use Rattle.text.proofs.First.{lines-first, first-le, first-within}
 use Rattle.accepted.specs.Pieces.{pieces, Pairs}
 use Rattle.accepted.proofs.Bools.{or-false}
 use Rattle.accepted.proofs.Onward.{lines-count}
 use Rattle.record.specs.declared.Head.{Head}
 use Rattle.record.specs.Head.{headOf, recordHead}
 use Rattle.admission.proofs.Admission.{stood}
-use Rattle.admission.specs.Admission.{isTaken}
+use Rattle.admission.specs.Admission.{isTaken, programsOf}
 use Rattle.key_index.specs.Told.{start, isMet, afterMeeting}
 use Rattle.key_index.specs.Keyed.{valuesOf, keyValuesOf, Ended}
+use Rattle.key_index.proofs.Ahead.{first-ahead}
 use Rattle.key_index.proofs.LineKeys.{line-ended}
 use Rattle.key_index.proofs.Keyed.{toldIn, told-none, told-append, told-taken, met-told, keys-snoc, ended-snoc, meeting-length, meeting-holds, values-few}
 use Rattle.judging.specs.declared.Block.{Block}
-use Rattle.judging.specs.Judged.{programsOf}
 use Rattle.judging.specs.Blocks.{clashOf, turned, emptied}
 use Rattle.judging.proofs.Judging.{Judging, judging-start, judging-on, passed-are, line-stands}
 
@@ -84,22 +82,6 @@ module _ (strict : Bool) (t slots : List ℕ) (clash : ℕ) where
       go false e false f ih = (told ∙ ap₂ (λ b c. b || c) e f ∙ sym (clash-apart n (n + 1) ps (omega arith) e), λ z. ih e)
 
 -- ---- the lines ahead, one by one
-
-first-ahead : (t : List ℕ) (at : ℕ) → at < length t
-    → linesFrom at (drop at t) ≡ record { at = at; bytes = take (firstLine (drop at t) .len) (drop at t) } ∷ linesFrom (at + firstLine (drop at t) .next) (drop (at + firstLine (drop at t) .next) t)
-first-ahead t at h =
-    lines-first at (drop at t) (omega (arith, length-drop at t, h))
-    ∙ ap (λ l. record { at = at; bytes = take (firstLine (drop at t) .len) (drop at t) } ∷ linesFrom (at + firstLine (drop at t) .next) l) (drop-drop (firstLine (drop at t) .next) at t)
-
-pub ahead-stands : (t : List ℕ) (at : ℕ) → at < length t → Stands t 0 (record { at = at; bytes = take (firstLine (drop at t) .len) (drop at t) })
-ahead-stands t at h =
-    let d = length-drop at t in
-    let l : length (take (firstLine (drop at t) .len) (drop at t)) ≡ firstLine (drop at t) .len = length-take-le (firstLine (drop at t) .len) (drop at t) (omega (arith, first-le (drop at t), first-within (drop at t))) in
-    record {
-      from = omega arith;
-      within = omega (arith, l, d, h, first-le (drop at t), first-within (drop at t));
-      bytes = ap (λ k. take k (drop at t)) (sym l) ∙ ap (λ k. take (length (take (firstLine (drop at t) .len) (drop at t))) (drop k t)) (let z : at ≡ at - 0 = omega arith in z);
-    }
 
 module _ (strict : Bool) (t slots : List ℕ) (clash at n : ℕ) where
   pub clash-none : length t ≤ at → clashOf strict t slots clash n (linesFrom at (drop at t)) ≡ clash

@@ -20,8 +20,10 @@ use Rattle.accepted.proofs.Onward.{read-first, read-none}
 use Rattle.accepted.proofs.Pairs.{pairs-length}
 use Rattle.accepted.proofs.OfKind.{ofKind-append}
 use Rattle.record.specs.Head.{headOf, recordHead}
+use Rattle.admission.specs.Admission.{programsOf}
+use Rattle.admission.proofs.Programs.{programs-one}
 use Rattle.judging.specs.declared.Judged.the-variants.{Refused, Accepted}
-use Rattle.judging.specs.Judged.{judgedOf, programsOf}
+use Rattle.judging.specs.Judged.{judgedOf}
 
 -- at the line that starts at `at`, the line number `n`: the lines before it are records
 pub record Judging (strict : Bool) (t : List ℕ) (at n programs size : ℕ) : Type 0 where
@@ -60,15 +62,6 @@ pairs-snoc R [] [] x y p r = (r, tt)
 pairs-snoc R [] (b ∷ ys) x y p r = absurd p
 pairs-snoc R (a ∷ xs) [] x y p r = absurd p
 pairs-snoc R (a ∷ xs) (b ∷ ys) x y p r = (p .0, pairs-snoc R xs ys x y (p .1) r)
-
--- one program more, or none
-pub programs-one : (r : Record) → length (ofKind 4 (r ∷ [])) ≡ programsOf (recordHead r)
-unfolding ofKind programsOf recordHead code
-programs-one (header v fs) = refl
-programs-one (reference p n fs) = refl
-programs-one (group p fs) = refl
-programs-one (program p fs) = refl
-programs-one (comment p) = refl
 
 module _ (strict : Bool) (t : List ℕ) (at n programs size : ℕ) (j : Judging strict t at n programs size) where
   -- no line is left

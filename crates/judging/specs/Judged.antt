@@ -4,8 +4,6 @@ use mathlib.Core.List.{List}
 use lib.ListN.{length}
 use Rattle.format.specs.Reading.{Reading, refusedText, accept}
 use Rattle.format.specs.Catalogue.{catalogue}
-use Rattle.record.specs.declared.Head.{Head}
-use Rattle.record.specs.declared.Head.the-variants as head
 use Rattle.judging.specs.declared.Judged.{Judged}
 use Rattle.judging.specs.declared.Judged.the-variants.{Refused, Accepted}
 
@@ -14,12 +12,3 @@ unfoldable pub judgedOf : Reading → Judged
 unfolding catalogue
 judgedOf (refusedText n l) = Refused n (record { 0 = l })
 judgedOf (accept rs) = Accepted (length (catalogue rs))
-
--- a program counts
-unfoldable pub programsOf : Head → ℕ
-programsOf (head.Refused n) = 0
-programsOf (head.Header v n) = 0
-programsOf (head.ReferenceSequence p l n) = 0
-programsOf (head.ReadGroup p n) = 0
-programsOf (head.Program p n) = 1
-programsOf (head.Comment p) = 0

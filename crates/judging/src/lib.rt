@@ -12,22 +12,12 @@ ghost use Rattle.format.specs.Slots.{Held};
 ghost use Rattle.admission.specs.Admission.{barring};
 ghost use Rattle.key_index.specs.Told.{start};
 ghost use Rattle.judging.specs.Blocks.{clashOf, turned, emptied};
-ghost use Rattle.judging.specs.Judged.{judgedOf, programsOf};
+ghost use Rattle.judging.specs.Judged.{judgedOf};
 
 // The first refusal and its line, or how many bytes the catalogue has.
 pub enum Judged {
     Refused(u8, LineNo),
     Accepted(usize),
-}
-
-// A program counts.
-fn programs_of(head: Head) -> usize
-    ensures { λ r. ⌜ r ≡ programsOf head ⌝ }
-{
-    match head {
-        Head::Program(_, _) => 1,
-        _ => 0,
-    }
 }
 
 // The line before which the index is begun anew, and the first line ahead whose key an earlier block of lines has.
@@ -135,7 +125,7 @@ fn judge_indexed(text: &[u8], strict: bool, area: &mut [u32]) -> Judged
         if n != 0 {
             return Judged::Refused(n, LineNo(line as u32));
         }
-        programs += programs_of(head);
+        programs += admission::programs_of(head);
         size += line_entries::record_size(head);
         at = next;
         line += 1;

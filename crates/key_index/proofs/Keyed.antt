@@ -1,10 +1,10 @@
 -- The slots that hold the keys of some records: a key is met exactly where one of them has it, and one more enters.
-use Prim.Native.Nat.{ℕ, zero, suc, _+_, _-_, _*_, _≤_, _<_}
+use Prim.Native.Nat.{ℕ, zero, suc, _+_, _-_, _*_, _/_, _≤_, _<_}
 use mathlib.Core.Path.{_≡_, refl, sym, ap, subst, _∙_}
 use mathlib.Core.Bool.{Bool, true, false, _&&_, _||_, cond, false≢true}
 use mathlib.Core.List.{List, [], _∷_, _++_, map, append-nil, append-assoc}
 use native.Mathlib.Omega.{arith}
-use lib.ListN.{length, take, drop, set, replicate, length-set, length-append}
+use lib.ListN.{length, take, drop, set, getD, replicate, length-set, length-append}
 use lib.Dec.{eqb, ltb, leb}
 use borrow.Author.Tests.{lt-ltb, ltb-false}
 use Rattle.format.specs.Bytes.{any, same}
@@ -24,14 +24,14 @@ use Rattle.admission.proofs.Admission.{stood}
 use Rattle.key_index.specs.declared.Sought.{Sought}
 use Rattle.key_index.specs.declared.Sought.the-variants.{Known, Free, Full}
 use Rattle.key_index.specs.Word.{word}
-use Rattle.key_index.specs.Told.{mark, value, tellsKey, firstSlot, start, sought, saysKnown, afterLooking, isMet, afterMeeting}
+use Rattle.key_index.specs.Told.{mark, value, tellsKey, firstSlot, start, sought, saysKnown, afterLooking, isMet, afterMeeting, pointed, soughtOf, offsetOf, afterPointing}
 use Rattle.key_index.specs.Keyed.{valuesOf, keyValuesOf, Ended, KeyInText}
 use Rattle.key_index.proofs.LineKeys.{line-ended}
 use Rattle.key_index.proofs.Looking.{mark-same, sought-known, sought-enters, value-start, value-tells}
 
 -- ---- which records have a key
 
-value-some : (k : ℕ) (id : List ℕ) (at : ℕ) → 0 < k → value (mark k id) at ≡ 0 → ⊥
+pub value-some : (k : ℕ) (id : List ℕ) (at : ℕ) → 0 < k → value (mark k id) at ≡ 0 → ⊥
 unfolding value mark
 value-some k id at h e = omega (arith, h, e)
 
@@ -85,7 +85,7 @@ ended-snoc t (q ∷ rs) r a e = (a .0, ended-snoc t rs r (a .1) e)
 
 -- ---- a key that one of some values tells
 
-pick-append : (hit : ℕ → Bool) (vs ws : List ℕ) → ltb 0 (pick hit (vs ++ ws)) ≡ (ltb 0 (pick hit vs) || ltb 0 (pick hit ws))
+pub pick-append : (hit : ℕ → Bool) (vs ws : List ℕ) → ltb 0 (pick hit (vs ++ ws)) ≡ (ltb 0 (pick hit vs) || ltb 0 (pick hit ws))
 unfolding pick
 pick-append hit [] ws = refl
 pick-append hit (zero ∷ vs) ws = pick-append hit vs ws
@@ -148,7 +148,7 @@ told-taken t rs e (head.Comment q) = refl
 
 after-length : (room : Bool) (v : ℕ) (slots : List ℕ) (s : Sought) → length (afterLooking room v slots s) ≡ length slots
 unfolding afterLooking
-after-length room v slots Known = refl
+after-length room v slots (Known i) = refl
 after-length true v slots (Free i) = length-set slots i v
 after-length false v slots (Free i) = refl
 after-length room v slots Full = refl
@@ -162,10 +162,36 @@ meeting-length room t slots (head.ReadGroup q n) = after-length room (value (mar
 meeting-length room t slots (head.Program q n) = after-length room (value (mark 4 (take (q .len) (drop (q .at) t))) (q .at)) slots (sought t slots 4 (take (q .len) (drop (q .at) t)))
 meeting-length room t slots (head.Comment q) = refl
 
+pointed-length : (at : ℕ) (slots : List ℕ) (s : Sought) → length (pointed at slots s) ≡ length slots
+unfolding pointed
+pointed-length at slots (Known i) = length-set slots i (value (getD slots i 0 / 16777216) at)
+pointed-length at slots (Free i) = refl
+pointed-length at slots Full = refl
+
+pub pointing-length : (t slots : List ℕ) (x : Head) → length (afterPointing t slots x) ≡ length slots
+unfolding afterPointing
+pointing-length t slots x = pointed-length (offsetOf x) slots (soughtOf t slots x)
+
+-- one that is met does not enter
+after-known : (room : Bool) (v : ℕ) (slots : List ℕ) (s : Sought) → saysKnown s ≡ true → afterLooking room v slots s ≡ slots
+unfolding afterLooking saysKnown
+after-known room v slots (Known i) e = refl
+after-known room v slots (Free i) e = absurd (false≢true e)
+after-known room v slots Full e = refl
+
+pub meeting-met : (room : Bool) (t slots : List ℕ) (x : Head) → isMet t slots x ≡ true → afterMeeting room t slots x ≡ slots
+unfolding isMet afterMeeting
+meeting-met room t slots (head.Refused n) e = refl
+meeting-met room t slots (head.Header v n) e = refl
+meeting-met room t slots (head.ReferenceSequence q l n) e = after-known room (value (mark 2 (take (q .len) (drop (q .at) t))) (q .at)) slots (sought t slots 2 (take (q .len) (drop (q .at) t))) e
+meeting-met room t slots (head.ReadGroup q n) e = after-known room (value (mark 3 (take (q .len) (drop (q .at) t))) (q .at)) slots (sought t slots 3 (take (q .len) (drop (q .at) t))) e
+meeting-met room t slots (head.Program q n) e = after-known room (value (mark 4 (take (q .len) (drop (q .at) t))) (q .at)) slots (sought t slots 4 (take (q .len) (drop (q .at) t))) e
+meeting-met room t slots (head.Comment q) e = refl
+
 -- without room nothing changes
 after-none : (v : ℕ) (slots : List ℕ) (s : Sought) → afterLooking false v slots s ≡ slots
 unfolding afterLooking
-after-none v slots Known = refl
+after-none v slots (Known i) = refl
 after-none v slots (Free i) = refl
 after-none v slots Full = refl
 
@@ -223,6 +249,15 @@ head-placed strict t at small s = go (records.line strict (record { at = at; byt
     go (read r) e =
         let st = stood strict t (record { at = at; bytes = take (firstLine (drop at t) .len) (drop at t) }) s r e in
         record-placed t r (line-ended strict t at r small e st) st
+
+pub offset-small : (size : ℕ) (x : Head) → KeyInText size x → offsetOf x < 16777216
+unfolding KeyInText offsetOf
+offset-small size (head.Refused n) h = omega arith
+offset-small size (head.Header v n) h = omega arith
+offset-small size (head.ReferenceSequence p l n) h = h .1
+offset-small size (head.ReadGroup p n) h = h .1
+offset-small size (head.Program p n) h = h .1
+offset-small size (head.Comment p) h = omega arith
 
 -- one value, or none
 pub values-few : (r : Record) → length (valuesOf r) ≤ 1

@@ -16,10 +16,12 @@ use Rattle.format.specs.Slots.{around, full, filled, seat, seek, pick, Held}
 use Rattle.format.proofs.Slots.{around-length, around-at, filled-around, full-lt, held-enter}
 use Rattle.text.proofs.Equal.{same-equal}
 use Rattle.accepted.proofs.Bools.{and-left, and-right}
+use Rattle.record.specs.declared.Head.{Head}
+use Rattle.record.specs.declared.Head.the-variants as head
 use Rattle.key_index.specs.declared.Sought.{Sought}
 use Rattle.key_index.specs.declared.Sought.the-variants.{Known, Free, Full}
 use Rattle.key_index.specs.Word.{word}
-use Rattle.key_index.specs.Told.{mark, value, keyTold, tellsKey, firstSlot, start, lookAlong, sought, saysKnown, afterLooking}
+use Rattle.key_index.specs.Told.{mark, value, keyTold, tellsKey, firstSlot, start, lookAlong, sought, saysKnown, afterLooking, soughtOf}
 
 -- ---- a slot after another
 
@@ -28,7 +30,7 @@ module _ (hit : ℕ → Bool) (n at : ℕ) (ss : List ℕ) where
   unfolding lookAlong
   looking-zero v e = rw e refl
 
-  looking-some : (v : ℕ) → (v ≡ 0 → ⊥) → lookAlong hit n at (v ∷ ss) ≡ cond (hit v) Known (lookAlong hit n ((at + 1) % n) ss)
+  looking-some : (v : ℕ) → (v ≡ 0 → ⊥) → lookAlong hit n at (v ∷ ss) ≡ cond (hit v) (Known at) (lookAlong hit n ((at + 1) % n) ss)
   unfolding lookAlong
   looking-some zero e = absurd (e refl)
   looking-some (suc k) e = refl
@@ -45,17 +47,17 @@ module _ (slots : List ℕ) (s i : ℕ) (a : s < length slots) where
     at-empty z = ap (lookAlong hit (length slots) at) (opened h) ∙ looking-zero hit (length slots) at (drop (i + 1) (around s slots)) (getD slots ((s + i) % length slots) 0) (ap (λ j. getD slots j 0) (sym e) ∙ z)
 
     at-value : (getD slots at 0 ≡ 0 → ⊥)
-        → lookAlong hit (length slots) at (drop i (around s slots)) ≡ cond (hit (getD slots at 0)) Known (lookAlong hit (length slots) ((at + 1) % length slots) (drop (i + 1) (around s slots)))
+        → lookAlong hit (length slots) at (drop i (around s slots)) ≡ cond (hit (getD slots at 0)) (Known at) (lookAlong hit (length slots) ((at + 1) % length slots) (drop (i + 1) (around s slots)))
     at-value z =
         ap (λ l. lookAlong hit (length slots) at l) (opened h ∙ ap (λ j. getD slots j 0 ∷ drop (i + 1) (around s slots)) (sym e))
         ∙ looking-some hit (length slots) at (drop (i + 1) (around s slots)) (getD slots at 0) z
 
-    pub at-hit : (getD slots at 0 ≡ 0 → ⊥) → hit (getD slots at 0) ≡ true → lookAlong hit (length slots) at (drop i (around s slots)) ≡ Known
-    at-hit z q = at-value z ∙ ap (λ b. cond b Known (lookAlong hit (length slots) ((at + 1) % length slots) (drop (i + 1) (around s slots)))) q
+    pub at-hit : (getD slots at 0 ≡ 0 → ⊥) → hit (getD slots at 0) ≡ true → lookAlong hit (length slots) at (drop i (around s slots)) ≡ Known at
+    at-hit z q = at-value z ∙ ap (λ b. cond b (Known at) (lookAlong hit (length slots) ((at + 1) % length slots) (drop (i + 1) (around s slots)))) q
 
     pub at-other : (getD slots at 0 ≡ 0 → ⊥) → hit (getD slots at 0) ≡ false
         → lookAlong hit (length slots) at (drop i (around s slots)) ≡ lookAlong hit (length slots) ((at + 1) % length slots) (drop (i + 1) (around s slots))
-    at-other z q = at-value z ∙ ap (λ b. cond b Known (lookAlong hit (length slots) ((at + 1) % length slots) (drop (i + 1) (around s slots)))) q
+    at-other z q = at-value z ∙ ap (λ b. cond b (Known at) (lookAlong hit (length slots) ((at + 1) % length slots) (drop (i + 1) (around s slots)))) q
 
     pub at-next : (at + 1) % length slots ≡ (s + (i + 1)) % length slots
     at-next = ap (λ m. (m + 1) % length slots) e ∙ mod-add-mod (s + i) (length slots) 1 ∙ ap (λ m. m % length slots) (let z : s + i + 1 ≡ s + (i + 1) = omega arith in z)
@@ -66,9 +68,9 @@ module _ (slots : List ℕ) (s i : ℕ) (a : s < length slots) where
       let l : length (around s slots) ≤ i = omega (arith, h, around-length s slots (omega (arith, a))) in
       rw (drop-of-length-le (around s slots) l) refl
 
--- an empty slot is one of the slots
+-- a slot at which it ends is one of the slots
 unfoldable Below : ℕ → Sought → Type 0
-Below n Known = Unit
+Below n (Known i) = i < n
 Below n (Free i) = i < n
 Below n Full = Unit
 
@@ -78,25 +80,45 @@ looking-below hit n at [] a = tt
 looking-below hit n at (zero ∷ ss) a = a
 looking-below hit n at (suc k ∷ ss) a = go (hit (suc k)) (looking-below hit n ((at + 1) % n) ss (mod-lt _ (omega (arith, a))))
   where
-    go : (b : Bool) → Below n (lookAlong hit n ((at + 1) % n) ss) → Below n (cond b Known (lookAlong hit n ((at + 1) % n) ss))
-    go true ih = tt
+    go : (b : Bool) → Below n (lookAlong hit n ((at + 1) % n) ss) → Below n (cond b (Known at) (lookAlong hit n ((at + 1) % n) ss))
+    go true ih = a
     go false ih = ih
 
-pub free-below : (t slots : List ℕ) (k : ℕ) (id : List ℕ) (i : ℕ) → 0 < length slots → sought t slots k id ≡ Free i → i < length slots
-unfolding Below sought firstSlot
-free-below t slots k id i p e =
+sought-below : (t slots : List ℕ) (k : ℕ) (id : List ℕ) → 0 < length slots → Below (length slots) (sought t slots k id)
+unfolding sought firstSlot
+sought-below t slots k id p =
     let at : ℕ = firstSlot (length slots) k id in
-    subst (Below (length slots)) e (looking-below (tellsKey t k id) (length slots) at (around at slots) (mod-lt _ p))
+    looking-below (tellsKey t k id) (length slots) at (around at slots) (mod-lt _ p)
+
+pub free-below : (t slots : List ℕ) (k : ℕ) (id : List ℕ) (i : ℕ) → 0 < length slots → sought t slots k id ≡ Free i → i < length slots
+unfolding Below
+free-below t slots k id i p e = subst (Below (length slots)) e (sought-below t slots k id p)
+
+pub sought-lt : (t slots : List ℕ) (k : ℕ) (id : List ℕ) (i : ℕ) → 0 < length slots → sought t slots k id ≡ Known i → i < length slots
+unfolding Below
+sought-lt t slots k id i p e = subst (Below (length slots)) e (sought-below t slots k id p)
+
+pub known-below : (t slots : List ℕ) (x : Head) (i : ℕ) → 0 < length slots → soughtOf t slots x ≡ Known i → i < length slots
+unfolding Below soughtOf
+known-below t slots x i p e = subst (Below (length slots)) e (go x)
+  where
+    go : (x : Head) → Below (length slots) (soughtOf t slots x)
+    go (head.Refused n) = tt
+    go (head.Header v n) = tt
+    go (head.ReferenceSequence q l n) = sought-below t slots 2 (take (q .len) (drop (q .at) t)) p
+    go (head.ReadGroup q n) = sought-below t slots 3 (take (q .len) (drop (q .at) t)) p
+    go (head.Program q n) = sought-below t slots 4 (take (q .len) (drop (q .at) t)) p
+    go (head.Comment q) = tt
 
 -- ---- what it finds
 
-known-seek : (hit : ℕ → Bool) (n at : ℕ) (ss : List ℕ) → saysKnown (lookAlong hit n at ss) ≡ ltb 0 (seek hit ss)
+pub known-seek : (hit : ℕ → Bool) (n at : ℕ) (ss : List ℕ) → saysKnown (lookAlong hit n at ss) ≡ ltb 0 (seek hit ss)
 unfolding saysKnown lookAlong seek
 known-seek hit n at [] = refl
 known-seek hit n at (zero ∷ ss) = refl
 known-seek hit n at (suc k ∷ ss) = go (hit (suc k)) (known-seek hit n ((at + 1) % n) ss)
   where
-    go : (b : Bool) → saysKnown (lookAlong hit n ((at + 1) % n) ss) ≡ ltb 0 (seek hit ss) → saysKnown (cond b Known (lookAlong hit n ((at + 1) % n) ss)) ≡ ltb 0 (cond b (suc k) (seek hit ss))
+    go : (b : Bool) → saysKnown (lookAlong hit n ((at + 1) % n) ss) ≡ ltb 0 (seek hit ss) → saysKnown (cond b (Known at) (lookAlong hit n ((at + 1) % n) ss)) ≡ ltb 0 (cond b (suc k) (seek hit ss))
     go true ih = sym (lt-ltb 0 (suc k) (omega arith))
     go false ih = ih
 
@@ -107,7 +129,7 @@ free-seat hit n at (zero ∷ ss) a l e = ap Free (sym (mod-eq-of-lt a) ∙ ap (�
 free-seat hit n at (suc k ∷ ss) a l e = go (hit (suc k)) e (free-seat hit n ((at + 1) % n) ss (mod-lt _ (omega (arith, a))) (omega (arith, l)))
   where
     go : (b : Bool) → cond b (suc k) (seek hit ss) ≡ 0 → (seek hit ss ≡ 0 → lookAlong hit n ((at + 1) % n) ss ≡ Free (((at + 1) % n + full ss) % n))
-        → cond b Known (lookAlong hit n ((at + 1) % n) ss) ≡ Free ((at + suc (full ss)) % n)
+        → cond b (Known at) (lookAlong hit n ((at + 1) % n) ss) ≡ Free ((at + suc (full ss)) % n)
     go true e ih = absurd (omega (arith, e))
     go false e ih = ih e ∙ ap Free (mod-add-mod (at + 1) n (full ss) ∙ ap (λ m. m % n) (let z : at + 1 + full ss ≡ at + suc (full ss) = omega arith in z))
 
@@ -144,7 +166,7 @@ mark-same k j id b = go (same id b) refl
 -- ---- a key among the values that entered
 
 module _ (t slots vs : List ℕ) (p : 0 < length slots) (g : Held (start t (length slots)) slots vs) (k : ℕ) (id : List ℕ) where
-  begins-lt : firstSlot (length slots) k id < length slots
+  pub begins-lt : firstSlot (length slots) k id < length slots
   unfolding firstSlot
   begins-lt = mod-lt _ p
 
@@ -155,7 +177,7 @@ module _ (t slots vs : List ℕ) (p : 0 < length slots) (g : Held (start t (leng
       ap₂ (λ j w. firstSlot (length slots) j w) (marked-kind v ∙ ap (λ n. n / 32) (sym m) ∙ mark-kind k id)
       (sym (same-equal id (keyTold t v) (and-right (eqb (mark k id) (v / 16777216)) (same id (keyTold t v)) e)))
 
-  found : seek (tellsKey t k id) (around (firstSlot (length slots) k id) slots) ≡ pick (tellsKey t k id) vs
+  pub found : seek (tellsKey t k id) (around (firstSlot (length slots) k id) slots) ≡ pick (tellsKey t k id) vs
   found = g .finds (tellsKey t k id) (firstSlot (length slots) k id) begins-lt starts
 
   -- it is known exactly where one of them tells it

@@ -2,7 +2,7 @@
 use Prim.Native.Nat.{ℕ, zero, suc, _+_, _*_, _/_, _%_}
 use mathlib.Core.Bool.{Bool, true, false, _&&_, cond}
 use mathlib.Core.List.{List, [], _∷_}
-use lib.ListN.{length, take, drop, set}
+use lib.ListN.{length, take, drop, set, getD}
 use lib.Dec.{eqb}
 use Rattle.format.specs.Bytes.{same}
 use Rattle.key_index.specs.Hash.{keyHash}
@@ -52,7 +52,7 @@ start t n v = firstSlot n (v / 536870912) (keyTold t v)
 unfoldable pub lookAlong : (ℕ → Bool) → ℕ → ℕ → List ℕ → Sought
 lookAlong hit n at [] = Full
 lookAlong hit n at (zero ∷ ss) = Free at
-lookAlong hit n at (suc k ∷ ss) = cond (hit (suc k)) Known (lookAlong hit n ((at + 1) % n) ss)
+lookAlong hit n at (suc k ∷ ss) = cond (hit (suc k)) (Known at) (lookAlong hit n ((at + 1) % n) ss)
 
 -- for the key `id` of kind `k`
 unfoldable pub sought : List ℕ → List ℕ → ℕ → List ℕ → Sought
@@ -62,15 +62,28 @@ sought t slots k id =
     lookAlong (tellsKey t k id) (length slots) at (around at slots)
 
 unfoldable pub saysKnown : Sought → Bool
-saysKnown Known = true
+saysKnown (Known i) = true
 saysKnown (Free i) = false
 saysKnown Full = false
 
 -- the slots after that: a key that is new enters, where there is room
 unfoldable pub afterLooking : Bool → ℕ → List ℕ → Sought → List ℕ
-afterLooking room v slots Known = slots
+afterLooking room v slots (Known i) = slots
 afterLooking room v slots (Free i) = cond room (set slots i v) slots
 afterLooking room v slots Full = slots
+
+-- where a slot tells it, that slot keeps its mark and tells it by the offset `at`
+unfoldable pub pointed : ℕ → List ℕ → Sought → List ℕ
+unfolding value
+pointed at slots (Known i) = set slots i (value (getD slots i 0 / 16777216) at)
+pointed at slots (Free i) = slots
+pointed at slots Full = slots
+
+-- does no slot tell it by another offset than `at`?
+unfoldable pub isOwn : ℕ → List ℕ → Sought → Bool
+isOwn at slots (Known i) = eqb (getD slots i 0 % 16777216) at
+isOwn at slots (Free i) = true
+isOwn at slots Full = true
 
 -- ---- the key of a head
 
@@ -93,3 +106,32 @@ afterMeeting room t slots (head.ReferenceSequence p l n) = afterLooking room (va
 afterMeeting room t slots (head.ReadGroup p n) = afterLooking room (value (mark 3 (take (p .len) (drop (p .at) t))) (p .at)) slots (sought t slots 3 (take (p .len) (drop (p .at) t)))
 afterMeeting room t slots (head.Program p n) = afterLooking room (value (mark 4 (take (p .len) (drop (p .at) t))) (p .at)) slots (sought t slots 4 (take (p .len) (drop (p .at) t)))
 afterMeeting room t slots (head.Comment p) = slots
+
+-- looking for it; no slot tells a head without a key
+unfoldable pub soughtOf : List ℕ → List ℕ → Head → Sought
+unfolding sought
+soughtOf t slots (head.Refused n) = Full
+soughtOf t slots (head.Header v n) = Full
+soughtOf t slots (head.ReferenceSequence p l n) = sought t slots 2 (take (p .len) (drop (p .at) t))
+soughtOf t slots (head.ReadGroup p n) = sought t slots 3 (take (p .len) (drop (p .at) t))
+soughtOf t slots (head.Program p n) = sought t slots 4 (take (p .len) (drop (p .at) t))
+soughtOf t slots (head.Comment p) = Full
+
+-- where it stands; 0 for a head without a key
+unfoldable pub offsetOf : Head → ℕ
+offsetOf (head.Refused n) = 0
+offsetOf (head.Header v n) = 0
+offsetOf (head.ReferenceSequence p l n) = p .at
+offsetOf (head.ReadGroup p n) = p .at
+offsetOf (head.Program p n) = p .at
+offsetOf (head.Comment p) = 0
+
+-- the slots after a slot that tells it was set to the head's own offset
+unfoldable pub afterPointing : List ℕ → List ℕ → Head → List ℕ
+unfolding pointed offsetOf soughtOf
+afterPointing t slots x = pointed (offsetOf x) slots (soughtOf t slots x)
+
+-- does no slot tell it by another offset than the head's own?
+unfoldable pub isFirstKey : List ℕ → List ℕ → Head → Bool
+unfolding isOwn offsetOf soughtOf
+isFirstKey t slots x = isOwn (offsetOf x) slots (soughtOf t slots x)

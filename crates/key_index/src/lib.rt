@@ -10,12 +10,12 @@ ghost use lib.ListN.{length, take, drop, replicate};
 ghost use Rattle.format.specs.Bytes.{same, none?};
 ghost use Rattle.key_index.specs.Hash.{mixed, wordsFrom, keyHash};
 ghost use Rattle.key_index.specs.Word.{word};
-ghost use Rattle.key_index.specs.Told.{mark, value, keyTold, sought, saysKnown, afterLooking, isMet, afterMeeting};
+ghost use Rattle.key_index.specs.Told.{mark, value, keyTold, sought, saysKnown, afterLooking, isMet, afterMeeting, soughtOf, offsetOf, afterPointing, isFirstKey};
 ghost use Rattle.key_index.specs.Keyed.{KeyInText};
 
 // How looking for a key ends: at a slot that tells it, at an empty one, or after all slots.
 pub enum Sought {
-    Known,
+    Known(usize),
     Free(usize),
     Full,
 }
@@ -128,7 +128,7 @@ fn look(text: &[u8], area: &[u32], kind: u8, id: &[u8], number: usize) -> Sought
             return Sought::Free(at);
         }
         if is_told(text, slot, told, id) {
-            return Sought::Known;
+            return Sought::Known(at);
         }
         at = next(at, area.len());
         i += 1;
@@ -150,7 +150,7 @@ fn meet_at(text: &[u8], area: &mut [u32], kind: u8, place: Stretch, room: bool) 
     let id = &text[start..end];
     let number = hash(kind, id);
     match look(text, area, kind, id, number) {
-        Sought::Known => true,
+        Sought::Known(_) => true,
         Sought::Free(i) => {
             if room {
                 area[i] = mark(kind, number) * 16777216 + (start as u32);
@@ -182,6 +182,82 @@ pub fn meet(text: &[u8], area: &mut [u32], head: Head, room: bool) -> bool
         Head::ReadGroup(p, _) => meet_at(text, area, format::READ_GROUP, p, room),
         Head::Program(p, _) => meet_at(text, area, format::PROGRAM, p, room),
         Head::Comment(_) => false,
+    }
+}
+
+// Looks for the key of this kind at a place of the text.
+fn look_at(text: &[u8], area: &[u32], kind: u8, place: Stretch) -> Sought
+    requires { ⌜ length (now text) ≤ 16777216 ⌝ }
+    requires { ⌜ 0 < length (now area) ⌝ }
+    requires { ⌜ place .at + place .len ≤ length (now text) ⌝ }
+    ensures { λ r. ⌜ r ≡ sought (now (text .entry)) (now (area .entry)) kind (take (place .len) (drop (place .at) (now (text .entry)))) ⌝ }
+{
+    let start = place.at;
+    let end = start + place.len;
+    let id = &text[start..end];
+    look(text, area, kind, id, hash(kind, id))
+}
+
+// Looks for the key of a head. No slot tells a head without a key.
+fn look_for(text: &[u8], area: &[u32], head: Head) -> Sought
+    requires { ⌜ length (now text) ≤ 16777216 ⌝ }
+    requires { ⌜ 0 < length (now area) ⌝ }
+    requires { ⌜ KeyInText (length (now text)) head ⌝ }
+    ensures { λ r. ⌜ r ≡ soughtOf (now (text .entry)) (now (area .entry)) head ⌝ }
+{
+    match head {
+        Head::Refused(_) => Sought::Full,
+        Head::Header(_, _) => Sought::Full,
+        Head::ReferenceSequence(p, _, _) => look_at(text, area, format::REFERENCE_SEQUENCE, p),
+        Head::ReadGroup(p, _) => look_at(text, area, format::READ_GROUP, p),
+        Head::Program(p, _) => look_at(text, area, format::PROGRAM, p),
+        Head::Comment(_) => Sought::Full,
+    }
+}
+
+// The offset of a head's key; 0 where it has none.
+fn offset_of(head: Head) -> usize
+    ensures { λ r. ⌜ r ≡ offsetOf head ⌝ }
+{
+    match head {
+        Head::Refused(_) => 0,
+        Head::Header(_, _) => 0,
+        Head::ReferenceSequence(p, _, _) => p.at,
+        Head::ReadGroup(p, _) => p.at,
+        Head::Program(p, _) => p.at,
+        Head::Comment(_) => 0,
+    }
+}
+
+// The slot that tells the key of a head, if one does, tells it by the head's own offset from now on.
+pub fn point(text: &[u8], area: &mut [u32], head: Head)
+    requires { ⌜ length (now text) ≤ 16777216 ⌝ }
+    requires { ⌜ 0 < length (now area) ⌝ }
+    requires { ⌜ KeyInText (length (now text)) head ⌝ }
+    ensures { λ _. ⌜ now (area .exit) ≡ afterPointing (now (text .entry)) (now (area .entry)) head ⌝ }
+{
+    let at = offset_of(head);
+    match look_for(text, area, head) {
+        Sought::Known(i) => {
+            area[i] = area[i] / 16777216 * 16777216 + (at as u32);
+        }
+        Sought::Free(_) => {}
+        Sought::Full => {}
+    }
+}
+
+// Whether no slot tells the key of a head by another offset than the head's own.
+pub fn is_first(text: &[u8], area: &[u32], head: Head) -> bool
+    requires { ⌜ length (now text) ≤ 16777216 ⌝ }
+    requires { ⌜ 0 < length (now area) ⌝ }
+    requires { ⌜ KeyInText (length (now text)) head ⌝ }
+    ensures { λ r. ⌜ r ≡ isFirstKey (now (text .entry)) (now (area .entry)) head ⌝ }
+{
+    let at = offset_of(head);
+    match look_for(text, area, head) {
+        Sought::Known(i) => (area[i] % 16777216) as usize == at,
+        Sought::Free(_) => true,
+        Sought::Full => true,
     }
 }
 

@@ -2,7 +2,7 @@
 //
 // A line of the input is a case: the text in hex (`-` for the empty one), a space, and the room for
 // the catalogue. 128 cases are the corners of documents 01 and 02: each refusal of reading but 1, on both
-// sides, 1,024 programs and one more. 174 are longer texts. What is expected of the longer ones comes
+// sides, 1,024 programs and one more. 188 are longer texts. What is expected of the longer ones comes
 // from a model written from these documents alone, and of the others from them by hand: none of it from
 // this program.
 //

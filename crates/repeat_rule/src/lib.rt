@@ -7,6 +7,7 @@ ghost use Rattle.format.specs.Bytes.{starts};
 ghost use Rattle.format.specs.Lines.{lines, cut};
 ghost use Rattle.format.specs.Reading.{firstVersion, announced, isStrict};
 ghost use Rattle.field.specs.Parsed.{parsedVersionOf};
+ghost use Rattle.repeat_rule.specs.Rule.{strictAfter};
 
 // Whether a piece starts `VN:`.
 fn is_version(piece: &[u8]) -> bool
@@ -46,14 +47,21 @@ fn announced(line: &[u8]) -> ParsedVersion
     ParsedVersion::Invalid
 }
 
+// Whether a tag that comes twice is refused in `line` and after it, if it was before or not: a version that the line announces decides.
+pub fn is_strict_after(strict: bool, line: &[u8]) -> bool
+    ensures { λ r. ⌜ r ≡ strictAfter strict (announced (record { at = 0; bytes = now (line .entry) } ∷ [])) ⌝ }
+{
+    match announced(line) {
+        ParsedVersion::Invalid => strict,
+        ParsedVersion::Is(version) => !version.is_below(Version::default()),
+    }
+}
+
 // Whether a tag that comes twice in a line is refused: never where no version is announced.
 pub fn is_strict(text: &[u8]) -> bool
     ensures { λ r. ⌜ r ≡ isStrict (announced (lines (now (text .entry)))) ⌝ }
 {
     let line = text::first_line(text);
     let len = line.len;
-    match announced(&text[..len]) {
-        ParsedVersion::Invalid => false,
-        ParsedVersion::Is(version) => !version.is_below(Version::default()),
-    }
+    is_strict_after(false, &text[..len])
 }

@@ -21,16 +21,21 @@
 //     add TEXT KEPT ROOM PREFIX FIELDS ok BYTES
 //     names TEXT KEPT LIST WORK ROOM ok ORDINALS INDEX LOOKS
 // or `refused NUMBER LINE` in place of `ok ..`. ORDINALS have four hex digits each; those of names have eight, and so have the slots of
-// INDEX; LOOKS is `-` where it is not stored. `program TEXT BYTES` has what the program on standard input writes, `tidy TEXT ROOM ok BYTES` the
-// tidy text. A line of the oracle has its text first; each such text is read, tidied, and asked for its roots and leaves. Of an output that is
-// lent every element is looked at: what is not the answer must be as it was. Where the field call's answer stands no program can see: its
-// contract says it.
+// INDEX; LOOKS is `-` where it is not stored. Over a text alone:
+//     program TEXT BYTES
+//     tidy TEXT ROOM ok BYTES
+//     carry_on TEXT ROOM TABLE ok BYTES ROWS
+// have what the program on standard input writes, the tidy text, and the tidy text of what is kept with the table of what is skipped, eight
+// digits for each number. A line of the oracle has its text first; each such text is read, tidied, and asked for its roots and leaves. Of an
+// output that is lent every element is looked at: what is not the answer must be as it was. Where the field call's answer stands no program
+// can see: its contract says it.
 //
 // A line that starts with `!` holds a wrong answer, and the program must find it wrong: so it is seen that each comparison can fail. One that
 // starts with `#` is a note.
 use libc::STDOUT_FILENO;
 use replay_asked::ACCEPTED;
 use replay_asked::ADDED;
+use replay_asked::CARRIED;
 use replay_asked::COUNT;
 use replay_asked::FIELD;
 use replay_asked::FOUND;
@@ -86,6 +91,10 @@ fn is_written(line: &[u8], asked: usize, text: &[u8]) -> bool {
         return replay_texts::is_program(line, text);
     }
     let mut out = stored_answers::bytes();
+    if asked == CARRIED {
+        let mut table = stored_answers::ordinals();
+        return replay_carried::is_carried(line, text, &mut out, &mut table);
+    }
     replay_texts::is_tidied(line, text, &mut out)
 }
 
@@ -224,7 +233,7 @@ fn replay(place: usize) {
         os::fail(&name[..n]);
         return;
     }
-    let mut tally: [u32; 18] = [0; 18];
+    let mut tally: [u32; 19] = [0; 19];
     all_blocks(fd, &mut tally);
     libc::close(fd);
     io::write_all(STDOUT_FILENO, &name[..n]);

@@ -13,10 +13,12 @@ use Rattle.format.specs.Tidy.{inOrder, tidy, unwritable}
 use Rattle.format.specs.Calls.{Answer, yes, then, readAnswer, records, fitting, writing, tidying}
 use Rattle.accepted.proofs.Bools.{never}
 use Rattle.roundtrip.specs.Bare.{Equal}
-use Rattle.roundtrip.specs.Faithful.{Allowed, Kept, tidied, Faithful}
+use Rattle.roundtrip.specs.Gathered.{Gathered}
+use Rattle.roundtrip.specs.Faithful.{Allowed, Holds, Kept, tidied, Faithful}
 use Rattle.roundtrip.proofs.Bare.{tidy-equal}
 use Rattle.roundtrip.proofs.Back.{Back}
-use Rattle.roundtrip.proofs.Total.{tidy-length}
+use Rattle.roundtrip.proofs.Gathered.{text-gathered}
+use Rattle.roundtrip.proofs.Total.{gathered-length}
 use Rattle.roundtrip.proofs.Tidy.{tidy-back, back-equal, tidy-again, tidy-tells, names-again}
 
 -- a text whose records are answered was accepted
@@ -33,27 +35,34 @@ tidying-fits : (t : List ℕ) (rs : List Record) (room : ℕ) → records t ≡ 
 unfolding tidying then writing longest
 tidying-fits t rs room e n h = rw (e, n, le-ltb 16777216 (length (tidy rs)) h) refl
 
+-- records gathered from a text
+pub holds : (t : List ℕ) (rs : List Record) → Gathered t rs → length (tidy rs) ≤ 16777216 → unwritable 0 rs ≡ none → Holds rs
+unfolding records readAnswer
+holds t rs g h n =
+    let b : Back (inOrder rs) (readText (tidy rs)) = tidy-back t rs g h in
+    let yes-found : records (tidy rs) ≡ yes (b .found) = ap readAnswer (b .reads) in
+    let self : tidy (b .found) ≡ tidy rs = tidy-again t rs g h in
+    record {
+      found = b .found;
+      accepted = yes-found;
+      equal = back-equal t rs g h;
+      order = b .same;
+      again = λ room. tidying-fits (tidy rs) (b .found) room yes-found (names-again rs (b .found) (b .same) n) (rw self h) ∙ ap (fitting room) self;
+    }
+
 module _ (t : List ℕ) (rs : List Record) (a : Allowed t rs) where
-  reads : readText t ≡ accept rs
-  reads = read-of t rs (a .accepted)
+  gathered : Gathered t rs
+  gathered = text-gathered t rs (read-of t rs (a .accepted))
 
   fits : length (tidy rs) ≤ 16777216
-  fits = omega (arith, tidy-length t rs reads, a .small)
+  fits = omega (arith, gathered-length t rs gathered, a .small)
 
   kept : Kept t rs
-  unfolding records readAnswer
   kept =
-      let b : Back (inOrder rs) (readText (tidy rs)) = tidy-back t rs reads fits in
-      let yes-found : records (tidy rs) ≡ yes (b .found) = ap readAnswer (b .reads) in
-      let self : tidy (b .found) ≡ tidy rs = tidy-again t rs reads fits in
       record {
         answers = λ room. tidying-fits t rs room (a .accepted) (a .names) fits;
-        long = omega (arith, tidy-length t rs reads);
-        found = b .found;
-        accepted = yes-found;
-        equal = back-equal t rs reads fits;
-        order = b .same;
-        again = λ room. tidying-fits (tidy rs) (b .found) room yes-found (names-again rs (b .found) (b .same) (a .names)) (rw self fits) ∙ ap (fitting room) self;
+        long = gathered-length t rs gathered;
+        holds = holds t rs gathered fits (a .names);
       }
 
   tidied-yes : tidied t ≡ yes (tidy rs)
@@ -65,7 +74,7 @@ one-yes x y e = cc
 
 told : (t u : List ℕ) (rs qs : List Record) → Allowed t rs → Allowed u qs → (tidied t ≡ tidied u) ↔ Equal rs qs
 told t u rs qs a b = (
-  λ e. tidy-tells t u rs qs (reads t rs a) (reads u qs b) (fits t rs a) (one-yes (tidy rs) (tidy qs) (sym (tidied-yes t rs a) ∙ e ∙ tidied-yes u qs b)),
+  λ e. tidy-tells t u rs qs (gathered t rs a) (gathered u qs b) (fits t rs a) (one-yes (tidy rs) (tidy qs) (sym (tidied-yes t rs a) ∙ e ∙ tidied-yes u qs b)),
   λ e. tidied-yes t rs a ∙ ap yes (tidy-equal rs qs e) ∙ sym (tidied-yes u qs b),
 )
 

@@ -9,7 +9,7 @@ pub mod Unbarred
 pub mod Barred
 pub mod Order
 pub mod Back
-pub mod Accepted
+pub mod Gathered
 pub mod Length
 pub mod Total
 pub mod Room

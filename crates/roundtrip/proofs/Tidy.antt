@@ -1,4 +1,4 @@
--- The tidy text of an accepted text: it reads back as the records in order, has itself for tidy text, and tells headers apart.
+-- The tidy text of records gathered from a text: it reads back as the records in order, has itself for tidy text, and tells headers apart.
 use Prim.Native.Nat.{ℕ, _+_, _≤_}
 use mathlib.Core.Path.{_≡_, refl, sym, ap, _∙_}
 use mathlib.Core.Bool.{Bool, true, false, cond}
@@ -11,21 +11,21 @@ use Rattle.format.specs.Tidy.{inOrder, tidy, isWritable, unwritable}
 use Rattle.text.specs.Stands.{Each}
 use Rattle.accepted.specs.Sound.{Sound}
 use Rattle.accepted.proofs.Bools.{never}
-use Rattle.accepted.proofs.Text.{text-sound, text-unbarred}
 use Rattle.roundtrip.specs.Bare.{bareBytes, bare, Equal}
 use Rattle.roundtrip.specs.Line.{Unbroken}
+use Rattle.roundtrip.specs.Gathered.{Gathered}
 use Rattle.roundtrip.proofs.Bare.{tidy-equal}
 use Rattle.roundtrip.proofs.Unbarred.{unbarred-order}
 use Rattle.roundtrip.proofs.Order.{each-order, order-equal, same-equal, equal-sym, equal-trans}
 use Rattle.roundtrip.proofs.Back.{Back, text-back}
-use Rattle.roundtrip.proofs.Accepted.{text-unbroken}
+use Rattle.roundtrip.proofs.Gathered.{gathered-sound, gathered-unbroken}
 
-module _ (t : List ℕ) (rs : List Record) (e : readText t ≡ accept rs) (h : length (tidy rs) ≤ 16777216) where
+module _ (t : List ℕ) (rs : List Record) (g : Gathered t rs) (h : length (tidy rs) ≤ 16777216) where
   -- the tidy text is accepted
   pub tidy-back : Back (inOrder rs) (readText (tidy rs))
   unfolding tidy
   tidy-back =
-      text-back (inOrder rs) (unbarred-order rs (text-unbarred t rs e)) (each-order Sound rs (text-sound t rs e)) (each-order Unbroken rs (text-unbroken t rs e)) h
+      text-back (inOrder rs) (unbarred-order rs (g .unbarred)) (each-order Sound rs (gathered-sound t rs g)) (each-order Unbroken rs (gathered-unbroken t rs g)) h
 
   -- it holds the same records
   pub back-equal : Equal (tidy-back .found) rs
@@ -40,13 +40,13 @@ accept-one : (rs qs : List Record) → accept rs ≡ accept qs → rs ≡ qs
 accept-one rs qs e = cc
 
 -- headers with one tidy text are equal
-pub tidy-tells : (t u : List ℕ) (rs qs : List Record) → readText t ≡ accept rs → readText u ≡ accept qs → length (tidy rs) ≤ 16777216 → tidy rs ≡ tidy qs → Equal rs qs
-tidy-tells t u rs qs e f h q =
+pub tidy-tells : (t u : List ℕ) (rs qs : List Record) → Gathered t rs → Gathered u qs → length (tidy rs) ≤ 16777216 → tidy rs ≡ tidy qs → Equal rs qs
+tidy-tells t u rs qs g f h q =
     let k : length (tidy qs) ≤ 16777216 = rw (← q) h in
-    let b : Back (inOrder rs) (readText (tidy rs)) = tidy-back t rs e h in
+    let b : Back (inOrder rs) (readText (tidy rs)) = tidy-back t rs g h in
     let c : Back (inOrder qs) (readText (tidy qs)) = tidy-back u qs f k in
     let one : b .found ≡ c .found = accept-one (b .found) (c .found) (sym (b .reads) ∙ ap readText q ∙ c .reads) in
-    equal-trans rs (c .found) qs (equal-sym (c .found) rs (rw one at (back-equal t rs e h))) (back-equal u qs f k)
+    equal-trans rs (c .found) qs (equal-sym (c .found) rs (rw one at (back-equal t rs g h))) (back-equal u qs f k)
 
 -- ---- reference names
 

@@ -13,7 +13,7 @@ use borrow.Author.Tests.{eqb-true}
 use Rattle.format.specs.Decimal.{worth, digits, written}
 use Rattle.format.specs.Lines.{Piece, onto, cut, placed, lines, linesFrom}
 use Rattle.format.specs.Fields.{Field, tagged, lastOf, settled, without}
-use Rattle.format.specs.Records.{Record, header, reference, group, program, comment, code, read, line}
+use Rattle.format.specs.Records.{Record, header, reference, group, program, comment, code}
 use Rattle.format.specs.Reading.{accept, readText, ofKind}
 use Rattle.format.specs.Tidy.{fieldsText, recordText, text, inOrder, tidy}
 use Rattle.format.specs.declared.Kind.{Kind}
@@ -29,13 +29,14 @@ use Rattle.decimal.proofs.ReadBack.{written-fewest}
 use Rattle.accepted.specs.Pieces.{Pairs}
 use Rattle.accepted.specs.Spelled as sp
 use Rattle.accepted.specs.Spelled.{LengthInRange, Good, Made, Spelled, AcceptedLine}
-use Rattle.accepted.specs.Admits.{strictly}
 use Rattle.accepted.proofs.Bools.{and-left}
 use Rattle.accepted.proofs.Fields.{Of, lastOf-of}
 use Rattle.accepted.proofs.Pairs.{pairs-right, each-all}
 use Rattle.accepted.proofs.Spelled.{line-accepted}
-use Rattle.accepted.proofs.Text.{text-lines}
 use Rattle.roundtrip.specs.Line.{own, keys, recordLine}
+use Rattle.roundtrip.specs.Gathered as ga
+use Rattle.roundtrip.specs.Gathered.{From, Gathered}
+use Rattle.roundtrip.proofs.Gathered.{text-gathered}
 use Rattle.roundtrip.proofs.Line.{record-line}
 use Rattle.roundtrip.proofs.Length.{one-more, settled-length, key-length, last-without, version-length}
 
@@ -134,18 +135,17 @@ ended : List Piece → ℕ
 ended [] = 0
 ended (p ∷ ps) = suc (length (p .bytes)) + ended ps
 
-text-ended : (strict : Bool) (ps : List Piece) (rs : List Record) → Pairs (λ p r. line strict p ≡ read r) ps rs → length (text rs) ≤ ended ps
-unfolding Pairs text ended
-text-ended strict [] [] h = omega arith
-text-ended strict [] (r ∷ rs) h = absurd h
-text-ended strict (p ∷ ps) [] h = absurd h
-text-ended strict (p ∷ ps) (r ∷ rs) h =
+from-ended : (ps : List Piece) (rs : List Record) → From ps rs → length (text rs) ≤ ended ps
+unfolding text ended
+from-ended [] [] ga.end = omega arith
+from-ended (p ∷ ps) rs (ga.passed h) = omega (arith, from-ended ps rs h)
+from-ended (p ∷ ps) (r ∷ rs) (ga.taken strict e h) =
     omega (
       arith,
       length-append (recordText r) (text rs),
       record-length r,
-      accepted-length strict (p .at) (p .bytes) r (line-accepted strict p r (h .0)),
-      text-ended strict ps rs (h .1),
+      accepted-length strict (p .at) (p .bytes) r (line-accepted strict p r e),
+      from-ended ps rs h,
     )
 
 -- every line but the last has an LF
@@ -222,6 +222,9 @@ order-length rs =
 
 -- ---- the whole
 
-pub tidy-length : (t : List ℕ) (rs : List Record) → readText t ≡ accept rs → length (tidy rs) ≤ length t + 1
+pub gathered-length : (t : List ℕ) (rs : List Record) → Gathered t rs → length (tidy rs) ≤ length t + 1
 unfolding tidy lines
-tidy-length t rs e = omega (arith, order-length rs, text-ended (strictly t) (lines t) rs (text-lines t rs e), lines-ended 0 t)
+gathered-length t rs g = omega (arith, order-length rs, from-ended (lines t) rs (g .from), lines-ended 0 t)
+
+pub tidy-length : (t : List ℕ) (rs : List Record) → readText t ≡ accept rs → length (tidy rs) ≤ length t + 1
+tidy-length t rs e = gathered-length t rs (text-gathered t rs e)

@@ -44,7 +44,7 @@ clash-other : (r q : Record) → eqb (code q) (code r) ≡ false → clash r q �
 unfolding clash
 clash-other r q e = rw (eqb-sym (code r) (code q), e) refl
 
-clash-kind : (r : Record) (rs : List Record) → any (clash r) rs ≡ any (clash r) (ofKind (code r) rs)
+pub clash-kind : (r : Record) (rs : List Record) → any (clash r) rs ≡ any (clash r) (ofKind (code r) rs)
 unfolding any ofKind
 clash-kind r [] = refl
 clash-kind r (q ∷ rs) = go (eqb (code q) (code r)) refl (clash-kind r rs)

@@ -18,20 +18,24 @@ pub record Allowed (t : List ℕ) (rs : List Record) : Type 0 where
   pub small : length t ≤ 16777215
   pub names : unwritable 0 rs ≡ none
 
+-- of records: their tidy text holds them
+pub record Holds (rs : List Record) : Type 0 where
+  -- it is accepted
+  pub found : List Record
+  pub accepted : records (tidy rs) ≡ yes found
+  -- and holds the same records, kind by kind and in its order
+  pub equal : Equal found rs
+  pub order : map bare found ≡ map bare (inOrder rs)
+  -- tidying it changes nothing
+  pub again : (room : ℕ) → tidying (tidy rs) room ≡ fitting room (tidy rs)
+
 -- of one text
 pub record Kept (t : List ℕ) (rs : List Record) : Type 0 where
   -- tidying answers the tidy text, and refuses for nothing but an output that is too short
   pub answers : (room : ℕ) → tidying t room ≡ fitting room (tidy rs)
   -- it is at most one byte longer
   pub long : length (tidy rs) ≤ length t + 1
-  -- the tidy text is accepted
-  pub found : List Record
-  pub accepted : records (tidy rs) ≡ yes found
-  -- and holds the same records, kind by kind and in its order
-  pub equal : Equal found rs
-  pub order : map bare found ≡ map bare (inOrder rs)
-  -- tidying again changes nothing
-  pub again : (room : ℕ) → tidying (tidy rs) room ≡ fitting room (tidy rs)
+  pub holds : Holds rs
 
 -- the tidy text of `t` as the call answers it, for an output that takes every tidy text
 unfoldable pub tidied : List ℕ → Answer (List ℕ)

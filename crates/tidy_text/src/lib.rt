@@ -26,13 +26,13 @@ pub enum Measured {
 }
 
 // The same of the lines so far.
-enum Grown {
+pub enum Grown {
     Unwritable,
     Is(PerKind),
 }
 
 // The sizes with one accepted line more, if its record can be written.
-fn with_line(sizes: PerKind, src: &[u8], at: usize, strict: bool) -> Grown
+pub fn with_line(sizes: PerKind, src: &[u8], at: usize, strict: bool) -> Grown
     requires { ⌜ isRead (line strict (record { at = at; bytes = now src })) ≡ true ⌝ }
     requires { ⌜ at + length (now src) ≤ 16777216 ⌝ }
     requires { ⌜ get (lineKind (now src)) sizes + length (tidyLine strict at (now src)) ≤ 18446744073709551615 ⌝ }
@@ -69,7 +69,7 @@ pub fn measure(text: &[u8], strict: bool) -> Measured
 }
 
 // Writes the record of an accepted line at its kind's place, and answers the places after it.
-fn put_line(out: &mut [u8], places: PerKind, src: &[u8], at: usize, strict: bool) -> PerKind
+pub fn put_line(out: &mut [u8], places: PerKind, src: &[u8], at: usize, strict: bool) -> PerKind
     requires { ⌜ isRead (line strict (record { at = at; bytes = now src })) ≡ true ⌝ }
     requires { ⌜ at + length (now src) ≤ 16777216 ⌝ }
     requires { ⌜ get (lineKind (now src)) places + length (tidyLine strict at (now src)) ≤ length (now out) ⌝ }

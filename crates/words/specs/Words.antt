@@ -14,6 +14,8 @@ use Rattle.calls.specs.declared.LineAnswer.{LineAnswer}
 use Rattle.calls.specs.declared.LineAnswer.the-variants as line
 use Rattle.calls.specs.declared.LeavesAnswer.{LeavesAnswer}
 use Rattle.calls.specs.declared.LeavesAnswer.the-variants as leaves
+use Rattle.carry_on.specs.declared.Carried.{Carried}
+use Rattle.carry_on.specs.declared.Carried.the-variants as carried
 use Rattle.names.specs.declared.NamesAnswer.{NamesAnswer}
 use Rattle.names.specs.declared.NamesAnswer.the-variants as names
 
@@ -40,6 +42,12 @@ unfoldable pub leavesWord : LeavesAnswer → ℕ
 unfolding refusalWord pairWord
 leavesWord (leaves.Refused n l) = refusalWord n (l .0)
 leavesWord (leaves.Counted n h) = pairWord h n
+
+-- the lines skipped, and the bytes written
+unfoldable pub carriedWord : Carried → ℕ
+unfolding refusalWord pairWord
+carriedWord (carried.Refused n l) = refusalWord n (l .0)
+carriedWord (carried.Written n k) = pairWord k n
 
 -- the key's offset, and its length
 unfoldable pub keyWord : KeyAnswer → ℕ

@@ -6,6 +6,7 @@ unsafe extern "C" {
     fn sam_header_read(text: *const u8, text_len: usize, catalogue: *mut u8, catalogue_len: usize) -> u64;
     fn sam_header_check(text: *const u8, text_len: usize, catalogue: *const u8, catalogue_len: usize) -> u64;
     fn sam_header_tidy(text: *const u8, text_len: usize, out: *mut u8, out_len: usize) -> u64;
+    fn sam_header_carry_on(text: *const u8, text_len: usize, out: *mut u8, out_len: usize, table: *mut u32, table_len: usize) -> u64;
     fn sam_header_count(text: *const u8, text_len: usize, catalogue: *const u8, catalogue_len: usize, kind: u8) -> u64;
     fn sam_header_key(text: *const u8, text_len: usize, catalogue: *const u8, catalogue_len: usize, kind: u8, ordinal: u32) -> u64;
     fn sam_header_line(text: *const u8, text_len: usize, catalogue: *const u8, catalogue_len: usize, kind: u8, ordinal: u32) -> u64;
@@ -53,6 +54,17 @@ pub fn tidy(text: &[u8]) -> Result<Vec<u8>, Refusal> {
     let n = answer(unsafe { sam_header_tidy(text.as_ptr(), text.len(), out.as_mut_ptr(), out.len()) })?;
     out.truncate(n as usize);
     Ok(out)
+}
+
+/// The tidy text of the lines that are not refused, and the refusals of the others, in order.
+pub fn carry_on(text: &[u8]) -> Result<(Vec<u8>, Vec<Refusal>), Refusal> {
+    let lines = text.iter().filter(|&&b| b == b'\n').count() + 1;
+    let (mut out, mut table) = (vec![0; text.len() + 1], vec![0; 2 * lines]);
+    let (o, t) = (out.as_mut_ptr(), table.as_mut_ptr());
+    let word = answer(unsafe { sam_header_carry_on(text.as_ptr(), text.len(), o, out.len(), t, table.len()) })?;
+    out.truncate(word as u32 as usize);
+    let skipped = table.chunks(2).take((word >> 32) as usize);
+    Ok((out, skipped.map(|row| Refusal { number: row[1] as u8, line: row[0] }).collect()))
 }
 
 /// A text that reading accepts, and its catalogue.
@@ -164,10 +176,19 @@ mod tests {
     }
 
     #[test]
+    fn past_a_bad_line() {
+        let (out, skipped) = carry_on(b"@SQ\tSN:chr1\tLN:0\nx\n@SQ\tLN:08\tSN:chr1\n").unwrap();
+        assert_eq!(out, b"@SQ\tSN:chr1\tLN:8\n");
+        assert_eq!(skipped, [Refusal { number: 13, line: 0 }, Refusal { number: 3, line: 1 }]);
+        assert_eq!(carry_on(b"x\n@SQ\tSN:*\tLN:1"), Err(Refusal { number: 24, line: 1 }));
+    }
+
+    #[test]
     fn room_for_every_text() {
         for text in [&b""[..], b"@CO\t", b"@CO\t\n@CO\t", b"@RG\tID:a\tAA:a\tAB:a\tAC:a"] {
             assert!(Header::read(text).is_ok());
             assert!(tidy(text).is_ok());
+            assert_eq!(carry_on(text), tidy(text).map(|t| (t, Vec::new())));
         }
     }
 }

@@ -104,11 +104,27 @@ fn is_version(s: &[u8]) -> bool {
     sides.is_some_and(|(major, minor)| is_number(major, u32::MAX.into()) && is_number(minor, u32::MAX.into()))
 }
 
-/// Whether line 0 gives the repeat rule a version: it starts `@HD` tab, and its first piece that starts `VN:` has document 01's form.
+/// The version that a line gives the repeat rule: it starts `@HD` tab, and its first piece that starts `VN:` has document 01's form.
+pub fn announced(line: &[u8]) -> Option<&[u8]> {
+    let pieces = line.strip_prefix(b"@HD\t")?.split(|&b| b == b'\t');
+    pieces.filter_map(|p| p.strip_prefix(b"VN:")).next().filter(|v| is_version(v))
+}
+
+/// Whether repeated tags are forbidden under an announced version.
+pub fn is_strict(version: &[u8]) -> bool {
+    let number = |s: &[u8]| s.iter().fold(0u64, |n, b| 10 * n + u64::from(b - b'0'));
+    let dot = version.iter().position(|&b| b == b'.').expect("an announced version has a dot");
+    (number(&version[..dot]), number(&version[dot + 1..])) >= (1, 6)
+}
+
+/// A line before others that sets their repeat rule.
+pub fn ruled(strict: bool) -> &'static [u8] {
+    if strict { b"@HD\tVN:1.6\n" } else { b"@HD\tVN:1.5\n" }
+}
+
+/// Whether line 0 gives the repeat rule a version.
 pub fn has_version(text: &[u8]) -> bool {
-    let line = spans(text).next().map_or(&b""[..], |(a, b)| &text[a..b]);
-    let first = line.strip_prefix(b"@HD\t").and_then(|l| l.split(|&b| b == b'\t').find_map(|p| p.strip_prefix(b"VN:")));
-    first.is_some_and(is_version)
+    spans(text).next().is_some_and(|(a, b)| announced(&text[a..b]).is_some())
 }
 
 fn piece_in_domain(kind: &[u8], piece: &[u8]) -> bool {
@@ -887,6 +903,35 @@ pub fn renamed(text: &[u8]) -> Vec<u8> {
         }
     };
     text.iter().map(next).collect()
+}
+
+/// Lines of two headers and lines that are refused, in an order by chance, many of them before the first that is kept.
+pub fn with_refused(rng: &mut Rng) -> Vec<u8> {
+    const BAD: [&[u8]; 20] = [
+        b"@HD\tVN:1.6\tx", b"@HD\tVN:1.5\tx", b"@HD\tVN:1.7\tSO:", b"@HD\tVN:z", b"@HD\tVN:1.6\tVN:z", b"@HD\tVN:1.4\tVN:1.6\tSO", b"@HD", b"@HD VN:1.6",
+        b"@HD\tVN:1.6\tSO:a\rb", b"@HD\tVN:1.6\r\tSO:a", b"@HD\tVN:1.6", b"@HD\tVN:1.5\tSO:a\tSO:b", b"@PG\tID:a\tID:b", b"@RG\tID:r\tSM:x\tSM:y", b"@SQ\tSN:s\tLN:0",
+        b"@SQ\tSN:s", b"@SQ\tSN:s\tLN:7\tLN:8", b"@CO", b"", b"x",
+    ];
+    let texts = [header(rng), header(rng)];
+    let lines: Vec<&[u8]> = texts.iter().flat_map(|t| spans(t).map(|(a, b)| &t[a..b])).collect();
+    let mut all: Vec<Vec<u8>> = (0..rng.below(5)).map(|_| rng.of(&BAD).to_vec()).collect();
+    for _ in 0..rng.below(16) {
+        all.push(match rng.below(8) {
+            0 | 1 => rng.of(&BAD).to_vec(),
+            2 if !all.is_empty() => rng.of(&all).clone(),
+            3 if !lines.is_empty() => {
+                let line = *rng.of(&lines);
+                damaged(rng, line)
+            }
+            _ if !lines.is_empty() => rng.of(&lines).to_vec(),
+            _ => b"@CO\t".to_vec(),
+        });
+    }
+    let mut text = all.join(&b"\n"[..]);
+    if rng.one_in(2) {
+        text.push(b'\n');
+    }
+    text
 }
 
 /// The text with its first line ended by CR LF in place of LF, or the other way, and whether a line stands behind it: an accepted text

@@ -120,12 +120,22 @@ pub fn parse(text: &[u8]) -> Result<Header, Refused> {
     }
 }
 
-/// The crate's answer to a text, line by line, where repeated tags are allowed unless line 0 says otherwise: an `@HD` line of
-/// 1.5 that it refuses comes before, and sets its rule all the same.
-pub fn parse_lax(text: &[u8]) -> Result<Header, Refused> {
+/// A parser under which repeated tags are allowed until a line says otherwise: an `@HD` line of 1.5 that it refused comes before, and
+/// set its rule all the same.
+pub fn lax_parser() -> Parser {
     let mut parser = Parser::default();
     assert!(parser.parse_partial(b"@HD\tVN:1.5\t").is_err(), "a tag is missing");
-    by_line(parser, text).map_err(|(refused, _)| refused)
+    parser
+}
+
+/// The crate's answer to a text, line by line, where repeated tags are allowed unless line 0 says otherwise.
+pub fn parse_lax(text: &[u8]) -> Result<Header, Refused> {
+    by_line(lax_parser(), text).map_err(|(refused, _)| refused)
+}
+
+/// Document 01's number for what the crate says of a line.
+pub fn number_of(line: &[u8], e: &ParseError) -> u32 {
+    number(line, &format!("{e:?}"))
 }
 
 fn by_line(mut parser: Parser, text: &[u8]) -> Result<Header, (Refused, ParseError)> {

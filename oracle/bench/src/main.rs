@@ -4,6 +4,7 @@
 //! bench rows WORD                      its rows that have this word in their names
 //! bench worst [WORD]                   the second table (`worst.rs`), or its rows that have this word in their names
 //! bench names [--rounds N] [FOLDER]    the third table (`names.rs`), where the archive has the call
+//! bench carry_on [--rounds N]          the fourth table (`carried.rs`), where the archive has the call
 //!
 //! FOLDER has real headers, `*.sam` (default ../shared/headers beside the repository).
 //!
@@ -30,6 +31,8 @@
 //!   500 PG, accented CL   the same with accents, as many bytes; the crate, whose stand-in takes none, is given the row before
 
 mod calls;
+#[cfg(feature = "carry_on")]
+mod carried;
 #[cfg(feature = "names")]
 mod names;
 mod texts;
@@ -152,16 +155,16 @@ fn processor() -> String {
 fn main() -> ExitCode {
     let args: Vec<String> = std::env::args().skip(1).collect();
     let args: Vec<&str> = args.iter().map(String::as_str).collect();
-    let (many, args) = match args[..] {
-        ["names", ref rest @ ..] => (true, rest),
-        _ => (false, &args[..]),
+    let (call, args) = match args[..] {
+        [call @ ("names" | "carry_on"), ref rest @ ..] => (call, rest),
+        _ => ("", &args[..]),
     };
     let (rounds, folder) = match *args {
-        _ if many && !cfg!(feature = "names") => {
-            eprintln!("the archive has no sam_header_names");
+        _ if call == "names" && !cfg!(feature = "names") || call == "carry_on" && !cfg!(feature = "carry_on") => {
+            eprintln!("the archive has no sam_header_{call}");
             return ExitCode::from(2);
         }
-        ["worst"] | ["worst", _] if !many => (0, None),
+        ["worst"] | ["worst", _] if call.is_empty() => (0, None),
         [] | ["rows", _] => (100, Some(HEADERS)),
         [folder] if !folder.starts_with('-') => (100, Some(folder)),
         ["--rounds", n] if n.parse::<usize>().is_ok() => (n.parse().unwrap(), Some(HEADERS)),
@@ -177,8 +180,13 @@ fn main() -> ExitCode {
         return ExitCode::SUCCESS;
     };
     #[cfg(feature = "names")]
-    if many {
+    if call == "names" {
         names::table(rounds, Path::new(folder));
+        return ExitCode::SUCCESS;
+    }
+    #[cfg(feature = "carry_on")]
+    if call == "carry_on" {
+        carried::table(rounds);
         return ExitCode::SUCCESS;
     }
     print!("{:<27}{:>10}", "library/crate", "bytes");

@@ -8,6 +8,8 @@ use oracle::{
     inputs::{self, Rng},
 };
 
+#[cfg(feature = "carry_on")]
+use crate::carried;
 use crate::{
     known::{self, Kind},
     tally::{Call, Tally},
@@ -336,7 +338,7 @@ fn some(n: usize, rng: &mut Rng) -> Vec<usize> {
 #[derive(Default)]
 pub struct Checker {
     bytes: Lent<u8>,
-    #[cfg(any(feature = "graph", feature = "names"))]
+    #[cfg(any(feature = "graph", feature = "names", feature = "carry_on"))]
     words: Lent<u32>,
     #[cfg(feature = "names")]
     work: Lent<u32>,
@@ -353,6 +355,10 @@ impl Checker {
             Some(Err(r)) => self.refused(case, r),
             Some(Ok((catalogue, header))) => self.accepted(case, &catalogue, &header),
             None => {}
+        }
+        #[cfg(feature = "carry_on")]
+        if case.list.is_none() {
+            self.carry_on(&case.text);
         }
         if *case != before {
             self.differ(Call::Read, None, "a text, a prefix, fields or a list were changed".into());
@@ -890,6 +896,81 @@ impl Checker {
         } else {
             None
         }
+    }
+}
+
+#[cfg(feature = "carry_on")]
+impl Checker {
+    // What is kept and what is skipped are the crate's, as far as it can say.
+    fn carry_on(&mut self, text: &[u8]) {
+        if oracle::LENIENT {
+            return;
+        }
+        if text.len() > oracle::LONGEST {
+            let said = self.carried_at_lengths(text, Err(refusal(1)), &[]);
+            self.differ(Call::CarryOn, Some(Kind::Size), "refused 1; the crate goes on".into());
+            return self.said(Call::CarryOn, 1, said);
+        }
+        let takes = |t: &[u8]| library::read(t, &mut vec![0; 3 * t.len() + 1]).is_ok();
+        let Some(want) = carried::carried(text, takes) else {
+            return self.differ(Call::CarryOn, Some(Kind::Wide), "a value that the crate's stand-in does not take".into());
+        };
+        if want.skipped.iter().any(|s| s.1.is_none() || s.1 == Some(19)) {
+            self.differ(Call::CarryOn, Some(Kind::CarryLine), "a line that the crate takes otherwise".into());
+        }
+        if carried::defaults_differ(text) {
+            self.differ(Call::CarryOn, Some(Kind::CarryDefault), "a repeated tag is allowed; the crate: 14".into());
+        }
+        let written = oracle::tidy(&want.header);
+        let rows = self.rows(text, &want.skipped);
+        let due = match &written {
+            Ok(t) if t.len() > oracle::LONGEST => Err(refusal(1)),
+            Ok(t) => Ok(&t[..]),
+            Err(_) => {
+                let ordinal = oracle::unwritable(&want.header).expect("the crate refused a name");
+                Err(Refusal { number: 24, line: want.sequences[ordinal] })
+            }
+        };
+        let said = self.carried_at_lengths(text, due, &rows);
+        self.said(Call::CarryOn, due.err().map_or(0, |r| r.number), said);
+    }
+
+    // The table that is due. A line that the crate was not given has any number of a line's refusal: the library's own is taken over.
+    fn rows(&mut self, text: &[u8], skipped: &[(u32, Option<u32>)]) -> Vec<u32> {
+        let answer = library::carry_on(text, self.bytes.lend(text.len() + 1), self.words.lend(2 * skipped.len()));
+        let own = |i: usize| answer.map_or(0, |_| self.words.front(2 * skipped.len())[2 * i + 1]);
+        let number = |i: usize, n: Option<u32>| n.unwrap_or(if matches!(own(i), 2..=18 | 27) { own(i) } else { 0 });
+        skipped.iter().enumerate().flat_map(|(i, &(line, n))| [line, number(i, n)]).collect()
+    }
+
+    // Asks with an output and a table that are longer than the answer, exactly as long, one short, and empty. Says what is wrong, if anything.
+    fn carried_at_lengths(&mut self, text: &[u8], want: Result<&[u8], Refusal>, rows: &[u32]) -> Option<String> {
+        let (n, m) = (want.map_or(0, <[u8]>::len), rows.len());
+        for (room, table) in [(n + 9, m + 9), (n, m), (n.wrapping_sub(1), m), (n, m.wrapping_sub(1)), (0, 0)] {
+            if room > n + 9 || table > m + 9 {
+                continue;
+            }
+            let due = match want {
+                Ok(_) if room < n || table < m => Err(SHORT),
+                Ok(_) => Ok((m as u64 / 2) << 32 | n as u64),
+                Err(r) => Err(r),
+            };
+            let got = library::carry_on(text, self.bytes.lend(room), self.words.lend(table));
+            let (bytes, numbers) = if due.is_ok() { (want.unwrap_or(b""), rows) } else { (&b""[..], &[][..]) };
+            let wrong = if got != due {
+                format!("{got:?}, wanted {due:?}")
+            } else if self.bytes.front(bytes.len()) != bytes {
+                format!("{}, wanted {}", u8::show(self.bytes.front(n)), u8::show(bytes))
+            } else if self.words.front(numbers.len()) != numbers {
+                format!("the table {:?}, wanted {numbers:?}", self.words.front(m))
+            } else if !self.bytes.kept_from(bytes.len()) || !self.words.kept_from(numbers.len()) {
+                "something past the answer or the table was changed".into()
+            } else {
+                continue;
+            };
+            return Some(format!("an output of {room} and a table of {table}: {wrong}"));
+        }
+        None
     }
 }
 

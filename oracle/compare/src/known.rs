@@ -21,11 +21,13 @@ pub enum Kind {
     Endless,
     AddNobody,
     AddPrograms,
+    CarryDefault,
+    CarryLine,
     Wide,
     Lenient,
 }
 
-pub const ALL: [(Kind, &str); 17] = [
+pub const ALL: [(Kind, &str); 19] = [
     (Kind::Size, "a text, or one to be written, over 16,777,216 bytes: 1; the crate has no limit"),
     (Kind::CommentReturn, "a CR inside a comment: 2; the crate keeps it"),
     (Kind::OtherReturn, "a CR inside another line: 2; the crate has another error for it"),
@@ -41,6 +43,8 @@ pub const ALL: [(Kind, &str); 17] = [
     (Kind::Endless, "leaves or add where a chain leads into a loop: 23, or 22 if a PP names no program; the crate never ends"),
     (Kind::AddNobody, "add with a PP that names no program: 22; the crate does not look for it"),
     (Kind::AddPrograms, "add past 1,024 programs: 19; the crate has no limit"),
+    (Kind::CarryDefault, "carrying on while no version is announced: repeated tags are allowed; the crate skips the line"),
+    (Kind::CarryLine, "carrying on past a line that is refused by a kind above: it is skipped; the crate keeps it, or has another number"),
     (Kind::Wide, "DS of SQ, RG or PG, or CL of PG in UTF-8: taken; the crate's stand-in has document 01's rule and says 10"),
     (Kind::Lenient, "a tag or value outside document 01's form: 8 or 10; taken by the lenient build's stand-ins"),
 ];
@@ -55,7 +59,7 @@ fn values<'a>(line: &'a [u8], tag: &'static [u8]) -> impl Iterator<Item = &'a [u
 }
 
 /// Whether a line has a value that document 02 allows and document 01 does not.
-fn widened(line: &[u8]) -> bool {
+pub fn widened(line: &[u8]) -> bool {
     let tags: &[&'static [u8]] = match line.get(..4) {
         Some(b"@SQ\t" | b"@RG\t") => &[b"DS:"],
         Some(b"@PG\t") => &[b"DS:", b"CL:"],
@@ -68,6 +72,14 @@ fn widened(line: &[u8]) -> bool {
 fn signed_version(v: &[u8]) -> bool {
     let dot = v.iter().position(|&b| b == b'.');
     sign(v.first()) || dot.is_some_and(|i| sign(v.get(i + 1)))
+}
+
+/// Whether a line may be one that both sides take otherwise: a CR, a sign in a version, a length that is no number of document 02's.
+pub fn is_odd(line: &[u8]) -> bool {
+    let bare = |v: &[u8]| !v.first().is_some_and(u8::is_ascii_digit);
+    line.contains(&b'\r')
+        || line.starts_with(b"@HD\t") && values(line, b"VN:").any(signed_version)
+        || line.starts_with(b"@SQ\t") && values(line, b"LN:").any(|v| bare(v) || inputs::is_long_length(v))
 }
 
 /// The kind of a difference in reading where the crate's stand-in refuses a value that the library takes and goes on behind.

@@ -7,6 +7,8 @@
 //! reduced. Exit status 1 if there is an unlisted one. With --trace each case is written to standard error before it is asked,
 //! for a library that crashes.
 
+#[cfg(feature = "carry_on")]
+mod carried;
 mod check;
 mod known;
 mod reduce;
@@ -18,8 +20,8 @@ use check::{Case, Checker, Difference};
 use known::Kind;
 use oracle::inputs::{self, Rng, in_domain};
 
-const PHASES: [&str; 11] =
-    ["corners", "tokens", "fields", "bytes", "graphs", "random", "damaged", "programs", "boundaries", "keys", "names"];
+const PHASES: [&str; 12] =
+    ["corners", "tokens", "fields", "bytes", "graphs", "random", "damaged", "programs", "boundaries", "keys", "names", "skipped"];
 
 /// Unlisted differences that are printed; the run ends at the last of them.
 const MOST: usize = 8;
@@ -60,10 +62,11 @@ fn replay(case: &Case) -> String {
     if o.len() > 2_000 { "(too long to print)".into() } else { o }
 }
 
-// On the domain no difference in reading or tidying is a known one, but for the size and for repeats without a version.
+// On the domain no difference in reading, tidying or carrying on is a known one, but for the size and for repeats without a version.
 fn judged(case: &Case, mut found: Vec<Difference>) -> Vec<Difference> {
-    let outside = |k: Kind| !matches!(k, Kind::Size | Kind::RepeatDefault);
-    if found.iter().any(|d| matches!(d.call, tally::Call::Read | tally::Call::Tidy) && d.kind.is_some_and(outside))
+    use tally::Call::{CarryOn, Read, Tidy};
+    let outside = |k: Kind| !matches!(k, Kind::Size | Kind::RepeatDefault | Kind::CarryDefault);
+    if found.iter().any(|d| matches!(d.call, Read | Tidy | CarryOn) && d.kind.is_some_and(outside))
         && in_domain(&case.text)
     {
         for d in &mut found {
@@ -248,6 +251,13 @@ impl Run {
                 inputs::long_lists(&mut |t, l| self.ask(&Case { text: t.to_vec(), add: None, list: Some(l.to_vec()) }));
             }
             "names" => {}
+            "skipped" if cfg!(feature = "carry_on") => {
+                for _ in 0..100_000 * scale {
+                    let text = inputs::with_refused(rng);
+                    self.text(&text);
+                }
+            }
+            "skipped" => {}
             _ => unreachable!(),
         }
     }
@@ -299,6 +309,7 @@ fn main() -> ExitCode {
         ("graph", cfg!(feature = "graph")),
         ("add", cfg!(feature = "add")),
         ("names", cfg!(feature = "names")),
+        ("carry_on", cfg!(feature = "carry_on")),
     ]
     .iter()
     .filter_map(|&(name, there)| there.then_some(name))

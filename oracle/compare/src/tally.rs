@@ -17,9 +17,10 @@ pub enum Call {
     Leaves,
     Add,
     Names,
+    CarryOn,
 }
 
-const CALLS: [Call; 12] = [
+const CALLS: [Call; 13] = [
     Call::Read,
     Call::Check,
     Call::Tidy,
@@ -32,6 +33,7 @@ const CALLS: [Call; 12] = [
     Call::Leaves,
     Call::Add,
     Call::Names,
+    Call::CarryOn,
 ];
 
 /// Refusals have the numbers from 1 to 27.

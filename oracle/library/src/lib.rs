@@ -101,6 +101,18 @@ unsafe extern "C" {
     ) -> u64;
 }
 
+#[cfg(feature = "carry_on")]
+unsafe extern "C" {
+    fn sam_header_carry_on(
+        text: *const u8,
+        text_len: usize,
+        out: *mut u8,
+        out_len: usize,
+        table: *mut u32,
+        table_len: usize,
+    ) -> u64;
+}
+
 /// A refusal: its number and its line.
 #[derive(Clone, Copy, Debug, Eq, PartialEq)]
 pub struct Refusal {
@@ -204,6 +216,14 @@ pub fn names(text: &[u8], catalogue: &[u8], list: &[u8], work: &mut [u32], out: 
             out.len(),
             inspected,
         )
+    })
+}
+
+/// Two numbers for each skipped line are left in `table`.
+#[cfg(feature = "carry_on")]
+pub fn carry_on(text: &[u8], out: &mut [u8], table: &mut [u32]) -> Answer {
+    answer(unsafe {
+        sam_header_carry_on(text.as_ptr(), text.len(), out.as_mut_ptr(), out.len(), table.as_mut_ptr(), table.len())
     })
 }
 

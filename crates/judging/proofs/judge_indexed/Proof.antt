@@ -21,6 +21,7 @@ use Rattle.record.specs.Head.{headOf, recordHead}
 use Rattle.admission.specs.Admission.{lineRefusal, isTaken, barring}
 use Rattle.admission.proofs.Admission.{barring-is, unbarred-new, refusal-none, refusal-some}
 use Rattle.admission.proofs.Few.{others-few}
+use Rattle.admission.proofs.Programs.{programs-most}
 use Rattle.key_index.specs.Told.{isMet}
 use Rattle.key_index.specs.Keyed.{KeyInText}
 use Rattle.key_index.proofs.Keyed.{head-placed, meeting-length}
@@ -28,7 +29,7 @@ use Rattle.line_entries.specs.Line.{recordBytes}
 use Rattle.line_entries.specs.Parts.{sizeOfHead, othersOf, ownEntry}
 use Rattle.line_entries.proofs.Records.{catalogue-length, own-others, size-length}
 use Rattle.line_entries.proofs.Entries.{size-most}
-use Rattle.judging.specs.Judged.{judgedOf, programsOf}
+use Rattle.judging.specs.Judged.{judgedOf}
 use Rattle.judging.proofs.Blocks.{Blocking, blocking-start, blocking-turn, turn-until, used-known, blocking-on}
 use Rattle.judging.proofs.Judging.{Judging, judging-start, judging-on, judging-end, judging-refused, few-lines, passed-are, next-within, len-within, next-some, len-is, line-stands}
 use Rattle.judging.proofs.judge_indexed.Statement.{statement}
@@ -39,7 +40,7 @@ use Rattle.judging.proofs.barred.Reads as barred-reads
 use Rattle.judging.proofs.turn.Reads as turn-reads
 use Rattle.key_index.proofs.meet.Reads as meet-reads
 use Rattle.line_entries.proofs.record_size.Reads as record-size-reads
-use Rattle.judging.proofs.programs_of.Reads as programs-of-reads
+use Rattle.admission.proofs.programs_of.Reads as programs-of-reads
 use Rattle.record.proofs.parse_record.Reads as parse-record-reads
 use Rattle.text.proofs.first_line.Reads as first-line-reads
 
@@ -238,15 +239,6 @@ kind-few k (r ∷ rs) = go (eqb (code r) k) (kind-few k rs)
     go : (t : Bool) → length (ofKind k rs) ≤ length rs → length (cond t (r ∷ ofKind k rs) (ofKind k rs)) ≤ suc (length rs)
     go true h = omega arith
     go false h = omega arith
-
-programs-most : (h : Head) → programsOf h ≤ 1
-unfolding programsOf
-programs-most (head.Refused n) = omega arith
-programs-most (head.Header v n) = omega arith
-programs-most (head.ReferenceSequence p l n) = omega arith
-programs-most (head.ReadGroup p n) = omega arith
-programs-most (head.Program p n) = omega arith
-programs-most (head.Comment p) = omega arith
 
 mul-until : tie.Need-mul-until Inv-loop μ-loop
 mul-until c = search needs

@@ -1,4 +1,4 @@
--- `judging::programs_of` meets its contract: a program counts, and nothing else.
+-- `admission::programs_of` meets its contract: a program counts, and nothing else.
 use Prim.Native.Nat.{ℕ}
 use mathlib.Core.Path.{_≡_, refl, sym, ap}
 use mathlib.Core.List.{[], _∷_}
@@ -8,11 +8,11 @@ use types.Run.{OneOf, miss}
 use Rattle.record.proofs.Head.{the-type}
 use Rattle.record.specs.declared.Head.{Head}
 use Rattle.record.specs.declared.Head.the-variants as head
-use Rattle.judging.specs.Judged.{programsOf}
-use Rattle.judging.proofs.programs_of.Statement.{statement}
-use Rattle.judging.proofs.programs_of.Tie as tie
-use Rattle.judging.proofs.programs_of.Reads as reads
-use Rattle.judging.proofs.programs_of.Lts as lts
+use Rattle.admission.specs.Admission.{programsOf}
+use Rattle.admission.proofs.programs_of.Statement.{statement}
+use Rattle.admission.proofs.programs_of.Tie as tie
+use Rattle.admission.proofs.programs_of.Reads as reads
+use Rattle.admission.proofs.programs_of.Lts as lts
 
 no-program : (h : Head) → OneOf (0 ∷ 1 ∷ 2 ∷ 3 ∷ 5 ∷ []) (tagOf the-type h) → _≡_ {A = ℕ} 0 (programsOf h)
 unfolding programsOf

@@ -1,0 +1,6 @@
+pub mod Judged
+pub mod Keys
+pub mod Skips
+pub mod Kept
+pub mod Faithful
+pub mod Example

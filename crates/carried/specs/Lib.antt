@@ -1,0 +1,3 @@
+pub mod Carrying
+pub mod Judged
+pub mod Carried

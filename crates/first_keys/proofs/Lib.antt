@@ -1,0 +1,4 @@
+pub mod Walk
+pub mod Lines
+pub mod Entering
+pub mod Firsts

@@ -1,0 +1,100 @@
+-- `key_index::look_for` meets its contract, head by head.
+use mathlib.Core.Path.{sym, ap, subst, _∙_}
+use lib.ListN.{length}
+use Rattle.key_index.specs.Told.{soughtOf}
+use Rattle.key_index.specs.Keyed.{KeyInText}
+use borrow.Author.Needs.{needs}
+use Rattle.key_index.proofs.look_for.Statement.{statement}
+use Rattle.key_index.proofs.look_for.Tie as tie
+use Rattle.key_index.proofs.look_for.Reads as reads
+use Rattle.key_index.proofs.look_for.Lts as lts
+use Rattle.key_index.proofs.look_at.Reads as look-at-reads
+
+enum-told : tie.Need-enum-told
+enum-told c = search needs
+
+enum-told-2 : tie.Need-enum-told-2
+enum-told-2 c = search needs
+
+enum-known-head : tie.Need-enum-known-head
+enum-known-head c = search needs
+
+look-at-requires : tie.Need-look-at-requires
+unfolding KeyInText
+look-at-requires c κs =
+    let s = c .before .before .before .before .before in
+    (s .pre .0, (s .pre .1 .0, subst (KeyInText (length (s .args .text .now))) (c .before .head .given .1) (s .pre .1 .1) .0))
+
+enum-known-head-2 : tie.Need-enum-known-head-2
+enum-known-head-2 c = search needs
+
+look-at-requires-2 : tie.Need-look-at-requires-2
+unfolding KeyInText
+look-at-requires-2 c κs =
+    let s = c .before .before .before .before .before in
+    (s .pre .0, (s .pre .1 .0, subst (KeyInText (length (s .args .text .now))) (c .before .head2 .given .1) (s .pre .1 .1) .0))
+
+enum-known-head-3 : tie.Need-enum-known-head-3
+enum-known-head-3 c = search needs
+
+look-at-requires-3 : tie.Need-look-at-requires-3
+unfolding KeyInText
+look-at-requires-3 c κs =
+    let s = c .before .before .before .before .before in
+    (s .pre .0, (s .pre .1 .0, subst (KeyInText (length (s .args .text .now))) (c .before .head3 .given .1) (s .pre .1 .1) .0))
+
+enum-told-3 : tie.Need-enum-told-3
+enum-told-3 c = search needs
+
+returns : tie.Need-returns
+unfolding soughtOf
+returns c = let a = c .before .before .before .before .args in sym (ap (soughtOf (a .text .now) (a .area .now)) (c .enum-told .given .1))
+
+returns-2 : tie.Need-returns-2
+unfolding soughtOf
+returns-2 c = let a = c .before .before .before .before .args in sym (ap (soughtOf (a .text .now) (a .area .now)) (c .enum-told2 .given .1))
+
+returns-3 : tie.Need-returns-3
+unfolding soughtOf
+returns-3 c =
+    let h = c .before .before in
+    let a = h .before .before .before .before .args in
+    c .look-at .ensures ∙ sym (ap (soughtOf (a .text .now) (a .area .now)) (h .head .given .1))
+
+returns-4 : tie.Need-returns-4
+unfolding soughtOf
+returns-4 c =
+    let h = c .before .before in
+    let a = h .before .before .before .before .args in
+    c .look-at2 .ensures ∙ sym (ap (soughtOf (a .text .now) (a .area .now)) (h .head2 .given .1))
+
+returns-5 : tie.Need-returns-5
+unfolding soughtOf
+returns-5 c =
+    let h = c .before .before in
+    let a = h .before .before .before .before .args in
+    c .look-at3 .ensures ∙ sym (ap (soughtOf (a .text .now) (a .area .now)) (h .head3 .given .1))
+
+returns-6 : tie.Need-returns-6
+unfolding soughtOf
+returns-6 c = let a = c .before .before .before .before .args in sym (ap (soughtOf (a .text .now) (a .area .now)) (c .enum-told3 .given .1))
+
+pub look-for-spec : {M : Type 1} → statement M
+look-for-spec =
+    tie.close
+    (tie.spec
+    enum-told
+    enum-told-2
+    enum-known-head
+    look-at-requires
+    enum-known-head-2
+    look-at-requires-2
+    enum-known-head-3
+    look-at-requires-3
+    enum-told-3
+    returns
+    returns-2
+    returns-3
+    returns-4
+    returns-5
+    returns-6)

@@ -1,0 +1,38 @@
+// Carrying on after refused lines: whether the call answers as a line of stored answers says (`replay` has the lines' form).
+use carry_on::Carried;
+ghost use mathlib.Core.Path.{_≡_};
+ghost use lib.ListN.{length};
+
+// The call, named in this place alone: what it lends out is as long as before.
+fn carried(text: &[u8], out: &mut [u8], table: &mut [u32]) -> Carried
+    ensures { λ _. ⌜ length (now (out .exit)) ≡ length (now (out .entry)) ⌝ }
+    ensures room { λ _. ⌜ length (now (table .exit)) ≡ length (now (table .entry)) ⌝ }
+{
+    carry_on::carry_on(text, out, table)
+}
+
+// Whether the rows of as many skipped lines are these, eight digits each number, and the rest of the table as it was.
+fn is_table(word: &[u8], table: &[u32], skipped: usize) -> bool {
+    if 16777216 < skipped {
+        return false;
+    }
+    stored_answers::is_list(word, table, 2 * skipped, 8)
+}
+
+// Whether what is kept and the table of the skipped lines are the line's, in an output and a table of as many elements as it says.
+pub fn is_carried(line: &[u8], text: &[u8], out: &mut [u8], table: &mut [u32]) -> bool {
+    let room = stored_answers::byte_room(stored_cases::word(line, 2), out);
+    let rows = stored_answers::ordinal_room(stored_cases::word(line, 3), table);
+    match carried(text, &mut out[..room], &mut table[..rows]) {
+        Carried::Refused(n, no) => {
+            stored_answers::is_refusal(line, 4, n, no)
+                && stored_cases::is_untouched(out)
+                && stored_cases::is_unlisted(table)
+        }
+        Carried::Written(n, skipped) => {
+            stored_answers::is_ok(line, 4, 2)
+                && stored_answers::is_text(stored_cases::word(line, 5), out, n)
+                && is_table(stored_cases::word(line, 6), table, skipped)
+        }
+    }
+}
