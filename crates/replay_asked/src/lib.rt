@@ -28,23 +28,25 @@ pub const TIDIED: usize = 10;
 
 pub const CARRIED: usize = 11;
 
-pub const BINARY_OUT: usize = 12;
+pub const READ: usize = 12;
 
-pub const BINARY_IN: usize = 13;
+pub const BINARY_OUT: usize = 13;
 
-pub const REFUSED: usize = 14;
+pub const BINARY_IN: usize = 14;
 
-pub const ACCEPTED: usize = 15;
+pub const REFUSED: usize = 15;
 
-pub const UNWRITABLE: usize = 16;
+pub const ACCEPTED: usize = 16;
 
-pub const UNKNOWN: usize = 17;
+pub const UNWRITABLE: usize = 17;
 
-pub const WRONG: usize = 18;
+pub const UNKNOWN: usize = 18;
 
-pub const MARKED: usize = 19;
+pub const WRONG: usize = 19;
 
-pub const FOUND: usize = 20;
+pub const MARKED: usize = 20;
+
+pub const FOUND: usize = 21;
 
 // What a line asks: its first word is a call, or its second what the crate makes of the text.
 pub fn asked_by(line: &[u8]) -> usize {
@@ -90,6 +92,9 @@ fn written_by(line: &[u8]) -> usize {
     }
     if text::same(call, b"carry_on") {
         return CARRIED;
+    }
+    if text::same(call, b"read") {
+        return READ;
     }
     if text::same(call, b"binary_out") {
         return BINARY_OUT;
@@ -140,20 +145,21 @@ fn print_count(name: &[u8], n: u32) {
 
 // Writes how many lines ask for something written.
 fn print_written(tally: &[u32])
-    requires { ⌜ length (now tally) ≡ 21 ⌝ }
+    requires { ⌜ length (now tally) ≡ 22 ⌝ }
 {
     print_count(b" add ", tally[ADDED]);
     print_count(b" names ", tally[NAMES]);
     print_count(b" program ", tally[PROGRAM]);
     print_count(b" tidy ", tally[TIDIED]);
     print_count(b" carry_on ", tally[CARRIED]);
+    print_count(b" read ", tally[READ]);
     print_count(b" binary_out ", tally[BINARY_OUT]);
     print_count(b" binary_in ", tally[BINARY_IN]);
 }
 
 // Writes how many lines ask each call.
 pub fn print_asked(tally: &[u32])
-    requires { ⌜ length (now tally) ≡ 21 ⌝ }
+    requires { ⌜ length (now tally) ≡ 22 ⌝ }
 {
     print_count(b" count ", tally[COUNT]);
     print_count(b" key ", tally[KEY]);
@@ -167,7 +173,7 @@ pub fn print_asked(tally: &[u32])
 
 // Writes how many texts the crate judged in each way, and how many lines ask nothing.
 pub fn print_judged(tally: &[u32])
-    requires { ⌜ length (now tally) ≡ 21 ⌝ }
+    requires { ⌜ length (now tally) ≡ 22 ⌝ }
 {
     print_count(b" refused ", tally[REFUSED]);
     print_count(b" accepted ", tally[ACCEPTED]);
@@ -177,7 +183,7 @@ pub fn print_judged(tally: &[u32])
 
 // Writes how many answers were wrong, and how many of the marked lines were found.
 pub fn print_found(tally: &[u32])
-    requires { ⌜ length (now tally) ≡ 21 ⌝ }
+    requires { ⌜ length (now tally) ≡ 22 ⌝ }
 {
     print_number(b" wrong ", tally[WRONG]);
     print_number(b", known wrong found ", tally[FOUND]);
