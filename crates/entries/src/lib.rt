@@ -64,8 +64,8 @@ fn version_at(s: &[u8], at: usize) -> Version
     requires { ⌜ at + 8 ≤ length (now s) ⌝ }
     ensures { λ r. ⌜ r ≡ versionFrom (drop at (now (s .entry))) ⌝ }
 {
-    let major = text::get_u32(s, at);
-    let minor = text::get_u32(s, at + 4);
+    let major = little::get_u32(s, at);
+    let minor = little::get_u32(s, at + 4);
     Version { major, minor }
 }
 
@@ -74,8 +74,8 @@ fn place_at(s: &[u8], at: usize) -> Place
     requires { ⌜ at + 8 ≤ length (now s) ⌝ }
     ensures { λ r. ⌜ r ≡ placeFrom (drop at (now (s .entry))) ⌝ }
 {
-    let offset = text::get_u32(s, at);
-    let len = text::get_u32(s, at + 4);
+    let offset = little::get_u32(s, at);
+    let len = little::get_u32(s, at + 4);
     Place { at: offset, len }
 }
 
@@ -85,15 +85,15 @@ fn body_at(s: &[u8], at: usize, kind: u8) -> Entry
     ensures { λ r. ⌜ r ≡ entryWith kind (drop (at + 1) (now (s .entry))) ⌝ }
 {
     match kind {
-        1 => Entry::Header(version_at(s, at + 1), text::get_u32(s, at + 9)),
+        1 => Entry::Header(version_at(s, at + 1), little::get_u32(s, at + 9)),
         2 => Entry::ReferenceSequence(
             place_at(s, at + 1),
-            text::get_u64(s, at + 9),
-            text::get_u32(s, at + 17),
+            little::get_u64(s, at + 9),
+            little::get_u32(s, at + 17),
         ),
-        3 => Entry::ReadGroup(place_at(s, at + 1), text::get_u32(s, at + 9)),
-        4 => Entry::Program(place_at(s, at + 1), text::get_u32(s, at + 9)),
-        5 => Entry::Comment(place_at(s, at + 1), text::get_u32(s, at + 9)),
+        3 => Entry::ReadGroup(place_at(s, at + 1), little::get_u32(s, at + 9)),
+        4 => Entry::Program(place_at(s, at + 1), little::get_u32(s, at + 9)),
+        5 => Entry::Comment(place_at(s, at + 1), little::get_u32(s, at + 9)),
         6 => Entry::Field(s[at + 1], s[at + 2], place_at(s, at + 3)),
         _ => Entry::End,
     }

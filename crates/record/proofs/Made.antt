@@ -19,9 +19,10 @@ use Rattle.format.specs.declared.Version.{Version}
 use Rattle.format.specs.declared.Kind.{Kind}
 use Rattle.format.specs.declared.Kind.the-variants.{Header, ReferenceSequence, ReadGroup, Program, Comment}
 use Rattle.text.specs.Stands.{Each}
-use Rattle.field.specs.Parsed.{isVersion, isLength, fieldNumbers, versionedBy}
-use Rattle.field.proofs.Answer.{Told}
-use Rattle.field.proofs.Shown.{valued-length, valued-kept, told-version, valued-version}
+use Rattle.field_tag.specs.Numbers.{isVersion, isLength}
+use Rattle.field.specs.Parsed.{fieldNumbers, versionedBy}
+use Rattle.field_answer.proofs.Answer.{Told}
+use Rattle.field_answer.proofs.Shown.{valued-length, valued-kept, told-version, valued-version}
 use Rattle.record.specs.declared.Keys.{Keys}
 use Rattle.record.specs.declared.Stretch.{Stretch}
 use Rattle.record.specs.declared.Head.{Head}

@@ -21,9 +21,9 @@ use Rattle.text.proofs.Lines.{upto-le}
 use Rattle.text.proofs.Before.{upto-take}
 use Rattle.text.proofs.Run.{upto-onward}
 use Rattle.field.specs.declared.ParsedField as code
-use Rattle.field.specs.Parsed.{isVersion, isLength}
-use Rattle.field.proofs.Answer.{Told}
-use Rattle.field.proofs.Shown.{Shown, shown}
+use Rattle.field_tag.specs.Numbers.{isVersion, isLength}
+use Rattle.field_answer.proofs.Answer.{Told}
+use Rattle.field_answer.proofs.Shown.{Shown, shown}
 use Rattle.accepted.specs.Sound.{isKey}
 use Rattle.accepted.proofs.Tags.{repeats-snoc}
 use Rattle.tags.specs.Occurs.{occurs}

@@ -17,9 +17,9 @@ use Rattle.text.specs.Stands.{Each}
 use Rattle.text.proofs.Lines.{upto-le}
 use Rattle.field.specs.declared.ParsedField as code
 use Rattle.field.specs.Parsed.{parsedOf, fieldNumbers}
-use Rattle.field.proofs.Anywhere.{field-anywhere}
-use Rattle.field.proofs.Answer.{Told, Found, parsed-bad, parsed-found}
-use Rattle.field.proofs.Next.{Kept, good-onward, then-onward}
+use Rattle.field_answer.proofs.Anywhere.{field-anywhere}
+use Rattle.field_answer.proofs.Answer.{Told, Found, parsed-bad, parsed-found}
+use Rattle.field_answer.proofs.Next.{Kept, good-onward, then-onward}
 use Rattle.field.proofs.Place.{field-in-place, place-tag, place-colon, colon-other}
 use Rattle.accepted.proofs.Bools.{never, split}
 use Rattle.tags.proofs.Region.{Clean}

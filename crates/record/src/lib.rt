@@ -94,13 +94,13 @@ impl Keys {
             self.others += 1;
             return self;
         }
-        if field::is_version(kind, f.tag_0, f.tag_1) {
+        if field_tag::is_version(kind, f.tag_0, f.tag_1) {
             self.major = f.major;
             self.minor = f.minor;
             self.versioned = true;
             return self;
         }
-        if field::is_length(kind, f.tag_0, f.tag_1) {
+        if field_tag::is_length(kind, f.tag_0, f.tag_1) {
             self.length = f.length;
             return self;
         }

@@ -7,7 +7,7 @@ use lib.ListN.{length, take, drop, length-take, length-drop}
 use Rattle.format.specs.Records.{line}
 use Rattle.text.specs.First.{firstLine}
 use Rattle.text.proofs.First.{first-le, first-within}
-use Rattle.field.proofs.Before.{rest}
+use Rattle.text.proofs.Before.{rest}
 use Rattle.record.specs.Head.{headOf}
 use Rattle.first_keys.specs.Blocks.{firstAt}
 use borrow.Author.Needs.{needs}

@@ -14,7 +14,7 @@ use Rattle.format.specs.Catalogue.{catalogue}
 use Rattle.text.specs.First.{firstLine}
 use Rattle.text.specs.Stands.{Stands}
 use Rattle.text.proofs.First.{first-le, first-within}
-use Rattle.field.proofs.Before.{rest}
+use Rattle.text.proofs.Before.{rest}
 use Rattle.record.specs.declared.Head.{Head}
 use Rattle.record.specs.declared.Head.the-variants as head
 use Rattle.record.specs.Head.{headOf, recordHead}

@@ -6,7 +6,7 @@ use lib.ListN.{length, drop, length-drop}
 use lib.Seq.{drop-drop}
 use borrow.Author.Tests.{not-true, not-false}
 use Rattle.format.specs.Records.{prefixed, kinded}
-use Rattle.field.proofs.Before.{rest}
+use Rattle.text.proofs.Before.{rest}
 use Rattle.kind.specs.Kind.{kindAt}
 use Rattle.record.specs.Head.{headOf}
 use Rattle.record.proofs.Dispatch.{prefix-missing, prefix-there, kind-empty, kind-invalid, kind-is, kind-long}

@@ -10,7 +10,7 @@ use Rattle.format.specs.Bytes.{any}
 use Rattle.format.specs.Fields.{tagged, field}
 use Rattle.text.specs.Upto.{before}
 use Rattle.field.specs.Parsed.{parsedOf}
-use Rattle.field.proofs.Before.{rest}
+use Rattle.text.proofs.Before.{rest}
 use Rattle.tags.specs.Occurs.{occurs}
 use Rattle.record.specs.Head.{headOf}
 use Rattle.record.specs.Marks.{marksOf}
