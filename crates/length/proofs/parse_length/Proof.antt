@@ -33,19 +33,37 @@ enum-known-n : tie.Need-enum-known-n
 enum-known-n c = search needs
 
 returns : tie.Need-returns
-returns c = ?a
+unfolding lengthBy
+returns c =
+    let n = c .before .before in
+    let r = n .before .before in
+    sym (sym (sized _) ∙ ap lengthBy (sym (r .read-u64 .ensures) ∙ n .n .given .1) ∙ simp (eq-eqb _ _ (c .if1 .taken)))
 
 returns-2 : tie.Need-returns-2
-returns-2 c = ?b
+unfolding lengthBy
+returns-2 c =
+    let n = c .before .before .before in
+    let r = n .before .before in
+    let zero = ne-eqb (n .n .given .0 .0) 0 (c .before .if1 .left) in
+    let large = le-ltb (n .n .given .0 .0) (2 ^ 31) (omega (arith, c .if2 .taken)) in
+    sym (sym (sized _) ∙ ap lengthBy (sym (r .read-u64 .ensures) ∙ n .n .given .1) ∙ simp (zero, large))
 
 returns-3 : tie.Need-returns-3
-returns-3 c = ?c
+unfolding lengthBy
+returns-3 c = ap lengthBy (sym (c .enum-told .given .1) ∙ c .before .before .read-u64 .ensures) ∙ sized _
 
 returns-4 : tie.Need-returns-4
-returns-4 c = ?d
+unfolding lengthBy
+returns-4 c = ap lengthBy (sym (c .enum-told2 .given .1) ∙ c .before .before .read-u64 .ensures) ∙ sized _
 
 returns-5 : tie.Need-returns-5
-returns-5 c = ?e
+unfolding lengthBy
+returns-5 c =
+    let n = c .before .before .before in
+    let r = n .before .before in
+    let zero = ne-eqb (n .n .given .0 .0) 0 (c .before .if1 .left) in
+    let small = lt-ltb (n .n .given .0 .0) (2 ^ 31) (omega (arith, c .if2 .left)) in
+    sym (sym (sized _) ∙ ap lengthBy (sym (r .read-u64 .ensures) ∙ n .n .given .1) ∙ simp (zero, small))
 
 pub parse-length-spec : {M : Type 1} → statement M
 parse-length-spec =
