@@ -193,7 +193,7 @@ pub fn leaves(text: &[u8], kept: &[u8], out: &mut [u32]) -> LeavesAnswer
             }
             let parents = graph.parents;
             let list = parents.list;
-            let hops = chains::hops(&list[..parents.count]);
+            let hops = chain_walks::hops(&list[..parents.count]);
             let leaves = graph.leaves;
             let ordinals = leaves.list;
             with_hops(put_ordinals(out, &ordinals[..leaves.count]), hops)

@@ -9,9 +9,9 @@ use lib.Dec.{eqb, ltb}
 use borrow.Author.Tests.{eqb-true, lt-ltb}
 use Rattle.format.specs.Bytes.{any}
 use Rattle.format.specs.Programs.{Link, root, dangling, child, loopsFrom, depth, leaves}
 use Rattle.chains.specs.Listed.{named}
 use Rattle.chains.proofs.Leaf.{leaves-exactly}
-use Rattle.chains.proofs.Paths.{depth-less}
+use Rattle.chain_laws.proofs.Paths.{depth-less}
 
 -- a program that is a parent is the parent of some program
 named-at : (k : ℕ) (ls : List Link) → named k ls ≡ true → (j : ℕ) × (j < length ls) × (getD ls j root ≡ child k)

@@ -1,4 +1,4 @@
--- `chains::hops` meets its contract: the links counted, and those of the programs from `i` on, are all. Assumes nothing.
+-- `chain_walks::hops` meets its contract: the links counted, and those of the programs from `i` on, are all. Assumes nothing.
 use Prim.Native.Nat.{ℕ, _+_, _*_, _-_, _≤_, _<_}
 use mathlib.Core.Path.{_≡_, refl, sym, ap}
 use mathlib.Core.List.{List}
@@ -7,10 +7,10 @@ use native.Mathlib.Numerals.{add-one}
 use lib.ListN.{length, getD, drop, drop-of-length-le, length-map}
 use lib.Seq.{drop-cons}
 use Rattle.format.specs.Programs.{depth, depths, hops}
 use Rattle.chains.specs.Parents.{linkOf, linksOf}
 use Rattle.chains.proofs.Walks.{depth-le}
-use Rattle.chains.proofs.hops.Statement.{statement}
-use Rattle.chains.proofs.hops.Tie as tie
+use Rattle.chain_walks.proofs.hops.Statement.{statement}
+use Rattle.chain_walks.proofs.hops.Tie as tie
 
 module _ (ps : List ℕ) (i : ℕ) where
   turn : i < length ps → depths (linksOf ps) (linksOf (drop i ps)) ≡ depth (linksOf ps) (length ps) (linkOf (getD ps i 0)) + depths (linksOf ps) (linksOf (drop (i + 1) ps))

@@ -1,13 +1,13 @@
--- `chains::comes_back` meets its contract: what is asked from `i` with n steps is asked from `at` with those left. Assumes nothing.
+-- `chain_walks::comes_back` meets its contract: what is asked from `i` with n steps is asked from `at` with those left. Assumes nothing.
 use Prim.Native.Nat.{_<_}
 use mathlib.Core.Path.{_≡_, refl, sym, ap, _∙_}
 use native.Mathlib.Omega.{arith}
 use lib.ListN.{length, getD}
 use Rattle.format.specs.Programs.{reaches}
 use Rattle.chains.specs.Parents.{linkOf, linksOf}
 use Rattle.chains.proofs.Walks.{within-at, link-none, reaches-here, reaches-on, reaches-root, reaches-none}
-use Rattle.chains.proofs.comes_back.Statement.{statement}
-use Rattle.chains.proofs.comes_back.Tie as tie
+use Rattle.chain_walks.proofs.comes_back.Statement.{statement}
+use Rattle.chain_walks.proofs.comes_back.Tie as tie
 
 abbrev Inv-loop : tie.InvT-loop
 Inv-loop parents i at₀ left₀ at left = ((at ≡ 4294967295 → ⊥) → at < length parents) × (reaches (linksOf parents) i (length parents) (linkOf (getD parents i 0)) ≡ reaches (linksOf parents) i left (linkOf at))

@@ -14,9 +14,9 @@ use Rattle.format.specs.Lines.{Piece}
 use Rattle.format.specs.Records.{Record}
 use Rattle.format.specs.Programs.{Program, Link, found, link, links, programs, ordinalFrom, isDangling, loopsFrom, tangled, leaves, hops}
 use Rattle.format.specs.Calls.{Answer, refused, yes, then, fitting, untangled, fresh, leafing}
 use Rattle.chains.specs.Listed.{named, distinct}
-use Rattle.chains.specs.Leafed.{isStray, strays, returns, Leaves, Leafed, AllLeafed}
+use Rattle.chain_laws.specs.Leafed.{isStray, strays, returns, Leaves, Leafed, AllLeafed}
 use Rattle.chains.proofs.Leaf.{leaves-exactly, leaves-distinct}
 
 -- a search that finds no program dangles
 found-none : (k : ℕ) (id : List ℕ) (ps : List Program) → isDangling (found (ordinalFrom k id ps)) ≡ not (any (λ q. same id (q .id)) ps)

@@ -1,13 +1,13 @@
--- `chains::depth` meets its contract: the steps taken, and those that are to come from `at`, are all. Assumes nothing.
+-- `chain_walks::depth` meets its contract: the steps taken, and those that are to come from `at`, are all. Assumes nothing.
 use Prim.Native.Nat.{_+_, _<_}
 use mathlib.Core.Path.{_≡_, ap, _∙_}
 use native.Mathlib.Omega.{arith}
 use lib.ListN.{length, getD}
 use Rattle.format.specs.Programs.{depth}
 use Rattle.chains.specs.Parents.{linkOf, linksOf}
 use Rattle.chains.proofs.Walks.{within-at, link-none, depth-step, depth-root, depth-none}
-use Rattle.chains.proofs.depth.Statement.{statement}
-use Rattle.chains.proofs.depth.Tie as tie
+use Rattle.chain_walks.proofs.depth.Statement.{statement}
+use Rattle.chain_walks.proofs.depth.Tie as tie
 
 abbrev Inv-loop : tie.InvT-loop
 Inv-loop parents i at₀ steps₀ left₀ at steps left = ((at ≡ 4294967295 → ⊥) → at < length parents) × (steps + left ≡ length parents) × (depth (linksOf parents) (length parents) (linkOf (getD parents i 0)) ≡ steps + depth (linksOf parents) left (linkOf at))

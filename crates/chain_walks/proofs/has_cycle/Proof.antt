@@ -1,4 +1,4 @@
--- `chains::has_cycle` meets its contract: what is asked of all programs is asked of those from `i` on. Assumes nothing.
+-- `chain_walks::has_cycle` meets its contract: what is asked of all programs is asked of those from `i` on. Assumes nothing.
 use Prim.Native.Nat.{ℕ, _+_, _-_, _≤_, _<_}
 use mathlib.Core.Path.{_≡_, refl, sym, ap, _∙_}
 use mathlib.Core.Bool.{true, false, _||_}
@@ -8,9 +8,9 @@ use native.Mathlib.Numerals.{add-one}
 use lib.ListN.{length, getD, drop, drop-of-length-le, length-map}
 use lib.Seq.{drop-cons}
 use Rattle.format.specs.Programs.{reaches, loopsFrom}
 use Rattle.chains.specs.Parents.{linkOf, linksOf}
-use Rattle.chains.proofs.has_cycle.Statement.{statement}
-use Rattle.chains.proofs.has_cycle.Tie as tie
+use Rattle.chain_walks.proofs.has_cycle.Statement.{statement}
+use Rattle.chain_walks.proofs.has_cycle.Tie as tie
 
 module _ (ps : List ℕ) (i : ℕ) where
   turn : i < length ps → loopsFrom (linksOf ps) i (linksOf (drop i ps)) ≡ (reaches (linksOf ps) i (length ps) (linkOf (getD ps i 0)) || loopsFrom (linksOf ps) (i + 1) (linksOf (drop (i + 1) ps)))

@@ -12,12 +12,12 @@ use lib.Dec.{eqb, ltb}
 use borrow.Author.Tests.{eqb-true, ltb-true}
 use Rattle.format.specs.Bytes.{all}
 use Rattle.format.specs.Programs.{Link, root, dangling, child, loopsFrom, depth, depths, hops}
 use Rattle.chains.specs.Listed.{named}
 use Rattle.chains.specs.Parents.{nobody, linkOf, linksOf, areParents}
 use Rattle.chains.proofs.Bools.{both-true}
-use Rattle.chains.proofs.Pairs.{under, unders, pairs, under-next}
-use Rattle.chains.proofs.Paths.{Below, below-at, depth-less}
+use Rattle.chain_laws.proofs.Pairs.{under, unders, pairs, under-next}
+use Rattle.chain_laws.proofs.Paths.{Below, below-at, depth-less}
 use Rattle.chains.proofs.Walks.{map-at, depth-root, depth-dangling}
 
 -- a walk that ends in time is the same with one step less
 depth-same : (ls : List Link) (f : ℕ) (l : Link) → depth ls (suc f) l ≤ f → depth ls f l ≡ depth ls (suc f) l
