@@ -15,7 +15,7 @@ use Rattle.first_keys.proofs.parse_at.Statement.{statement}
 use Rattle.first_keys.proofs.parse_at.Tie as tie
 use Rattle.first_keys.proofs.parse_at.Reads as reads
 use Rattle.first_keys.proofs.parse_at.Lts as lts
-use Rattle.record.proofs.parse_record.Reads as parse-record-reads
+use Rattle.record_parser.proofs.parse_record.Reads as parse-record-reads
 use Rattle.text.proofs.first_line.Reads as first-line-reads
 
 cut : (c : tie.After-first-line) → let a = c .before .before .before .args in c .first-line .result ≡ firstLine (drop (a .at) (a .text .now))

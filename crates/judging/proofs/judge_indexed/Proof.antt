@@ -41,7 +41,7 @@ use Rattle.judging.proofs.turn.Reads as turn-reads
 use Rattle.key_index.proofs.meet.Reads as meet-reads
 use Rattle.line_entries.proofs.record_size.Reads as record-size-reads
 use Rattle.admission.proofs.programs_of.Reads as programs-of-reads
-use Rattle.record.proofs.parse_record.Reads as parse-record-reads
+use Rattle.record_parser.proofs.parse_record.Reads as parse-record-reads
 use Rattle.text.proofs.first_line.Reads as first-line-reads
 
 abbrev Inv-loop : tie.InvT-loop
