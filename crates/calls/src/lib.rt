@@ -54,7 +54,7 @@ pub fn count(text: &[u8], kept: &[u8], kind: u8) -> CountAnswer
             if 5 < kind {
                 return CountAnswer::Refused(25, LineNo(0));
             }
-            CountAnswer::Count(entries::count_kind(kept, kind))
+            CountAnswer::Count(record_entries::count_kind(kept, kind))
         }
     }
 }

@@ -3,7 +3,7 @@ use format::Version;
 ghost use mathlib.Core.Path.{_≡_};
 ghost use Prim.Native.Nat.{_≤_, _+_};
 ghost use lib.ListN.{length, drop};
-ghost use Rattle.entries.specs.Entries.{kindByte, kindSize, entrySize, versionFrom, placeFrom, entryWith, entryOf, entriesIn, counted, entriesBefore, sizes, passing};
+ghost use Rattle.entries.specs.Entries.{kindByte, kindSize, entrySize, versionFrom, placeFrom, entryWith, entryOf};
 
 // Where a piece of the text stands.
 pub struct Place {
@@ -111,48 +111,4 @@ pub fn entry_at(catalogue: &[u8], at: usize) -> Entry
         return Entry::End;
     }
     body_at(catalogue, at, kind)
-}
-
-// How far a walk over entries goes, and how many of a kind it passes.
-struct Passed {
-    at: usize,
-    count: usize,
-}
-
-// Passes the entries before the record entry of a kind with an ordinal among its kind: all where there is none.
-fn pass_before(catalogue: &[u8], kind: u8, ordinal: usize) -> Passed
-    ensures { λ r. ⌜ r ≡ passing kind (entriesBefore kind ordinal (entriesIn (now (catalogue .entry)))) ⌝ }
-{
-    let mut at: usize = 0;
-    let mut count: usize = 0;
-    loop {
-        let e = entry_at(catalogue, at);
-        let len = size(e);
-        if len == 0 {
-            return Passed { at, count };
-        }
-        if kind_of(e) == kind { // no other record takes an ordinal
-            if count == ordinal {
-                return Passed { at, count };
-            }
-            count += 1;
-        }
-        at += len;
-    }
-}
-
-// How many entries of a kind a catalogue has: no ordinal among them is so high.
-pub fn count_kind(catalogue: &[u8], kind: u8) -> usize
-    ensures { λ r. ⌜ r ≡ counted kind (entriesIn (now (catalogue .entry))) ⌝ }
-{
-    let all = pass_before(catalogue, kind, 18446744073709551615);
-    all.count
-}
-
-// Where the record entry of a kind with an ordinal among its kind stands: behind the last entry where there is none.
-pub fn find_record(catalogue: &[u8], kind: u8, ordinal: usize) -> usize
-    ensures { λ r. ⌜ r ≡ sizes (entriesBefore kind ordinal (entriesIn (now (catalogue .entry)))) ⌝ }
-{
-    let before = pass_before(catalogue, kind, ordinal);
-    before.at
 }

@@ -1,9 +1,9 @@
--- `entries::find_record` meets its contract: it stands behind those before it.
+-- `record_entries::find_record` meets its contract: it stands behind those before it.
 use mathlib.Core.Path.{ap}
-use Rattle.entries.specs.Entries.{passing}
+use Rattle.record_entries.specs.Passing.{passing}
 use borrow.Author.Needs.{needs}
-use Rattle.entries.proofs.find_record.Statement.{statement}
-use Rattle.entries.proofs.find_record.Tie as tie
+use Rattle.record_entries.proofs.find_record.Statement.{statement}
+use Rattle.record_entries.proofs.find_record.Tie as tie
 
 pass-before-requires : tie.Need-pass-before-requires
 pass-before-requires c κs = search needs

@@ -1,11 +1,12 @@
--- `entries::count_kind` meets its contract: all are before an ordinal that none of them has.
+-- `record_entries::count_kind` meets its contract: all are before an ordinal that none of them has.
 use mathlib.Core.Path.{ap, _∙_}
 use native.Mathlib.Omega.{arith}
-use Rattle.entries.specs.Entries.{entriesIn, counted, passing}
+use Rattle.entries.specs.Entries.{entriesIn, counted}
+use Rattle.record_entries.specs.Passing.{passing}
 use Rattle.entries.proofs.Walk.{before-all, counted-within}
 use borrow.Author.Needs.{needs}
-use Rattle.entries.proofs.count_kind.Statement.{statement}
-use Rattle.entries.proofs.count_kind.Tie as tie
+use Rattle.record_entries.proofs.count_kind.Statement.{statement}
+use Rattle.record_entries.proofs.count_kind.Tie as tie
 
 pass-before-requires : tie.Need-pass-before-requires
 pass-before-requires c κs = search needs

@@ -1,4 +1,4 @@
--- `entries::pass_before` meets its contract: what was passed, and what is still to pass, add up.
+-- `record_entries::pass_before` meets its contract: what was passed, and what is still to pass, add up.
 use Prim.Native.Nat.{ℕ, zero, suc, _+_, _-_, _≤_}
 use mathlib.Core.Path.{_≡_, refl, sym, ap, ap₂, subst, _∙_}
 use mathlib.Core.Logic.{⊎-elim}
@@ -7,12 +7,13 @@ use native.Mathlib.Omega.{arith}
 use borrow.Author.Needs.{needs}
 use borrow.Author.Tests.{eq-eqb, ne-eqb}
 use lib.ListN.{length, drop}
 use Rattle.entries.specs.declared.Entry.{Entry}
-use Rattle.entries.specs.declared.Passed.{Passed}
-use Rattle.entries.specs.Entries.{kindByte, entrySize, entryOf, entriesIn, counted, entriesBefore, sizes, passing}
+use Rattle.entries.specs.Entries.{kindByte, entrySize, entryOf, entriesIn, counted, entriesBefore, sizes}
 use Rattle.entries.proofs.Walk.{turn-end, turn-within, turn-on}
-use Rattle.entries.proofs.pass_before.Statement.{statement}
-use Rattle.entries.proofs.pass_before.Tie as tie
+use Rattle.record_entries.specs.declared.Passed.{Passed}
+use Rattle.record_entries.specs.Passing.{passing}
+use Rattle.record_entries.proofs.pass_before.Statement.{statement}
+use Rattle.record_entries.proofs.pass_before.Tie as tie
 
 -- those still to pass, from `at` on, with `count` passed of the kind
 abbrev ahead : List ℕ → ℕ → ℕ → ℕ → List Entry
