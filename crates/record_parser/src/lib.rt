@@ -47,12 +47,8 @@ fn parse_value(kind: Kind, src: &[u8], at: usize, strict: bool) -> Head
 {
     match kind {
         Kind::Comment => parse_comment(src, at),
-        Kind::Header | Kind::ReferenceSequence | Kind::ReadGroup | Kind::Program => record_fields::parse_fields(
-            kind,
-            src,
-            at,
-            strict,
-        ),
+        Kind::Header | Kind::ReferenceSequence | Kind::ReadGroup | Kind::Program =>
+            record_fields::parse_fields(kind, src, at, strict),
     }
 }
 
