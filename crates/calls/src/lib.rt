@@ -54,7 +54,7 @@ pub fn count(text: &[u8], kept: &[u8], kind: u8) -> CountAnswer
             if 5 < kind {
                 return CountAnswer::Refused(25, LineNo(0));
             }
-            CountAnswer::Count(entries::count_kind(kept, kind))
+            CountAnswer::Count(record_entries::count_kind(kept, kind))
         }
     }
 }
@@ -193,7 +193,7 @@ pub fn leaves(text: &[u8], kept: &[u8], out: &mut [u32]) -> LeavesAnswer
             }
             let parents = graph.parents;
             let list = parents.list;
-            let hops = chains::hops(&list[..parents.count]);
+            let hops = chain_walks::hops(&list[..parents.count]);
             let leaves = graph.leaves;
             let ordinals = leaves.list;
             with_hops(put_ordinals(out, &ordinals[..leaves.count]), hops)

@@ -31,7 +31,7 @@ pub fn find_first(text: &[u8]) -> Begin
         let cut = text::first_line(&text[at..]);
         let end = at + cut.len;
         let rule = repeat_rule::is_strict_after(strict, &text[at..end]);
-        let head = record::parse_record(&text[at..end], at, rule);
+        let head = record_parser::parse_record(&text[at..end], at, rule);
         let n = admission::barred(head, false, 0, 0);
         if n == 0 {
             return Begin {
@@ -70,7 +70,7 @@ pub fn put_early(text: &[u8], count: u32, table: &mut [u32])
         let cut = text::first_line(&text[at..]);
         let end = at + cut.len;
         strict = repeat_rule::is_strict_after(strict, &text[at..end]);
-        let head = record::parse_record(&text[at..end], at, strict);
+        let head = record_parser::parse_record(&text[at..end], at, strict);
         let n = admission::barred(head, false, 0, 0);
         put_row(table, line as usize, line, n);
         at += cut.next;

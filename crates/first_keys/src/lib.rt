@@ -25,7 +25,7 @@ fn parse_at(text: &[u8], strict: bool, at: usize) -> Parsed
 {
     let cut = text::first_line(&text[at..]);
     let end = at + cut.len;
-    let head = record::parse_record(&text[at..end], at, strict);
+    let head = record_parser::parse_record(&text[at..end], at, strict);
     Parsed {
         head,
         next: at + cut.next,

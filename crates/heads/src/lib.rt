@@ -1,10 +1,10 @@
 // The head of an accepted line: its kind, its key and its number, by where their values stand. Nothing is judged again.
 use decimal::Number;
-use field::ParsedVersion;
 use format::Kind;
 use other_fields::Value;
 use record::Head;
 use record::Stretch;
+use version::ParsedVersion;
 ghost use mathlib.Core.Path.{_≡_};
 ghost use mathlib.Core.Bool.{true, false};
 ghost use Prim.Native.Nat.{_≤_, _+_};
@@ -134,7 +134,7 @@ fn header_of(src: &[u8], at: usize, version: Value) -> Head
 {
     let from = version.at - at;
     let len = version.len;
-    match field::parse_version(&src[from..from + len]) {
+    match version::parse_version(&src[from..from + len]) {
         ParsedVersion::Is(v) => Head::Header(v, 0),
         ParsedVersion::Invalid => Head::Refused(11),
     }

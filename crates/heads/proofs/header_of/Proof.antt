@@ -18,8 +18,8 @@ use Rattle.heads.specs.Keys.{lastKey, lastNumber, keysFrom, keysIn}
 use Rattle.heads.proofs.Finds.{OfHeader, OfReference, OfMap, Held, held, found-place, value-within, value-bytes, front-digits}
 use Rattle.format.specs.Version.{version}
 use Rattle.format.specs.declared.Version.{Version}
-use Rattle.field.specs.Parsed.{parsedVersionOf}
-use Rattle.field.specs.declared.ParsedVersion.the-variants.{Is, Invalid}
+use Rattle.version.specs.Spelled.{parsedVersionOf}
+use Rattle.version.specs.declared.ParsedVersion.the-variants.{Is, Invalid}
 use borrow.Author.Needs.{needs}
 use Rattle.heads.proofs.header_of.Statement.{statement}
 use Rattle.heads.proofs.header_of.Tie as tie

@@ -11,7 +11,7 @@ use Rattle.format.specs.Records.{line}
 use Rattle.text.specs.First.{firstLine}
 use Rattle.text.specs.Stands.{Stands}
 use Rattle.text.proofs.First.{first-le, first-within, first-some}
-use Rattle.field.proofs.Before.{rest}
+use Rattle.text.proofs.Before.{rest}
 use Rattle.record.specs.Head.{headOf}
 use Rattle.key_index.specs.Told.{isMet}
 use Rattle.key_index.specs.Keyed.{KeyInText}
@@ -24,7 +24,7 @@ use Rattle.judging.proofs.first_met.Tie as tie
 use Rattle.judging.proofs.first_met.Reads as reads
 use Rattle.judging.proofs.first_met.Lts as lts
 use Rattle.key_index.proofs.meet.Reads as meet-reads
-use Rattle.record.proofs.parse_record.Reads as parse-record-reads
+use Rattle.record_parser.proofs.parse_record.Reads as parse-record-reads
 use Rattle.text.proofs.first_line.Reads as first-line-reads
 
 abbrev Inv-loop : tie.InvT-loop

@@ -27,7 +27,7 @@ use Rattle.admission.proofs.barred.Reads as barred-reads
 use Rattle.kept_lines.proofs.advance.Reads as advance-reads
 use Rattle.kept_lines.proofs.is_used.Reads as is-used-reads
 use Rattle.kept_lines.proofs.turn.Reads as turn-reads
-use Rattle.record.proofs.parse_record.Reads as parse-record-reads
+use Rattle.record_parser.proofs.parse_record.Reads as parse-record-reads
 use Rattle.text.proofs.first_line.Reads as first-line-reads
 
 turn-requires : tie.Need-turn-requires

@@ -3,7 +3,7 @@ use Prim.Native.Nat.{ℕ, _+_, _-_, _≤_, _<_}
 use mathlib.Core.Path.{_≡_, refl, sym, ap, _∙_}
 use native.Mathlib.Omega.{arith}
 use lib.ListN.{length, take, drop}
-use Rattle.text.specs.Little.{ofLittle}
+use Rattle.little.specs.Little.{ofLittle}
 use Rattle.key_index.specs.Hash.{mixed, wordsFrom}
 use Rattle.key_index.proofs.Mixing.{mixed-lt, words-on, words-end}
 use borrow.Author.Needs.{needs}
@@ -12,7 +12,7 @@ use Rattle.key_index.proofs.hash_words.Tie as tie
 use Rattle.key_index.proofs.hash_words.Reads as reads
 use Rattle.key_index.proofs.hash_words.Lts as lts
 use Rattle.key_index.proofs.mix.Reads as mix-reads
-use Rattle.text.proofs.get_u32.Reads as get-u32-reads
+use Rattle.little.proofs.get_u32.Reads as get-u32-reads
 
 abbrev Inv-loop : tie.InvT-loop
 Inv-loop kind id h₀ i₀ h i = (i ≤ length id) × (h < 4294967296) × (wordsFrom kind id ≡ wordsFrom h (drop i id))
