@@ -23,8 +23,9 @@ use Rattle.admission.specs.Admission.{isKeyed, hasKey, isUsed, isTaken, barring
 use Rattle.key_index.specs.Told.{mark, value, start, sought, isMet, saysKnown, afterLooking, afterMeeting}
 use Rattle.key_index.specs.declared.Sought.{Sought}
 use Rattle.key_index.specs.declared.Sought.the-variants.{Known, Free, Full}
-use Rattle.key_index.specs.Keyed.{keyValuesOf, valuesOf, Ended}
-use Rattle.key_index.proofs.Keyed.{met-told, told-taken, keys-snoc, ended-snoc, meeting-holds, meeting-none, values-few}
+use Rattle.line_keys.specs.Ended.{Ended}
+use Rattle.keys_held.specs.Keyed.{keyValuesOf, valuesOf}
+use Rattle.keys_held.proofs.Keyed.{met-told, told-taken, keys-snoc, ended-snoc, meeting-holds, meeting-none, values-few}
 use Rattle.kept_lines.specs.Kept.{idsAfter}
 
 -- an ID is looked for among the programs, or among all records

@@ -5,14 +5,14 @@ use mathlib.Core.List.{List, [], _∷_}
 use lib.ListN.{length, take, drop, set, getD}
 use lib.Dec.{eqb}
 use Rattle.format.specs.Bytes.{same}
-use Rattle.key_index.specs.Hash.{keyHash}
+use Rattle.key_hash.specs.Hash.{keyHash}
 use Rattle.format.specs.Slots.{around}
 use Rattle.record.specs.declared.Stretch.{Stretch}
 use Rattle.record.specs.declared.Head.{Head}
 use Rattle.record.specs.declared.Head.the-variants as head
 use Rattle.key_index.specs.declared.Sought.{Sought}
 use Rattle.key_index.specs.declared.Sought.the-variants.{Known, Free, Full}
-use Rattle.key_index.specs.Word.{word}
+use Rattle.key_at.specs.Word.{word}
 
 -- ---- a slot
 
@@ -85,6 +85,19 @@ isOwn at slots (Known i) = eqb (getD slots i 0 % 16777216) at
 isOwn at slots (Free i) = true
 isOwn at slots Full = true
 
+-- ---- the key at a place of the text
+
+abbrev pub keyAt : List ℕ → Stretch → List ℕ
+keyAt t p = take (p .len) (drop (p .at) t)
+
+-- looking for it as one of kind `k`
+abbrev pub soughtAt : List ℕ → List ℕ → ℕ → Stretch → Sought
+soughtAt t slots k p = sought t slots k (keyAt t p)
+
+-- the slots after that: it enters where it is new and there is room
+abbrev pub afterMeetingAt : Bool → List ℕ → List ℕ → ℕ → Stretch → List ℕ
+afterMeetingAt room t slots k p = afterLooking room (value (mark k (keyAt t p)) (p .at)) slots (soughtAt t slots k p)
+
 -- ---- the key of a head
 
 -- is it in the slots?
@@ -92,9 +105,9 @@ unfoldable pub isMet : List ℕ → List ℕ → Head → Bool
 unfolding saysKnown sought
 isMet t slots (head.Refused n) = false
 isMet t slots (head.Header v n) = false
-isMet t slots (head.ReferenceSequence p l n) = saysKnown (sought t slots 2 (take (p .len) (drop (p .at) t)))
-isMet t slots (head.ReadGroup p n) = saysKnown (sought t slots 3 (take (p .len) (drop (p .at) t)))
-isMet t slots (head.Program p n) = saysKnown (sought t slots 4 (take (p .len) (drop (p .at) t)))
+isMet t slots (head.ReferenceSequence p l n) = saysKnown (soughtAt t slots 2 p)
+isMet t slots (head.ReadGroup p n) = saysKnown (soughtAt t slots 3 p)
+isMet t slots (head.Program p n) = saysKnown (soughtAt t slots 4 p)
 isMet t slots (head.Comment p) = false
 
 -- the slots after that
@@ -102,9 +115,9 @@ unfoldable pub afterMeeting : Bool → List ℕ → List ℕ → Head → List �
 unfolding afterLooking sought value mark
 afterMeeting room t slots (head.Refused n) = slots
 afterMeeting room t slots (head.Header v n) = slots
-afterMeeting room t slots (head.ReferenceSequence p l n) = afterLooking room (value (mark 2 (take (p .len) (drop (p .at) t))) (p .at)) slots (sought t slots 2 (take (p .len) (drop (p .at) t)))
-afterMeeting room t slots (head.ReadGroup p n) = afterLooking room (value (mark 3 (take (p .len) (drop (p .at) t))) (p .at)) slots (sought t slots 3 (take (p .len) (drop (p .at) t)))
-afterMeeting room t slots (head.Program p n) = afterLooking room (value (mark 4 (take (p .len) (drop (p .at) t))) (p .at)) slots (sought t slots 4 (take (p .len) (drop (p .at) t)))
+afterMeeting room t slots (head.ReferenceSequence p l n) = afterMeetingAt room t slots 2 p
+afterMeeting room t slots (head.ReadGroup p n) = afterMeetingAt room t slots 3 p
+afterMeeting room t slots (head.Program p n) = afterMeetingAt room t slots 4 p
 afterMeeting room t slots (head.Comment p) = slots
 
 -- looking for it; no slot tells a head without a key
@@ -112,9 +125,9 @@ unfoldable pub soughtOf : List ℕ → List ℕ → Head → Sought
 unfolding sought
 soughtOf t slots (head.Refused n) = Full
 soughtOf t slots (head.Header v n) = Full
-soughtOf t slots (head.ReferenceSequence p l n) = sought t slots 2 (take (p .len) (drop (p .at) t))
-soughtOf t slots (head.ReadGroup p n) = sought t slots 3 (take (p .len) (drop (p .at) t))
-soughtOf t slots (head.Program p n) = sought t slots 4 (take (p .len) (drop (p .at) t))
+soughtOf t slots (head.ReferenceSequence p l n) = soughtAt t slots 2 p
+soughtOf t slots (head.ReadGroup p n) = soughtAt t slots 3 p
+soughtOf t slots (head.Program p n) = soughtAt t slots 4 p
 soughtOf t slots (head.Comment p) = Full
 
 -- where it stands; 0 for a head without a key

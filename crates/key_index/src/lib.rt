@@ -6,11 +6,11 @@ ghost use mathlib.Core.Path.{_≡_};
 ghost use mathlib.Core.Bool.{_&&_};
 ghost use Prim.Native.Nat.{_≤_, _<_, _+_, _*_, _/_, _%_};
 ghost use lib.Dec.{eqb};
-ghost use lib.ListN.{length, take, drop, replicate};
-ghost use Rattle.format.specs.Bytes.{same, none?};
-ghost use Rattle.key_index.specs.Hash.{mixed, wordsFrom, keyHash};
-ghost use Rattle.key_index.specs.Word.{word};
-ghost use Rattle.key_index.specs.Told.{mark, value, keyTold, sought, saysKnown, afterLooking, isMet, afterMeeting, soughtOf, offsetOf, afterPointing, isFirstKey};
+ghost use lib.ListN.{length, replicate};
+ghost use Rattle.format.specs.Bytes.{same};
+ghost use Rattle.key_hash.specs.Hash.{keyHash};
+ghost use Rattle.key_index.specs.Told.{keyTold, sought, saysKnown, soughtAt, afterMeetingAt};
+ghost use Rattle.key_index.specs.Told.{isMet, afterMeeting, soughtOf, offsetOf, afterPointing, isFirstKey};
 ghost use Rattle.key_index.specs.Keyed.{KeyInText};
 
 // How looking for a key ends: at a slot that tells it, at an empty one, or after all slots.
@@ -18,69 +18,6 @@ pub enum Sought {
     Known(usize),
     Free(usize),
     Full,
-}
-
-// A number with one more mixed in.
-fn mix(h: usize, w: usize) -> usize
-    requires { ⌜ (h < 4294967296) × (w < 4294967296) ⌝ }
-    ensures { λ r. ⌜ r ≡ mixed h w ⌝ }
-{
-    let p = (h + w) % 4294967296 * 2654435761;
-    (p % 4294967296 + p / 4294967296) % 4294967296
-}
-
-// The number of a key's whole words of four bytes.
-fn hash_words(kind: u8, id: &[u8]) -> usize
-    ensures { λ r. ⌜ r ≡ wordsFrom kind (now (id .entry)) ⌝ }
-{
-    let mut h: usize = kind as usize;
-    let mut i: usize = 0;
-    while 4 <= id.len() - i {
-        h = mix(h, text::get_u32(id, i) as usize);
-        i += 4;
-    }
-    h
-}
-
-// The number of a key of this kind: words, and then the bytes that are left.
-fn hash(kind: u8, id: &[u8]) -> usize
-    ensures { λ r. ⌜ r ≡ keyHash kind (now (id .entry)) ⌝ }
-{
-    let mut h = hash_words(kind, id);
-    let mut i = id.len() - id.len() % 4;
-    while i < id.len() {
-        h = mix(h, id[i] as usize);
-        i += 1;
-    }
-    h
-}
-
-// Whether no key goes on at `at`: a byte below 32, or the end of the text.
-fn ends(text: &[u8], at: usize) -> bool
-    ensures { λ r. ⌜ r ≡ none? (word (drop at (now (text .entry)))) ⌝ }
-{
-    if text.len() <= at {
-        return true;
-    }
-    text[at] < 32
-}
-
-// Whether the key at `at` is `id`.
-fn is_at(text: &[u8], at: usize, id: &[u8]) -> bool
-    requires { ⌜ at + length (now id) ≤ 33554432 ⌝ }
-    ensures { λ r. ⌜ r ≡ same (now (id .entry)) (word (drop at (now (text .entry)))) ⌝ }
-{
-    let mut i: usize = 0;
-    while i < id.len() {
-        if ends(text, at + i) {
-            return false; // a key that only starts `id`
-        }
-        if text[at + i] != id[i] {
-            return false;
-        }
-        i += 1;
-    }
-    ends(text, at + i)
 }
 
 // What a slot keeps of a key besides its place, by the key's number.
@@ -95,10 +32,10 @@ fn is_told(text: &[u8], slot: u32, mark: u32, id: &[u8]) -> bool
     requires { ⌜ length (now id) ≤ 16777216 ⌝ }
     ensures { λ r. ⌜ r ≡ (eqb mark (slot / 16777216) && same (now (id .entry)) (keyTold (now (text .entry)) slot)) ⌝ }
 {
-    if slot / 16777216 != mark {
+    if slot / key_at::OFFSETS != mark {
         return false;
     }
-    is_at(text, (slot % 16777216) as usize, id)
+    key_at::is_at(text, (slot % key_at::OFFSETS) as usize, id)
 }
 
 // The slot after `at` of `n`, round the end.
@@ -142,18 +79,18 @@ fn meet_at(text: &[u8], area: &mut [u32], kind: u8, place: Stretch, room: bool) 
     requires { ⌜ 0 < length (now area) ⌝ }
     requires { ⌜ place .at + place .len ≤ length (now text) ⌝ }
     requires { ⌜ (place .at < 16777216) × (kind ≤ 7) ⌝ }
-    ensures known { λ r. ⌜ r ≡ saysKnown (sought (now (text .entry)) (now (area .entry)) kind (take (place .len) (drop (place .at) (now (text .entry))))) ⌝ }
-    ensures wrote { λ _. ⌜ now (area .exit) ≡ afterLooking room (value (mark kind (take (place .len) (drop (place .at) (now (text .entry))))) (place .at)) (now (area .entry)) (sought (now (text .entry)) (now (area .entry)) kind (take (place .len) (drop (place .at) (now (text .entry))))) ⌝ }
+    ensures known { λ r. ⌜ r ≡ saysKnown (soughtAt (now (text .entry)) (now (area .entry)) kind place) ⌝ }
+    ensures wrote { λ _. ⌜ now (area .exit) ≡ afterMeetingAt room (now (text .entry)) (now (area .entry)) kind place ⌝ }
 {
     let start = place.at;
     let end = start + place.len;
     let id = &text[start..end];
-    let number = hash(kind, id);
+    let number = key_hash::hash(kind, id);
     match look(text, area, kind, id, number) {
         Sought::Known(_) => true,
         Sought::Free(i) => {
             if room {
-                area[i] = mark(kind, number) * 16777216 + (start as u32);
+                area[i] = mark(kind, number) * key_at::OFFSETS + (start as u32);
             }
             false
         }
@@ -190,12 +127,12 @@ fn look_at(text: &[u8], area: &[u32], kind: u8, place: Stretch) -> Sought
     requires { ⌜ length (now text) ≤ 16777216 ⌝ }
     requires { ⌜ 0 < length (now area) ⌝ }
     requires { ⌜ place .at + place .len ≤ length (now text) ⌝ }
-    ensures { λ r. ⌜ r ≡ sought (now (text .entry)) (now (area .entry)) kind (take (place .len) (drop (place .at) (now (text .entry)))) ⌝ }
+    ensures { λ r. ⌜ r ≡ soughtAt (now (text .entry)) (now (area .entry)) kind place ⌝ }
 {
     let start = place.at;
     let end = start + place.len;
     let id = &text[start..end];
-    look(text, area, kind, id, hash(kind, id))
+    look(text, area, kind, id, key_hash::hash(kind, id))
 }
 
 // Looks for the key of a head. No slot tells a head without a key.
@@ -239,7 +176,7 @@ pub fn point(text: &[u8], area: &mut [u32], head: Head)
     let at = offset_of(head);
     match look_for(text, area, head) {
         Sought::Known(i) => {
-            area[i] = area[i] / 16777216 * 16777216 + (at as u32);
+            area[i] = area[i] / key_at::OFFSETS * key_at::OFFSETS + (at as u32);
         }
         Sought::Free(_) => {}
         Sought::Full => {}
@@ -255,7 +192,7 @@ pub fn is_first(text: &[u8], area: &[u32], head: Head) -> bool
 {
     let at = offset_of(head);
     match look_for(text, area, head) {
-        Sought::Known(i) => (area[i] % 16777216) as usize == at,
+        Sought::Known(i) => (area[i] % key_at::OFFSETS) as usize == at,
         Sought::Free(_) => true,
         Sought::Full => true,
     }

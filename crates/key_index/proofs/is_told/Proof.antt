@@ -12,7 +12,7 @@ use Rattle.key_index.proofs.is_told.Statement.{statement}
 use Rattle.key_index.proofs.is_told.Tie as tie
 use Rattle.key_index.proofs.is_told.Reads as reads
 use Rattle.key_index.proofs.is_told.Lts as lts
-use Rattle.key_index.proofs.is_at.Reads as is-at-reads
+use Rattle.key_at.proofs.is_at.Reads as is-at-reads
 
 returns : tie.Need-returns
 returns c =
