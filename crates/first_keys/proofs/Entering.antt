@@ -15,7 +15,8 @@ use Rattle.text.specs.Stands.{Stands, Each}
 use Rattle.accepted.specs.Pieces.{pieces}
 use Rattle.record.specs.Head.{headOf, recordHead, stretchOf}
 use Rattle.key_at.specs.Word.{word}
-use Rattle.key_index.specs.Told.{mark, value, tellsKey, start, sought, saysKnown, isMet, afterMeeting}
+use Rattle.key_look.specs.Sought.{mark, tellsKey, sought}
+use Rattle.key_index.specs.Told.{value, start, saysKnown, isMet, afterMeeting}
 use Rattle.line_keys.specs.Ended.{Ended}
 use Rattle.keys_held.specs.Keyed.{valuesOf, keyValuesOf}
 use Rattle.keys_held.proofs.Held.{sought-known, found}

@@ -20,7 +20,8 @@ use Rattle.accepted.proofs.Stands.{line-stand}
 use Rattle.record.specs.Head.{headOf, recordHead, stretchOf}
 use Rattle.admission.proofs.Admission.{taken-clash}
 use Rattle.key_at.specs.Word.{word}
-use Rattle.key_index.specs.Told.{mark, value, tellsKey, sought, pointed, isOwn, soughtOf, offsetOf, afterPointing, isFirstKey}
+use Rattle.key_look.specs.Sought.{mark, tellsKey, sought}
+use Rattle.key_index.specs.Told.{value, pointed, isOwn, soughtOf, offsetOf, afterPointing, isFirstKey}
 use Rattle.line_keys.specs.Ended.{Ended}
 use Rattle.keys_held.specs.Keyed.{valuesOf, keyValuesOf}
 use Rattle.keys_held.proofs.Held.{value-place}

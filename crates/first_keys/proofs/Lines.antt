@@ -20,7 +20,8 @@ use Rattle.accepted.specs.Pieces.{pieces}
 use Rattle.accepted.proofs.Sound.{line-sound}
 use Rattle.accepted.proofs.Stands.{line-stand}
 use Rattle.admission.proofs.Admission.{stood}
-use Rattle.key_index.specs.Told.{mark, value}
+use Rattle.key_look.specs.Sought.{mark}
+use Rattle.key_index.specs.Told.{value}
 use Rattle.line_keys.specs.Ended.{Ended}
 use Rattle.keys_held.specs.Keyed.{valuesOf, keyValuesOf}
 use Rattle.line_keys.proofs.Ahead.{ahead-stands}

@@ -15,9 +15,10 @@ use Rattle.text.proofs.Equal.{same-equal}
 use Rattle.accepted.proofs.Bools.{and-left, and-right}
 use Rattle.key_at.specs.Word.{word}
 use Rattle.key_hash.specs.Hash.{keyHash}
-use Rattle.key_index.specs.declared.Sought.{Sought}
-use Rattle.key_index.specs.declared.Sought.the-variants.{Known, Free, Full}
-use Rattle.key_index.specs.Told.{mark, value, keyTold, tellsKey, firstSlot, start, lookAlong, sought, saysKnown, afterLooking}
+use Rattle.key_look.specs.declared.Sought.{Sought}
+use Rattle.key_look.specs.declared.Sought.the-variants.{Known, Free, Full}
+use Rattle.key_look.specs.Sought.{mark, keyTold, tellsKey, firstSlot, lookAlong, sought}
+use Rattle.key_index.specs.Told.{value, start, saysKnown, afterLooking}
 
 -- ---- what it finds
 

@@ -21,10 +21,11 @@ use Rattle.record.specs.declared.Head.{Head}
 use Rattle.record.specs.declared.Head.the-variants as head
 use Rattle.admission.specs.Admission.{isKeyed, hasKey, isUsed, isTaken}
 use Rattle.admission.proofs.Admission.{stood}
-use Rattle.key_index.specs.declared.Sought.{Sought}
-use Rattle.key_index.specs.declared.Sought.the-variants.{Known, Free, Full}
+use Rattle.key_look.specs.declared.Sought.{Sought}
+use Rattle.key_look.specs.declared.Sought.the-variants.{Known, Free, Full}
 use Rattle.key_at.specs.Word.{word}
-use Rattle.key_index.specs.Told.{mark, value, tellsKey, firstSlot, start, sought, saysKnown, afterLooking, isMet, afterMeeting, pointed, soughtOf, offsetOf, afterPointing}
+use Rattle.key_look.specs.Sought.{mark, tellsKey, firstSlot, sought}
+use Rattle.key_index.specs.Told.{value, start, saysKnown, afterLooking, isMet, afterMeeting, pointed, soughtOf, offsetOf, afterPointing}
 use Rattle.key_index.specs.Keyed.{KeyInText}
 use Rattle.line_keys.specs.Ended.{Ended}
 use Rattle.line_keys.proofs.LineKeys.{line-ended}

@@ -18,12 +18,13 @@ use Rattle.text.proofs.Equal.{same-equal, same-self}
 use Rattle.accepted.specs.Pieces.{pieces}
 use Rattle.accepted.proofs.Bools.{and-left, and-right}
 use Rattle.record.specs.Head.{recordHead, stretchOf}
-use Rattle.key_index.specs.declared.Sought.{Sought}
-use Rattle.key_index.specs.declared.Sought.the-variants.{Known, Free, Full}
+use Rattle.key_look.specs.declared.Sought.{Sought}
+use Rattle.key_look.specs.declared.Sought.the-variants.{Known, Free, Full}
 use Rattle.key_at.specs.Word.{word}
-use Rattle.key_index.specs.Told.{mark, value, keyTold, tellsKey, firstSlot, lookAlong, sought, saysKnown, pointed, isOwn, soughtOf, offsetOf, afterPointing}
+use Rattle.key_look.specs.Sought.{mark, keyTold, tellsKey, firstSlot, lookAlong, sought}
+use Rattle.key_index.specs.Told.{value, saysKnown, pointed, isOwn, soughtOf, offsetOf, afterPointing}
 use Rattle.line_keys.specs.Ended.{Ended}
-use Rattle.key_index.proofs.Looking.{sought-lt}
+use Rattle.key_look.proofs.Looking.{sought-lt}
 use Rattle.keys_held.specs.Keyed.{valuesOf}
 use Rattle.keys_held.proofs.Held.{mark-kind, known-seek, value-tells}
 use Rattle.keys_held.proofs.Keyed.{value-some}

@@ -2,7 +2,8 @@
 use Prim.Native.Nat.{ℕ}
 use mathlib.Core.List.{List, [], _∷_, _++_}
 use Rattle.format.specs.Records.{Record, header, reference, group, program, comment}
-use Rattle.key_index.specs.Told.{mark, value}
+use Rattle.key_look.specs.Sought.{mark}
+use Rattle.key_index.specs.Told.{value}
 
 -- the value of a record's key, if it has one
 unfoldable pub valuesOf : Record → List ℕ

@@ -1,6 +1,7 @@
 // Slots that are filled with the SQ names of a catalogue: a slot tells a name by its ordinal, or by its offset in the text and a mark.
 use entries::Entry;
 use entries::Place;
+use key_at::OFFSETS;
 ghost use mathlib.Core.Path.{_≡_};
 ghost use mathlib.Core.Bool.{true};
 ghost use Prim.Native.Nat.{ℕ, _≤_, _<_, _^_};
@@ -56,7 +57,7 @@ fn put_name(text: &[u8], p: Place, k: usize, slots: &mut [u32], ordinals: bool) 
 {
     let number = name_index::hash(bytes_at(text, p));
     let first = name_index::first_slot(number, slots.len());
-    let v = value(ordinals, k, number, p.at % key_at::OFFSETS);
+    let v = value(ordinals, k, number, p.at % OFFSETS);
     name_index::enter(slots, first, v)
 }
 

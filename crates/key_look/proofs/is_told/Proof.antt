@@ -1,4 +1,4 @@
--- `key_index::is_told` meets its contract: the mark first, then the key.
+-- `key_look::is_told` meets its contract: the mark first, then the key.
 use Prim.Native.Nat.{ℕ, _/_, _%_}
 use mathlib.Core.Path.{_≡_, sym, ap, _∙_}
 use mathlib.Core.Bool.{_&&_}
@@ -6,12 +6,12 @@ use native.Mathlib.Omega.{arith}
 use borrow.Author.Tests.{eq-eqb, ne-eqb}
 use lib.ListN.{length}
 use Rattle.format.specs.Bytes.{same}
-use Rattle.key_index.specs.Told.{keyTold}
+use Rattle.key_look.specs.Sought.{keyTold}
 use borrow.Author.Needs.{needs}
-use Rattle.key_index.proofs.is_told.Statement.{statement}
-use Rattle.key_index.proofs.is_told.Tie as tie
-use Rattle.key_index.proofs.is_told.Reads as reads
-use Rattle.key_index.proofs.is_told.Lts as lts
+use Rattle.key_look.proofs.is_told.Statement.{statement}
+use Rattle.key_look.proofs.is_told.Tie as tie
+use Rattle.key_look.proofs.is_told.Reads as reads
+use Rattle.key_look.proofs.is_told.Lts as lts
 use Rattle.key_at.proofs.is_at.Reads as is-at-reads
 
 returns : tie.Need-returns

@@ -1,13 +1,13 @@
--- `key_index::next` meets its contract: the last slot is followed by the first.
+-- `key_look::next` meets its contract: the last slot is followed by the first.
 use Prim.Native.Nat.{ℕ, _+_, _-_, _%_, _<_}
 use mathlib.Core.Path.{_≡_, sym, ap, _∙_}
 use native.Mathlib.Omega.{arith}
 use native.Mathlib.Nat.{mod-eq-of-lt, mod-self}
 use borrow.Author.Needs.{needs}
-use Rattle.key_index.proofs.next.Statement.{statement}
-use Rattle.key_index.proofs.next.Tie as tie
-use Rattle.key_index.proofs.next.Reads as reads
-use Rattle.key_index.proofs.next.Lts as lts
+use Rattle.key_look.proofs.next.Statement.{statement}
+use Rattle.key_look.proofs.next.Tie as tie
+use Rattle.key_look.proofs.next.Reads as reads
+use Rattle.key_look.proofs.next.Lts as lts
 
 sub-if1 : tie.Need-sub-if1
 sub-if1 c = search needs

@@ -1,4 +1,4 @@
--- `key_index::look` meets its contract: the slots that are left decide.
+-- `key_look::look` meets its contract: the slots that are left decide.
 use Prim.Native.Nat.{ℕ, _+_, _-_, _*_, _/_, _%_, _≤_, _<_}
 use mathlib.Core.Path.{_≡_, refl, sym, ap, _∙_}
 use mathlib.Core.Bool.{_&&_}
@@ -11,15 +11,15 @@ use lib.ListN.{length, drop, getD}
 use Rattle.format.specs.Bytes.{same}
 use Rattle.format.specs.Slots.{around}
 use Rattle.key_hash.specs.Hash.{keyHash}
-use Rattle.key_index.specs.Told.{mark, keyTold, tellsKey, firstSlot, lookAlong, sought}
-use Rattle.key_index.proofs.Looking.{at-empty, at-hit, at-other, at-next, at-end}
-use Rattle.key_index.proofs.look.Statement.{statement}
-use Rattle.key_index.proofs.look.Tie as tie
-use Rattle.key_index.proofs.look.Reads as reads
-use Rattle.key_index.proofs.look.Lts as lts
-use Rattle.key_index.proofs.is_told.Reads as is-told-reads
-use Rattle.key_index.proofs.mark.Reads as mark-reads
-use Rattle.key_index.proofs.next.Reads as next-reads
+use Rattle.key_look.specs.Sought.{mark, keyTold, tellsKey, firstSlot, lookAlong, sought}
+use Rattle.key_look.proofs.Looking.{at-empty, at-hit, at-other, at-next, at-end}
+use Rattle.key_look.proofs.look.Statement.{statement}
+use Rattle.key_look.proofs.look.Tie as tie
+use Rattle.key_look.proofs.look.Reads as reads
+use Rattle.key_look.proofs.look.Lts as lts
+use Rattle.key_look.proofs.is_told.Reads as is-told-reads
+use Rattle.key_look.proofs.mark.Reads as mark-reads
+use Rattle.key_look.proofs.next.Reads as next-reads
 
 abbrev Inv-loop : tie.InvT-loop
 Inv-loop text area kind id number told at₀ i₀ at i =

@@ -1,16 +1,16 @@
--- `key_index::look_at` meets its contract: what is looked for is the key at the place.
+-- `key_look::look_at` meets its contract: what is looked for is the key at the place.
 use Prim.Native.Nat.{_+_, _-_}
 use mathlib.Core.Path.{_≡_, ap, _∙_}
 use native.Mathlib.Omega.{arith}
 use lib.ListN.{take, drop}
-use Rattle.key_index.specs.Told.{sought}
+use Rattle.key_look.specs.Sought.{sought}
 use borrow.Author.Needs.{needs}
-use Rattle.key_index.proofs.look_at.Statement.{statement}
-use Rattle.key_index.proofs.look_at.Tie as tie
-use Rattle.key_index.proofs.look_at.Reads as reads
-use Rattle.key_index.proofs.look_at.Lts as lts
+use Rattle.key_look.proofs.look_at.Statement.{statement}
+use Rattle.key_look.proofs.look_at.Tie as tie
+use Rattle.key_look.proofs.look_at.Reads as reads
+use Rattle.key_look.proofs.look_at.Lts as lts
 use Rattle.key_hash.proofs.hash.Reads as hash-reads
-use Rattle.key_index.proofs.look.Reads as look-reads
+use Rattle.key_look.proofs.look.Reads as look-reads
 
 add-end : tie.Need-add-end
 add-end c = search needs
