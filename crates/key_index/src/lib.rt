@@ -70,7 +70,12 @@ fn look_for(text: &[u8], area: &[u32], head: Head) -> Sought
     match head {
         Head::Refused(_) => Sought::Full,
         Head::Header(_, _) => Sought::Full,
-        Head::ReferenceSequence(p, _, _) => key_look::look_at(text, area, format::REFERENCE_SEQUENCE, p),
+        Head::ReferenceSequence(p, _, _) => key_look::look_at(
+            text,
+            area,
+            format::REFERENCE_SEQUENCE,
+            p,
+        ),
         Head::ReadGroup(p, _) => key_look::look_at(text, area, format::READ_GROUP, p),
         Head::Program(p, _) => key_look::look_at(text, area, format::PROGRAM, p),
         Head::Comment(_) => Sought::Full,

@@ -9,14 +9,13 @@ use lib.ListN.{length, drop, set}
 use lib.Dec.{ltb, eqb}
 use borrow.Author.Tests.{eqb-true, eqb-false, lt-ltb, eq-eqb, ne-eqb}
 use Rattle.format.specs.Bytes.{same}
-use Rattle.format.specs.Slots.{around, full, filled, seat, seek, pick, Held}
+use Rattle.format.specs.Slots.{around, full, seat, seek, pick, Held}
 use Rattle.format.proofs.Slots.{around-length, filled-around, full-lt, held-enter}
 use Rattle.text.proofs.Equal.{same-equal}
 use Rattle.accepted.proofs.Bools.{and-left, and-right}
 use Rattle.key_at.specs.Word.{word}
 use Rattle.key_hash.specs.Hash.{keyHash}
-use Rattle.key_look.specs.declared.Sought.{Sought}
-use Rattle.key_look.specs.declared.Sought.the-variants.{Known, Free, Full}
+use Rattle.key_look.specs.declared.Sought.the-variants.{Known, Free}
 use Rattle.key_look.specs.Sought.{mark, keyTold, tellsKey, firstSlot, lookAlong, sought}
 use Rattle.key_index.specs.Told.{value, start, saysKnown, afterLooking}
 
