@@ -49,7 +49,7 @@ isOwn at slots (Known i) = eqb (getD slots i 0 % 16777216) at
 isOwn at slots (Free i) = true
 isOwn at slots Full = true
 
--- the slots after that: it enters where it is new and there is room
+-- the slots after the key of kind `k` at a place of the text was looked for: it enters, where it is new and there is room
 abbrev pub afterMeetingAt : Bool → List ℕ → List ℕ → ℕ → Stretch → List ℕ
 afterMeetingAt room t slots k p = afterLooking room (value (mark k (keyAt t p)) (p .at)) slots (soughtAt t slots k p)
 
