@@ -19,12 +19,14 @@ use Rattle.accepted.specs.Pieces.{pieces}
 use Rattle.accepted.proofs.Stands.{line-stand}
 use Rattle.record.specs.Head.{headOf, recordHead, stretchOf}
 use Rattle.admission.proofs.Admission.{taken-clash}
-use Rattle.key_index.specs.Word.{word}
-use Rattle.key_index.specs.Told.{mark, value, tellsKey, sought, pointed, isOwn, soughtOf, offsetOf, afterPointing, isFirstKey}
-use Rattle.key_index.specs.Keyed.{valuesOf, keyValuesOf, Ended}
-use Rattle.key_index.proofs.Looking.{value-place}
-use Rattle.key_index.proofs.Keyed.{value-some, values-few, toldIn, told-taken, pick-append, pointing-length}
-use Rattle.key_index.proofs.Pointing.{toldBy, own-told, tells-own, latest, pointing-told}
+use Rattle.key_at.specs.Word.{word}
+use Rattle.key_look.specs.Sought.{mark, tellsKey, sought}
+use Rattle.key_index.specs.Told.{value, pointed, isOwn, soughtOf, offsetOf, afterPointing, isFirstKey}
+use Rattle.line_keys.specs.Ended.{Ended}
+use Rattle.keys_held.specs.Keyed.{valuesOf, keyValuesOf}
+use Rattle.keys_held.proofs.Held.{value-place}
+use Rattle.keys_held.proofs.Keyed.{value-some, values-few, toldIn, told-taken, pick-append, pointing-length}
+use Rattle.keys_held.proofs.Pointing.{toldBy, own-told, tells-own, latest, pointing-told}
 use Rattle.first_keys.specs.Blocks.{firstAt, headKeys, keyedFront, keyedBehind, earlier, recordIfRead, readIn, entered, pointedBack, filledFor}
 use Rattle.first_keys.proofs.Walk.{ahead-none, ahead-one, front-none, front-behind}
 use Rattle.first_keys.proofs.Lines.{each-left, each-right, Sits, lines-sit, sits-stand, sits-ended, reads-ended, lines-before, earlier-all, Low, lines-low}

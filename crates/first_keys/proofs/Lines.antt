@@ -20,11 +20,13 @@ use Rattle.accepted.specs.Pieces.{pieces}
 use Rattle.accepted.proofs.Sound.{line-sound}
 use Rattle.accepted.proofs.Stands.{line-stand}
 use Rattle.admission.proofs.Admission.{stood}
-use Rattle.key_index.specs.Told.{mark, value}
-use Rattle.key_index.specs.Keyed.{valuesOf, keyValuesOf, Ended}
-use Rattle.key_index.proofs.Ahead.{ahead-stands}
-use Rattle.key_index.proofs.Looking.{value-place}
-use Rattle.key_index.proofs.LineKeys.{line-ended}
+use Rattle.key_look.specs.Sought.{mark}
+use Rattle.key_index.specs.Told.{value}
+use Rattle.line_keys.specs.Ended.{Ended}
+use Rattle.keys_held.specs.Keyed.{valuesOf, keyValuesOf}
+use Rattle.line_keys.proofs.Ahead.{ahead-stands}
+use Rattle.keys_held.proofs.Held.{value-place}
+use Rattle.line_keys.proofs.LineKeys.{line-ended}
 use Rattle.first_keys.specs.Blocks.{firstAt, earlier, recordIfRead, readIn}
 use Rattle.first_keys.proofs.Walk.{ahead-none, ahead-one, next-more}
 

@@ -17,8 +17,8 @@ use Rattle.record.specs.declared.Head.{Head}
 use Rattle.record.specs.declared.Head.the-variants as head
 use Rattle.key_index.specs.Told.{afterMeeting, afterPointing}
 use Rattle.key_index.specs.Keyed.{KeyInText}
-use Rattle.key_index.proofs.Ahead.{first-ahead, ahead-stands}
-use Rattle.key_index.proofs.Keyed.{head-placed}
+use Rattle.line_keys.proofs.Ahead.{first-ahead, ahead-stands}
+use Rattle.keys_held.proofs.Keyed.{head-placed}
 use Rattle.first_keys.specs.Blocks.{firstAt, headKeys, keyedFront, keyedBehind, startOf, afterKeyed, earlier, entered, pointedBack}
 
 -- no line is left

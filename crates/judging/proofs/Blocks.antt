@@ -26,10 +26,11 @@ use Rattle.record.specs.Head.{headOf, recordHead}
 use Rattle.admission.proofs.Admission.{stood}
 use Rattle.admission.specs.Admission.{isTaken, programsOf}
 use Rattle.key_index.specs.Told.{start, isMet, afterMeeting}
-use Rattle.key_index.specs.Keyed.{valuesOf, keyValuesOf, Ended}
-use Rattle.key_index.proofs.Ahead.{first-ahead}
-use Rattle.key_index.proofs.LineKeys.{line-ended}
-use Rattle.key_index.proofs.Keyed.{toldIn, told-none, told-append, told-taken, met-told, keys-snoc, ended-snoc, meeting-length, meeting-holds, values-few}
+use Rattle.line_keys.specs.Ended.{Ended}
+use Rattle.keys_held.specs.Keyed.{valuesOf, keyValuesOf}
+use Rattle.line_keys.proofs.Ahead.{first-ahead}
+use Rattle.line_keys.proofs.LineKeys.{line-ended}
+use Rattle.keys_held.proofs.Keyed.{toldIn, told-none, told-append, told-taken, met-told, keys-snoc, ended-snoc, meeting-length, meeting-holds, values-few}
 use Rattle.judging.specs.declared.Block.{Block}
 use Rattle.judging.specs.Blocks.{clashOf, turned, emptied}
 use Rattle.judging.proofs.Judging.{Judging, judging-start, judging-on, passed-are, line-stands}

@@ -29,10 +29,11 @@ use Rattle.carried.proofs.Judged.{kept-append, judged-append}
 use Rattle.carried.proofs.Keys.{key-lines}
 use Rattle.format.specs.Slots.{Held}
 use Rattle.key_index.specs.Told.{start, isFirstKey}
-use Rattle.key_index.specs.Keyed.{keyValuesOf, Ended}
-use Rattle.key_index.proofs.Keyed.{meeting-length}
-use Rattle.key_index.proofs.Ahead.{ahead-stands}
-use Rattle.key_index.proofs.LineKeys.{line-ended}
+use Rattle.line_keys.specs.Ended.{Ended}
+use Rattle.keys_held.specs.Keyed.{keyValuesOf}
+use Rattle.keys_held.proofs.Keyed.{meeting-length}
+use Rattle.line_keys.proofs.Ahead.{ahead-stands}
+use Rattle.line_keys.proofs.LineKeys.{line-ended}
 use Rattle.first_keys.specs.Blocks.{firstAt, headKeys, keyedFront, startOf, afterKeyed, recordIfRead, readIn, filledFor}
 use Rattle.first_keys.proofs.Walk.{ahead-none, ahead-one, next-within, next-more, front-one, start-ahead, block-split}
 use Rattle.first_keys.proofs.Firsts.{firsts}

@@ -10,8 +10,11 @@ use Rattle.text.specs.Over.{over}
 use Rattle.text.specs.Stands.{Each}
 use Rattle.entries.specs.Entries.{entriesIn}
 use Rattle.name_index.specs.Index.{nameOrdinal, slotCount, index, looks}
-use Rattle.sq_index.specs.Filled.{namesIn, Told, entering, seats, slotOf, looksOf, ordinalAt}
-use Rattle.sq_index.proofs.Found.{filled-index, places-length, places-noted, found-ordinal, found-looks}
+use Rattle.sq_entries.specs.Names.{namesIn}
+use Rattle.sq_slots.specs.Filled.{entering, seats}
+use Rattle.sq_index.specs.Looking.{slotOf, looksOf, ordinalAt}
+use Rattle.sq_found.specs.Told.{Told}
+use Rattle.sq_found.proofs.Found.{filled-index, places-length, places-noted, found-ordinal, found-looks}
 use Rattle.names.specs.Batch.{asked, summed}
 
 -- written over a list of the same length

@@ -16,8 +16,9 @@ use Rattle.calls.proofs.Fresh.{Current, goes-on, stops}
 use Rattle.calls.proofs.Chained.{too-short, fits}
 use Rattle.name_index.specs.Index.{nameOrdinal, slotCount, index, looks}
 use Rattle.name_index.proofs.Indexed.{index-length}
-use Rattle.sq_index.specs.Filled.{namesIn, Told}
-use Rattle.sq_index.proofs.Named.{names-counted}
+use Rattle.sq_entries.specs.Names.{namesIn}
+use Rattle.sq_found.specs.Told.{Told}
+use Rattle.sq_entries.proofs.Names.{names-counted}
 use Rattle.names.specs.Batch.{references, asked, summed, batched, batching}
 use Rattle.names.specs.declared.NamesAnswer.the-variants.{Refused, Counted}
 use Rattle.names.specs.Answers.{namesOf, resultsOf, slotsOf}

@@ -10,7 +10,9 @@ ghost use Rattle.text.specs.Stands.{Each};
 ghost use Rattle.entries.specs.Entries.{entriesIn};
 ghost use Rattle.parser.specs.Answers.{outputOf};
 ghost use Rattle.name_index.specs.Index.{nameOrdinal, slotCount, index, looks};
-ghost use Rattle.sq_index.specs.Filled.{namesIn, Told, slotOf, looksOf};
+ghost use Rattle.sq_entries.specs.Names.{namesIn};
+ghost use Rattle.sq_index.specs.Looking.{slotOf, looksOf};
+ghost use Rattle.sq_found.specs.Told.{Told};
 ghost use Rattle.names.specs.Ends.{ends};
 ghost use Rattle.names.specs.Batch.{asked, summed, batching};
 ghost use Rattle.names.specs.Answers.{namesOf, resultsOf, slotsOf};
@@ -130,9 +132,9 @@ fn answer_noting(
     ensures found { λ _. ⌜ now (out .exit) ≡ map (nameOrdinal (namesIn (now (text .entry)) (entriesIn (now (kept .entry))))) (asked (now (list .entry))) ⌝ }
     ensures looks { λ r. ⌜ r ≡ summed (looks (namesIn (now (text .entry)) (entriesIn (now (kept .entry))))) (asked (now (list .entry))) ⌝ }
 {
-    sq_index::fill(text, kept, slots, notes, false);
+    sq_slots::fill(text, kept, slots, notes, false);
     let looks = find_slots(text, slots, list, out);
-    sq_index::refill(text, kept, m, slots, notes);
+    sq_slots::refill(text, kept, m, slots, notes);
     sq_index::to_ordinals(slots, out);
     looks
 }
@@ -191,7 +193,7 @@ pub fn names(
                 return NamesAnswer::Refused(1, LineNo(0));
             }
             let room = work.len();
-            let m = sq_index::count(kept);
+            let m = sq_entries::count(kept);
             let n = name_index::slot_count(m as u32) as usize;
             if room < n {
                 return NamesAnswer::Refused(20, LineNo(0));

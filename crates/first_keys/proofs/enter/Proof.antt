@@ -10,7 +10,7 @@ use Rattle.text.specs.First.{firstLine}
 use Rattle.record.specs.Head.{headOf}
 use Rattle.key_index.specs.Told.{afterMeeting}
 use Rattle.key_index.specs.Keyed.{KeyInText}
-use Rattle.key_index.proofs.Keyed.{meeting-length}
+use Rattle.keys_held.proofs.Keyed.{meeting-length}
 use Rattle.first_keys.specs.Blocks.{firstAt, headKeys, keyedFront, afterKeyed, entered}
 use Rattle.first_keys.proofs.Walk.{keys-most, after-end, after-none, after-on, entered-end, entered-none, entered-on, placed-at, next-more, next-within}
 use borrow.Author.Needs.{needs}

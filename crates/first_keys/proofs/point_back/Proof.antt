@@ -9,7 +9,7 @@ use Rattle.text.specs.First.{firstLine}
 use Rattle.record.specs.Head.{headOf}
 use Rattle.key_index.specs.Told.{afterPointing}
 use Rattle.key_index.specs.Keyed.{KeyInText}
-use Rattle.key_index.proofs.Keyed.{pointing-length}
+use Rattle.keys_held.proofs.Keyed.{pointing-length}
 use Rattle.first_keys.specs.Blocks.{firstAt, earlier, pointedBack}
 use Rattle.first_keys.proofs.Walk.{pointed-end, pointed-on, placed-at, next-more}
 use Rattle.first_keys.proofs.point_back.Statement.{statement}

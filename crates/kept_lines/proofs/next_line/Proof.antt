@@ -12,8 +12,8 @@ use Rattle.text.proofs.First.{first-le, first-within}
 use Rattle.record.specs.Head.{headOf}
 use Rattle.admission.specs.Admission.{lineRefusal, barring}
 use Rattle.key_index.specs.Keyed.{KeyInText}
-use Rattle.key_index.proofs.Keyed.{head-placed}
-use Rattle.key_index.proofs.Ahead.{ahead-stands}
+use Rattle.keys_held.proofs.Keyed.{head-placed}
+use Rattle.line_keys.proofs.Ahead.{ahead-stands}
 use Rattle.first_keys.specs.Blocks.{firstAt}
 use Rattle.kept_lines.specs.Kept.{usedBy, idsAfter, untilAt, filledAt, advanced}
 use Rattle.kept_lines.proofs.Kept.{advanced-to}

@@ -5,7 +5,7 @@ use native.Mathlib.Omega.{arith}
 use lib.ListN.{length}
 use Rattle.name_index.specs.Index.{slotCount}
 use Rattle.entries.specs.Entries.{entriesIn}
-use Rattle.sq_index.specs.Filled.{namesIn}
+use Rattle.sq_entries.specs.Names.{namesIn}
 use Rattle.name_index.proofs.SlotCount.{slots-power, slots-few}
 use Rattle.names.specs.Batch.{asked}
 use Rattle.names.proofs.Answered.{long₁, notes-told, looks-told, index-told, found-told}

@@ -5,7 +5,7 @@ use native.Mathlib.Omega.{arith}
 use borrow.Author.Needs.{needs}
 use lib.ListN.{length, take, drop, length-take, length-drop}
 use Rattle.name_index.proofs.SlotCount.{power-some}
-use Rattle.sq_index.specs.Filled.{slotOf, looksOf}
+use Rattle.sq_index.specs.Looking.{slotOf, looksOf}
 use Rattle.sq_index.proofs.Looking.{looks-most}
 use Rattle.names.proofs.Asked.{name-within}
 use Rattle.names.proofs.Asking.{Asking, asking-start, asking-end, asking-room, asking-on}

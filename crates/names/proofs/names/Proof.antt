@@ -10,7 +10,7 @@ use Rattle.format.specs.Calls.{Answer}
 use Rattle.calls.proofs.Fresh.{Current, refused-by, check-fresh}
 use Rattle.name_index.specs.Index.{nameOrdinal, slotCount, index, looks}
 use Rattle.name_index.proofs.Indexed.{index-length}
-use Rattle.sq_index.specs.Filled.{namesIn}
+use Rattle.sq_entries.specs.Names.{namesIn}
 use Rattle.names.specs.Batch.{asked, summed, batching}
 use Rattle.names.proofs.Batched.{batch-refused, batch-long, batch-work, batch-room, batch-all, few, short, many, told, told-refusal, told-answer}
 use borrow.Author.Needs.{needs}
