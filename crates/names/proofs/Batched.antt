@@ -12,8 +12,8 @@ use Rattle.format.specs.declared.LineNo.{LineNo}
 use Rattle.accepted.specs.Read.{recordsOf}
 use Rattle.entries.specs.Entries.{entriesIn, counted}
 use Rattle.parser.specs.Answers.{outputOf}
-use Rattle.calls.proofs.Fresh.{Current, goes-on, stops}
-use Rattle.calls.proofs.Chained.{too-short, fits}
+use Rattle.parser.proofs.Fresh.{Current, goes-on, stops}
+use Rattle.parser.proofs.Told.{too-short, fits}
 use Rattle.name_index.specs.Index.{nameOrdinal, slotCount, index, looks}
 use Rattle.name_index.proofs.Indexed.{index-length}
 use Rattle.sq_index.specs.Filled.{namesIn, Told}

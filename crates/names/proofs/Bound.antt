@@ -12,7 +12,7 @@ use Rattle.format.specs.Lines.{onto}
 use Rattle.format.specs.Reading.{longest}
 use Rattle.format.specs.Calls.{Answer, refused, yes, then, fitting}
 use Rattle.accepted.specs.Read.{recordsOf}
-use Rattle.calls.proofs.Fresh.{Current, refused-is-no-answer, passed, goes-on}
+use Rattle.parser.proofs.Fresh.{Current, refused-is-no-answer, passed, goes-on}
 use Rattle.name_index.specs.Index.{nameOrdinal, index, looks}
 use Rattle.name_index.proofs.Indexed.{indexed}
 use Rattle.names.specs.Batch.{references, asked, summed, batched, batching}

@@ -7,7 +7,7 @@ use lib.ListN.{length, drop, length-map}
 use lib.Seq.{length-take-le}
 use Rattle.entries.specs.Entries.{entriesIn}
 use Rattle.format.specs.Calls.{Answer}
-use Rattle.calls.proofs.Fresh.{Current, refused-by, check-fresh}
+use Rattle.parser.proofs.Fresh.{Current, refused-by, check-fresh}
 use Rattle.name_index.specs.Index.{nameOrdinal, slotCount, index, looks}
 use Rattle.name_index.proofs.Indexed.{index-length}
 use Rattle.sq_index.specs.Filled.{namesIn}

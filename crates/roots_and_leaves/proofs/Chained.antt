@@ -1,37 +1,17 @@
 -- What roots and leaves answer over a catalogue that is the text's own, by the links of its programs.
-use Prim.Native.Nat.{ℕ, zero, suc, _≤_, _<_}
-use mathlib.Core.Path.{_≡_, refl, sym, ap, subst, _∙_}
-use mathlib.Core.Bool.{true}
+use Prim.Native.Nat.{ℕ, zero, suc}
+use mathlib.Core.Path.{_≡_, refl, sym, ap, _∙_}
 use mathlib.Core.List.{List}
-use lib.ListN.{length}
-use borrow.Author.Tests.{lt-ltb, le-ltb}
 use Rattle.format.specs.Records.{Record}
-use Rattle.format.specs.Reading.{readText}
-use Rattle.format.specs.Catalogue.{catalogue}
 use Rattle.format.specs.Programs.{Program, programs, links, roots, leaves, hops, tangled}
 use Rattle.format.specs.Calls.{Answer, refused, yes, then, fitting, untangled, fresh, rooting, leafing}
 use Rattle.format.specs.declared.LineNo.{LineNo}
-use Rattle.accepted.specs.Read.{isAccepted, recordsOf}
-use Rattle.entries.specs.Entries.{entriesIn, counted}
-use Rattle.lookup.proofs.Kept.{text-few}
-use Rattle.programs.specs.declared.Programs.{Programs}
-use Rattle.programs.specs.Gathered.{notedIn, gatheredOf}
-use Rattle.parents.proofs.Own.{few-programs}
+use Rattle.accepted.specs.Read.{recordsOf}
 use Rattle.parser.specs.Answers.{answerOf, outputOf}
 use Rattle.parser.proofs.Told.{refused-answer}
-use Rattle.calls.specs.declared.LeavesAnswer.the-variants.{Refused}
-use Rattle.calls.specs.Answers.{leavesAnswerOf, listOf, withHops}
-use Rattle.calls.proofs.Fresh.{Current, goes-on, stops}
-
--- ---- 20 comes last
-
-pub too-short : (room : ℕ) (xs : List ℕ) → room < length xs → fitting room xs ≡ refused 20 0
-unfolding fitting
-too-short room xs h = rw (lt-ltb _ _ h) refl
-
-pub fits : (room : ℕ) (xs : List ℕ) → length xs ≤ room → fitting room xs ≡ yes xs
-unfolding fitting
-fits room xs h = rw (le-ltb _ _ h) refl
+use Rattle.roots_and_leaves.specs.declared.LeavesAnswer.the-variants.{Refused}
+use Rattle.roots_and_leaves.specs.Answers.{leavesAnswerOf, listOf, withHops}
+use Rattle.parser.proofs.Fresh.{Current, goes-on, stops}
 
 -- ---- a refusal of the check
 
@@ -46,34 +26,12 @@ module _ (t c : List ℕ) (n l : ℕ) (e : fresh t c ≡ refused n l) (room : �
 
 -- ---- over the text's own catalogue
 
--- what is gathered from it is what the text's programs are
-pub record Opened (t c : List ℕ) : Type 0 where
-  pub own : Current t c
-  pub accepted : isAccepted (readText t) ≡ true
-  pub entries : counted 4 (entriesIn c) ≤ 1024
-  pub gathers : (p : Programs) → p ≡ gatheredOf (notedIn (entriesIn c)) → p ≡ gatheredOf (notedIn (entriesIn (catalogue (recordsOf t))))
-  pub few : length (programs (recordsOf t)) ≤ 1024
-
 module _ (t c : List ℕ) (own : Current t c) where
   abbrev rs : List Record
   rs = recordsOf t
 
   abbrev ps : List Program
   ps = programs rs
-
-  own-accepted : isAccepted (readText t) ≡ true
-  unfolding isAccepted
-  own-accepted = ap isAccepted (own .reads)
-
-  -- what gathering and the search for parents ask
-  pub opened : Opened t c
-  opened = record {
-    own = own;
-    accepted = own-accepted;
-    entries = subst (λ s. counted 4 (entriesIn s) ≤ 1024) (sym (own .own)) (text-few t rs (own .reads));
-    gathers = λ p e. e ∙ ap (λ s. gatheredOf (notedIn (entriesIn s))) (own .own);
-    few = few-programs t own-accepted;
-  }
 
   pub rooted : (room : ℕ) → rooting t c room ≡ fitting room (roots (links ps))
   unfolding rooting

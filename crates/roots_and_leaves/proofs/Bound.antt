@@ -15,8 +15,10 @@ use Rattle.chains.proofs.Bound.{hops-bound}
 use Rattle.chains.proofs.Leaf.{leaves-length}
 use Rattle.parents.proofs.Numbers.{links-count, links-named}
 use Rattle.parents.proofs.Road.{none-dangles, none-loops}
-use Rattle.calls.proofs.Fresh.{Current, refused-is-no-answer, passed}
-use Rattle.calls.proofs.Chained.{too-short, fits, opened, leaves-tangled, leaves-own}
+use Rattle.parser.proofs.Fresh.{Current, refused-is-no-answer, passed}
+use Rattle.parser.proofs.Told.{too-short, fits}
+use Rattle.parents.proofs.Opened.{opened}
+use Rattle.roots_and_leaves.proofs.Chained.{leaves-tangled, leaves-own}
 
 unfoldable toldOf : List ℕ × ℕ → Answer (List ℕ × ℕ) → List ℕ × ℕ
 toldOf z (refused n l) = z
@@ -56,7 +58,7 @@ module _ (t c : List ℕ) (own : Current t c) where
   summed z =
       let d = none-dangles ls z in
       subst (λ n. 2 * hops ls ≤ n * (n - 1)) (links-count ps)
-      (hops-bound ls (none-loops ls z) (λ k m. omega (arith, links-count ps, links-named ps (opened t c own .few) d k m)))
+      (hops-bound ls (none-loops ls z) (λ k m. omega (arith, links-count ps, links-named ps (opened t c (own .reads) (own .own) .few) d k m)))
 
 -- leaves that are answered are of the text's own catalogue
 current : (t c : List ℕ) (room : ℕ) (a : List ℕ × ℕ) → leafing t c room ≡ yes a → Current t c
@@ -74,12 +76,13 @@ leaves-bound t c room xs h is =
 pub leaves-few : (t c : List ℕ) (room : ℕ) (xs : List ℕ) (h : ℕ) → leafing t c room ≡ yes (xs, h) → length xs ≤ 1024
 leaves-few t c room xs h is =
     let own = current t c room (xs, h) is in
-    let few = opened t c own .few in
+    let few = opened t c (own .reads) (own .own) .few in
     answered t c own (λ a. length (a .0) ≤ 1024) room (xs, h) is (λ z. omega (arith, few, links-count (ps t c own), leaves-length (ls t c own)))
 
 -- so that the hops are at most 523,776
 pub hops-few : (t c : List ℕ) (room : ℕ) (xs : List ℕ) (h : ℕ) → leafing t c room ≡ yes (xs, h) → h ≤ 523776
 hops-few t c room xs h is =
     let n = length (programs (recordsOf t)) in
-    let few : n ≤ 1024 = opened t c (current t c room (xs, h) is) .few in
+    let own = current t c room (xs, h) is in
+    let few : n ≤ 1024 = opened t c (own .reads) (own .own) .few in
     omega (arith, few, leaves-bound t c room xs h is, mul-le-mul-right (n - 1) few)

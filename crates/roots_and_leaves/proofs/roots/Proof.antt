@@ -1,4 +1,4 @@
--- `calls::roots` meets its contract: reading, 21, 20, then the programs without PP.
+-- `roots_and_leaves::roots` meets its contract: reading, 21, 20, then the programs without PP.
 use mathlib.Core.Path.{_≡_, sym, ap, _∙_}
 use mathlib.Core.List.{List}
 use lib.ListN.{length}
@@ -10,11 +10,12 @@ use Rattle.chains.proofs.Arrays.{front, front-count, front-inside}
 use Rattle.parents.proofs.Road.{lent-count, lent-inside, lent-few, lent-roots}
 use Rattle.parser.specs.Answers.{answerOf, outputOf}
 use Rattle.parser.proofs.Told.{refused-answer}
-use Rattle.calls.proofs.Fresh.{refused-by, fresh-by}
-use Rattle.calls.proofs.Chained.{roots-refused, Opened, opened, rooted}
+use Rattle.parser.proofs.Fresh.{Current, refused-by, fresh-by}
+use Rattle.parents.proofs.Opened.{Opened, opened}
+use Rattle.roots_and_leaves.proofs.Chained.{roots-refused, rooted}
 use borrow.Author.Needs.{needs}
-use Rattle.calls.proofs.roots.Statement.{statement}
-use Rattle.calls.proofs.roots.Tie as tie
+use Rattle.roots_and_leaves.proofs.roots.Statement.{statement}
+use Rattle.roots_and_leaves.proofs.roots.Tie as tie
 
 check-requires : tie.Need-check-requires
 check-requires c κs = search needs
@@ -26,33 +27,36 @@ enum-told : tie.Need-enum-told
 enum-told c = search needs
 
 -- the catalogue is the text's own
-own : (c : tie.After-enum-told) → let a = c .before .before .before .before .before .before .args in Opened (a .text .now) (a .kept .now)
-own c = let a = c .before .before .before .before .before .before .args in opened (a .text .now) (a .kept .now) (fresh-by (a .text .now) (a .kept .now) (c .before .before .check .ensures) (c .enum-told .given .1))
+own : (c : tie.After-enum-told) → let a = c .before .before .before .before .before .before .args in Current (a .text .now) (a .kept .now)
+own c = let a = c .before .before .before .before .before .before .args in fresh-by (a .text .now) (a .kept .now) (c .before .before .check .ensures) (c .enum-told .given .1)
+
+opens : (c : tie.After-enum-told) → let a = c .before .before .before .before .before .before .args in Opened (a .text .now) (a .kept .now)
+opens c = let a = c .before .before .before .before .before .before .args in opened (a .text .now) (a .kept .now) (own c .reads) (own c .own)
 
 gather-requires : tie.Need-gather-requires
-gather-requires c κs = own c .entries
+gather-requires c κs = opens c .entries
 
 find-parents-requires : tie.Need-find-parents-requires
-find-parents-requires c κs = (own (c .before) .accepted, own (c .before) .gathers (c .gather .result) (c .gather .ensures))
+find-parents-requires c κs = (opens (c .before) .accepted, opens (c .before) .gathers (c .gather .result) (c .gather .ensures))
 
 -- the programs of the text
 abbrev ps : tie.After-find-parents → List Program
 ps c = programs (recordsOf (c .before .before .before .before .before .before .before .before .args .text .now))
 
 array-share-prefix-list : tie.Need-array-share-prefix-list
-array-share-prefix-list c = let f = c .before in lent-inside (ps f) (own (f .before .before) .few) (f .find-parents .result) (f .find-parents .ensures)
+array-share-prefix-list c = let f = c .before in lent-inside (ps f) (opens (f .before .before) .few) (f .find-parents .result) (f .find-parents .ensures)
 
 slice-aggregate-roots : tie.Need-slice-aggregate-roots
-slice-aggregate-roots c = let f = c .before .before in lent-count (ps f) (own (f .before .before) .few) (f .find-parents .result) (f .find-parents .ensures)
+slice-aggregate-roots c = let f = c .before .before in lent-count (ps f) (opens (f .before .before) .few) (f .find-parents .result) (f .find-parents .ensures)
 
 roots-requires : tie.Need-roots-requires
-roots-requires c κs = let f = c .before .before in lent-few (ps f) (own (f .before .before) .few) (f .find-parents .result) (f .find-parents .ensures)
+roots-requires c κs = let f = c .before .before in lent-few (ps f) (opens (f .before .before) .few) (f .find-parents .result) (f .find-parents .ensures)
 
 -- what is found: the roots in an array
 found : (c : tie.After-roots) → let xs = roots (links (ps (c .before .before .before))) in (c .roots .result .list ≡ inArray xs) × (c .roots .result .count ≡ length xs)
 found c =
     let f = c .before .before .before in
-    let l = lent-roots (ps f) (own (f .before .before) .few) (f .find-parents .result) (f .find-parents .ensures) in
+    let l = lent-roots (ps f) (opens (f .before .before) .few) (f .find-parents .result) (f .find-parents .ensures) in
     (c .roots .ensures .0 ∙ ap inArray l, c .roots .ensures .1 ∙ ap length l)
 
 array-share-prefix-ordinals : tie.Need-array-share-prefix-ordinals
@@ -86,7 +90,7 @@ returns-2 c =
     let room = length (a .out .now) in
     let xs = roots (links (ps f)) in
     let is =
-    ap (fitting room) (front xs (r .roots .result .list) (r .roots .result .count) (found r .0) (found r .1)) ∙ sym (rooted (a .text .now) (a .kept .now) (own e .own) room) in
+    ap (fitting room) (front xs (r .roots .result .list) (r .roots .result .count) (found r .0) (found r .1)) ∙ sym (rooted (a .text .now) (a .kept .now) (own e) room) in
     (w .put-ordinals .ensures .0 ∙ ap answerOf is, w .put-ordinals .ensures .1 ∙ ap (λ x. outputOf x (a .out .now)) is)
 
 pub roots-spec : {M : Type 1} → statement M

@@ -1,4 +1,4 @@
--- `calls::put_ordinals` meets its contract: 20, or after i turns the first i ordinals are pasted.
+-- `roots_and_leaves::put_ordinals` meets its contract: 20, or after i turns the first i ordinals are pasted.
 use Prim.Native.Nat.{ℕ, _+_, _-_, _≤_}
 use mathlib.Core.Path.{_≡_, refl, sym, ap, _∙_}
 use mathlib.Core.List.{List}
@@ -8,10 +8,9 @@ use lib.ListN.{length, length-set, set, getD}
 use lib.Seq.{paste, paste-zero, paste-suc, take-length}
 use Rattle.format.specs.Calls.{fitting}
 use Rattle.text.specs.Over.{over}
-use Rattle.parser.proofs.Told.{refused-answer, written-answer}
-use Rattle.calls.proofs.Chained.{too-short, fits}
-use Rattle.calls.proofs.put_ordinals.Statement.{statement}
-use Rattle.calls.proofs.put_ordinals.Tie as tie
+use Rattle.parser.proofs.Told.{too-short, fits, refused-answer, written-answer}
+use Rattle.roots_and_leaves.proofs.put_ordinals.Statement.{statement}
+use Rattle.roots_and_leaves.proofs.put_ordinals.Tie as tie
 
 abbrev Inv-loop : tie.InvT-loop
 Inv-loop out₀ from i₀ out i = (i ≤ length from) × (out ≡ paste out₀ 0 from i) × (length out ≡ length out₀)

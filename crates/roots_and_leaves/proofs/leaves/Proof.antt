@@ -1,4 +1,4 @@
--- `calls::leaves` meets its contract: reading, 21, 22, 23, 20, then the leaves and the hops.
+-- `roots_and_leaves::leaves` meets its contract: reading, 21, 22, 23, 20, then the leaves and the hops.
 use Prim.Native.Nat.{ℕ}
 use mathlib.Core.Path.{_≡_, sym, ap, _∙_}
 use mathlib.Core.List.{List}
@@ -10,12 +10,13 @@ use Rattle.chains.specs.Parents.{inArray}
 use Rattle.chains.proofs.Arrays.{front, front-count, front-inside}
 use Rattle.parents.proofs.Road.{lent-count, lent-inside, lent-few, lent-within, lent-links, graph-refusal, graph-parents, graph-undangled, graph-list, graph-count}
 use Rattle.parser.specs.Answers.{answerOf, outputOf}
-use Rattle.calls.specs.Answers.{withHops}
-use Rattle.calls.proofs.Fresh.{refused-by, fresh-by}
-use Rattle.calls.proofs.Chained.{leaves-refused, Opened, opened, leaves-tangled, leaves-own, refused-leaves, written-leaves}
+use Rattle.roots_and_leaves.specs.Answers.{withHops}
+use Rattle.parser.proofs.Fresh.{Current, refused-by, fresh-by}
+use Rattle.parents.proofs.Opened.{Opened, opened}
+use Rattle.roots_and_leaves.proofs.Chained.{leaves-refused, leaves-tangled, leaves-own, refused-leaves, written-leaves}
 use borrow.Author.Needs.{needs}
-use Rattle.calls.proofs.leaves.Statement.{statement}
-use Rattle.calls.proofs.leaves.Tie as tie
+use Rattle.roots_and_leaves.proofs.leaves.Statement.{statement}
+use Rattle.roots_and_leaves.proofs.leaves.Tie as tie
 
 check-requires : tie.Need-check-requires
 check-requires c κs = search needs
@@ -27,14 +28,17 @@ enum-told : tie.Need-enum-told
 enum-told c = search needs
 
 -- the catalogue is the text's own
-own : (c : tie.After-enum-told) → let a = c .before .before .before .before .before .before .args in Opened (a .text .now) (a .kept .now)
-own c = let a = c .before .before .before .before .before .before .args in opened (a .text .now) (a .kept .now) (fresh-by (a .text .now) (a .kept .now) (c .before .before .check .ensures) (c .enum-told .given .1))
+own : (c : tie.After-enum-told) → let a = c .before .before .before .before .before .before .args in Current (a .text .now) (a .kept .now)
+own c = let a = c .before .before .before .before .before .before .args in fresh-by (a .text .now) (a .kept .now) (c .before .before .check .ensures) (c .enum-told .given .1)
+
+opens : (c : tie.After-enum-told) → let a = c .before .before .before .before .before .before .args in Opened (a .text .now) (a .kept .now)
+opens c = let a = c .before .before .before .before .before .before .args in opened (a .text .now) (a .kept .now) (own c .reads) (own c .own)
 
 gather-requires : tie.Need-gather-requires
-gather-requires c κs = own c .entries
+gather-requires c κs = opens c .entries
 
 find-leaves-requires : tie.Need-find-leaves-requires
-find-leaves-requires c κs = (own (c .before) .accepted, own (c .before) .gathers (c .gather .result) (c .gather .ensures))
+find-leaves-requires c κs = (opens (c .before) .accepted, opens (c .before) .gathers (c .gather .result) (c .gather .ensures))
 
 -- the programs of the text
 abbrev ps : tie.After-find-leaves → List Program
@@ -48,26 +52,26 @@ returns c =
     let room = length (a .out .now) in
     let g = f .find-leaves .result in
     refused-leaves (leafing (a .text .now) (a .kept .now) room) (a .out .now) (g .refusal) (record { 0 = 0 })
-    (leaves-tangled (a .text .now) (a .kept .now) (own e .own) room (g .refusal) (graph-refusal (links (ps f)) g (f .find-leaves .ensures)) (c .if1 .taken))
+    (leaves-tangled (a .text .now) (a .kept .now) (own e) room (g .refusal) (graph-refusal (links (ps f)) g (f .find-leaves .ensures)) (c .if1 .taken))
 
 array-share-prefix-list : tie.Need-array-share-prefix-list
 array-share-prefix-list c =
     let f = c .before .before .before .before in
     let g = f .find-leaves .result in
-    lent-inside (ps f) (own (f .before .before) .few) (g .parents) (graph-parents (links (ps f)) g (f .find-leaves .ensures))
+    lent-inside (ps f) (opens (f .before .before) .few) (g .parents) (graph-parents (links (ps f)) g (f .find-leaves .ensures))
 
 slice-aggregate-hops : tie.Need-slice-aggregate-hops
 slice-aggregate-hops c =
     let f = c .before .before .before .before .before in
     let g = f .find-leaves .result in
-    lent-count (ps f) (own (f .before .before) .few) (g .parents) (graph-parents (links (ps f)) g (f .find-leaves .ensures))
+    lent-count (ps f) (opens (f .before .before) .few) (g .parents) (graph-parents (links (ps f)) g (f .find-leaves .ensures))
 
 hops-requires : tie.Need-hops-requires
 hops-requires c κs =
     let f = c .before .before .before .before .before in
     let g = f .find-leaves .result in
     let q = graph-parents (links (ps f)) g (f .find-leaves .ensures) in
-    (lent-within (ps f) (own (f .before .before) .few) (g .parents) q (graph-undangled (links (ps f)) g (f .find-leaves .ensures) (c .before .before .before .if1 .left)), lent-few (ps f) (own (f .before .before) .few) (g .parents) q)
+    (lent-within (ps f) (opens (f .before .before) .few) (g .parents) q (graph-undangled (links (ps f)) g (f .find-leaves .ensures) (c .before .before .before .if1 .left)), lent-few (ps f) (opens (f .before .before) .few) (g .parents) q)
 
 -- what is found: the leaves in an array, as they are lent
 module _ (e : tie.Else1) where
@@ -118,10 +122,10 @@ returns-3 c =
     let room = length (a .out .now) in
     let g = f .find-leaves .result in
     let is = f .find-leaves .ensures in
-    let sum = h .hops .ensures ∙ ap hops (lent-links (ps f) (own (f .before .before) .few) (g .parents) (graph-parents (links (ps f)) g is) (graph-undangled (links (ps f)) g is (l .if1 .left))) in
+    let sum = h .hops .ensures ∙ ap hops (lent-links (ps f) (opens (f .before .before) .few) (g .parents) (graph-parents (links (ps f)) g is) (graph-undangled (links (ps f)) g is (l .if1 .left))) in
     let found = front (xs l) (g .leaves .list) (g .leaves .count) (listed l) (counted l) in
     let told = written-leaves (h .hops .result) (leafing (a .text .now) (a .kept .now) room) room (xs l) (a .out .now)
-    (leaves-own (a .text .now) (a .kept .now) (own e .own) room (sym (graph-refusal (links (ps f)) g is) ∙ l .if1 .left) ∙ ap (λ k. then (fitting room (xs l)) (λ ys. yes (ys, k))) (sym sum)) in (
+    (leaves-own (a .text .now) (a .kept .now) (own e) room (sym (graph-refusal (links (ps f)) g is) ∙ l .if1 .left) ∙ ap (λ k. then (fitting room (xs l)) (λ ys. yes (ys, k))) (sym sum)) in (
       c .with-hops .ensures ∙ ap (λ x. withHops x (h .hops .result)) (w .put-ordinals .ensures .0 ∙ ap (λ ys. answerOf (fitting room ys)) found) ∙ told .0,
       w .put-ordinals .ensures .1 ∙ ap (λ ys. outputOf (fitting room ys) (a .out .now)) found ∙ told .1,
     )

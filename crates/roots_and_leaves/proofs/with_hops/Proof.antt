@@ -1,9 +1,9 @@
--- `calls::with_hops` meets its contract: one arm for each answer.
+-- `roots_and_leaves::with_hops` meets its contract: one arm for each answer.
 use mathlib.Core.Path.{sym, ap}
-use Rattle.calls.specs.Answers.{withHops}
+use Rattle.roots_and_leaves.specs.Answers.{withHops}
 use borrow.Author.Needs.{needs}
-use Rattle.calls.proofs.with_hops.Statement.{statement}
-use Rattle.calls.proofs.with_hops.Tie as tie
+use Rattle.roots_and_leaves.proofs.with_hops.Statement.{statement}
+use Rattle.roots_and_leaves.proofs.with_hops.Tie as tie
 
 enum-known-a : tie.Need-enum-known-a
 enum-known-a c = search needs
