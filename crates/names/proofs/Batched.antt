@@ -18,7 +18,9 @@ use Rattle.name_index.specs.Index.{nameOrdinal, slotCount, index, looks}
 use Rattle.name_index.proofs.Indexed.{index-length}
 use Rattle.sq_index.specs.Filled.{namesIn, Told}
 use Rattle.sq_index.proofs.Named.{names-counted}
-use Rattle.names.specs.Batch.{references, asked, summed, batched, batching}
+use Rattle.asked_names.specs.Asked.{asked}
+use Rattle.name_search.specs.Summed.{summed}
+use Rattle.names.specs.Batch.{references, batched, batching}
 use Rattle.names.specs.declared.NamesAnswer.the-variants.{Refused, Counted}
 use Rattle.names.specs.Answers.{namesOf, resultsOf, slotsOf}
 use Rattle.names.proofs.References.{text-names, few-names}

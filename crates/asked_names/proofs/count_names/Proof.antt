@@ -1,10 +1,10 @@
--- `names::count_names` meets its contract: one for each LF, and one more where the last byte is no LF.
+-- `asked_names::count_names` meets its contract: one for each LF, and one more where the last byte is no LF.
 use Prim.Native.Nat.{_+_}
 use mathlib.Core.Path.{sym, ap, _∙_}
 use borrow.Author.Needs.{needs}
-use Rattle.names.proofs.Asked.{count-none, count-ended, count-left}
-use Rattle.names.proofs.count_names.Statement.{statement}
-use Rattle.names.proofs.count_names.Tie as tie
+use Rattle.asked_names.proofs.Asked.{count-none, count-ended, count-left}
+use Rattle.asked_names.proofs.count_names.Statement.{statement}
+use Rattle.asked_names.proofs.count_names.Tie as tie
 
 count-ends-requires : tie.Need-count-ends-requires
 count-ends-requires c κs = search needs

@@ -8,8 +8,9 @@ use lib.ListN.{length, take, drop, set, length-set, length-map}
 use lib.Seq.{sets, sets-eq}
 use Rattle.text.specs.Upto.{upto}
 use Rattle.text.specs.Over.{over}
-use Rattle.names.specs.Batch.{asked, summed}
-use Rattle.names.proofs.Asked.{asked-none, asked-on}
+use Rattle.asked_names.specs.Asked.{asked}
+use Rattle.name_search.specs.Summed.{summed}
+use Rattle.asked_names.proofs.Asked.{asked-none, asked-on}
 
 -- at `at`, `j` names were passed: what is still to be written and summed is that of the names that are left
 pub record Asking (write count : List ℕ → ℕ) (list before now : List ℕ) (at j sum : ℕ) : Type 0 where

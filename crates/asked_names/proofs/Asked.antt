@@ -12,8 +12,8 @@ use borrow.Author.Tests.{eq-eqb, ne-eqb}
 use Rattle.format.specs.Lines.{onto}
 use Rattle.text.specs.Upto.{upto}
 use Rattle.text.proofs.Lines.{upto-le}
-use Rattle.names.specs.Batch.{asked}
-use Rattle.names.specs.Ends.{ends}
+use Rattle.asked_names.specs.Asked.{asked}
+use Rattle.asked_names.specs.Ends.{ends}
 
 -- a byte that is no LF stands before the first name of what follows
 onto-asked : (b : ℕ) (s : List ℕ) → ((c : ℕ) (r : List ℕ) → s ≡ c ∷ r → asked s ≡ take (upto 10 s) s ∷ asked (drop (suc (upto 10 s)) s))
@@ -64,6 +64,21 @@ asked-count b (c ∷ s) = go (eqb b 10) (asked-count c s)
         → length (cond t ([] ∷ asked (c ∷ s)) (onto b (asked (c ∷ s)))) ≡ cond t (suc (ends (c ∷ s))) (ends (c ∷ s)) + cond (eqb (getD (c ∷ s) (length s) 0) 10) 0 1
     go true h = omega (arith, h)
     go false h = onto-length b (asked (c ∷ s)) more ∙ h
+
+-- no more than its bytes
+onto-few : (b : ℕ) (ps : List (List ℕ)) → length (onto b ps) ≤ suc (length ps)
+unfolding onto
+onto-few b [] = omega arith
+onto-few b (p ∷ ps) = omega arith
+
+pub asked-few : (s : List ℕ) → length (asked s) ≤ length s
+unfolding asked
+asked-few [] = omega arith
+asked-few (b ∷ s) = go (eqb b 10) (asked-few s)
+  where
+    go : (t : Bool) → length (asked s) ≤ length s → length (cond t ([] ∷ asked s) (onto b (asked s))) ≤ suc (length s)
+    go true h = omega (arith, h)
+    go false h = omega (arith, h, onto-few b (asked s))
 
 module _ (list : List ℕ) where
   pub count-none : length list ≡ 0 → length (asked list) ≡ ends list

@@ -1,11 +1,11 @@
--- `names::count_ends` meets its contract: the LFs of the blocks that were passed, and those that are left.
+-- `asked_names::count_ends` meets its contract: the LFs of the blocks that were passed, and those that are left.
 use Prim.Native.Nat.{_+_, _-_, _≤_}
 use mathlib.Core.Path.{_≡_}
 use native.Mathlib.Omega.{arith}
 use lib.ListN.{length, drop}
-use Rattle.names.specs.Ends.{ends}
-use Rattle.names.proofs.count_ends.Statement.{statement}
-use Rattle.names.proofs.count_ends.Tie as tie
+use Rattle.asked_names.specs.Ends.{ends}
+use Rattle.asked_names.proofs.count_ends.Statement.{statement}
+use Rattle.asked_names.proofs.count_ends.Tie as tie
 
 abbrev Inv-loop : tie.InvT-loop
 Inv-loop list at₀ n₀ at n = (at ≤ length list) × (n ≤ at) × (ends list ≡ n + ends (drop at list))

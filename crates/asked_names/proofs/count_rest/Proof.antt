@@ -1,13 +1,13 @@
--- `names::count_rest` meets its contract: the LFs that were passed, and those that are left.
+-- `asked_names::count_rest` meets its contract: the LFs that were passed, and those that are left.
 use Prim.Native.Nat.{_+_, _-_, _≤_}
 use mathlib.Core.Path.{_≡_}
 use mathlib.Core.Logic.{⊎-elim}
 use native.Mathlib.Omega.{arith}
 use lib.ListN.{length, drop}
-use Rattle.names.specs.Ends.{ends}
-use Rattle.names.proofs.Asked.{ends-none, ends-one, ends-on}
-use Rattle.names.proofs.count_rest.Statement.{statement}
-use Rattle.names.proofs.count_rest.Tie as tie
+use Rattle.asked_names.specs.Ends.{ends}
+use Rattle.asked_names.proofs.Asked.{ends-none, ends-one, ends-on}
+use Rattle.asked_names.proofs.count_rest.Statement.{statement}
+use Rattle.asked_names.proofs.count_rest.Tie as tie
 
 abbrev Inv-loop : tie.InvT-loop
 Inv-loop list from i₀ n₀ i n = (i ≤ length list) × (n ≤ i) × (ends (drop from list) ≡ n + ends (drop i list))

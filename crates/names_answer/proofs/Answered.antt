@@ -12,7 +12,8 @@ use Rattle.entries.specs.Entries.{entriesIn}
 use Rattle.name_index.specs.Index.{nameOrdinal, slotCount, index, looks}
 use Rattle.sq_index.specs.Filled.{namesIn, Told, entering, seats, slotOf, looksOf, ordinalAt}
 use Rattle.sq_index.proofs.Found.{filled-index, places-length, places-noted, found-ordinal, found-looks}
-use Rattle.names.specs.Batch.{asked, summed}
+use Rattle.asked_names.specs.Asked.{asked}
+use Rattle.name_search.specs.Summed.{summed}
 
 -- written over a list of the same length
 over-whole : (out xs : List ℕ) → length out ≡ length xs → over out 0 xs ≡ xs

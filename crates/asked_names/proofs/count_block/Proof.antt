@@ -1,14 +1,14 @@
--- `names::count_block` meets its contract: the LFs that were passed, and those that are left.
+-- `asked_names::count_block` meets its contract: the LFs that were passed, and those that are left.
 use Prim.Native.Nat.{ℕ, _+_, _-_, _≤_, _<_}
 use mathlib.Core.Path.{_≡_, ap, _∙_}
 use mathlib.Core.Logic.{⊎-elim}
 use native.Mathlib.Omega.{arith}
 use borrow.Author.Needs.{needs}
 use lib.ListN.{length, drop}
-use Rattle.names.specs.Ends.{ends}
-use Rattle.names.proofs.Asked.{ends-one, ends-on}
-use Rattle.names.proofs.count_block.Statement.{statement}
-use Rattle.names.proofs.count_block.Tie as tie
+use Rattle.asked_names.specs.Ends.{ends}
+use Rattle.asked_names.proofs.Asked.{ends-one, ends-on}
+use Rattle.asked_names.proofs.count_block.Statement.{statement}
+use Rattle.asked_names.proofs.count_block.Tie as tie
 
 abbrev Inv-loop : tie.InvT-loop
 Inv-loop list at i₀ n₀ i n = (i ≤ 128) × (n ≤ i) × (ends (drop at list) ≡ n + ends (drop (at + i) list))

@@ -1,4 +1,4 @@
--- `names::find_slots` meets its contract: what is still to be written and summed is that of the names that are left.
+-- `name_search::find_slots` meets its contract: what is still to be written and summed is that of the names that are left.
 use Prim.Native.Nat.{_+_, _-_, _≤_, _<_}
 use mathlib.Core.Path.{_≡_, ap}
 use native.Mathlib.Omega.{arith}
@@ -7,10 +7,10 @@ use lib.ListN.{length, take, drop, length-take, length-drop}
 use Rattle.name_index.proofs.SlotCount.{power-some}
 use Rattle.sq_index.specs.Filled.{slotOf, looksOf}
 use Rattle.sq_index.proofs.Looking.{looks-most}
-use Rattle.names.proofs.Asked.{name-within}
-use Rattle.names.proofs.Asking.{Asking, asking-start, asking-end, asking-room, asking-on}
-use Rattle.names.proofs.find_slots.Statement.{statement}
-use Rattle.names.proofs.find_slots.Tie as tie
+use Rattle.asked_names.proofs.Asked.{name-within}
+use Rattle.name_search.proofs.Asking.{Asking, asking-start, asking-end, asking-room, asking-on}
+use Rattle.name_search.proofs.find_slots.Statement.{statement}
+use Rattle.name_search.proofs.find_slots.Tie as tie
 
 abbrev Inv-loop : tie.InvT-loop
 Inv-loop text slots list out₀ at₀ j₀ looks₀ out at j looks =
