@@ -48,7 +48,7 @@ pub fn names(
             if out.len() < count {
                 return NamesAnswer::Refused(20, LineNo(0));
             }
-            let looks = names_answer::answer(text, kept, m, list, &mut work[..n], &mut out[..count]);
+            let looks = name_answer::answer(text, kept, m, list, &mut work[..n], &mut out[..count]);
             NamesAnswer::Counted(count, looks)
         }
     }

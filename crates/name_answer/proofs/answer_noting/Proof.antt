@@ -1,4 +1,4 @@
--- `names_answer::answer_noting` meets its contract: the slots are filled with places, looked in, filled with ordinals and read.
+-- `name_answer::answer_noting` meets its contract: the slots are filled with places, looked in, filled with ordinals and read.
 use Prim.Native.Nat.{ℕ, suc, _^_, _≤_}
 use mathlib.Core.Path.{_≡_, _∙_}
 use native.Mathlib.Omega.{arith}
@@ -8,10 +8,10 @@ use Rattle.entries.specs.Entries.{entriesIn}
 use Rattle.sq_index.specs.Filled.{namesIn}
 use Rattle.name_index.proofs.SlotCount.{slots-power, slots-few}
 use Rattle.asked_names.specs.Asked.{asked}
-use Rattle.names_answer.proofs.Answered.{long₁, notes-told, looks-told, index-told, found-told}
+use Rattle.name_answer.proofs.Answered.{long₁, notes-told, looks-told, index-told, found-told}
 use borrow.Author.Needs.{needs}
-use Rattle.names_answer.proofs.answer_noting.Statement.{statement}
-use Rattle.names_answer.proofs.answer_noting.Tie as tie
+use Rattle.name_answer.proofs.answer_noting.Statement.{statement}
+use Rattle.name_answer.proofs.answer_noting.Tie as tie
 
 -- so many slots
 sized : (s : tie.Start) (n : ℕ) → n ≡ slotCount (length (namesIn (s .args .text .now) (entriesIn (s .args .kept .now)))) → (n ≤ 33554432) × ((e : ℕ) × (n ≡ 2 ^ e))

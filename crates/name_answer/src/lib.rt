@@ -1,6 +1,6 @@
 // The answer of many names at once, where nothing refuses: an index of the SQ names, and by it the ordinal of each name of a list.
 ghost use mathlib.Core.Path.{_≡_};
-ghost use Rattle.names_answer.specs.Answering.{Answerable, indexIn, ordinalsIn, looksIn};
+ghost use Rattle.name_answer.specs.Answering.{Answerable, indexIn, ordinalsIn, looksIn};
 
 // Once nothing refuses: each name's ordinal in `out`, the index in `slots`, and the slots that were looked at. While names are looked for
 // the slots tell where names stand, so that a slot's name is found at once, and the ordinals afterwards: each of the `m` names of the SQ keeps
