@@ -1,8 +1,8 @@
 // The calls for programs in C and Rust: each answer is one number (include/sam_header.h).
-use calls::LeavesAnswer;
 use calls::LengthAnswer;
 use carry_on::Carried;
 use names::NamesAnswer;
+use roots_and_leaves::LeavesAnswer;
 ghost use mathlib.Core.Path.{_≡_};
 ghost use lib.ListN.{length};
 ghost use Rattle.format.specs.Calls.{reading, fresh, tidying, counting, keying, sizing, locating, valuing, rooting, leafing, adding};
@@ -11,7 +11,8 @@ ghost use Rattle.carry_on.specs.Answers.{carriedOf, textOf, tableOf};
 ghost use Rattle.names.specs.Batch.{batching};
 ghost use Rattle.names.specs.Answers.{namesOf, resultsOf, slotsOf};
 ghost use Rattle.parser.specs.Answers.{answerOf, outputOf, checkedOf};
-ghost use Rattle.calls.specs.Answers.{countOf, keyAnswerOf, lengthAnswerOf, lineAnswerOf, leavesAnswerOf, listOf, valuePlaceOf};
+ghost use Rattle.calls.specs.Answers.{countOf, keyAnswerOf, lengthAnswerOf, lineAnswerOf, valuePlaceOf};
+ghost use Rattle.roots_and_leaves.specs.Answers.{leavesAnswerOf, listOf};
 ghost use Rattle.words.specs.Words.{answerWord, checkedWord, carriedWord, leavesWord, keyWord, fieldWord, lengthWord, lineWord, lengthLeft, namesWord, namesLeft};
 
 #[no_mangle]
@@ -61,7 +62,7 @@ pub extern "C" fn sam_header_roots(text: &[u8], catalogue: &[u8], out: &mut [u32
     ensures answer { λ r. ⌜ r ≡ answerWord (answerOf (rooting (now (text .entry)) (now (catalogue .entry)) (length (now (out .entry))))) ⌝ }
     ensures wrote { λ _. ⌜ now (out .exit) ≡ outputOf (rooting (now (text .entry)) (now (catalogue .entry)) (length (now (out .entry)))) (now (out .entry)) ⌝ }
 {
-    words::answer_word(calls::roots(text, catalogue, out))
+    words::answer_word(roots_and_leaves::roots(text, catalogue, out))
 }
 
 #[no_mangle]
@@ -70,7 +71,7 @@ pub extern "C" fn sam_header_leaves(text: &[u8], catalogue: &[u8], out: &mut [u3
     ensures wrote { λ _. ⌜ now (out .exit) ≡ outputOf (listOf (leafing (now (text .entry)) (now (catalogue .entry)) (length (now (out .entry)))))
         (now (out .entry)) ⌝ }
 {
-    match calls::leaves(text, catalogue, out) {
+    match roots_and_leaves::leaves(text, catalogue, out) {
         LeavesAnswer::Refused(n, line) => words::refusal_word(n, line),
         LeavesAnswer::Counted(n, hops) => words::pair_word(hops, n as u32),
     }
