@@ -17,6 +17,8 @@ use Rattle.text.specs.First.{firstLine}
 use Rattle.text.specs.Stands.{Stands, Each}
 use Rattle.accepted.specs.Pieces.{pieces}
 use Rattle.accepted.proofs.OfKind.{ofKind-append}
+use Rattle.accepted.specs.First.{firstAt}
+use Rattle.accepted.proofs.Ahead.{ahead-none, ahead-one, next-within, next-more, ahead-stands}
 use Rattle.record.specs.Head.{headOf, recordHead, stretchOf}
 use Rattle.record.specs.declared.Head.{Head}
 use Rattle.record.specs.declared.Head.the-variants as head
@@ -31,10 +33,9 @@ use Rattle.format.specs.Slots.{Held}
 use Rattle.key_index.specs.Told.{start, isFirstKey}
 use Rattle.key_index.specs.Keyed.{keyValuesOf, Ended}
 use Rattle.key_index.proofs.Keyed.{meeting-length}
-use Rattle.key_index.proofs.Ahead.{ahead-stands}
 use Rattle.key_index.proofs.LineKeys.{line-ended}
-use Rattle.first_keys.specs.Blocks.{firstAt, headKeys, keyedFront, startOf, afterKeyed, recordIfRead, readIn, filledFor}
-use Rattle.first_keys.proofs.Walk.{ahead-none, ahead-one, next-within, next-more, front-one, start-ahead, block-split}
+use Rattle.first_keys.specs.Blocks.{headKeys, keyedFront, startOf, afterKeyed, recordIfRead, readIn, filledFor}
+use Rattle.first_keys.proofs.Walk.{front-one, start-ahead, block-split}
 use Rattle.first_keys.proofs.Firsts.{firsts}
 use Rattle.kept_lines.specs.Kept.{usedBy, idsAfter, untilAt, filledAt, advanced}
 use Rattle.kept_lines.specs.Going.{judgedLines, refusalFirst, refusalAt, Block, Going}
@@ -155,7 +156,6 @@ module _ (strict : Bool) (t : List ℕ) (from : ℕ) (area ids : List ℕ) (c : 
   -- ---- the line's key
 
   stands : Stands t 0 p
-  unfolding firstAt
   stands = ahead-stands t (c .at) h
 
   abbrev x : Head
@@ -284,7 +284,7 @@ module _ (strict : Bool) (t : List ℕ) (from : ℕ) (area ids : List ℕ) (c : 
 
   -- it is kept
   going-kept : 0 ≡ lineRefusal (admitted strict before p) → Going strict t from filled slots (advanced c next until x 0)
-  unfolding keptOf headOf firstAt
+  unfolding keptOf headOf
   going-kept e =
       let a = refusal-none strict before p (sym e) in
       let r : Record = a .0 in
