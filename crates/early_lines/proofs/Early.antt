@@ -13,6 +13,7 @@ use Rattle.format.specs.Records as records
 use Rattle.format.specs.Records.{Line, refusedLine, read}
 use Rattle.format.specs.Reading.{announced, ofKind, admitted}
 use Rattle.text.specs.Stands.{Stands}
+use Rattle.accepted.proofs.Ahead.{ahead, ahead-none}
 use Rattle.record.specs.Head.{headOf}
 use Rattle.record.specs.declared.Head.{Head}
 use Rattle.record.specs.declared.Head.the-variants as head
@@ -20,7 +21,6 @@ use Rattle.admission.specs.Admission.{lineRefusal, isUsed, isTaken, barring}
 use Rattle.admission.proofs.Admission.{barring-is, refusal-none, refusal-some}
 use Rattle.repeat_rule.specs.Rule.{strictAfter}
 use Rattle.early_lines.specs.Early.{withLine, earlyFrom}
-use Rattle.early_lines.proofs.Ahead.{ahead, ahead-none}
 
 -- no key is used where nothing stands before
 untaken : (t : List ℕ) (x : Head) → isTaken [] t x ≡ false

@@ -9,7 +9,7 @@ use lib.Seq.{drop-at}
 use lib.Dec.{eqb, leb, ltb}
 use borrow.Author.Tests.{eqb-true, eqb-false, ltb-true, ltb-false}
 use Rattle.format.specs.Bytes.{any}
-use Rattle.format.specs.Lines.{Piece, linesFrom}
+use Rattle.format.specs.Lines.{Piece}
 use Rattle.format.specs.Records as records
 use Rattle.format.specs.Records.{Record, header, reference, group, program, comment, code, key, Line, refusedLine, read}
 use Rattle.format.specs.Reading.{clash, ofKind, admitted}
@@ -18,7 +18,7 @@ use Rattle.text.specs.Stands.{Stands, Each}
 use Rattle.accepted.specs.Pieces.{pieces}
 use Rattle.accepted.proofs.OfKind.{ofKind-append}
 use Rattle.accepted.specs.First.{firstAt}
-use Rattle.accepted.proofs.Ahead.{ahead-none, ahead-one, next-within, next-more, ahead-stands}
+use Rattle.accepted.proofs.Ahead.{ahead, ahead-none, ahead-one, next-within, next-more, ahead-stands}
 use Rattle.record.specs.Head.{headOf, recordHead, stretchOf}
 use Rattle.record.specs.declared.Head.{Head}
 use Rattle.record.specs.declared.Head.the-variants as head
@@ -28,6 +28,7 @@ use Rattle.admission.proofs.Programs.{programs-one}
 use Rattle.carried.specs.Carrying.{keptOf}
 use Rattle.carried.specs.Judged.{judgedFrom}
 use Rattle.carried.proofs.Judged.{kept-append, judged-append}
+use Rattle.carried.proofs.Count.{judged-length, skips-kept}
 use Rattle.carried.proofs.Keys.{key-lines}
 use Rattle.format.specs.Slots.{Held}
 use Rattle.key_index.specs.Told.{start, isFirstKey}
@@ -42,21 +43,6 @@ use Rattle.kept_lines.specs.Going.{judgedLines, refusalFirst, refusalAt,
 use Rattle.kept_lines.specs.declared.Cursor.{Cursor}
 use Rattle.kept_lines.proofs.Kept.{advanced-kept, advanced-skipped, until-same, until-next, filled-same, filled-next, filled-length}
 use Rattle.kept_lines.proofs.Ids.{met-taken, kept-ended, kept-held, kept-few, skipped-ids}
-
--- the lines from a place on
-abbrev ahead : List ℕ → ℕ → List Piece
-ahead t at = linesFrom at (drop at t)
-
-judged-length : (strict : Bool) (before : List Record) (ps : List Piece) → length (judgedFrom strict before ps) ≡ length ps
-unfolding judgedFrom
-judged-length strict before [] = refl
-judged-length strict before (p ∷ ps) = ap suc (judged-length strict (before ++ keptOf (admitted strict before p ∷ [])) ps)
-
-kept-less : (ls : List Line) → length (keptOf ls) ≤ length ls
-unfolding keptOf
-kept-less [] = omega arith
-kept-less (refusedLine n ∷ ls) = omega (arith, kept-less ls)
-kept-less (read r ∷ ls) = omega (arith, kept-less ls)
 
 read-kept : (strict : Bool) (ps : List Piece) → readIn strict ps ≡ keptOf (map (records.line strict) ps)
 unfolding readIn keptOf recordIfRead
@@ -80,7 +66,7 @@ module _ (strict : Bool) (t : List ℕ) (from : ℕ) (area ids : List ℕ) (c : 
   before = keptOf (judgedFrom strict [] (g .passed))
 
   pub kept-lines : c .kept ≤ c .line
-  kept-lines = omega (arith, g .counted, kept-less (judgedFrom strict [] (g .passed)), judged-length strict [] (g .passed), g .number)
+  kept-lines = omega (arith, g .counted, skips-kept 0 (judgedFrom strict [] (g .passed)), judged-length strict [] (g .passed), g .number)
 
   -- ---- the block
 

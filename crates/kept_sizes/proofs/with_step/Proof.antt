@@ -1,9 +1,9 @@
--- `carry_on::with_step` meets its contract: a line that is skipped adds nothing.
+-- `kept_sizes::with_step` meets its contract: a line that is skipped adds nothing.
 use mathlib.Core.Path.{_≡_, sym, _∙_}
 use native.Mathlib.Omega.{arith}
-use Rattle.carry_on.proofs.Steps.{grown-kept, grown-skipped}
-use Rattle.carry_on.proofs.with_step.Statement.{statement}
-use Rattle.carry_on.proofs.with_step.Tie as tie
+use Rattle.kept_sizes.proofs.Steps.{grown-kept, grown-skipped}
+use Rattle.kept_sizes.proofs.with_step.Statement.{statement}
+use Rattle.kept_sizes.proofs.with_step.Tie as tie
 
 returns : tie.Need-returns
 returns c = let a = c .before .before .args in sym (grown-skipped (a .n) _ _ (a .sizes) (c .if1 .taken))

@@ -1,7 +1,7 @@
--- A turn: the next line, judged after the lines that were kept before it.
-use Prim.Native.Nat.{ℕ, suc, _+_, _-_, _≤_, _<_}
-use mathlib.Core.Path.{_≡_, refl, sym, ap, _∙_}
-use mathlib.Core.Bool.{Bool, true}
+-- The next line, judged after the lines that were kept before it, and the lines behind it.
+use Prim.Native.Nat.{ℕ, _+_, _-_, _≤_, _<_}
+use mathlib.Core.Path.{_≡_, sym, ap, _∙_}
+use mathlib.Core.Bool.{Bool}
 use mathlib.Core.List.{List, [], _∷_, _++_, append-nil}
 use native.Mathlib.Omega.{arith}
 use lib.ListN.{length, take, drop, length-append, length-drop}
@@ -10,43 +10,19 @@ use Rattle.format.specs.Lines.{Piece}
 use Rattle.format.specs.Records.{Record, Line, refusedLine, read, line}
 use Rattle.format.specs.Reading.{admitted}
 use Rattle.text.specs.First.{firstLine}
-use Rattle.text.specs.declared.Cut.{Cut}
+use Rattle.text.proofs.First.{first-le}
+use Rattle.accepted.specs.First.{firstAt}
 use Rattle.accepted.specs.Read.{isRead}
+use Rattle.accepted.proofs.Ahead.{ahead, ahead-none, ahead-one, first-length, next-within, next-more}
 use Rattle.admission.specs.Admission.{lineRefusal}
 use Rattle.admission.proofs.Admission.{refusal-none, refusal-some}
 use Rattle.carried.specs.Carrying.{keptOf, skips}
 use Rattle.carried.specs.Judged.{judgedFrom}
 use Rattle.carried.proofs.Judged.{kept-append, judged-append}
-use Rattle.early_lines.proofs.Ahead.{ahead, pieceAt, Ahead, ahead-turn, ahead-none}
+use Rattle.carried.proofs.Count.{judged-length, skips-kept}
 use Rattle.kept_lines.specs.Going.{Going, judgedLines, refusalAt, refusalFirst}
 use Rattle.kept_lines.specs.declared.Cursor.{Cursor}
-
-pub judged-length : (strict : Bool) (before : List Record) (ps : List Piece) → length (judgedFrom strict before ps) ≡ length ps
-unfolding judgedFrom
-judged-length strict before [] = refl
-judged-length strict before (p ∷ ps) = ap suc (judged-length strict (before ++ keptOf (admitted strict before p ∷ [])) ps)
-
--- each line is kept or skipped
-pub skips-kept : (l : ℕ) (ls : List Line) → length (skips l ls) + length (keptOf ls) ≡ length ls
-unfolding skips keptOf
-skips-kept l [] = refl
-skips-kept l (refusedLine n ∷ ls) = omega (arith, skips-kept (l + 1) ls)
-skips-kept l (read r ∷ ls) = omega (arith, skips-kept (l + 1) ls)
-
--- the part of the text that a line is lent as
-abbrev pub lentTo : List ℕ → ℕ → ℕ → List ℕ
-lentTo t at end = take (end - at) (drop at t)
-
--- the line `l` stands next, from `at` to `end`; `n` is 0 where it is kept
-pub record Turn (strict : Bool) (t : List ℕ) (from : ℕ) (c : Cursor) (end n : ℕ) : Type 0 where
-  pub onward : 0 < firstLine (drop (c .at) t) .next
-  pub start : c .at ≤ end
-  pub inside : end ≤ length t
-  pub size : c .at + length (lentTo t (c .at) end) ≡ end
-  pub judged : Line
-  pub more : drop (c .line) (judgedLines strict t from) ≡ judged ∷ drop (c .line + 1) (judgedLines strict t from)
-  pub kept : n ≡ 0 → (judged ≡ line strict (record { at = c .at; bytes = lentTo t (c .at) end })) × (isRead judged ≡ true)
-  pub skipped : 0 < n → judged ≡ refusedLine n
+use Rattle.kept_from.specs.Turn.{lentTo, Turn}
 
 -- what stands behind the first of some lines
 next-of : (ls : List Line) (k : ℕ) (l : Line) (ms : List Line) → drop k ls ≡ l ∷ ms → drop k ls ≡ l ∷ drop (k + 1) ls
@@ -90,32 +66,28 @@ module _ (strict : Bool) (t : List ℕ) (from : ℕ) (area ids : List ℕ) (c : 
       omega (arith, g .counted, skips-kept l all, ap length e, ap (λ ls. length (keptOf ls)) e, done-length)
 
   module _ (h : c .at < length t) where
-    abbrev cut : Cut
-    cut = firstLine (drop (c .at) t)
-
-    cut-ahead : Ahead t (c .at) cut
-    cut-ahead = ahead-turn t (c .at) h cut (ap firstLine (sym (take-all (length t - c .at) (drop (c .at) t) (omega (arith, length-drop (c .at) t)))))
-
     abbrev piece : Piece
-    piece = pieceAt t (c .at) cut
+    piece = firstAt (c .at) t
 
     judged-next : drop (c .line) all ≡ admitted strict (keptOf done) piece ∷ drop (c .line + 1) all
     unfolding judgedFrom
-    judged-next = next-of all (c .line) _ _ (after ∙ ap (judgedFrom strict (keptOf done)) (cut-ahead .split))
+    judged-next = next-of all (c .line) _ _ (after ∙ ap (judgedFrom strict (keptOf done)) (ahead-one t (c .at) h))
 
-    pub turn : (end n : ℕ) → end ≡ c .at + cut .len → n ≡ refusalAt (c .line) all → Turn strict t from c end n
+    pub turn : (end n : ℕ) → end ≡ c .at + firstLine (drop (c .at) t) .len → n ≡ refusalAt (c .line) all → Turn strict t from c end n
     unfolding refusalAt refusalFirst isRead
     turn end n e r =
-        let a = cut-ahead in
         let told : n ≡ lineRefusal (admitted strict (keptOf done) piece) = r ∙ ap refusalFirst judged-next in
+        let bytes : lentTo t (c .at) end ≡ piece .bytes = ap (λ k. take k (drop (c .at) t)) (let z : end - c .at ≡ firstLine (drop (c .at) t) .len = omega (arith, e) in z) in
         record {
-          onward = a .onward;
+          onward = omega (arith, next-more t (c .at) h);
           start = omega (arith, e);
-          inside = omega (arith, e, a .inside);
-          size = rw e (omega (arith, a .size));
+          inside = omega (arith, e, first-le (drop (c .at) t), next-within t (c .at) h);
+          size = omega (arith, e, ap length bytes, first-length t (c .at) h);
+          slow = g .slow;
+          few = kept-le;
           judged = admitted strict (keptOf done) piece;
           more = judged-next;
-          kept = λ z. let f = refusal-none strict (keptOf done) piece (sym told ∙ z) in (rw e (f .2 ∙ sym (f .1)), ap isRead (f .2));
+          kept = λ z. let f = refusal-none strict (keptOf done) piece (sym told ∙ z) in (rw bytes (f .2 ∙ sym (f .1)), ap isRead (f .2));
           skipped = λ z. refusal-some strict (keptOf done) piece n (sym told) (λ o. omega (arith, o, z));
         }
 

@@ -1,24 +1,19 @@
 -- What is written and what is skipped is small: both counts are at most 16,777,216.
-use Prim.Native.Nat.{ℕ, suc, _+_, _/_, _≤_}
+use Prim.Native.Nat.{ℕ, _/_, _≤_}
 use mathlib.Core.Path.{_≡_, refl, ap, subst}
 use mathlib.Core.Bool.{Bool, true, false, cond}
-use mathlib.Core.List.{List, [], _∷_, _++_}
+use mathlib.Core.List.{List, []}
 use mathlib.Core.Option.{Option, none, some}
 use native.Mathlib.Omega.{arith}
 use lib.ListN.{length}
 use lib.Dec.{ltb}
 use borrow.Author.Tests.{ltb-false}
-use Rattle.format.specs.Lines.{Piece, lines}
-use Rattle.format.specs.Records.{Record}
-use Rattle.format.specs.Reading.{isStrict, admitted, longest}
+use Rattle.format.specs.Reading.{longest}
 use Rattle.format.specs.Tidy.{tidy}
 use Rattle.format.specs.Calls.{Answer, refused, yes, then, fitting, writing}
-use Rattle.format.specs.declared.Version.{Version}
 use Rattle.accepted.proofs.Bools.{never}
-use Rattle.accepted.proofs.Onward.{lines-count}
-use Rattle.carried.specs.Carrying.{keptOf, ruling, carriedFrom, carriedLines, skips, rows, unwritableLine, carrying}
-use Rattle.carry_on.proofs.Turn.{skips-kept}
-use Rattle.carry_on.proofs.Split.{rows-length}
+use Rattle.carried.specs.Carrying.{keptOf, carriedLines, skips, rows, unwritableLine, carrying}
+use Rattle.carried.proofs.Count.{rows-few}
 
 -- a text that is written is not too long
 written-few : (room : ℕ) (o : Option ℕ) (t xs : List ℕ) → writing room o t ≡ yes xs → length xs ≤ 16777216
@@ -32,26 +27,6 @@ written-few room none t xs e = go (ltb 16777216 (length t)) refl (ltb room (leng
     go false q false e =
         let z : t ≡ xs = cc in
         subst (λ s. length s ≤ 16777216) z (ltb-false 16777216 (length t) q)
-
--- each line is one line
-carried-length : (v : Option Version) (before : List Record) (ps : List Piece) → length (carriedFrom v before ps) ≡ length ps
-unfolding carriedFrom
-carried-length v before [] = refl
-carried-length v before (p ∷ ps) =
-    let w : Option Version = ruling v before p in
-    ap suc (carried-length w (before ++ keptOf (admitted (isStrict w) before p ∷ [])) ps)
-
-rows-few : (t : List ℕ) → length t ≤ 16777216 → length (rows (skips 0 (carriedLines t))) / 2 ≤ 16777216
-unfolding carriedLines lines
-rows-few t h =
-    omega (
-      arith,
-      h,
-      rows-length (skips 0 (carriedLines t)),
-      skips-kept 0 (carriedLines t),
-      carried-length none [] (lines t),
-      lines-count 0 t,
-    )
 
 -- what is answered
 unfoldable answered : Answer (List ℕ × List ℕ) → List ℕ × List ℕ
@@ -79,5 +54,5 @@ carried-few t room table xs ys is =
     go false q (yes zs) w false e =
         let same = same-answers zs found xs ys e in (
           subst (λ s. length s ≤ 16777216) (same .0) (written-few room (unwritableLine 0 (carriedLines t)) (tidy (keptOf (carriedLines t))) zs w),
-          subst (λ s. length s / 2 ≤ 16777216) (same .1) (rows-few t (ltb-false 16777216 (length t) q)),
+          subst (λ s. length s / 2 ≤ 16777216) (same .1) (omega (arith, rows-few t, ltb-false 16777216 (length t) q)),
         )

@@ -14,15 +14,16 @@ use Rattle.format.specs.declared.Version.{Version}
 use Rattle.repeat_rule.specs.Rule.{strictAfter}
 use Rattle.accepted.proofs.Onward.{lines-count}
 use Rattle.roundtrip.proofs.Total.{gathered-length}
-use Rattle.carried.specs.Carrying.{keptOf, ruling, carriedFrom, carriedLines, Skip, skips, rows, unwritableLine}
+use Rattle.carried.specs.Carrying.{keptOf, ruling, carriedFrom, carriedLines, skips, rows, unwritableLine}
 use Rattle.carried.specs.Judged.{judgedFrom}
 use Rattle.carried.proofs.Judged.{steady}
+use Rattle.carried.proofs.Count.{judged-length, skips-kept, rows-length}
 use Rattle.carried.proofs.Kept.{carried-gathered}
 use Rattle.early_lines.specs.Early.{Early, withLine, earlyFrom, earlyOf, rowsFrom}
+use Rattle.early_lines.specs.First.{First}
 use Rattle.early_lines.specs.declared.Begin.{Begin}
 use Rattle.kept_lines.specs.Going.{judgedLines}
-use Rattle.carry_on.specs.First.{First, keptFrom, rowsOf}
-use Rattle.carry_on.proofs.Turn.{judged-length, skips-kept}
+use Rattle.kept_from.specs.From.{linesKeptFrom, keptFrom, skippedFrom, rowsOf, unwritableFrom}
 
 -- the rule by the version, a line further
 rule-later : (v a : Option Version) → strictAfter (isStrict v) a ≡ isStrict (later v a)
@@ -74,31 +75,26 @@ unfolding rowsFrom
 rows-early l [] = refl
 rows-early l (n ∷ ns) = omega (arith, rows-early (l + 1) ns)
 
-pub rows-length : (ss : List Skip) → length (rows ss) ≡ length ss + length ss
-unfolding rows
-rows-length [] = refl
-rows-length (s ∷ ss) = omega (arith, rows-length ss)
-
 -- ---- by where the first line that is kept stands
 
 module _ (t : List ℕ) (b : Begin) (f : First t b) where
-  lined : carriedLines t ≡ map refusedLine (earlyOf t .refusals) ++ judgedLines (b .strict) t (b .at)
+  lined : carriedLines t ≡ map refusedLine (earlyOf t .refusals) ++ linesKeptFrom t b
   unfolding judgedLines
   lined = split-text t ∙ rw (f .strict, f .rest) refl
 
   pub first-kept : keptOf (carriedLines t) ≡ keptFrom t b
   unfolding keptFrom
-  first-kept = ap keptOf lined ∙ kept-after (earlyOf t .refusals) (judgedLines (b .strict) t (b .at))
+  first-kept = ap keptOf lined ∙ kept-after (earlyOf t .refusals) (linesKeptFrom t b)
 
-  pub first-names : unwritableLine 0 (carriedLines t) ≡ unwritableLine (b .line) (judgedLines (b .strict) t (b .at))
+  pub first-names : unwritableLine 0 (carriedLines t) ≡ unwritableFrom t b
   first-names =
-      let ls = judgedLines (b .strict) t (b .at) in
+      let ls = linesKeptFrom t b in
       ap (unwritableLine 0) lined ∙ names-after 0 (earlyOf t .refusals) ls ∙ ap (λ k. unwritableLine k ls) (omega (arith, f .line))
 
   pub first-rows : rows (skips 0 (carriedLines t)) ≡ rowsFrom 0 (earlyOf t .refusals) ++ rowsOf t b
   unfolding rowsOf
   first-rows =
-      let ls = judgedLines (b .strict) t (b .at) in
+      let ls = linesKeptFrom t b in
       ap (λ ls. rows (skips 0 ls)) lined
       ∙ rows-after 0 (earlyOf t .refusals) ls
       ∙ ap (λ k. rowsFrom 0 (earlyOf t .refusals) ++ rows (skips k ls)) (omega (arith, f .line))
@@ -112,7 +108,7 @@ module _ (t : List ℕ) (b : Begin) (f : First t b) where
   first-small = rw (← first-kept) (gathered-length t (keptOf (carriedLines t)) (carried-gathered t))
 
   -- two numbers for each line that is skipped
-  pub first-count : length (rows (skips 0 (carriedLines t))) ≡ (b .line + length (skips (b .line) (judgedLines (b .strict) t (b .at)))) * 2
+  pub first-count : length (rows (skips 0 (carriedLines t))) ≡ (b .line + length (skippedFrom t b)) * 2
   unfolding rowsOf
   first-count =
       omega (
@@ -120,16 +116,16 @@ module _ (t : List ℕ) (b : Begin) (f : First t b) where
         ap length first-rows,
         length-append (rowsFrom 0 (earlyOf t .refusals)) (rowsOf t b),
         early-rows,
-        rows-length (skips (b .line) (judgedLines (b .strict) t (b .at))),
+        rows-length (skippedFrom t b),
       )
 
-  pub skips-few : length (skips (b .line) (judgedLines (b .strict) t (b .at))) ≤ length t
+  pub skips-few : length (skippedFrom t b) ≤ length t
   unfolding judgedLines
   skips-few =
       let ps = linesFrom (b .at) (drop (b .at) t) in
       omega (
         arith,
-        skips-kept (b .line) (judgedLines (b .strict) t (b .at)),
+        skips-kept (b .line) (linesKeptFrom t b),
         judged-length (b .strict) [] ps,
         lines-count (b .at) (drop (b .at) t),
         length-drop (b .at) t,

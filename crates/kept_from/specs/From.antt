@@ -2,23 +2,14 @@
 use Prim.Native.Nat.{ℕ, _≤_}
 use mathlib.Core.Path.{_≡_}
 use mathlib.Core.List.{List, []}
-use lib.ListN.{length, drop}
-use Rattle.format.specs.Lines.{linesFrom}
-use Rattle.format.specs.Records.{Record}
+use mathlib.Core.Option.{Option}
+use lib.ListN.{length}
+use Rattle.format.specs.Records.{Record, Line}
 use Rattle.format.specs.Slots.{Held}
 use Rattle.key_index.specs.Told.{start}
-use Rattle.carried.specs.Carrying.{keptOf, skips, rows}
-use Rattle.early_lines.specs.Early.{earlyOf}
+use Rattle.carried.specs.Carrying.{keptOf, Skip, skips, rows, unwritableLine}
 use Rattle.early_lines.specs.declared.Begin.{Begin}
 use Rattle.kept_lines.specs.Going.{judgedLines}
-
--- the first line of `t` that is kept stands at `b`
-pub record First (t : List ℕ) (b : Begin) : Type 0 where
-  pub inside : b .at ≤ length t
-  pub rest : linesFrom (b .at) (drop (b .at) t) ≡ earlyOf t .rest
-  pub line : b .line ≡ length (earlyOf t .refusals)
-  pub slow : b .line ≤ b .at
-  pub strict : b .strict ≡ earlyOf t .strict
 
 -- before a pass: room for the keys of a block of lines, and no program is in the slots `ids`
 pub record Fresh (t area ids : List ℕ) : Type 0 where
@@ -26,12 +17,24 @@ pub record Fresh (t area ids : List ℕ) : Type 0 where
   pub room : length ids ≡ 2048
   pub held : Held (start t 2048) ids []
 
+-- the lines, each judged
+abbrev pub linesKeptFrom : List ℕ → Begin → List Line
+linesKeptFrom t b = judgedLines (b .strict) t (b .at)
+
 -- the records kept
 unfoldable pub keptFrom : List ℕ → Begin → List Record
 unfolding keptOf judgedLines
-keptFrom t b = keptOf (judgedLines (b .strict) t (b .at))
+keptFrom t b = keptOf (linesKeptFrom t b)
 
--- the rows of the lines skipped from there on
+-- the lines skipped
+abbrev pub skippedFrom : List ℕ → Begin → List Skip
+skippedFrom t b = skips (b .line) (linesKeptFrom t b)
+
+-- and their rows
 unfoldable pub rowsOf : List ℕ → Begin → List ℕ
 unfolding rows skips judgedLines
-rowsOf t b = rows (skips (b .line) (judgedLines (b .strict) t (b .at)))
+rowsOf t b = rows (skippedFrom t b)
+
+-- the line of the first SQ kept whose name can't be written
+abbrev pub unwritableFrom : List ℕ → Begin → Option ℕ
+unwritableFrom t b = unwritableLine (b .line) (linesKeptFrom t b)

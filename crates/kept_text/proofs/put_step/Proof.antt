@@ -1,11 +1,11 @@
--- `carry_on::put_step` meets its contract: a record is written, or a row.
+-- `kept_text::put_step` meets its contract: a record is written, or a row.
 use Prim.Native.Nat.{_<_}
 use mathlib.Core.Path.{_≡_, sym, _∙_}
 use native.Mathlib.Omega.{arith}
 use borrow.Author.Needs.{needs}
-use Rattle.carry_on.proofs.Steps.{places-kept, places-skipped, out-kept, out-skipped, table-kept, table-skipped}
-use Rattle.carry_on.proofs.put_step.Statement.{statement}
-use Rattle.carry_on.proofs.put_step.Tie as tie
+use Rattle.kept_text.proofs.Steps.{places-kept, places-skipped, out-kept, out-skipped, table-kept, table-skipped}
+use Rattle.kept_text.proofs.put_step.Statement.{statement}
+use Rattle.kept_text.proofs.put_step.Tie as tie
 
 put-row-requires : tie.Need-put-row-requires
 put-row-requires c κs = let s = c .before .before .before .before .before in let z : 0 < s .args .n = omega (arith, c .before .if1 .taken) in s .pre .1 .1 .1 z

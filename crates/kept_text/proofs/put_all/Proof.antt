@@ -1,4 +1,4 @@
--- `carry_on::put_all` meets its contract: the rows before the first line that is kept, then all from there on.
+-- `kept_text::put_all` meets its contract: the rows before the first line that is kept, then all from there on.
 use Prim.Native.Nat.{_+_, _*_, _≤_}
 use mathlib.Core.Path.{_≡_, sym, ap, subst, _∙_}
 use native.Mathlib.Omega.{arith}
@@ -11,14 +11,14 @@ use Rattle.key_index.specs.Told.{start}
 use Rattle.tidy_text.specs.Placed.{withParts, parts, Apart}
 use Rattle.tidy_text.proofs.Parts.{starts-apart, starts-placed, around-none}
 use Rattle.early_lines.specs.Early.{earlyOf, rowsFrom}
-use Rattle.carry_on.specs.First.{keptFrom, rowsOf}
-use Rattle.carry_on.proofs.Split.{first-kept, first-rows, early-rows}
+use Rattle.kept_from.specs.From.{keptFrom, rowsOf}
+use Rattle.kept_from.proofs.Split.{first-kept, first-rows, early-rows}
 use borrow.Author.Needs.{needs}
-use Rattle.carry_on.proofs.put_all.Statement.{statement}
-use Rattle.carry_on.proofs.put_all.Tie as tie
-use Rattle.carry_on.proofs.put_all.Reads as reads
-use Rattle.carry_on.proofs.put_all.Lts as lts
-use Rattle.carry_on.proofs.put_lines.Reads as put-lines-reads
+use Rattle.kept_text.proofs.put_all.Statement.{statement}
+use Rattle.kept_text.proofs.put_all.Tie as tie
+use Rattle.kept_text.proofs.put_all.Reads as reads
+use Rattle.kept_text.proofs.put_all.Lts as lts
+use Rattle.kept_text.proofs.put_lines.Reads as put-lines-reads
 use Rattle.early_lines.proofs.put_early.Reads as put-early-reads
 
 put-early-requires : tie.Need-put-early-requires

@@ -10,9 +10,10 @@ use Rattle.key_index.specs.Told.{start}
 use Rattle.key_index.specs.Keyed.{keyValuesOf}
 use Rattle.carried.specs.Carrying.{keptOf}
 use Rattle.carried.specs.Judged.{judgedFrom}
+use Rattle.early_lines.specs.First.{First}
 use Rattle.early_lines.specs.declared.Begin.{Begin}
 use Rattle.kept_lines.specs.Going.{Going}
-use Rattle.carry_on.specs.First.{First, Fresh}
+use Rattle.kept_from.specs.From.{Fresh}
 
 pub begun : (t : List ℕ) (b : Begin) (area ids : List ℕ) → First t b → Fresh t area ids
     → Going (b .strict) t (b .at) area ids (record { at = b .at; line = 0; until = b .at; kept = 0; programs = 0 })

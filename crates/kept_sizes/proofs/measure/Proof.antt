@@ -1,13 +1,13 @@
--- `carry_on::measure` meets its contract: slots of zeros hold no program.
+-- `kept_sizes::measure` meets its contract: slots of zeros hold no program.
 use native.Mathlib.Omega.{arith}
 use borrow.Author.Needs.{needs}
 use Rattle.format.proofs.Slots.{held-none}
 use Rattle.key_index.specs.Told.{start}
-use Rattle.carry_on.proofs.measure.Statement.{statement}
-use Rattle.carry_on.proofs.measure.Tie as tie
-use Rattle.carry_on.proofs.measure.Reads as reads
-use Rattle.carry_on.proofs.measure.Lts as lts
-use Rattle.carry_on.proofs.measure_lines.Reads as measure-lines-reads
+use Rattle.kept_sizes.proofs.measure.Statement.{statement}
+use Rattle.kept_sizes.proofs.measure.Tie as tie
+use Rattle.kept_sizes.proofs.measure.Reads as reads
+use Rattle.kept_sizes.proofs.measure.Lts as lts
+use Rattle.kept_sizes.proofs.measure_lines.Reads as measure-lines-reads
 
 slice-aggregate-measure-lines : tie.Need-slice-aggregate-measure-lines
 slice-aggregate-measure-lines c = search needs

@@ -1,4 +1,4 @@
--- `carry_on::put_lines` meets its contract: what is written, and what the lines still to come will write, is all.
+-- `kept_text::put_lines` meets its contract: what is written, and what the lines still to come will write, is all.
 use Prim.Native.Nat.{ℕ, _+_, _-_, _*_, _≤_}
 use mathlib.Core.Path.{_≡_, refl, sym, ap, ap₂, subst, _∙_}
 use mathlib.Core.List.{List}
@@ -13,13 +13,14 @@ use Rattle.carried.specs.Carrying.{keptOf, skips, rows}
 use Rattle.early_lines.specs.declared.Begin.{Begin}
 use Rattle.kept_lines.specs.Going.{Going, judgedLines}
 use Rattle.kept_lines.specs.declared.Cursor.{Cursor}
-use Rattle.carry_on.specs.First.{keptFrom, rowsOf}
-use Rattle.carry_on.specs.Steps.{placesAt}
-use Rattle.carry_on.proofs.Begun.{begun}
-use Rattle.carry_on.proofs.Turn.{Turn, turn, kept-le, kept-next, none-left}
-use Rattle.carry_on.proofs.Steps.{lineAt, kindAt, turn-read, out-more, out-fits, row-fits, table-more, table-same, skipped, kept-one}
-use Rattle.carry_on.proofs.put_lines.Statement.{statement}
-use Rattle.carry_on.proofs.put_lines.Tie as tie
+use Rattle.kept_from.specs.From.{linesKeptFrom, keptFrom, rowsOf}
+use Rattle.kept_from.specs.Turn.{Turn}
+use Rattle.kept_from.proofs.Begun.{begun}
+use Rattle.kept_from.proofs.Turn.{turn, kept-next, none-left}
+use Rattle.kept_text.specs.Steps.{rowsBefore, placesAfter}
+use Rattle.kept_text.proofs.Steps.{out-more, out-fits, row-fits, table-more, table-same, skipped, kept-one}
+use Rattle.kept_text.proofs.put_lines.Statement.{statement}
+use Rattle.kept_text.proofs.put_lines.Tie as tie
 
 -- the lines still to come, the rows before theirs, and their rows
 abbrev ahead : List ℕ → Begin → ℕ → List Line

@@ -1,39 +1,35 @@
--- `carry_on::measure_lines` meets its contract: what is asked of the lines from the first kept on is asked of those still to come.
+-- `kept_sizes::measure_lines` meets its contract: what is asked of the lines from the first kept on is asked of those still to come.
 use Prim.Native.Nat.{ℕ, _+_, _-_, _≤_}
 use mathlib.Core.Path.{_≡_, refl, sym, ap, ap₂, _∙_}
 use mathlib.Core.List.{List}
 use native.Mathlib.Omega.{arith}
 use lib.ListN.{length, drop}
-use Rattle.format.specs.Records.{Line}
 use Rattle.format.specs.Tidy.{tidy}
 use Rattle.format.specs.declared.Kind.{Kind}
 use Rattle.per_kind.specs.Numbers.{get}
 use Rattle.tidy_text.specs.Sizes.{sizesOf}
 use Rattle.tidy_text.proofs.Total.{size}
 use Rattle.tidy_text.proofs.Sizes.{get-none, size-none, each-get}
-use Rattle.carried.specs.Carrying.{keptOf, unwritableLine, skips}
-use Rattle.early_lines.specs.declared.Begin.{Begin}
-use Rattle.kept_lines.specs.Going.{Going, judgedLines}
-use Rattle.carry_on.specs.First.{keptFrom}
-use Rattle.carry_on.specs.Answers.{keptMeasured}
-use Rattle.carry_on.specs.declared.KeptSizes.the-variants as measured
-use Rattle.carry_on.proofs.Split.{first-small}
-use Rattle.carry_on.proofs.Begun.{begun}
-use Rattle.carry_on.proofs.Turn.{Turn, turn, kept-le, none-left, all-count}
-use Rattle.carry_on.proofs.Steps.{kindAt, turn-read, names-bad, names-more, sizes-more, size-fits}
+use Rattle.carried.specs.Carrying.{keptOf, unwritableLine}
+use Rattle.kept_lines.specs.Going.{Going}
+use Rattle.kept_from.specs.From.{linesKeptFrom, keptFrom, skippedFrom}
+use Rattle.kept_from.specs.Turn.{Turn}
+use Rattle.kept_from.proofs.Split.{first-small}
+use Rattle.kept_from.proofs.Begun.{begun}
+use Rattle.kept_from.proofs.Turn.{turn, kept-le, none-left, all-count}
+use Rattle.kept_from.proofs.Steps.{kindAt, turn-read}
+use Rattle.kept_sizes.specs.Measured.{keptMeasured}
+use Rattle.kept_sizes.specs.declared.KeptSizes.the-variants as measured
+use Rattle.kept_sizes.proofs.Steps.{names-bad, names-more, sizes-more, size-fits}
 use borrow.Author.Needs.{needs}
-use Rattle.carry_on.proofs.measure_lines.Statement.{statement}
-use Rattle.carry_on.proofs.measure_lines.Tie as tie
-
--- the lines from the first kept on
-abbrev lines : List ℕ → Begin → List Line
-lines t b = judgedLines (b .strict) t (b .at)
+use Rattle.kept_sizes.proofs.measure_lines.Statement.{statement}
+use Rattle.kept_sizes.proofs.measure_lines.Tie as tie
 
 abbrev Inv-loop : tie.InvT-loop
 Inv-loop t b area₀ ids₀ sizes₀ c₀ area ids sizes c =
     Going (b .strict) t (b .at) area ids c
-    × (unwritableLine (b .line) (lines t b) ≡ unwritableLine (b .line + c .line) (drop (c .line) (lines t b)))
-    × ((k : Kind) → get k sizes + size k (keptOf (drop (c .line) (lines t b))) ≡ size k (keptFrom t b))
+    × (unwritableLine (b .line) (linesKeptFrom t b) ≡ unwritableLine (b .line + c .line) (drop (c .line) (linesKeptFrom t b)))
+    × ((k : Kind) → get k sizes + size k (keptOf (drop (c .line) (linesKeptFrom t b))) ≡ size k (keptFrom t b))
     × (length area ≡ length area₀)
     × (length ids ≡ length ids₀)
 
@@ -70,7 +66,7 @@ loop-holds c =
     let s = c .before .before .before .before in
     let a = s .args in (
       begun (a .text .now) (a .b) (a .area .now) (a .ids .now) (s .pre .1 .0) (s .pre .1 .1),
-      ap (λ k. unwritableLine k (lines (a .text .now) (a .b))) (let z : a .b .line ≡ a .b .line + 0 = omega arith in z),
+      ap (λ k. unwritableLine k (linesKeptFrom (a .text .now) (a .b))) (let z : a .b .line ≡ a .b .line + 0 = omega arith in z),
       (λ k. omega (arith, ap (get k) (c .new .ensures), get-none k)),
       refl,
       refl,
@@ -129,7 +125,7 @@ returns c =
     let l = c .before .before .before .before .before .before .before .before .before .before .before .before .before .before .before .loop in
     let r = c .before .before .before .before .before .before .before .before .before .before .next-line .result in
     let bad = names-bad (a .b .strict) (a .text .now) (a .b .at) (l .c) (r .end) (r .refusal) (turned (c .before .before .before .before .before .before .before .before .before .before)) (l .sizes) (sym (c .before .before .before .before .with-step .ensures) ∙ c .before .before .enum-told .given .1) (a .b .line + l .c .line) in (
-      sym (ap (λ o. keptMeasured o (sizesOf (keptFrom (a .text .now) (a .b))) (length (skips (a .b .line) (lines (a .text .now) (a .b))))) (l .inv .1 ∙ bad)),
+      sym (ap (λ o. keptMeasured o (sizesOf (keptFrom (a .text .now) (a .b))) (length (skippedFrom (a .text .now) (a .b)))) (l .inv .1 ∙ bad)),
       c .before .before .before .before .before .before .before .before .before .before .next-line .ensures .1 .1 .1 .1 .1 .0 ∙ l .inv .3,
     )
 
@@ -144,7 +140,7 @@ loop-again c =
     let w = c .before .before .before .before .before .before .before .before .before .before .next-line in
     let u = turned (c .before .before .before .before .before .before .before .before .before .before) in
     let s = c .before .before .grown .given .0 .0 in
-    let ls = lines (a .text .now) b in
+    let ls = linesKeptFrom (a .text .now) b in
     let on = w .ensures .1 .1 .1 .0 in
     let e = sym (c .before .before .before .before .with-step .ensures) ∙ c .before .before .grown .given .1 in (
       w .ensures .1 .1 .1 .1 .0,
@@ -177,7 +173,7 @@ returns-2 c =
     let all : l .sizes ≡ sizesOf rs = each-get (l .sizes) (λ k. size k rs) (λ k. omega (arith, l .inv .2 k, ap (λ ls. size k (keptOf ls)) e, ap length (size-none k))) in
     let count = all-count (a .b .strict) (a .text .now) (a .b .at) (l .area) (l .ids) (l .c) (l .inv .0) left (a .b .line) in (
       ap₂ measured.Is all count
-          ∙ sym (ap (λ o. keptMeasured o (sizesOf rs) (length (skips (a .b .line) (lines (a .text .now) (a .b))))) (l .inv .1 ∙ ap (unwritableLine (a .b .line + l .c .line)) e)),
+          ∙ sym (ap (λ o. keptMeasured o (sizesOf rs) (length (skippedFrom (a .text .now) (a .b)))) (l .inv .1 ∙ ap (unwritableLine (a .b .line + l .c .line)) e)),
       l .inv .3,
     )
 
