@@ -11,7 +11,7 @@ use Rattle.format.specs.Lines.{Piece, linesFrom}
 use Rattle.format.specs.Records.{line}
 use Rattle.text.specs.First.{firstLine}
 use Rattle.accepted.specs.First.{firstAt}
-use Rattle.accepted.proofs.Ahead.{ahead-none, ahead-one, next-within, ahead-stands}
+use Rattle.accepted.proofs.Ahead.{ahead-none, ahead-one, next-within, next-more, ahead-stands}
 use Rattle.record.specs.Head.{headOf}
 use Rattle.record.specs.declared.Head.{Head}
 use Rattle.record.specs.declared.Head.the-variants as head
