@@ -11,7 +11,7 @@ use Rattle.tidy_text.specs.Placed.{withParts, parts, Apart}
 use Rattle.tidy_text.proofs.Parts.{placed-none}
 use Rattle.carried.specs.Carrying.{keptOf, skips, rows}
 use Rattle.early_lines.specs.declared.Begin.{Begin}
-use Rattle.kept_lines.specs.Going.{Going, judgedLines}
+use Rattle.kept_lines.specs.Going.{Going}
 use Rattle.kept_lines.specs.declared.Cursor.{Cursor}
 use Rattle.kept_from.specs.From.{linesKeptFrom, keptFrom, rowsOf}
 use Rattle.kept_from.specs.Turn.{Turn}
@@ -22,12 +22,9 @@ use Rattle.kept_text.proofs.Steps.{out-more, out-fits, row-fits, table-
 use Rattle.kept_text.proofs.put_lines.Statement.{statement}
 use Rattle.kept_text.proofs.put_lines.Tie as tie
 
--- the lines still to come, the rows before theirs, and their rows
+-- the lines still to come, and their rows
 abbrev ahead : List ℕ → Begin → ℕ → List Line
-ahead t b n = drop n (judgedLines (b .strict) t (b .at))
-
-abbrev row : Begin → Cursor → ℕ
-row b c = b .line + (c .line - c .kept)
+ahead t b n = drop n (linesKeptFrom t b)
 
 abbrev toCome : List ℕ → Begin → ℕ → List ℕ
 toCome t b n = rows (skips (b .line + n) (ahead t b n))
@@ -37,8 +34,8 @@ Inv-loop t b area₀ ids₀ out₀ table₀ next₀ c₀ area ids out table next
     Going (b .strict) t (b .at) area ids c
     × Apart (parts next (keptOf (ahead t b (c .line)))) (length out)
     × (withParts out (parts next (keptOf (ahead t b (c .line)))) ≡ withParts out₀ (parts next₀ (keptFrom t b)))
-    × (row b c * 2 + length (toCome t b (c .line)) ≤ length table)
-    × (over table (row b c * 2) (toCome t b (c .line)) ≡ over table₀ (b .line * 2) (rowsOf t b))
+    × (rowsBefore b c * 2 + length (toCome t b (c .line)) ≤ length table)
+    × (over table (rowsBefore b c * 2) (toCome t b (c .line)) ≡ over table₀ (b .line * 2) (rowsOf t b))
     × (length area ≡ length area₀)
     × (length ids ≡ length ids₀)
     × (length out ≡ length out₀)
@@ -59,7 +56,7 @@ turned c =
 
 -- a row more, or none
 counted : (c : tie.After-next-line Inv-loop μ-loop)
-    → (let l = c .before .before .before .before .before .loop in let b = c .before .before .before .before .before .before .before .before .before .before .before .args .b in row b (c .next-line .result .next) ≡ row b (l .c) + skipped (c .next-line .result .refusal))
+    → (let l = c .before .before .before .before .before .loop in let b = c .before .before .before .before .before .before .before .before .before .before .before .args .b in rowsBefore b (c .next-line .result .next) ≡ rowsBefore b (l .c) + skipped (c .next-line .result .refusal))
 counted c =
     let l = c .before .before .before .before .before .loop in
     let a = c .before .before .before .before .before .before .before .before .before .before .before .args in
@@ -68,22 +65,9 @@ counted c =
     omega (
       arith,
       w .ensures .1 .1 .1 .0,
-      kept-le (a .b .strict) (a .text .now) (a .b .at) (l .area) (l .ids) (l .c) (l .inv .0),
+      u .few,
       kept-next (a .b .strict) (a .text .now) (a .b .at) (l .area) (l .ids) (l .c) (l .inv .0) (u .judged) (u .more) _ _ (w .result .next) (w .ensures .1 .1 .1 .1 .0) (w .ensures .1 .1 .1 .0),
       kept-one (a .b .strict) (a .text .now) (a .b .at) (l .c) (w .result .end) (w .result .refusal) u,
-    )
-
--- line numbers are small
-small : (c : tie.At-loop Inv-loop μ-loop)
-    → (let s = c .before .before .before .before .before .before in
-    (c .loop .c .kept ≤ c .loop .c .line) × (c .loop .c .line ≤ 16777216) × (s .args .b .line ≤ 16777216))
-small c =
-    let s = c .before .before .before .before .before .before in
-    let a = s .args in
-    let l = c .loop in (
-      kept-le (a .b .strict) (a .text .now) (a .b .at) (l .area) (l .ids) (l .c) (l .inv .0),
-      omega (arith, l .inv .0 .slow, l .inv .0 .inside, s .pre .0),
-      omega (arith, s .pre .1 .0 .slow, s .pre .1 .0 .inside, s .pre .0),
     )
 
 loop-holds : tie.Need-loop-holds Inv-loop μ-loop
@@ -109,85 +93,66 @@ loop-holds c =
 next-line-requires : tie.Need-next-line-requires Inv-loop μ-loop
 next-line-requires c κs = (c .before .before .before .before .before .before .before .before .before .before .pre .0, (c .before .before .before .before .loop .inv .0, c .before .before .if1 .taken))
 
-cast-row : tie.Need-cast-row Inv-loop μ-loop
-cast-row c = omega (arith, small (c .before .before .before .before .before .before .before .before .before .before))
-
-sub-row : tie.Need-sub-row Inv-loop μ-loop
-sub-row c = small (c .before .before .before .before .before .before .before .before .before .before .before) .0
-
-add-row : tie.Need-add-row Inv-loop μ-loop
-add-row c = omega (arith, small (c .before .before .before .before .before .before .before .before .before .before .before))
-
-cast-number : tie.Need-cast-number Inv-loop μ-loop
-cast-number c = omega (arith, small (c .before .before .before .before .before .before .before .before .before .before .before .before))
-
-add-number : tie.Need-add-number Inv-loop μ-loop
-add-number c = omega (arith, small (c .before .before .before .before .before .before .before .before .before .before .before .before .before))
-
-sub-put-step : tie.Need-sub-put-step Inv-loop μ-loop
-sub-put-step c = turned (c .before .before .before .before .before .before .before .before .before .before) .start
-
-part-put-step-start : tie.Need-part-put-step-start Inv-loop μ-loop
-part-put-step-start c = turned (c .before .before .before .before .before .before .before .before .before .before) .start
-
-part-put-step-end : tie.Need-part-put-step-end Inv-loop μ-loop
-part-put-step-end c = turned (c .before .before .before .before .before .before .before .before .before .before) .inside
-
 put-step-requires : tie.Need-put-step-requires Inv-loop μ-loop
 put-step-requires c κs =
-    let s = c .before .before .before .before .before .before .before .before .before .before .before .before .before .before .before .before .before .before .before .before .before .before in
+    let w = c .before .before .before .before .before .before in
+    let l = w .before .before .before .before .before .loop in
+    let s = w .before .before .before .before .before .before .before .before .before .before .before in
     let a = s .args in
     let b = a .b in
-    let l = c .before .before .before .before .before .before .before .before .before .before .before .before .before .before .before .before .loop in
-    let r = c .before .before .before .before .before .before .before .before .before .before .before .next-line .result in
-    let u = turned (c .before .before .before .before .before .before .before .before .before .before .before) in (
-      turn-read (b .strict) (a .text .now) (b .at) (l .c) (r .end) (r .refusal) u,
+    let r = w .next-line .result in
+    let u = turned w in (
+      s .pre .0,
       (
-        omega (arith, u .size, u .inside, s .pre .0),
+        s .pre .1 .0,
         (
-          (λ z. out-fits (b .strict) (a .text .now) (b .at) (l .c) (r .end) (r .refusal) u z (l .out) (length (l .out)) (l .next) (omega arith) (l .inv .1)),
-          (λ z. row-fits (b .strict) (a .text .now) (b .at) (l .c) (r .end) (r .refusal) u z (b .line + l .c .line) (row b (l .c)) (l .table) (l .inv .3)),
+          u,
+          record {
+            text = λ z. out-fits (b .strict) (a .text .now) (b .at) (l .c) (r .end) (r .refusal) u z (l .out) (length (l .out)) (l .next) (omega arith) (l .inv .1);
+            row = λ z. row-fits (b .strict) (a .text .now) (b .at) (l .c) (r .end) (r .refusal) u z (b .line + l .c .line) (rowsBefore b (l .c)) (l .table) (l .inv .3);
+          },
         ),
       ),
     )
 
 loop-less : tie.Need-loop-less Inv-loop μ-loop
-loop-less c = omega (arith, c .before .before .before .before .before .before .before .before .before .before .before .before .before .before .before .before .before .before .before .before .if1 .taken, turned (c .before .before .before .before .before .before .before .before .before .before .before .before .before .before .before .before .before) .onward, c .before .before .before .before .before .before .before .before .before .before .before .before .before .before .before .before .before .next-line .ensures .1 .1 .0)
+loop-less c = let w = c .before .before .before .before .before .before .before .before .before .before .before .before in omega (arith, w .before .before .before .if1 .taken, turned w .onward, w .next-line .ensures .1 .1 .0)
 
 loop-again : tie.Need-loop-again Inv-loop μ-loop
 loop-again c =
-    let a = c .before .before .before .before .before .before .before .before .before .before .before .before .before .before .before .before .before .before .before .before .before .before .before .before .before .before .before .before .args in
+    let x = c .before .before .before .before .before .before .before .before .before .before .before .before in
+    let a = x .before .before .before .before .before .before .before .before .before .before .before .args in
     let b = a .b in
     let t = a .text .now in
-    let l = c .before .before .before .before .before .before .before .before .before .before .before .before .before .before .before .before .before .before .before .before .before .before .loop in
-    let w = c .before .before .before .before .before .before .before .before .before .before .before .before .before .before .before .before .before .next-line in
+    let l = x .before .before .before .before .before .loop in
+    let w = x .next-line in
     let p = c .before .before .before .before .before .put-step in
+    let wrote = p .last .1 .1 .1 .1 .1 .0 in
+    let listed = p .last .1 .1 .1 .1 .1 .1 .0 in
     let n = w .result .refusal in
-    let u = turned (c .before .before .before .before .before .before .before .before .before .before .before .before .before .before .before .before .before) in
+    let u = turned x in
     let on = w .ensures .1 .1 .1 .0 in
-    let j = kindAt (b .strict) t (b .at) (l .c) (w .result .end) in
-    let i = lineAt (b .strict) t (b .at) (l .c) (w .result .end) in
     let k = b .line + l .c .line in
     let k-on : k + 1 ≡ b .line + (l .c .line + 1) = omega arith in
     let come : toCome t b (w .result .next .line) ≡ rows (skips (k + 1) (ahead t b (l .c .line + 1))) = ap (toCome t b) on ∙ ap (λ m. rows (skips m (ahead t b (l .c .line + 1)))) (sym k-on) in
-    let rows-on = counted (c .before .before .before .before .before .before .before .before .before .before .before .before .before .before .before .before .before) in
+    let rows-on = counted x in
     let o = out-more (b .strict) t (b .at) (l .c) (w .result .end) n u (l .out) (length (l .out)) (l .next) (omega arith) (l .inv .1) in (
       w .ensures .1 .1 .1 .1 .0,
-      subst (λ q. Apart (parts q (keptOf (ahead t b (w .result .next .line)))) (length (p .last .0))) (sym (p .ensures .0))
-          (subst (λ m. Apart (parts (placesAt n j i (l .next)) (keptOf (ahead t b m))) (length (p .last .0))) (sym on) (subst (Apart _) (sym (p .kept .0)) (o .0))),
-      ap (λ m. withParts (p .last .0) (parts (p .result) (keptOf (ahead t b m)))) on
+      subst (λ q. Apart (parts q (keptOf (ahead t b (w .result .next .line)))) (length (wrote))) (sym (p .ensures .0))
+          (subst (λ m. Apart (parts (placesAfter t b (l .c) (w .result) (l .next)) (keptOf (ahead t b m))) (length (wrote))) (sym on) (subst (Apart _) (sym (p .kept .1 .1 .1 .1 .1 .0)) (o .0))),
+      ap (λ m. withParts (wrote) (parts (p .result) (keptOf (ahead t b m)))) on
           ∙ ap₂ (λ o q. withParts o (parts q (keptOf (ahead t b (l .c .line + 1))))) (p .ensures .1 .0) (p .ensures .0)
           ∙ o .1
           ∙ l .inv .2,
-      omega (arith, rows-on, ap length come, p .kept .1 .0, table-more (b .strict) t (b .at) (l .c) (w .result .end) n u k (row b (l .c)) (l .table) (l .inv .3)),
-      ap₂ (over (p .last .1 .0)) (ap (λ r. r * 2) rows-on) come
-          ∙ ap (λ o. over o ((row b (l .c) + skipped n) * 2) (rows (skips (k + 1) (ahead t b (l .c .line + 1))))) (p .ensures .1 .1)
-          ∙ table-same (b .strict) t (b .at) (l .c) (w .result .end) n u k (row b (l .c)) (l .table) (l .inv .3)
+      omega (arith, rows-on, ap length come, p .kept .1 .1 .1 .1 .1 .1 .0, table-more (b .strict) t (b .at) (l .c) (w .result .end) n u k (rowsBefore b (l .c)) (l .table) (l .inv .3)),
+      ap₂ (over (listed)) (ap (λ r. r * 2) rows-on) come
+          ∙ ap (λ o. over o ((rowsBefore b (l .c) + skipped n) * 2) (rows (skips (k + 1) (ahead t b (l .c .line + 1))))) (p .ensures .1 .1)
+          ∙ table-same (b .strict) t (b .at) (l .c) (w .result .end) n u k (rowsBefore b (l .c)) (l .table) (l .inv .3)
           ∙ l .inv .4,
       w .ensures .1 .1 .1 .1 .1 .0 ∙ l .inv .5,
       w .ensures .1 .1 .1 .1 .1 .1 ∙ l .inv .6,
-      p .kept .0 ∙ l .inv .7,
-      p .kept .1 .0 ∙ l .inv .8,
+      p .kept .1 .1 .1 .1 .1 .0 ∙ l .inv .7,
+      p .kept .1 .1 .1 .1 .1 .1 .0 ∙ l .inv .8,
     )
 
 same-length : tie.Need-same-length Inv-loop μ-loop
@@ -210,7 +175,7 @@ returns c =
     let l = c .before .before .loop in
     let e = none-left (b .strict) (a .text .now) (b .at) (l .area) (l .ids) (l .c) (l .inv .0) (c .if1 .left) in (
       sym (placed-none (l .out) (l .next)) ∙ ap (λ ls. withParts (l .out) (parts (l .next) (keptOf ls))) (sym e) ∙ l .inv .2,
-      sym (over-none (l .table) (row b (l .c) * 2)) ∙ ap (λ ls. over (l .table) (row b (l .c) * 2) (rows (skips (b .line + l .c .line) ls))) (sym e) ∙ l .inv .4,
+      sym (over-none (l .table) (rowsBefore b (l .c) * 2)) ∙ ap (λ ls. over (l .table) (rowsBefore b (l .c) * 2) (rows (skips (b .line + l .c .line) ls))) (sym e) ∙ l .inv .4,
     )
 
 pub put-lines-spec : {M : Type 1} → statement M
@@ -221,14 +186,6 @@ put-lines-spec =
     μ-loop
     loop-holds
     next-line-requires
-    cast-row
-    sub-row
-    add-row
-    cast-number
-    add-number
-    sub-put-step
-    part-put-step-start
-    part-put-step-end
     put-step-requires
     loop-less
     loop-again
