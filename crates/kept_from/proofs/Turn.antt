@@ -4,10 +4,10 @@ use mathlib.Core.Path.{_≡_, sym, ap, _∙_}
 use mathlib.Core.Bool.{Bool}
 use mathlib.Core.List.{List, [], _∷_, _++_, append-nil}
 use native.Mathlib.Omega.{arith}
-use lib.ListN.{length, take, drop, length-append, length-drop}
-use lib.Seq.{take-at, drop-at, drop-drop, take-add, take-all}
+use lib.ListN.{length, take, drop, length-append}
+use lib.Seq.{take-at, drop-at, drop-drop, take-add}
 use Rattle.format.specs.Lines.{Piece}
-use Rattle.format.specs.Records.{Record, Line, refusedLine, read, line}
+use Rattle.format.specs.Records.{Line, line}
 use Rattle.format.specs.Reading.{admitted}
 use Rattle.text.specs.First.{firstLine}
 use Rattle.text.proofs.First.{first-le}

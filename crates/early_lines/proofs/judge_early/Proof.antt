@@ -1,6 +1,6 @@
 -- `early_lines::judge_early` meets its contract: the line is cut, its rule is set, and it is judged by itself.
 use Prim.Native.Nat.{_+_}
-use mathlib.Core.Path.{_≡_, ap, _∙_}
+use mathlib.Core.Path.{ap, _∙_}
 use mathlib.Core.Bool.{false}
 use mathlib.Core.List.{[], _∷_}
 use native.Mathlib.Omega.{arith}

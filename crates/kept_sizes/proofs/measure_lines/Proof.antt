@@ -1,7 +1,6 @@
 -- `kept_sizes::measure_lines` meets its contract: what is asked of the lines from the first kept on is asked of those still to come.
-use Prim.Native.Nat.{ℕ, _+_, _-_, _≤_}
+use Prim.Native.Nat.{_+_, _-_, _≤_}
 use mathlib.Core.Path.{_≡_, refl, sym, ap, ap₂, _∙_}
-use mathlib.Core.List.{List}
 use native.Mathlib.Omega.{arith}
 use lib.ListN.{length, drop}
 use Rattle.format.specs.Tidy.{tidy}

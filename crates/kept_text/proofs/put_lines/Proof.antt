@@ -12,7 +12,6 @@ use Rattle.tidy_text.proofs.Parts.{placed-none}
 use Rattle.carried.specs.Carrying.{keptOf, skips, rows}
 use Rattle.early_lines.specs.declared.Begin.{Begin}
 use Rattle.kept_lines.specs.Going.{Going}
-use Rattle.kept_lines.specs.declared.Cursor.{Cursor}
 use Rattle.kept_from.specs.From.{linesKeptFrom, keptFrom, rowsOf}
 use Rattle.kept_from.specs.Turn.{Turn}
 use Rattle.kept_from.proofs.Begun.{begun}
