@@ -6,6 +6,8 @@
 // `chains.txt`: chains, forests, dangling and looping headers, stale catalogues, the corners of each call and of adding, written by
 // `oracle/chains` from the rules of documents 01 and 02; no answer in it comes from this library or from the crate.
 // `oracle.txt`: 536 texts, answered by noodles-sam 0.93.0 (`oracle/README.md`, "The fixed sample").
+// `readings.txt`: 316 texts to `read`. 128 are the corners of documents 01 and 02: each refusal of reading but 1, on both sides, 1,024 programs
+// and one more; their answers were written by hand from these documents. 188 are longer, and answered by a model written from these alone.
 // `names.txt`: questions to `names`, answered by a model written from document 02 alone.
 // `requests.txt`: questions to every call, answered by that model, request by request.
 //
@@ -25,8 +27,9 @@
 //     program TEXT BYTES
 //     tidy TEXT ROOM ok BYTES
 //     carry_on TEXT ROOM TABLE ok BYTES ROWS
-// have what the program on standard input writes, the tidy text, and the tidy text of what is kept with the table of what is skipped, eight
-// digits for each number. A line of the oracle has its text first; each such text is read, tidied, and asked for its roots and leaves. Of an
+//     read TEXT ROOM ok CATALOGUE
+// have what the program on standard input writes, the tidy text, the tidy text of what is kept with the table of what is skipped, eight
+// digits for each number, and the catalogue, which the check must then take, and refuse when its last byte is another. A line of the oracle has its text first; each such text is read, tidied, and asked for its roots and leaves. Of an
 // output that is lent every element is looked at: what is not the answer must be as it was. Where the field call's answer stands no program
 // can see: its contract says it.
 //
@@ -46,6 +49,7 @@ use replay_asked::LINE;
 use replay_asked::MARKED;
 use replay_asked::NAMES;
 use replay_asked::PROGRAM;
+use replay_asked::READ;
 use replay_asked::REFUSED;
 use replay_asked::ROOTS;
 use replay_asked::UNKNOWN;
@@ -95,7 +99,10 @@ fn is_written(line: &[u8], asked: usize, text: &[u8]) -> bool {
         let mut table = stored_answers::ordinals();
         return replay_carried::is_carried(line, text, &mut out, &mut table);
     }
-    replay_texts::is_tidied(line, text, &mut out)
+    match asked {
+        READ => replay_graphs::is_reading(line, text, &mut out),
+        _ => replay_texts::is_tidied(line, text, &mut out),
+    }
 }
 
 // Whether the library says of a text what the crate says.
@@ -233,7 +240,7 @@ fn replay(place: usize) {
         os::fail(&name[..n]);
         return;
     }
-    let mut tally: [u32; 19] = [0; 19];
+    let mut tally: [u32; 20] = [0; 20];
     all_blocks(fd, &mut tally);
     libc::close(fd);
     io::write_all(STDOUT_FILENO, &name[..n]);

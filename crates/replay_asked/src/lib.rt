@@ -28,19 +28,21 @@ pub const TIDIED: usize = 10;
 
 pub const CARRIED: usize = 11;
 
-pub const REFUSED: usize = 12;
+pub const READ: usize = 12;
 
-pub const ACCEPTED: usize = 13;
+pub const REFUSED: usize = 13;
 
-pub const UNWRITABLE: usize = 14;
+pub const ACCEPTED: usize = 14;
 
-pub const UNKNOWN: usize = 15;
+pub const UNWRITABLE: usize = 15;
 
-pub const WRONG: usize = 16;
+pub const UNKNOWN: usize = 16;
 
-pub const MARKED: usize = 17;
+pub const WRONG: usize = 17;
 
-pub const FOUND: usize = 18;
+pub const MARKED: usize = 18;
+
+pub const FOUND: usize = 19;
 
 // What a line asks: its first word is a call, or its second what the crate makes of the text.
 pub fn asked_by(line: &[u8]) -> usize {
@@ -87,6 +89,9 @@ fn written_by(line: &[u8]) -> usize {
     if text::same(call, b"carry_on") {
         return CARRIED;
     }
+    if text::same(call, b"read") {
+        return READ;
+    }
     judged_by(stored_cases::word(line, 1))
 }
 
@@ -130,18 +135,19 @@ fn print_count(name: &[u8], n: u32) {
 
 // Writes how many lines ask for something written.
 fn print_written(tally: &[u32])
-    requires { ⌜ length (now tally) ≡ 19 ⌝ }
+    requires { ⌜ length (now tally) ≡ 20 ⌝ }
 {
     print_count(b" add ", tally[ADDED]);
     print_count(b" names ", tally[NAMES]);
     print_count(b" program ", tally[PROGRAM]);
     print_count(b" tidy ", tally[TIDIED]);
     print_count(b" carry_on ", tally[CARRIED]);
+    print_count(b" read ", tally[READ]);
 }
 
 // Writes how many lines ask each call.
 pub fn print_asked(tally: &[u32])
-    requires { ⌜ length (now tally) ≡ 19 ⌝ }
+    requires { ⌜ length (now tally) ≡ 20 ⌝ }
 {
     print_count(b" count ", tally[COUNT]);
     print_count(b" key ", tally[KEY]);
@@ -155,7 +161,7 @@ pub fn print_asked(tally: &[u32])
 
 // Writes how many texts the crate judged in each way, and how many lines ask nothing.
 pub fn print_judged(tally: &[u32])
-    requires { ⌜ length (now tally) ≡ 19 ⌝ }
+    requires { ⌜ length (now tally) ≡ 20 ⌝ }
 {
     print_count(b" refused ", tally[REFUSED]);
     print_count(b" accepted ", tally[ACCEPTED]);
@@ -165,7 +171,7 @@ pub fn print_judged(tally: &[u32])
 
 // Writes how many answers were wrong, and how many of the marked lines were found.
 pub fn print_found(tally: &[u32])
-    requires { ⌜ length (now tally) ≡ 19 ⌝ }
+    requires { ⌜ length (now tally) ≡ 20 ⌝ }
 {
     print_number(b" wrong ", tally[WRONG]);
     print_number(b", known wrong found ", tally[FOUND]);

@@ -1,5 +1,6 @@
 // Reading, and the calls over program graphs: whether each answers as a line of stored answers says (`replay` has the lines' form).
 use calls::LeavesAnswer;
+use parser::Checked;
 use parser::CountAnswer;
 
 // Whether the roots are the line's, in an output of as many elements as it says.
@@ -63,6 +64,47 @@ pub fn is_read(line: &[u8], text: &[u8], kept: &mut [u8]) -> bool {
     match parser::read(text, kept) {
         CountAnswer::Refused(_, _) => false,
         CountAnswer::Count(n) => is_graph(line, text, kept, n),
+    }
+}
+
+// Whether the check refuses `kept` with 21.
+fn is_stale(text: &[u8], kept: &[u8]) -> bool {
+    match parser::check(text, kept) {
+        Checked::Fresh => false,
+        Checked::Refused(n, _) => n == 21,
+    }
+}
+
+// Whether the check takes `kept`, and refuses it with another last byte. The empty one has no last byte.
+fn is_fresh(text: &[u8], kept: &mut [u8]) -> bool {
+    match parser::check(text, kept) {
+        Checked::Fresh => {}
+        Checked::Refused(_, _) => return false,
+    }
+    if kept.len() == 0 {
+        return true;
+    }
+    let last = kept.len() - 1;
+    kept[last] = kept[last] ^ 1;
+    is_stale(text, kept)
+}
+
+// Whether the catalogue is the first `n` bytes of `kept`, as a word says, and the check takes it.
+fn is_own(word: &[u8], text: &[u8], kept: &mut [u8], n: usize) -> bool {
+    if kept.len() < n {
+        return false;
+    }
+    stored_answers::is_text(word, kept, n) && is_fresh(text, &mut kept[..n])
+}
+
+// Whether reading answers as the line says, in a slice of as many bytes as it says, and the check takes what was read.
+pub fn is_reading(line: &[u8], text: &[u8], kept: &mut [u8]) -> bool {
+    let room = stored_answers::byte_room(stored_cases::word(line, 2), kept);
+    match parser::read(text, &mut kept[..room]) {
+        CountAnswer::Refused(n, no) => stored_answers::is_refusal(line, 3, n, no)
+            && stored_cases::is_untouched(kept),
+        CountAnswer::Count(n) => stored_answers::is_ok(line, 3, 1)
+            && is_own(stored_cases::word(line, 4), text, kept, n),
     }
 }
 

@@ -77,17 +77,6 @@ pub fn decode(hex: &[u8], text: &mut [u8]) -> usize
     n
 }
 
-// Fills `kept`, so that a byte that is written shows.
-pub fn fill(kept: &mut [u8])
-    ensures { λ _. ⌜ (length (now (kept .exit)) ≡ length (now (kept .entry))) × (now (kept .exit) ≡ replicate (length (now (kept .entry))) 165) ⌝ }
-{
-    let mut i: usize = 0;
-    while i < kept.len() {
-        kept[i] = FILLER;
-        i += 1;
-    }
-}
-
 // Whether no byte has been written over.
 pub fn is_untouched(kept: &[u8]) -> bool
     ensures { λ r. ⌜ r ≡ all (eqb 165) (now (kept .entry)) ⌝ }
