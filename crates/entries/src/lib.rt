@@ -29,9 +29,9 @@ pub fn kind_of(e: Entry) -> u8
     match e {
         Entry::End => 0,
         Entry::Header(_, _) => 1,
-        Entry::ReferenceSequence(_, _, _) => 2,
-        Entry::ReadGroup(_, _) => 3,
-        Entry::Program(_, _) => 4,
+        Entry::ReferenceSequence(_, _, _) => format::REFERENCE_SEQUENCE,
+        Entry::ReadGroup(_, _) => format::READ_GROUP,
+        Entry::Program(_, _) => format::PROGRAM,
         Entry::Comment(_, _) => 5,
         Entry::Field(_, _, _) => 6,
     }
@@ -43,9 +43,9 @@ fn kind_size(kind: u8) -> usize
 {
     match kind {
         1 => 13,
-        2 => 21,
-        3 => 13,
-        4 => 13,
+        format::REFERENCE_SEQUENCE => 21,
+        format::READ_GROUP => 13,
+        format::PROGRAM => 13,
         5 => 13,
         6 => 11,
         _ => 0,
@@ -86,13 +86,13 @@ fn body_at(s: &[u8], at: usize, kind: u8) -> Entry
 {
     match kind {
         1 => Entry::Header(version_at(s, at + 1), little::get_u32(s, at + 9)),
-        2 => Entry::ReferenceSequence(
+        format::REFERENCE_SEQUENCE => Entry::ReferenceSequence(
             place_at(s, at + 1),
             little::get_u64(s, at + 9),
             little::get_u32(s, at + 17),
         ),
-        3 => Entry::ReadGroup(place_at(s, at + 1), little::get_u32(s, at + 9)),
-        4 => Entry::Program(place_at(s, at + 1), little::get_u32(s, at + 9)),
+        format::READ_GROUP => Entry::ReadGroup(place_at(s, at + 1), little::get_u32(s, at + 9)),
+        format::PROGRAM => Entry::Program(place_at(s, at + 1), little::get_u32(s, at + 9)),
         5 => Entry::Comment(place_at(s, at + 1), little::get_u32(s, at + 9)),
         6 => Entry::Field(s[at + 1], s[at + 2], place_at(s, at + 3)),
         _ => Entry::End,

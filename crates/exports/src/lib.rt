@@ -6,14 +6,14 @@ use roots_and_leaves::LeavesAnswer;
 ghost use mathlib.Core.Path.{_≡_};
 ghost use lib.ListN.{length};
 ghost use Rattle.format.specs.Calls.{reading, fresh, tidying, counting, keying, sizing, locating, valuing, rooting, leafing, adding};
-ghost use Rattle.carried.specs.Carrying.{carrying};
-ghost use Rattle.carry_on.specs.Answers.{carriedOf, textOf, tableOf};
+ghost use Rattle.carry_on.specs.Answers.{carriedAnswer, textLeft, tableLeft};
 ghost use Rattle.names.specs.Batch.{batching};
 ghost use Rattle.names.specs.Answers.{namesOf, resultsOf, slotsOf};
 ghost use Rattle.parser.specs.Answers.{answerOf, outputOf, checkedOf};
 ghost use Rattle.calls.specs.Answers.{countOf, keyAnswerOf, lengthAnswerOf, lineAnswerOf, valuePlaceOf};
 ghost use Rattle.roots_and_leaves.specs.Answers.{leavesAnswerOf, listOf};
-ghost use Rattle.words.specs.Words.{answerWord, checkedWord, carriedWord, leavesWord, keyWord, fieldWord, lengthWord, lineWord, lengthLeft, namesWord, namesLeft};
+ghost use Rattle.words.specs.Words.{answerWord, checkedWord, carriedWord, leavesWord, keyWord, fieldWord, lengthWord, lineWord, lengthLeft};
+ghost use Rattle.words.specs.Words.{namesWord, namesLeft};
 
 #[no_mangle]
 pub extern "C" fn sam_header_read(text: &[u8], catalogue: &mut [u8]) -> u64
@@ -40,9 +40,9 @@ pub extern "C" fn sam_header_tidy(text: &[u8], out: &mut [u8]) -> u64
 
 #[no_mangle]
 pub extern "C" fn sam_header_carry_on(text: &[u8], out: &mut [u8], table: &mut [u32]) -> u64
-    ensures answer { λ r. ⌜ r ≡ carriedWord (carriedOf (carrying (now (text .entry)) (length (now (out .entry))) (length (now (table .entry))))) ⌝ }
-    ensures wrote { λ _. ⌜ now (out .exit) ≡ outputOf (textOf (carrying (now (text .entry)) (length (now (out .entry))) (length (now (table .entry))))) (now (out .entry)) ⌝ }
-    ensures listed { λ _. ⌜ now (table .exit) ≡ outputOf (tableOf (carrying (now (text .entry)) (length (now (out .entry))) (length (now (table .entry))))) (now (table .entry)) ⌝ }
+    ensures answer { λ r. ⌜ r ≡ carriedWord (carriedAnswer (now (text .entry)) (now (out .entry)) (now (table .entry))) ⌝ }
+    ensures wrote { λ _. ⌜ now (out .exit) ≡ textLeft (now (text .entry)) (now (out .entry)) (now (table .entry)) ⌝ }
+    ensures listed { λ _. ⌜ now (table .exit) ≡ tableLeft (now (text .entry)) (now (out .entry)) (now (table .entry)) ⌝ }
 {
     match carry_on::carry_on(text, out, table) {
         Carried::Refused(n, line) => words::refusal_word(n, line),

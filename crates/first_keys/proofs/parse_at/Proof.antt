@@ -8,8 +8,8 @@ use Rattle.format.specs.Records.{line}
 use Rattle.text.specs.First.{firstLine}
 use Rattle.text.proofs.First.{first-le, first-within}
 use Rattle.text.proofs.Before.{rest}
+use Rattle.accepted.specs.First.{firstAt}
 use Rattle.record.specs.Head.{headOf}
-use Rattle.first_keys.specs.Blocks.{firstAt}
 use borrow.Author.Needs.{needs}
 use Rattle.first_keys.proofs.parse_at.Statement.{statement}
 use Rattle.first_keys.proofs.parse_at.Tie as tie
@@ -34,7 +34,6 @@ inside c =
 head-is : (c : tie.After-parse-record)
     → let a = c .before .before .before .before .before .before .args in
     c .parse-record .result ≡ headOf (line (a .strict) (firstAt (a .at) (a .text .now)))
-unfolding firstAt
 head-is c =
     let q = c .before .before .before in
     let a = q .before .before .before .args in

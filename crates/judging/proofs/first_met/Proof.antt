@@ -12,10 +12,10 @@ use Rattle.text.specs.First.{firstLine}
 use Rattle.text.specs.Stands.{Stands}
 use Rattle.text.proofs.First.{first-le, first-within, first-some}
 use Rattle.text.proofs.Before.{rest}
+use Rattle.accepted.proofs.Ahead.{ahead-stands}
 use Rattle.record.specs.Head.{headOf}
 use Rattle.key_index.specs.Told.{isMet}
 use Rattle.key_index.specs.Keyed.{KeyInText}
-use Rattle.line_keys.proofs.Ahead.{ahead-stands}
 use Rattle.keys_held.proofs.Keyed.{head-placed, meeting-none}
 use Rattle.judging.specs.Blocks.{clashOf}
 use Rattle.judging.proofs.Blocks.{clash-none, clash-here, clash-met, clash-on}
