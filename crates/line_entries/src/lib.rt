@@ -2,12 +2,13 @@
 use entries::Entry;
 use entries::Place;
 use format::Kind;
+use heads::Form;
 use heads::KeyValues;
 use record::Head;
 ghost use mathlib.Core.Path.{_≡_};
 ghost use mathlib.Core.Bool.{true, false};
 ghost use Prim.Native.Nat.{_≤_, _<_, _+_, _^_};
-ghost use lib.ListN.{length, drop, getD};
+ghost use lib.ListN.{length, drop};
 ghost use Rattle.format.specs.Bytes.{starts};
 ghost use Rattle.format.specs.Records.{line};
 ghost use Rattle.format.specs.declared.Kind.the-variants.{Comment};
@@ -16,7 +17,8 @@ ghost use Rattle.accepted.specs.Read.{isRead};
 ghost use Rattle.record.specs.Head.{headOf};
 ghost use Rattle.other_fields.specs.Run.{fieldsFrom};
 ghost use Rattle.other_fields.specs.Tables.{Walkable};
-ghost use Rattle.heads.specs.Found.{kindBy, isComment};
+ghost use Rattle.heads.specs.Found.{isComment};
+ghost use Rattle.heads.specs.Form.{LineOf};
 ghost use Rattle.heads.specs.Keys.{keysIn};
 ghost use Rattle.entries.specs.Entries.{entrySize, FitsEntry};
 ghost use Rattle.line_entries.specs.Line.{lineBytes};
@@ -123,10 +125,8 @@ fn own_size(kind: Kind) -> usize
 
 // The own entry of an accepted line, by its keys; its number is `number`.
 fn line_entry(kind: Kind, src: &[u8], at: usize, number: u32, keys: KeyValues) -> Entry
-    requires { ⌜ isRead (line false (record { at = at; bytes = now src })) ≡ true ⌝ }
-    requires { ⌜ kindBy (getD (now src) 1 0) ≡ kind ⌝ }
+    requires { ⌜ LineOf kind at (now src) ⌝ }
     requires { ⌜ keys ≡ keysIn kind (fieldsFrom at (now src) 3) ⌝ }
-    requires { ⌜ at + length (now src) ≤ 16777216 ⌝ }
     ensures { λ r. ⌜ r ≡ ownEntry number (headOf (line false (record { at = at; bytes = now (src .entry) }))) ⌝ }
 {
     own_entry(heads::head_of(kind, src, at, keys), number)
@@ -178,10 +178,9 @@ fn put_line(
     once: bool,
     tables: &[u32],
 ) -> usize
-    requires { ⌜ isRead (line false (record { at = at; bytes = now src })) ≡ true ⌝ }
-    requires { ⌜ (kindBy (getD (now src) 1 0) ≡ kind) × (isComment kind ≡ false) ⌝ }
+    requires { ⌜ LineOf kind at (now src) ⌝ }
+    requires { ⌜ isComment kind ≡ false ⌝ }
     requires { ⌜ Walkable once at (now src) (now tables) ⌝ }
-    requires { ⌜ at + length (now src) ≤ 16777216 ⌝ }
     requires { ⌜ o + length (lineBytes false number at (now src)) ≤ length (now out) ⌝ }
     ensures next { λ r. ⌜ r ≡ o + length (lineBytes false number at (now (src .entry))) ⌝ }
     ensures wrote { λ _. ⌜ now (out .exit) ≡ over (now (out .entry)) o (lineBytes false number at (now (src .entry))) ⌝ }
@@ -193,9 +192,8 @@ fn put_line(
 
 // Writes the entries of a line in which a tag may stand twice: its tables are made first.
 fn put_noted(out: &mut [u8], o: usize, kind: Kind, src: &[u8], at: usize, number: u32) -> usize
-    requires { ⌜ isRead (line false (record { at = at; bytes = now src })) ≡ true ⌝ }
-    requires { ⌜ (kindBy (getD (now src) 1 0) ≡ kind) × (isComment kind ≡ false) ⌝ }
-    requires { ⌜ at + length (now src) ≤ 16777216 ⌝ }
+    requires { ⌜ LineOf kind at (now src) ⌝ }
+    requires { ⌜ isComment kind ≡ false ⌝ }
     requires { ⌜ o + length (lineBytes false number at (now src)) ≤ length (now out) ⌝ }
     ensures next { λ r. ⌜ r ≡ o + length (lineBytes false number at (now (src .entry))) ⌝ }
     ensures wrote { λ _. ⌜ now (out .exit) ≡ over (now (out .entry)) o (lineBytes false number at (now (src .entry))) ⌝ }
@@ -207,9 +205,7 @@ fn put_noted(out: &mut [u8], o: usize, kind: Kind, src: &[u8], at: usize, number
 
 // Writes the entry of a comment.
 fn put_comment(out: &mut [u8], o: usize, src: &[u8], at: usize, number: u32) -> usize
-    requires { ⌜ isRead (line false (record { at = at; bytes = now src })) ≡ true ⌝ }
-    requires { ⌜ kindBy (getD (now src) 1 0) ≡ Comment ⌝ }
-    requires { ⌜ at + length (now src) ≤ 16777216 ⌝ }
+    requires { ⌜ LineOf Comment at (now src) ⌝ }
     requires { ⌜ o + length (lineBytes false number at (now src)) ≤ length (now out) ⌝ }
     ensures next { λ r. ⌜ r ≡ o + length (lineBytes false number at (now (src .entry))) ⌝ }
     ensures wrote { λ _. ⌜ now (out .exit) ≡ over (now (out .entry)) o (lineBytes false number at (now (src .entry))) ⌝ }
@@ -236,14 +232,11 @@ pub fn put_record(
     ensures next { λ r. ⌜ r ≡ o + length (lineBytes strict number at (now (src .entry))) ⌝ }
     ensures wrote { λ _. ⌜ now (out .exit) ≡ over (now (out .entry)) o (lineBytes strict number at (now (src .entry))) ⌝ }
 {
-    let kind = heads::kind_of(src);
-    if heads::is_comment(kind) {
-        return put_comment(out, o, src, at, number);
+    match heads::form_of(src, at, strict) {
+        Form::Comment => put_comment(out, o, src, at, number),
+        Form::Once(kind) => put_line(out, o, kind, src, at, number, true, &[]),
+        Form::Repeating(kind) => put_noted(out, o, kind, src, at, number),
     }
-    if other_fields::is_once(src, at, strict) {
-        return put_line(out, o, kind, src, at, number, true, &[]);
-    }
-    put_noted(out, o, kind, src, at, number)
 }
 
 // Whether the catalogue has the entries of an accepted line's other fields at `o`. The same walk meets the keys.
@@ -294,10 +287,9 @@ fn same_line(
     once: bool,
     tables: &[u32],
 ) -> Matched
-    requires { ⌜ isRead (line false (record { at = at; bytes = now src })) ≡ true ⌝ }
-    requires { ⌜ (kindBy (getD (now src) 1 0) ≡ kind) × (isComment kind ≡ false) ⌝ }
+    requires { ⌜ LineOf kind at (now src) ⌝ }
+    requires { ⌜ isComment kind ≡ false ⌝ }
     requires { ⌜ Walkable once at (now src) (now tables) ⌝ }
-    requires { ⌜ at + length (now src) ≤ 16777216 ⌝ }
     requires { ⌜ o ≤ length (now catalogue) ⌝ }
     ensures { λ r. ⌜ r ≡ matched o (drop o (now (catalogue .entry))) (lineBytes false number at (now (src .entry))) ⌝ }
 {
@@ -317,9 +309,8 @@ fn same_line(
 
 // The same of a line in which a tag may stand twice: its tables are made first.
 fn same_noted(catalogue: &[u8], o: usize, kind: Kind, src: &[u8], at: usize, number: u32) -> Matched
-    requires { ⌜ isRead (line false (record { at = at; bytes = now src })) ≡ true ⌝ }
-    requires { ⌜ (kindBy (getD (now src) 1 0) ≡ kind) × (isComment kind ≡ false) ⌝ }
-    requires { ⌜ at + length (now src) ≤ 16777216 ⌝ }
+    requires { ⌜ LineOf kind at (now src) ⌝ }
+    requires { ⌜ isComment kind ≡ false ⌝ }
     requires { ⌜ o ≤ length (now catalogue) ⌝ }
     ensures { λ r. ⌜ r ≡ matched o (drop o (now (catalogue .entry))) (lineBytes false number at (now (src .entry))) ⌝ }
 {
@@ -330,9 +321,7 @@ fn same_noted(catalogue: &[u8], o: usize, kind: Kind, src: &[u8], at: usize, num
 
 // The same of a comment.
 fn same_comment(catalogue: &[u8], o: usize, src: &[u8], at: usize, number: u32) -> Matched
-    requires { ⌜ isRead (line false (record { at = at; bytes = now src })) ≡ true ⌝ }
-    requires { ⌜ kindBy (getD (now src) 1 0) ≡ Comment ⌝ }
-    requires { ⌜ at + length (now src) ≤ 16777216 ⌝ }
+    requires { ⌜ LineOf Comment at (now src) ⌝ }
     requires { ⌜ o ≤ length (now catalogue) ⌝ }
     ensures { λ r. ⌜ r ≡ matched o (drop o (now (catalogue .entry))) (lineBytes false number at (now (src .entry))) ⌝ }
 {
@@ -357,12 +346,9 @@ pub fn same_record(
     requires { ⌜ o ≤ length (now catalogue) ⌝ }
     ensures { λ r. ⌜ r ≡ matched o (drop o (now (catalogue .entry))) (lineBytes strict number at (now (src .entry))) ⌝ }
 {
-    let kind = heads::kind_of(src);
-    if heads::is_comment(kind) {
-        return same_comment(catalogue, o, src, at, number);
+    match heads::form_of(src, at, strict) {
+        Form::Comment => same_comment(catalogue, o, src, at, number),
+        Form::Once(kind) => same_line(catalogue, o, kind, src, at, number, true, &[]),
+        Form::Repeating(kind) => same_noted(catalogue, o, kind, src, at, number),
     }
-    if other_fields::is_once(src, at, strict) {
-        return same_line(catalogue, o, kind, src, at, number, true, &[]);
-    }
-    same_noted(catalogue, o, kind, src, at, number)
 }

@@ -20,17 +20,17 @@ use Rattle.line_entries.proofs.put_comment.Tie as tie
 bytes : (c : tie.After-line-entry) → (let a = c .before .before .before .before .before .args in lineBytes false (a .number) (a .at) (a .src .now) ≡ entryBytes (c .line-entry .result))
 bytes c =
     let s = c .before .before .before .before .before in
-    comment-bytes (s .args .number) (s .args .at) (s .args .src .now) (s .pre .0) (s .pre .1 .0) ∙ append-nil _ ∙ ap entryBytes (sym (c .line-entry .ensures))
+    comment-bytes (s .args .number) (s .args .at) (s .args .src .now) (s .pre .0 .accepted) (s .pre .0 .kind) ∙ append-nil _ ∙ ap entryBytes (sym (c .line-entry .ensures))
 
 new-requires : tie.Need-new-requires
 new-requires c κs = search needs
 
 line-entry-requires : tie.Need-line-entry-requires
 unfolding keysIn keysFrom lastKey lastNumber orValue
-line-entry-requires c κs = let s = c .before .before .before .before in (s .pre .0, (s .pre .1 .0, (c .new .ensures, s .pre .1 .1 .0)))
+line-entry-requires c κs = let s = c .before .before .before .before in (s .pre .0, c .new .ensures)
 
 put-entry-requires : tie.Need-put-entry-requires
-put-entry-requires c κs = omega (arith, ap length (bytes c), entry-length (c .line-entry .result), c .before .before .before .before .before .pre .1 .1 .1)
+put-entry-requires c κs = omega (arith, ap length (bytes c), entry-length (c .line-entry .result), c .before .before .before .before .before .pre .1)
 
 same-length : tie.Need-same-length
 same-length c = search needs

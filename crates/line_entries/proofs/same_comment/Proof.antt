@@ -22,21 +22,21 @@ use Rattle.line_entries.proofs.same_comment.Tie as tie
 bytes : (c : tie.After-line-entry) → (let a = c .before .before .before .before .args in lineBytes false (a .number) (a .at) (a .src .now) ≡ entryBytes (c .line-entry .result))
 bytes c =
     let s = c .before .before .before .before in
-    comment-bytes (s .args .number) (s .args .at) (s .args .src .now) (s .pre .0) (s .pre .1 .0) ∙ append-nil _ ∙ ap entryBytes (sym (c .line-entry .ensures))
+    comment-bytes (s .args .number) (s .args .at) (s .args .src .now) (s .pre .0 .accepted) (s .pre .0 .kind) ∙ append-nil _ ∙ ap entryBytes (sym (c .line-entry .ensures))
 
 -- thirteen of them
 thirteen : (c : tie.After-line-entry) → (let a = c .before .before .before .before .args in length (lineBytes false (a .number) (a .at) (a .src .now)) ≡ 13)
 thirteen c =
     let s = c .before .before .before .before in
     let a = s .args in
-    omega (arith, entry-then (own (a .number) (a .at) (a .src .now) (s .pre .0)) _ _ (comment-bytes (a .number) (a .at) (a .src .now) (s .pre .0) (s .pre .1 .0)), own-size (a .number) (a .at) (a .src .now) (s .pre .0) Comment (s .pre .1 .0))
+    omega (arith, entry-then (own (a .number) (a .at) (a .src .now) (s .pre .0 .accepted)) _ _ (comment-bytes (a .number) (a .at) (a .src .now) (s .pre .0 .accepted) (s .pre .0 .kind)), own-size (a .number) (a .at) (a .src .now) (s .pre .0 .accepted) Comment (s .pre .0 .kind))
 
 new-requires : tie.Need-new-requires
 new-requires c κs = search needs
 
 line-entry-requires : tie.Need-line-entry-requires
 unfolding keysIn keysFrom lastKey lastNumber orValue
-line-entry-requires c κs = let s = c .before .before .before in (s .pre .0, (s .pre .1 .0, (c .new .ensures, s .pre .1 .1 .0)))
+line-entry-requires c κs = let s = c .before .before .before in (s .pre .0, c .new .ensures)
 
 same-entry-requires : tie.Need-same-entry-requires
 same-entry-requires c κs = search needs
