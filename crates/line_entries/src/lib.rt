@@ -190,19 +190,6 @@ fn put_line(
     met.next
 }
 
-// Writes the entries of a line in which a tag may stand twice: its tables are made first.
-fn put_noted(out: &mut [u8], o: usize, kind: Kind, src: &[u8], at: usize, number: u32) -> usize
-    requires { ⌜ LineOf kind at (now src) ⌝ }
-    requires { ⌜ isComment kind ≡ false ⌝ }
-    requires { ⌜ o + length (lineBytes false number at (now src)) ≤ length (now out) ⌝ }
-    ensures next { λ r. ⌜ r ≡ o + length (lineBytes false number at (now (src .entry))) ⌝ }
-    ensures wrote { λ _. ⌜ now (out .exit) ≡ over (now (out .entry)) o (lineBytes false number at (now (src .entry))) ⌝ }
-{
-    let mut tables = [0u32; 6448];
-    other_fields::note_tags(src, at, &mut tables);
-    put_line(out, o, kind, src, at, number, false, &tables)
-}
-
 // Writes the entry of a comment.
 fn put_comment(out: &mut [u8], o: usize, src: &[u8], at: usize, number: u32) -> usize
     requires { ⌜ LineOf Comment at (now src) ⌝ }
@@ -235,7 +222,11 @@ pub fn put_record(
     match heads::form_of(src, at, strict) {
         Form::Comment => put_comment(out, o, src, at, number),
         Form::Once(kind) => put_line(out, o, kind, src, at, number, true, &[]),
-        Form::Repeating(kind) => put_noted(out, o, kind, src, at, number),
+        Form::Repeating(kind) => {
+            let mut tables = [0u32; 6448];
+            other_fields::note_tags(src, at, &mut tables);
+            put_line(out, o, kind, src, at, number, false, &tables)
+        }
     }
 }
 
@@ -307,18 +298,6 @@ fn same_line(
     Matched::Differs
 }
 
-// The same of a line in which a tag may stand twice: its tables are made first.
-fn same_noted(catalogue: &[u8], o: usize, kind: Kind, src: &[u8], at: usize, number: u32) -> Matched
-    requires { ⌜ LineOf kind at (now src) ⌝ }
-    requires { ⌜ isComment kind ≡ false ⌝ }
-    requires { ⌜ o ≤ length (now catalogue) ⌝ }
-    ensures { λ r. ⌜ r ≡ matched o (drop o (now (catalogue .entry))) (lineBytes false number at (now (src .entry))) ⌝ }
-{
-    let mut tables = [0u32; 6448];
-    other_fields::note_tags(src, at, &mut tables);
-    same_line(catalogue, o, kind, src, at, number, false, &tables)
-}
-
 // The same of a comment.
 fn same_comment(catalogue: &[u8], o: usize, src: &[u8], at: usize, number: u32) -> Matched
     requires { ⌜ LineOf Comment at (now src) ⌝ }
@@ -349,6 +328,10 @@ pub fn same_record(
     match heads::form_of(src, at, strict) {
         Form::Comment => same_comment(catalogue, o, src, at, number),
         Form::Once(kind) => same_line(catalogue, o, kind, src, at, number, true, &[]),
-        Form::Repeating(kind) => same_noted(catalogue, o, kind, src, at, number),
+        Form::Repeating(kind) => {
+            let mut tables = [0u32; 6448];
+            other_fields::note_tags(src, at, &mut tables);
+            same_line(catalogue, o, kind, src, at, number, false, &tables)
+        }
     }
 }

@@ -161,19 +161,6 @@ fn put_once(out: &mut [u8], o: usize, kind: Kind, src: &[u8], at: usize) -> usiz
     put_parts(out, o, kind, src, at, true, &[])
 }
 
-// Writes the record of a line in which a tag may stand twice: its tables are made first.
-fn put_noted(out: &mut [u8], o: usize, kind: Kind, src: &[u8], at: usize) -> usize
-    requires { ⌜ LineOf kind at (now src) ⌝ }
-    requires { ⌜ isComment kind ≡ false ⌝ }
-    requires { ⌜ o + length (lineText (line false (record { at = at; bytes = now src }))) ≤ length (now out) ⌝ }
-    ensures next { λ r. ⌜ r ≡ o + length (lineText (line false (record { at = at; bytes = now (src .entry) }))) ⌝ }
-    ensures wrote { λ _. ⌜ now (out .exit) ≡ over (now (out .entry)) o (lineText (line false (record { at = at; bytes = now (src .entry) }))) ⌝ }
-{
-    let mut tables = [0u32; 6448];
-    other_fields::note_tags(src, at, &mut tables);
-    put_parts(out, o, kind, src, at, false, &tables)
-}
-
 // Writes the record of an accepted line, which stands at the offset `at` without its ending, and answers the place after it.
 pub fn put_record(out: &mut [u8], o: usize, src: &[u8], at: usize, strict: bool) -> usize
     requires { ⌜ isRead (line strict (record { at = at; bytes = now src })) ≡ true ⌝ }
@@ -185,7 +172,11 @@ pub fn put_record(out: &mut [u8], o: usize, src: &[u8], at: usize, strict: bool)
     match heads::form_of(src, at, strict) {
         Form::Comment => put_whole(out, o, src),
         Form::Once(kind) => put_once(out, o, kind, src, at),
-        Form::Repeating(kind) => put_noted(out, o, kind, src, at),
+        Form::Repeating(kind) => {
+            let mut tables = [0u32; 6448];
+            other_fields::note_tags(src, at, &mut tables);
+            put_parts(out, o, kind, src, at, false, &tables)
+        }
     }
 }
 

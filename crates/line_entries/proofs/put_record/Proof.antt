@@ -10,6 +10,7 @@ use Rattle.other_fields.proofs.Start.{once-walkable}
 use Rattle.heads.specs.Form.{IsForm}
 use Rattle.heads.specs.declared.Form.{Form}
 use Rattle.heads.proofs.Lax.{line-lax}
+use Rattle.heads.proofs.Noting.{noting, noted-line}
 use Rattle.line_entries.specs.Line.{recordBytes, lineBytes}
 use Rattle.line_entries.proofs.put_record.Statement.{statement}
 use Rattle.line_entries.proofs.put_record.Tie as tie
@@ -55,13 +56,30 @@ put-line-requires c κs =
 enum-known-kind-2 : tie.Need-enum-known-kind-2
 enum-known-kind-2 c = search needs
 
-put-noted-requires : tie.Need-put-noted-requires
+slice-aggregate-note-tags : tie.Need-slice-aggregate-note-tags
+slice-aggregate-note-tags c = search needs
+
+note-tags-requires : tie.Need-note-tags-requires
 unfolding IsForm
-put-noted-requires c κs =
+note-tags-requires c κs =
     let k = c .before .before in
     let f = k .before .before in
+    let a = f .before .before .before .args in
     let i = formed f _ (k .kind2 .given .1) in
-    (i .0, (i .1, room (f .before .before .before)))
+    noting (k .kind2 .given .0 .0) (a .at) (a .src .now) (i .0) (i .1)
+
+slice-aggregate-put-line-2 : tie.Need-slice-aggregate-put-line-2
+slice-aggregate-put-line-2 c = search needs
+
+put-line-requires-2 : tie.Need-put-line-requires-2
+unfolding IsForm
+put-line-requires-2 c κs =
+    let n = c .before .before .before in
+    let k = n .before .before .before in
+    let f = k .before .before in
+    let s = f .before .before .before in
+    let i = formed f _ (k .kind2 .given .1) in
+    (i .0, (i .1, (noted-line (k .kind2 .given .0 .0) (s .args .at) (s .args .src .now) (i .0) (i .1) _ (n .note-tags .ensures), room s)))
 
 same-length : tie.Need-same-length
 same-length c = search needs
@@ -87,8 +105,9 @@ same-length-3 c = search needs
 returns-3 : tie.Need-returns-3
 returns-3 c =
     let p = c .before .before in
-    let s = p .before .before .before .before .before .before .before .before in
-    (p .put-noted .ensures .0 ∙ ap (λ l. s .args .o + length l) (sym (same s)), p .put-noted .ensures .1 ∙ ap (over (s .args .out .now) (s .args .o)) (sym (same s)))
+    let n = p .before .before .before .before in
+    let s = n .before .before .before .before .before .before .before .before in
+    (p .put-line2 .ensures .0 ∙ ap (λ l. s .args .o + length l) (sym (same s)), p .put-line2 .ensures .1 ∙ ap (over (s .args .out .now) (s .args .o)) (sym (same s)))
 
 pub put-record-spec : {M : Type 1} → statement M
 put-record-spec =
@@ -101,7 +120,10 @@ put-record-spec =
     slice-aggregate-put-line
     put-line-requires
     enum-known-kind-2
-    put-noted-requires
+    slice-aggregate-note-tags
+    note-tags-requires
+    slice-aggregate-put-line-2
+    put-line-requires-2
     same-length
     returns
     same-length-2

@@ -8,6 +8,7 @@ use Rattle.other_fields.proofs.Start.{once-walkable}
 use Rattle.heads.specs.Form.{IsForm}
 use Rattle.heads.specs.declared.Form.{Form}
 use Rattle.heads.proofs.Lax.{line-lax}
+use Rattle.heads.proofs.Noting.{noting, noted-line}
 use Rattle.line_entries.specs.Line.{recordBytes, lineBytes}
 use Rattle.line_entries.specs.Matched.{matched}
 use Rattle.line_entries.proofs.same_record.Statement.{statement}
@@ -55,13 +56,30 @@ same-line-requires c κs =
 enum-known-kind-2 : tie.Need-enum-known-kind-2
 enum-known-kind-2 c = search needs
 
-same-noted-requires : tie.Need-same-noted-requires
+slice-aggregate-note-tags : tie.Need-slice-aggregate-note-tags
+slice-aggregate-note-tags c = search needs
+
+note-tags-requires : tie.Need-note-tags-requires
 unfolding IsForm
-same-noted-requires c κs =
-    let k = c .before in
+note-tags-requires c κs =
+    let k = c .before .before in
     let f = k .before .before in
+    let a = f .before .before .before .args in
     let i = formed f _ (k .kind2 .given .1) in
-    (i .0, (i .1, f .before .before .before .pre .1 .1))
+    noting (k .kind2 .given .0 .0) (a .at) (a .src .now) (i .0) (i .1)
+
+slice-aggregate-same-line-2 : tie.Need-slice-aggregate-same-line-2
+slice-aggregate-same-line-2 c = search needs
+
+same-line-requires-2 : tie.Need-same-line-requires-2
+unfolding IsForm
+same-line-requires-2 c κs =
+    let n = c .before .before in
+    let k = n .before .before .before in
+    let f = k .before .before in
+    let s = f .before .before .before in
+    let i = formed f _ (k .kind2 .given .1) in
+    (i .0, (i .1, (noted-line (k .kind2 .given .0 .0) (s .args .at) (s .args .src .now) (i .0) (i .1) _ (n .note-tags .ensures), s .pre .1 .1)))
 
 returns : tie.Need-returns
 returns c = c .same-comment .ensures ∙ same (c .before .before .before .before .before .before)
@@ -70,7 +88,9 @@ returns-2 : tie.Need-returns-2
 returns-2 c = c .same-line .ensures ∙ same (c .before .before .before .before .before .before .before .before)
 
 returns-3 : tie.Need-returns-3
-returns-3 c = c .same-noted .ensures ∙ same (c .before .before .before .before .before .before .before)
+returns-3 c =
+    let n = c .before .before .before in
+    c .same-line2 .ensures ∙ same (n .before .before .before .before .before .before .before .before)
 
 pub same-record-spec : {M : Type 1} → statement M
 same-record-spec =
@@ -83,7 +103,10 @@ same-record-spec =
     slice-aggregate-same-line
     same-line-requires
     enum-known-kind-2
-    same-noted-requires
+    slice-aggregate-note-tags
+    note-tags-requires
+    slice-aggregate-same-line-2
+    same-line-requires-2
     returns
     returns-2
     returns-3)

@@ -10,6 +10,7 @@ use Rattle.format.specs.Records.{line}
 use Rattle.heads.specs.Form.{IsForm}
 use Rattle.heads.specs.declared.Form.{Form}
 use Rattle.heads.proofs.Lax.{line-lax}
+use Rattle.heads.proofs.Noting.{noting, noted-line}
 use Rattle.writer.specs.Line.{lineText}
 use Rattle.parts.proofs.Wrote.{Wrote}
 use Rattle.writer.proofs.Whole.{comment-text}
@@ -61,13 +62,30 @@ put-once-requires c κs =
 enum-known-kind-2 : tie.Need-enum-known-kind-2
 enum-known-kind-2 c = search needs
 
-put-noted-requires : tie.Need-put-noted-requires
+slice-aggregate-note-tags : tie.Need-slice-aggregate-note-tags
+slice-aggregate-note-tags c = search needs
+
+note-tags-requires : tie.Need-note-tags-requires
 unfolding IsForm
-put-noted-requires c κs =
+note-tags-requires c κs =
     let k = c .before .before in
     let f = k .before .before in
+    let a = f .before .before .before .args in
     let i = formed f _ (k .kind2 .given .1) in
-    (i .0, (i .1, room (f .before .before .before)))
+    noting (k .kind2 .given .0 .0) (a .at) (a .src .now) (i .0) (i .1)
+
+slice-aggregate-put-parts : tie.Need-slice-aggregate-put-parts
+slice-aggregate-put-parts c = search needs
+
+put-parts-requires : tie.Need-put-parts-requires
+unfolding IsForm
+put-parts-requires c κs =
+    let n = c .before .before .before in
+    let k = n .before .before .before in
+    let f = k .before .before in
+    let s = f .before .before .before in
+    let i = formed f _ (k .kind2 .given .1) in
+    (i .0, (i .1, (noted-line (k .kind2 .given .0 .0) (s .args .at) (s .args .src .now) (i .0) (i .1) _ (n .note-tags .ensures), room s)))
 
 same-length : tie.Need-same-length
 same-length c = search needs
@@ -94,8 +112,9 @@ same-length-3 c = search needs
 returns-3 : tie.Need-returns-3
 returns-3 c =
     let w = c .before .before in
-    let s = w .before .before .before .before .before .before .before .before in
-    subst (Wrote (s .args .out .now) (s .args .o) (w .put-noted .last .0) (w .put-noted .result)) (sym (ap lineText (same s))) (w .put-noted .ensures)
+    let n = w .before .before .before .before in
+    let s = n .before .before .before .before .before .before .before .before in
+    subst (Wrote (s .args .out .now) (s .args .o) (w .put-parts .last .0) (w .put-parts .result)) (sym (ap lineText (same s))) (w .put-parts .ensures)
 
 pub put-record-spec : {M : Type 1} → statement M
 put-record-spec =
@@ -107,7 +126,10 @@ put-record-spec =
     enum-known-kind
     put-once-requires
     enum-known-kind-2
-    put-noted-requires
+    slice-aggregate-note-tags
+    note-tags-requires
+    slice-aggregate-put-parts
+    put-parts-requires
     same-length
     returns
     same-length-2
