@@ -20,7 +20,7 @@ ghost use Rattle.other_fields.specs.Tables.{Walkable};
 ghost use Rattle.heads.specs.Found.{isComment};
 ghost use Rattle.heads.specs.Form.{LineOf};
 ghost use Rattle.heads.specs.Keys.{keysIn};
-ghost use Rattle.entries.specs.Entries.{entrySize, FitsEntry};
+ghost use Rattle.entries.specs.Entries.{entrySize, entryBytes, FitsEntry};
 ghost use Rattle.line_entries.specs.Line.{lineBytes};
 ghost use Rattle.line_entries.specs.Parts.{ownEntry, othersOf, sizeOfHead, ownSize, fieldBytes};
 ghost use Rattle.line_entries.specs.Matched.{metIn, comparedOf, matched};
@@ -132,6 +132,14 @@ fn line_entry(kind: Kind, src: &[u8], at: usize, number: u32, keys: KeyValues) -
     own_entry(heads::head_of(kind, src, at, keys), number)
 }
 
+// The entry of a comment.
+fn comment_entry(src: &[u8], at: usize, number: u32) -> Entry
+    requires { ⌜ LineOf Comment at (now src) ⌝ }
+    ensures { λ r. ⌜ entryBytes r ≡ lineBytes false number at (now (src .entry)) ⌝ }
+{
+    line_entry(Kind::Comment, src, at, number, KeyValues::new())
+}
+
 // Writes the entries of an accepted line's other fields from `o` on. The same walk meets the keys.
 fn put_fields(
     out: &mut [u8],
@@ -190,20 +198,6 @@ fn put_line(
     met.next
 }
 
-// Writes the entry of a comment.
-fn put_comment(out: &mut [u8], o: usize, src: &[u8], at: usize, number: u32) -> usize
-    requires { ⌜ LineOf Comment at (now src) ⌝ }
-    requires { ⌜ o + length (lineBytes false number at (now src)) ≤ length (now out) ⌝ }
-    ensures next { λ r. ⌜ r ≡ o + length (lineBytes false number at (now (src .entry))) ⌝ }
-    ensures wrote { λ _. ⌜ now (out .exit) ≡ over (now (out .entry)) o (lineBytes false number at (now (src .entry))) ⌝ }
-{
-    entries_out::put_entry(
-        out,
-        o,
-        line_entry(Kind::Comment, src, at, number, KeyValues::new()),
-    )
-}
-
 // Writes the entries of the accepted line `src`, the line `number`, which starts at the offset `at`, from `o` on, and gives the place after them.
 pub fn put_record(
     out: &mut [u8],
@@ -220,7 +214,9 @@ pub fn put_record(
     ensures wrote { λ _. ⌜ now (out .exit) ≡ over (now (out .entry)) o (lineBytes strict number at (now (src .entry))) ⌝ }
 {
     match heads::form_of(src, at, strict) {
-        Form::Comment => put_comment(out, o, src, at, number),
+        Form::Comment => {
+            entries_out::put_entry(out, o, comment_entry(src, at, number))
+        }
         Form::Once(kind) => put_line(out, o, kind, src, at, number, true, &[]),
         Form::Repeating(kind) => {
             let mut tables = [0u32; 6448];
@@ -298,19 +294,6 @@ fn same_line(
     Matched::Differs
 }
 
-// The same of a comment.
-fn same_comment(catalogue: &[u8], o: usize, src: &[u8], at: usize, number: u32) -> Matched
-    requires { ⌜ LineOf Comment at (now src) ⌝ }
-    requires { ⌜ o ≤ length (now catalogue) ⌝ }
-    ensures { λ r. ⌜ r ≡ matched o (drop o (now (catalogue .entry))) (lineBytes false number at (now (src .entry))) ⌝ }
-{
-    let e = line_entry(Kind::Comment, src, at, number, KeyValues::new());
-    if entries_same::same_entry(catalogue, o, e) {
-        return Matched::Upto(o + 13);
-    }
-    Matched::Differs
-}
-
 // Whether the catalogue has the entries of the accepted line `src`, the line `number`, which starts at the offset `at`, at `o`, and then the place after them.
 pub fn same_record(
     catalogue: &[u8],
@@ -326,7 +309,12 @@ pub fn same_record(
     ensures { λ r. ⌜ r ≡ matched o (drop o (now (catalogue .entry))) (lineBytes strict number at (now (src .entry))) ⌝ }
 {
     match heads::form_of(src, at, strict) {
-        Form::Comment => same_comment(catalogue, o, src, at, number),
+        Form::Comment => {
+            if entries_same::same_entry(catalogue, o, comment_entry(src, at, number)) {
+                return Matched::Upto(o + 13);
+            }
+            Matched::Differs
+        }
         Form::Once(kind) => same_line(catalogue, o, kind, src, at, number, true, &[]),
         Form::Repeating(kind) => {
             let mut tables = [0u32; 6448];

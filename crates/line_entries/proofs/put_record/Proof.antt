@@ -11,6 +11,7 @@ use Rattle.heads.specs.Form.{IsForm}
 use Rattle.heads.specs.declared.Form.{Form}
 use Rattle.heads.proofs.Lax.{line-lax}
 use Rattle.heads.proofs.Noting.{noting, noted-line}
+use Rattle.entries.proofs.Written.{entry-length}
 use Rattle.line_entries.specs.Line.{recordBytes, lineBytes}
 use Rattle.line_entries.proofs.put_record.Statement.{statement}
 use Rattle.line_entries.proofs.put_record.Tie as tie
@@ -31,12 +32,13 @@ form-of-requires c κs = search needs
 enum-told : tie.Need-enum-told
 enum-told c = search needs
 
-put-comment-requires : tie.Need-put-comment-requires
+comment-entry-requires : tie.Need-comment-entry-requires
 unfolding IsForm
-put-comment-requires c κs =
-    let e = c .before in
-    let f = e .before .before in
-    (formed f _ (e .enum-told .given .1), room (f .before .before .before))
+comment-entry-requires c κs = let e = c .before in formed (e .before .before) _ (e .enum-told .given .1)
+
+put-entry-requires : tie.Need-put-entry-requires
+put-entry-requires c κs =
+    omega (arith, ap length (c .comment-entry .ensures), entry-length (c .comment-entry .result), room (c .before .before .before .before .before .before .before))
 
 enum-known-kind : tie.Need-enum-known-kind
 enum-known-kind c = search needs
@@ -87,8 +89,10 @@ same-length c = search needs
 returns : tie.Need-returns
 returns c =
     let p = c .before .before in
-    let s = p .before .before .before .before .before .before .before in
-    (p .put-comment .ensures .0 ∙ ap (λ l. s .args .o + length l) (sym (same s)), p .put-comment .ensures .1 ∙ ap (over (s .args .out .now) (s .args .o)) (sym (same s)))
+    let e = p .before in
+    let s = e .before .before .before .before .before .before .before in
+    let w = e .comment-entry .ensures ∙ sym (same s) in
+    (omega (arith, p .put-entry .ensures .0, ap length w, entry-length (e .comment-entry .result)), p .put-entry .ensures .1 ∙ ap (over (s .args .out .now) (s .args .o)) w)
 
 same-length-2 : tie.Need-same-length-2
 same-length-2 c = search needs
@@ -115,7 +119,8 @@ put-record-spec =
     (tie.spec
     form-of-requires
     enum-told
-    put-comment-requires
+    comment-entry-requires
+    put-entry-requires
     enum-known-kind
     slice-aggregate-put-line
     put-line-requires

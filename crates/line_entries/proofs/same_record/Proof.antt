@@ -2,8 +2,10 @@
 use Prim.Native.Nat.{_+_, _≤_}
 use mathlib.Core.Path.{_≡_, sym, ap, subst, _∙_}
 use mathlib.Core.Bool.{false}
+use native.Mathlib.Omega.{arith}
 use lib.ListN.{length, drop}
 use borrow.Author.Needs.{needs}
+use Rattle.format.specs.Bytes.{starts}
 use Rattle.other_fields.proofs.Start.{once-walkable}
 use Rattle.heads.specs.Form.{IsForm}
 use Rattle.heads.specs.declared.Form.{Form}
@@ -11,6 +13,8 @@ use Rattle.heads.proofs.Lax.{line-lax}
 use Rattle.heads.proofs.Noting.{noting, noted-line}
 use Rattle.line_entries.specs.Line.{recordBytes, lineBytes}
 use Rattle.line_entries.specs.Matched.{matched}
+use Rattle.line_entries.proofs.Starts.{match-there, match-gone}
+use Rattle.line_entries.proofs.Told.{comment-long}
 use Rattle.line_entries.proofs.same_record.Statement.{statement}
 use Rattle.line_entries.proofs.same_record.Tie as tie
 
@@ -32,11 +36,34 @@ form-of-requires c κs = search needs
 enum-told : tie.Need-enum-told
 enum-told c = search needs
 
-same-comment-requires : tie.Need-same-comment-requires
+comment-entry-requires : tie.Need-comment-entry-requires
 unfolding IsForm
-same-comment-requires c κs =
-    let f = c .before .before in
-    (formed f _ (c .enum-told .given .1), f .before .before .before .pre .1 .1)
+comment-entry-requires c κs = formed (c .before .before) _ (c .enum-told .given .1)
+
+same-entry-requires : tie.Need-same-entry-requires
+same-entry-requires c κs = c .before .before .before .before .before .before .pre .1 .1
+
+-- the test is the line's
+told : (c : tie.After-same-entry)
+    → (let a = c .before .before .before .before .before .before .before .args in starts (lineBytes false (a .number) (a .at) (a .src .now)) (drop (a .o) (a .catalogue .now)) ≡ c .same-entry .result)
+told c =
+    let e = c .before in
+    let a = e .before .before .before .before .before .before .args in
+    sym (c .same-entry .ensures ∙ ap (λ l. starts l (drop (a .o) (a .catalogue .now))) (e .comment-entry .ensures))
+
+add-t15 : tie.Need-add-t15
+add-t15 c = search needs
+
+returns : tie.Need-returns
+unfolding IsForm
+returns c =
+    let t = c .before in
+    let e = t .before .before in
+    let f = e .before .before in
+    let s = f .before .before .before in
+    let a = s .args in
+    let i = formed f _ (e .enum-told .given .1) in
+    match-there (a .catalogue .now) (a .o) _ (a .o + 13) (omega (arith, comment-long (a .number) (a .at) (a .src .now) (i .accepted) (i .kind))) (told t ∙ c .if1 .taken) ∙ same s
 
 enum-known-kind : tie.Need-enum-known-kind
 enum-known-kind c = search needs
@@ -81,14 +108,17 @@ same-line-requires-2 c κs =
     let i = formed f _ (k .kind2 .given .1) in
     (i .0, (i .1, (noted-line (k .kind2 .given .0 .0) (s .args .at) (s .args .src .now) (i .0) (i .1) _ (n .note-tags .ensures), s .pre .1 .1)))
 
-returns : tie.Need-returns
-returns c = c .same-comment .ensures ∙ same (c .before .before .before .before .before .before)
-
 returns-2 : tie.Need-returns-2
-returns-2 c = c .same-line .ensures ∙ same (c .before .before .before .before .before .before .before .before)
+returns-2 c =
+    let t = c .before in
+    let s = t .before .before .before .before .before .before .before in
+    match-gone (s .args .catalogue .now) (s .args .o) _ (told t ∙ c .if1 .left) ∙ same s
 
 returns-3 : tie.Need-returns-3
-returns-3 c =
+returns-3 c = c .same-line .ensures ∙ same (c .before .before .before .before .before .before .before .before)
+
+returns-4 : tie.Need-returns-4
+returns-4 c =
     let n = c .before .before .before in
     c .same-line2 .ensures ∙ same (n .before .before .before .before .before .before .before .before)
 
@@ -98,7 +128,10 @@ same-record-spec =
     (tie.spec
     form-of-requires
     enum-told
-    same-comment-requires
+    comment-entry-requires
+    same-entry-requires
+    add-t15
+    returns
     enum-known-kind
     slice-aggregate-same-line
     same-line-requires
@@ -107,6 +140,6 @@ same-record-spec =
     note-tags-requires
     slice-aggregate-same-line-2
     same-line-requires-2
-    returns
     returns-2
-    returns-3)
+    returns-3
+    returns-4)
