@@ -92,7 +92,7 @@ pub fn kind_of(src: &[u8]) -> Kind
 }
 
 // Whether a line of this kind has no fields.
-pub fn is_comment(kind: Kind) -> bool
+fn is_comment(kind: Kind) -> bool
     ensures { λ r. ⌜ r ≡ isComment kind ⌝ }
 {
     match kind {
