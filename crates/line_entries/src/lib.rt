@@ -214,7 +214,7 @@ pub fn put_record(
     ensures wrote { λ _. ⌜ now (out .exit) ≡ over (now (out .entry)) o (lineBytes strict number at (now (src .entry))) ⌝ }
 {
     match heads::form_of(src, at, strict) {
-        Form::Comment => { entries_out::put_entry(out, o, comment_entry(src, at, number)) }
+        Form::Comment => entries_out::put_entry(out, o, comment_entry(src, at, number)),
         Form::Once(kind) => put_line(out, o, kind, src, at, number, true, &[]),
         Form::Repeating(kind) => {
             let mut tables = [0u32; 6448];
