@@ -12,4 +12,5 @@ pub mod OfKind
 pub mod Apart
 pub mod Text
 pub mod Onward
+pub mod Ahead
 pub mod Read

@@ -4,3 +4,4 @@ pub mod Spelled
 pub mod Clean
 pub mod Admits
 pub mod Read
+pub mod First

@@ -16,7 +16,7 @@ use Rattle.accepted.specs.Read.{recordsOf}
 use Rattle.id_search.specs.Search.{idsOf}
 use Rattle.id_search.proofs.Search.{ordinal-ids}
 use Rattle.parents.proofs.Road.{none-dangles}
-use Rattle.calls.proofs.Fresh.{Current, goes-on, stops}
+use Rattle.parser.proofs.Fresh.{Current, goes-on, stops}
 use Rattle.add_ids.specs.Taken.{isAmong}
 use Rattle.add.specs.Added.{stray, crowded, addingOn}
 

@@ -18,9 +18,9 @@ use Rattle.text.proofs.Lines.{upto-le}
 use Rattle.field.specs.declared.ParsedField as code
 use Rattle.field.specs.Parsed.{parsedOf}
 use Rattle.accepted.proofs.Bools.{split}
-use Rattle.record.proofs.Turn.{tailScan, prepend, upto-not}
-use Rattle.record.proofs.Walked.{Turned, turned, refused-here}
-use Rattle.record.proofs.Step.{clean-field, spelled-text}
+use Rattle.record_laws.proofs.Turn.{tailScan, prepend, upto-not}
+use Rattle.record_laws.proofs.Walked.{Turned, turned, refused-here}
+use Rattle.record_laws.proofs.Step.{clean-field, spelled-text}
 use Rattle.other_fields.specs.Run.{Runs}
 use Rattle.other_fields.specs.Next.{fieldLength}
 use Rattle.other_fields.proofs.Runs.{bytesOf, runs-none, runs-more}

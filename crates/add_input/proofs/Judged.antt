@@ -20,9 +20,9 @@ use Rattle.accepted.proofs.Bools.{any-append, any-snoc, or-true, or-left, or-ri
 use Rattle.accepted.proofs.Tags.{repeats-snoc, repeats-more}
 use Rattle.tags.specs.Occurs.{occurs}
 use Rattle.tags.proofs.Region.{occurs-fields}
-use Rattle.record.proofs.Turn.{tailScan, prepend, prepend-prepend}
-use Rattle.record.proofs.Walked.{Turned}
-use Rattle.record.proofs.Step.{turn-shown}
+use Rattle.record_laws.proofs.Turn.{tailScan, prepend, prepend-prepend}
+use Rattle.record_laws.proofs.Walked.{Turned}
+use Rattle.record_laws.proofs.Step.{turn-shown}
 use Rattle.other_fields.specs.Run.{Runs}
 use Rattle.other_fields.proofs.Runs.{runs-none, runs-append}
 use Rattle.add_input.specs.Given.{marred}

@@ -14,7 +14,7 @@ use Rattle.text.specs.Stands.{Stands, Each}
 use Rattle.text.proofs.Stands.{by-parts, each-map, stands-onward}
 use Rattle.text.proofs.Lines.{upto-le}
 use Rattle.accepted.proofs.Fields.{Of, lastOf-of}
-use Rattle.record.proofs.Turn.{tailScan, prepend}
+use Rattle.record_laws.proofs.Turn.{tailScan, prepend}
 use Rattle.other_fields.specs.Run.{Runs}
 use Rattle.other_fields.proofs.Runs.{runs-none}
 use Rattle.add_input.proofs.Front as fr

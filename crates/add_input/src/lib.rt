@@ -19,7 +19,7 @@ pub enum Given {
 fn is_value(src: &[u8]) -> bool
     ensures { λ r. ⌜ r ≡ isValue (now (src .entry)) ⌝ }
 {
-    let len = field::value_len(src);
+    let len = field_value::value_len(src);
     if len == 0 {
         return false;
     }
@@ -73,7 +73,7 @@ pub fn find_previous(fields: &[u8]) -> Given
     let mut pos: usize = 0;
     while pos < fields.len() {
         let end = pos + 1 + text::upto(&fields[pos + 1..], b'\t');
-        if field::is_same_tag(fields[pos + 1], fields[pos + 2], b'P', b'P') {
+        if field_tag::is_same_tag(fields[pos + 1], fields[pos + 2], b'P', b'P') {
             last = Given::At(pos + 4, end - (pos + 4));
         }
         pos = end;

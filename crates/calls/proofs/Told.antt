@@ -29,7 +29,7 @@ use Rattle.lookup.proofs.Answers.{text-key, text-ln, text-line, text-field}
 use Rattle.calls.specs.declared.KeyAnswer.the-variants as key
 use Rattle.calls.specs.declared.ValuePlace.the-variants as place
 use Rattle.calls.specs.Answers.{keyAnswerOf, valuePlaceOf, partStanding}
-use Rattle.calls.proofs.Fresh.{Current, passed, goes-on, stops}
+use Rattle.parser.proofs.Fresh.{Current, passed, goes-on, stops}
 
 -- ---- what is found, as an answer
 

@@ -1,6 +1,5 @@
--- The answers of the calls over text and catalogue in the code's numbers.
+-- The answers of the calls that look up a record, in the code's numbers.
 use Prim.Native.Nat.{ℕ, _+_}
-use mathlib.Core.List.{List}
 use lib.ListN.{length}
 use Rattle.format.specs.Lines.{Piece}
 use Rattle.format.specs.Calls.{Answer, refused, yes}
@@ -12,8 +11,6 @@ use Rattle.calls.specs.declared.LengthAnswer.{LengthAnswer}
 use Rattle.calls.specs.declared.LengthAnswer.the-variants as ln
 use Rattle.calls.specs.declared.LineAnswer.{LineAnswer}
 use Rattle.calls.specs.declared.LineAnswer.the-variants as line
-use Rattle.calls.specs.declared.LeavesAnswer.{LeavesAnswer}
-use Rattle.calls.specs.declared.LeavesAnswer.the-variants as leaves
 use Rattle.calls.specs.declared.ValuePlace.{ValuePlace}
 use Rattle.calls.specs.declared.ValuePlace.the-variants as place
 
@@ -36,21 +33,6 @@ lengthAnswerOf (yes n) = ln.Is n
 unfoldable pub lineAnswerOf : Answer ℕ → LineAnswer
 lineAnswerOf (refused n l) = line.Refused n (record { 0 = l })
 lineAnswerOf (yes l) = line.Is (record { 0 = l })
-
--- a refusal and its line, or how many leaves, and the hops
-unfoldable pub leavesAnswerOf : Answer (List ℕ × ℕ) → LeavesAnswer
-leavesAnswerOf (refused n l) = leaves.Refused n (record { 0 = l })
-leavesAnswerOf (yes a) = leaves.Counted (length (a .0)) (a .1)
-
--- the list of ordinals that is answered
-unfoldable pub listOf : Answer (List ℕ × ℕ) → Answer (List ℕ)
-listOf (refused n l) = refused n l
-listOf (yes a) = yes (a .0)
-
--- an answer in the code's numbers, with the hops
-unfoldable pub withHops : parser.CountAnswer → ℕ → LeavesAnswer
-withHops (Refused n l) h = leaves.Refused n l
-withHops (Count n) h = leaves.Counted n h
 
 -- where the value of a field stands and how long it is, or that the stand-in takes its place
 unfoldable pub valuePlaceOf : Answer Piece → ValuePlace

@@ -1,4 +1,4 @@
-// The calls over a text and its catalogue: counts, keys, lengths, lines, fields, roots and leaves. Each judges the text and the catalogue first.
+// The calls that look up a record over a text and its catalogue: counts, keys, lengths, lines and fields. Each judges the text and the catalogue first.
 use format::LineNo;
 use lookup::Found;
 use lookup::Located;
@@ -6,10 +6,8 @@ use lookup::Sized;
 use parser::Checked;
 use parser::CountAnswer;
 ghost use mathlib.Core.Path.{_≡_};
-ghost use lib.ListN.{length};
-ghost use Rattle.format.specs.Calls.{fitting, counting, keying, sizing, locating, valuing, looking, rooting, leafing};
-ghost use Rattle.parser.specs.Answers.{answerOf, outputOf};
-ghost use Rattle.calls.specs.Answers.{countOf, keyAnswerOf, lengthAnswerOf, lineAnswerOf, leavesAnswerOf, listOf, withHops, valuePlaceOf, partStanding};
+ghost use Rattle.format.specs.Calls.{counting, keying, sizing, locating, valuing, looking};
+ghost use Rattle.calls.specs.Answers.{countOf, keyAnswerOf, lengthAnswerOf, lineAnswerOf, valuePlaceOf, partStanding};
 
 // A refusal and its line, or the key's offset and length.
 pub enum KeyAnswer {
@@ -27,12 +25,6 @@ pub enum LengthAnswer {
 pub enum LineAnswer {
     Refused(u8, LineNo),
     Is(LineNo),
-}
-
-// A refusal and its line, or how many leaves are written, and the hops.
-pub enum LeavesAnswer {
-    Refused(u8, LineNo),
-    Counted(usize, u32),
 }
 
 // The stand-in takes the value's place, or the value's offset and length.
@@ -54,7 +46,7 @@ pub fn count(text: &[u8], kept: &[u8], kind: u8) -> CountAnswer
             if 5 < kind {
                 return CountAnswer::Refused(25, LineNo(0));
             }
-            CountAnswer::Count(entries::count_kind(kept, kind))
+            CountAnswer::Count(record_entries::count_kind(kept, kind))
         }
     }
 }
@@ -131,72 +123,6 @@ pub fn field<'a>(
             let start = at as usize;
             let end = start + len as usize;
             &text[start..end]
-        }
-    }
-}
-
-// Writes ordinals to the front of `out`, and answers how many: 20 where it is too short.
-fn put_ordinals(out: &mut [u32], from: &[u32]) -> CountAnswer
-    ensures answer { λ r. ⌜ r ≡ answerOf (fitting (length (now (out .entry))) (now (from .entry))) ⌝ }
-    ensures wrote { λ _. ⌜ now (out .exit) ≡ outputOf (fitting (length (now (out .entry))) (now (from .entry))) (now (out .entry)) ⌝ }
-{
-    if out.len() < from.len() {
-        return CountAnswer::Refused(20, LineNo(0));
-    }
-    let mut i: usize = 0;
-    while i < from.len() {
-        out[i] = from[i];
-        i += 1;
-    }
-    CountAnswer::Count(i)
-}
-
-// The programs without PP at the front of `out`: no graph check.
-pub fn roots(text: &[u8], kept: &[u8], out: &mut [u32]) -> CountAnswer
-    ensures answer { λ r. ⌜ r ≡ answerOf (rooting (now (text .entry)) (now (kept .entry)) (length (now (out .entry)))) ⌝ }
-    ensures wrote { λ _. ⌜ now (out .exit) ≡ outputOf (rooting (now (text .entry)) (now (kept .entry)) (length (now (out .entry)))) (now (out .entry)) ⌝ }
-{
-    match parser::check(text, kept) {
-        Checked::Refused(n, line) => CountAnswer::Refused(n, line),
-        Checked::Fresh => {
-            let parents = parents::find_parents(text, programs::gather(kept));
-            let list = parents.list;
-            let found = chains::roots(&list[..parents.count]);
-            let ordinals = found.list;
-            put_ordinals(out, &ordinals[..found.count])
-        }
-    }
-}
-
-// An answer with the hops beside the number of leaves.
-fn with_hops(a: CountAnswer, hops: u32) -> LeavesAnswer
-    ensures { λ r. ⌜ r ≡ withHops a hops ⌝ }
-{
-    match a {
-        CountAnswer::Refused(n, line) => LeavesAnswer::Refused(n, line),
-        CountAnswer::Count(n) => LeavesAnswer::Counted(n, hops),
-    }
-}
-
-// The leaves at the front of `out`, in the crate's order, and the hops: 22 where a PP dangles, 23 where there is a cycle.
-pub fn leaves(text: &[u8], kept: &[u8], out: &mut [u32]) -> LeavesAnswer
-    ensures answer { λ r. ⌜ r ≡ leavesAnswerOf (leafing (now (text .entry)) (now (kept .entry)) (length (now (out .entry)))) ⌝ }
-    ensures wrote { λ _. ⌜ now (out .exit) ≡ outputOf (listOf (leafing (now (text .entry)) (now (kept .entry)) (length (now (out .entry)))))
-        (now (out .entry)) ⌝ }
-{
-    match parser::check(text, kept) { // 21 comes before 22
-        Checked::Refused(n, line) => LeavesAnswer::Refused(n, line),
-        Checked::Fresh => {
-            let graph = parents::find_leaves(text, programs::gather(kept));
-            if graph.refusal != 0 {
-                return LeavesAnswer::Refused(graph.refusal, LineNo(0));
-            }
-            let parents = graph.parents;
-            let list = parents.list;
-            let hops = chains::hops(&list[..parents.count]);
-            let leaves = graph.leaves;
-            let ordinals = leaves.list;
-            with_hops(put_ordinals(out, &ordinals[..leaves.count]), hops)
         }
     }
 }

@@ -4,3 +4,5 @@ pub mod Skips
 pub mod Kept
 pub mod Faithful
 pub mod Example
+pub mod Count
+pub mod Bound

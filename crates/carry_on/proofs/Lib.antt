@@ -1,6 +1,1 @@
-pub mod Turn
-pub mod Split
-pub mod Begun
-pub mod Steps
 pub mod Told
-pub mod Bound

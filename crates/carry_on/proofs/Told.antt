@@ -1,37 +1,19 @@
--- What measuring says of the call's answer, and the answer in the code's numbers.
+-- The call's answer by what writing the tidy text says, and the answer in the code's numbers.
 use Prim.Native.Nat.{ℕ, _/_, _≤_, _<_}
 use mathlib.Core.Path.{_≡_, refl, sym, ap, ap₂, _∙_}
 use mathlib.Core.List.{List}
-use mathlib.Core.Option.{Option, none, some}
 use lib.ListN.{length}
 use borrow.Author.Tests.{lt-ltb, le-ltb}
 use Rattle.format.specs.Reading.{longest}
 use Rattle.format.specs.Tidy.{tidy}
 use Rattle.format.specs.Calls.{Answer, refused, yes, then, fitting, writing}
 use Rattle.format.specs.declared.LineNo.{LineNo}
-use Rattle.accepted.proofs.Bools.{never}
 use Rattle.text.specs.Over.{over}
-use Rattle.per_kind.specs.declared.PerKind.{PerKind}
 use Rattle.parser.specs.Answers.{outputOf}
 use Rattle.parser.proofs.Told.{written-answer}
 use Rattle.carried.specs.Carrying.{keptOf, carriedLines, skips, rows, unwritableLine, carrying}
-use Rattle.carry_on.specs.Answers.{keptMeasured, carriedOf, textOf, tableOf}
+use Rattle.carry_on.specs.Answers.{carriedOf, textOf, tableOf}
 use Rattle.carry_on.specs.declared.Carried.the-variants.{Refused, Written}
-use Rattle.carry_on.specs.declared.KeptSizes.the-variants as measured
-
--- ---- by what was measured
-
-pub measured-bad : (o : Option ℕ) (s : PerKind) (n : ℕ) (l : LineNo) → keptMeasured o s n ≡ measured.Unwritable l → o ≡ some (l .0)
-unfolding keptMeasured
-measured-bad none s n l e = absurd (never cc)
-measured-bad (some k) s n l e =
-    let y : _≡_ {A = LineNo} (record { 0 = k }) l = cc in
-    rw (← y) refl
-
-pub measured-is : (o : Option ℕ) (s : PerKind) (n : ℕ) (s′ : PerKind) (n′ : ℕ) → keptMeasured o s n ≡ measured.Is s′ n′ → (o ≡ none) × ((s ≡ s′) × (n ≡ n′))
-unfolding keptMeasured
-measured-is none s n s′ n′ e = (refl, (cc, cc))
-measured-is (some k) s n s′ n′ e = absurd (never cc)
 
 -- ---- 1, then what writing the tidy text says, then 20
 

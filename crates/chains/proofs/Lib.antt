@@ -1,11 +1,6 @@
 pub mod Arrays
 pub mod Bools
-pub mod Bound
 pub mod Leaf
-pub mod Leafed
-pub mod Pairs
-pub mod Paths
-pub mod Some
 pub mod Swaps
 pub mod Times
 pub mod Walks

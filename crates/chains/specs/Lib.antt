@@ -1,3 +1,2 @@
-pub mod Leafed
 pub mod Listed
 pub mod Parents

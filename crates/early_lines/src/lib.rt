@@ -2,11 +2,16 @@
 // tags.
 ghost use mathlib.Core.Path.{_≡_};
 ghost use mathlib.Core.List.{_∷_, []};
-ghost use Prim.Native.Nat.{_≤_, _+_, _*_};
+ghost use Prim.Native.Nat.{_≤_, _<_, _+_, _*_};
 ghost use lib.ListN.{length, drop};
-ghost use Rattle.format.specs.Lines.{lines, linesFrom};
+ghost use Rattle.format.specs.Reading.{announced, admitted};
+ghost use Rattle.text.specs.First.{firstLine};
 ghost use Rattle.text.specs.Over.{over};
+ghost use Rattle.accepted.specs.First.{firstAt};
+ghost use Rattle.repeat_rule.specs.Rule.{strictAfter};
+ghost use Rattle.admission.specs.Admission.{lineRefusal};
 ghost use Rattle.early_lines.specs.Early.{earlyOf, rowsFrom};
+ghost use Rattle.early_lines.specs.First.{First};
 
 // Where the first line that is kept starts, its number, and whether a tag is refused that comes twice from there on.
 pub struct Begin {
@@ -15,33 +20,48 @@ pub struct Begin {
     pub strict: bool,
 }
 
+// A line judged before which none is kept: whether a tag is refused that comes twice in it, 0 or why it is skipped, and where the next line
+// starts.
+struct EarlyLine {
+    strict: bool,
+    refusal: u8,
+    next: usize,
+}
+
+// The line at the offset `at`, before which none is kept; `strict` is what the lines before it say of repeated tags.
+fn judge_early(text: &[u8], at: usize, strict: bool) -> EarlyLine
+    requires { ⌜ length (now text) ≤ 16777216 ⌝ }
+    requires { ⌜ at < length (now text) ⌝ }
+    ensures strict { λ r. ⌜ r .strict ≡ strictAfter strict (announced (firstAt at (now (text .entry)) ∷ [])) ⌝ }
+    ensures refusal { λ r. ⌜ r .refusal ≡ lineRefusal (admitted (r .strict) [] (firstAt at (now (text .entry)))) ⌝ }
+    ensures next { λ r. ⌜ r .next ≡ at + firstLine (drop at (now (text .entry))) .next ⌝ }
+{
+    let cut = text::first_line(&text[at..]);
+    let end = at + cut.len;
+    let rule = repeat_rule::is_strict_after(strict, &text[at..end]);
+    let head = record_parser::parse_record(&text[at..end], at, rule);
+    EarlyLine {
+        strict: rule,
+        refusal: admission::barred(head, false, 0, 0),
+        next: at + cut.next,
+    }
+}
+
 // The first line that is kept, or the end of the text.
 pub fn find_first(text: &[u8]) -> Begin
     requires { ⌜ length (now text) ≤ 16777216 ⌝ }
-    ensures at { λ r. ⌜ r .at ≤ length (now (text .entry)) ⌝ }
-    ensures rest { λ r. ⌜ linesFrom (r .at) (drop (r .at) (now (text .entry))) ≡ earlyOf (now (text .entry)) .rest ⌝ }
-    ensures line { λ r. ⌜ r .line ≡ length (earlyOf (now (text .entry)) .refusals) ⌝ }
-    ensures slow { λ r. ⌜ r .line ≤ r .at ⌝ }
-    ensures strict { λ r. ⌜ r .strict ≡ earlyOf (now (text .entry)) .strict ⌝ }
+    ensures { λ r. ⌜ First (now (text .entry)) r ⌝ }
 {
     let mut at: usize = 0;
     let mut line: u32 = 0;
     let mut strict = false;
     while at < text.len() {
-        let cut = text::first_line(&text[at..]);
-        let end = at + cut.len;
-        let rule = repeat_rule::is_strict_after(strict, &text[at..end]);
-        let head = record::parse_record(&text[at..end], at, rule);
-        let n = admission::barred(head, false, 0, 0);
-        if n == 0 {
-            return Begin {
-                at,
-                line,
-                strict: rule,
-            };
+        let early = judge_early(text, at, strict);
+        strict = early.strict;
+        if early.refusal == 0 {
+            return Begin { at, line, strict };
         }
-        strict = rule;
-        at += cut.next;
+        at = early.next;
         line += 1;
     }
     Begin { at, line, strict }
@@ -67,13 +87,10 @@ pub fn put_early(text: &[u8], count: u32, table: &mut [u32])
     let mut line: u32 = 0;
     let mut strict = false;
     while line < count {
-        let cut = text::first_line(&text[at..]);
-        let end = at + cut.len;
-        strict = repeat_rule::is_strict_after(strict, &text[at..end]);
-        let head = record::parse_record(&text[at..end], at, strict);
-        let n = admission::barred(head, false, 0, 0);
-        put_row(table, line as usize, line, n);
-        at += cut.next;
+        let early = judge_early(text, at, strict);
+        put_row(table, line as usize, line, early.refusal);
+        strict = early.strict;
+        at = early.next;
         line += 1;
     }
 }

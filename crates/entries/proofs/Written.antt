@@ -7,8 +7,8 @@ use lib.ListN.{length, drop, length-append}
 use lib.Seq.{drop-at, drop-drop}
 use borrow.Author.Tests.{le-leb}
 use Rattle.format.specs.Catalogue.{little}
-use Rattle.text.specs.Little.{ofLittle}
-use Rattle.text.proofs.Little.{of-little}
+use Rattle.little.specs.Little.{ofLittle}
+use Rattle.little.proofs.Little.{of-little}
 use Rattle.format.specs.declared.Version.{Version}
 use Rattle.entries.specs.declared.Place.{Place}
 use Rattle.entries.specs.declared.Entry.{Entry}

@@ -8,11 +8,10 @@ use Rattle.format.specs.Lines.{Piece}
 use Rattle.format.specs.Fields as fields
 use Rattle.format.specs.Records.{Record, header, reference, group, program, comment, others}
 use Rattle.format.specs.Catalogue.{little}
-use Rattle.text.specs.Little.{ofLittle}
+use Rattle.little.specs.Little.{ofLittle}
 use Rattle.format.specs.declared.Version.{Version}
 use Rattle.entries.specs.declared.Place.{Place}
 use Rattle.entries.specs.declared.Entry.{Entry}
-use Rattle.entries.specs.declared.Passed.{Passed}
 use Rattle.entries.specs.declared.Entry.the-variants.{End, Header, ReferenceSequence, ReadGroup, Program, Comment, Field}
 
 -- ---- kinds and sizes
@@ -175,8 +174,3 @@ unfoldable pub sizes : List Entry → ℕ
 unfolding entrySize
 sizes [] = 0
 sizes (e ∷ es) = entrySize e + sizes es
-
--- how far a walk over them goes, and how many of kind `k` it passes
-unfoldable pub passing : ℕ → List Entry → Passed
-unfolding sizes counted
-passing k es = record { at = sizes es; count = counted k es }

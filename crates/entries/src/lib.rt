@@ -3,7 +3,7 @@ use format::Version;
 ghost use mathlib.Core.Path.{_≡_};
 ghost use Prim.Native.Nat.{_≤_, _+_};
 ghost use lib.ListN.{length, drop};
-ghost use Rattle.entries.specs.Entries.{kindByte, kindSize, entrySize, versionFrom, placeFrom, entryWith, entryOf, entriesIn, counted, entriesBefore, sizes, passing};
+ghost use Rattle.entries.specs.Entries.{kindByte, kindSize, entrySize, versionFrom, placeFrom, entryWith, entryOf};
 
 // Where a piece of the text stands.
 pub struct Place {
@@ -29,9 +29,9 @@ pub fn kind_of(e: Entry) -> u8
     match e {
         Entry::End => 0,
         Entry::Header(_, _) => 1,
-        Entry::ReferenceSequence(_, _, _) => 2,
-        Entry::ReadGroup(_, _) => 3,
-        Entry::Program(_, _) => 4,
+        Entry::ReferenceSequence(_, _, _) => format::REFERENCE_SEQUENCE,
+        Entry::ReadGroup(_, _) => format::READ_GROUP,
+        Entry::Program(_, _) => format::PROGRAM,
         Entry::Comment(_, _) => 5,
         Entry::Field(_, _, _) => 6,
     }
@@ -43,9 +43,9 @@ fn kind_size(kind: u8) -> usize
 {
     match kind {
         1 => 13,
-        2 => 21,
-        3 => 13,
-        4 => 13,
+        format::REFERENCE_SEQUENCE => 21,
+        format::READ_GROUP => 13,
+        format::PROGRAM => 13,
         5 => 13,
         6 => 11,
         _ => 0,
@@ -64,8 +64,8 @@ fn version_at(s: &[u8], at: usize) -> Version
     requires { ⌜ at + 8 ≤ length (now s) ⌝ }
     ensures { λ r. ⌜ r ≡ versionFrom (drop at (now (s .entry))) ⌝ }
 {
-    let major = text::get_u32(s, at);
-    let minor = text::get_u32(s, at + 4);
+    let major = little::get_u32(s, at);
+    let minor = little::get_u32(s, at + 4);
     Version { major, minor }
 }
 
@@ -74,8 +74,8 @@ fn place_at(s: &[u8], at: usize) -> Place
     requires { ⌜ at + 8 ≤ length (now s) ⌝ }
     ensures { λ r. ⌜ r ≡ placeFrom (drop at (now (s .entry))) ⌝ }
 {
-    let offset = text::get_u32(s, at);
-    let len = text::get_u32(s, at + 4);
+    let offset = little::get_u32(s, at);
+    let len = little::get_u32(s, at + 4);
     Place { at: offset, len }
 }
 
@@ -85,15 +85,15 @@ fn body_at(s: &[u8], at: usize, kind: u8) -> Entry
     ensures { λ r. ⌜ r ≡ entryWith kind (drop (at + 1) (now (s .entry))) ⌝ }
 {
     match kind {
-        1 => Entry::Header(version_at(s, at + 1), text::get_u32(s, at + 9)),
-        2 => Entry::ReferenceSequence(
+        1 => Entry::Header(version_at(s, at + 1), little::get_u32(s, at + 9)),
+        format::REFERENCE_SEQUENCE => Entry::ReferenceSequence(
             place_at(s, at + 1),
-            text::get_u64(s, at + 9),
-            text::get_u32(s, at + 17),
+            little::get_u64(s, at + 9),
+            little::get_u32(s, at + 17),
         ),
-        3 => Entry::ReadGroup(place_at(s, at + 1), text::get_u32(s, at + 9)),
-        4 => Entry::Program(place_at(s, at + 1), text::get_u32(s, at + 9)),
-        5 => Entry::Comment(place_at(s, at + 1), text::get_u32(s, at + 9)),
+        format::READ_GROUP => Entry::ReadGroup(place_at(s, at + 1), little::get_u32(s, at + 9)),
+        format::PROGRAM => Entry::Program(place_at(s, at + 1), little::get_u32(s, at + 9)),
+        5 => Entry::Comment(place_at(s, at + 1), little::get_u32(s, at + 9)),
         6 => Entry::Field(s[at + 1], s[at + 2], place_at(s, at + 3)),
         _ => Entry::End,
     }
@@ -111,48 +111,4 @@ pub fn entry_at(catalogue: &[u8], at: usize) -> Entry
         return Entry::End;
     }
     body_at(catalogue, at, kind)
-}
-
-// How far a walk over entries goes, and how many of a kind it passes.
-struct Passed {
-    at: usize,
-    count: usize,
-}
-
-// Passes the entries before the record entry of a kind with an ordinal among its kind: all where there is none.
-fn pass_before(catalogue: &[u8], kind: u8, ordinal: usize) -> Passed
-    ensures { λ r. ⌜ r ≡ passing kind (entriesBefore kind ordinal (entriesIn (now (catalogue .entry)))) ⌝ }
-{
-    let mut at: usize = 0;
-    let mut count: usize = 0;
-    loop {
-        let e = entry_at(catalogue, at);
-        let len = size(e);
-        if len == 0 {
-            return Passed { at, count };
-        }
-        if kind_of(e) == kind { // no other record takes an ordinal
-            if count == ordinal {
-                return Passed { at, count };
-            }
-            count += 1;
-        }
-        at += len;
-    }
-}
-
-// How many entries of a kind a catalogue has: no ordinal among them is so high.
-pub fn count_kind(catalogue: &[u8], kind: u8) -> usize
-    ensures { λ r. ⌜ r ≡ counted kind (entriesIn (now (catalogue .entry))) ⌝ }
-{
-    let all = pass_before(catalogue, kind, 18446744073709551615);
-    all.count
-}
-
-// Where the record entry of a kind with an ordinal among its kind stands: behind the last entry where there is none.
-pub fn find_record(catalogue: &[u8], kind: u8, ordinal: usize) -> usize
-    ensures { λ r. ⌜ r ≡ sizes (entriesBefore kind ordinal (entriesIn (now (catalogue .entry)))) ⌝ }
-{
-    let before = pass_before(catalogue, kind, ordinal);
-    before.at
 }

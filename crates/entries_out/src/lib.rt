@@ -14,8 +14,8 @@ fn put_numbers(out: &mut [u8], at: usize, a: u32, b: u32)
     requires { ⌜ at + 8 ≤ length (now out) ⌝ }
     ensures { λ _. ⌜ now (out .exit) ≡ over (now (out .entry)) at (little 4 a ++ little 4 b) ⌝ }
 {
-    text::put_u32(out, at, a);
-    text::put_u32(out, at + 4, b);
+    little::put_u32(out, at, a);
+    little::put_u32(out, at + 4, b);
 }
 
 // Writes a byte of kind, and two numbers behind it.
@@ -33,7 +33,7 @@ fn put_lined(out: &mut [u8], at: usize, kind: u8, a: u32, b: u32, line: u32)
     ensures { λ _. ⌜ now (out .exit) ≡ over (now (out .entry)) at (kind ∷ little 4 a ++ little 4 b ++ little 4 line) ⌝ }
 {
     put_kind(out, at, kind, a, b);
-    text::put_u32(out, at + 9, line);
+    little::put_u32(out, at + 9, line);
 }
 
 // Writes the entry of an SQ: where its name stands, its LN and its line.
@@ -44,8 +44,8 @@ fn put_sequence(out: &mut [u8], at: usize, name: Place, n: u64, line: u32)
     let offset = name.at;
     let len = name.len;
     put_kind(out, at, format::REFERENCE_SEQUENCE, offset, len);
-    text::put_u64(out, at + 9, n);
-    text::put_u32(out, at + 17, line);
+    little::put_u64(out, at + 9, n);
+    little::put_u32(out, at + 17, line);
 }
 
 // Writes the entry of a field: its tag, and where its value stands.

@@ -12,8 +12,8 @@ use lib.Dec.{eqb}
 use borrow.Author.Tests.{eqb-true, eqb-false, eq-eqb, ne-eqb}
 use Rattle.format.specs.Bytes.{starts}
 use Rattle.format.specs.Catalogue.{little}
-use Rattle.text.specs.Little.{ofLittle}
-use Rattle.text.proofs.Little.{little-length}
+use Rattle.little.specs.Little.{ofLittle}
+use Rattle.little.proofs.Little.{little-length}
 use Rattle.accepted.proofs.Bools.{never, and-right, split}
 
 and-assoc : (a b c : Bool) → a && (b && c) ≡ (a && b) && c

@@ -14,10 +14,10 @@ fn has_numbers(s: &[u8], at: usize, a: u32, b: u32) -> bool
     requires { ⌜ at + 8 ≤ length (now s) ⌝ }
     ensures { λ r. ⌜ r ≡ starts (little 4 a ++ little 4 b) (drop at (now (s .entry))) ⌝ }
 {
-    if text::get_u32(s, at) != a {
+    if little::get_u32(s, at) != a {
         return false;
     }
-    text::get_u32(s, at + 4) == b
+    little::get_u32(s, at + 4) == b
 }
 
 // Whether a byte of kind stands at `at`, and two numbers behind it.
@@ -39,7 +39,7 @@ fn has_lined(s: &[u8], at: usize, kind: u8, a: u32, b: u32, line: u32) -> bool
     if !has_kind(s, at, kind, a, b) {
         return false;
     }
-    text::get_u32(s, at + 9) == line
+    little::get_u32(s, at + 9) == line
 }
 
 // Whether the entry of an SQ stands at `at`: where its name stands, its LN and its line.
@@ -52,10 +52,10 @@ fn has_sequence(s: &[u8], at: usize, name: Place, n: u64, line: u32) -> bool
     if !has_kind(s, at, format::REFERENCE_SEQUENCE, offset, len) {
         return false;
     }
-    if text::get_u64(s, at + 9) != n {
+    if little::get_u64(s, at + 9) != n {
         return false;
     }
-    text::get_u32(s, at + 17) == line
+    little::get_u32(s, at + 17) == line
 }
 
 // Whether the entry of a field stands at `at`: its tag, and where its value stands.

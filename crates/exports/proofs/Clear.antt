@@ -6,12 +6,13 @@ use native.Mathlib.Omega.{arith}
 use lib.ListN.{length}
 use Rattle.format.specs.Lines.{Piece}
 use Rattle.format.specs.Calls.{yes, keying, valuing, leafing}
-use Rattle.calls.specs.Answers.{keyAnswerOf, valuePlaceOf, leavesAnswerOf}
-use Rattle.calls.proofs.Bound.{hops-few, leaves-few}
+use Rattle.calls.specs.Answers.{keyAnswerOf, valuePlaceOf}
 use Rattle.calls.proofs.Told.{key-short, value-short}
+use Rattle.roots_and_leaves.specs.Answers.{leavesAnswerOf}
+use Rattle.roots_and_leaves.proofs.Bound.{hops-few, leaves-few}
 use Rattle.carried.specs.Carrying.{carrying}
+use Rattle.carried.proofs.Bound.{carried-few}
 use Rattle.carry_on.specs.Answers.{carriedOf}
-use Rattle.carry_on.proofs.Bound.{carried-few}
 use Rattle.words.specs.Words.{carriedWord, leavesWord, pairWord, keyWord, fieldWord}
 
 place-clear : (p : Piece) → p .at + length (p .bytes) ≤ 16777216 → pairWord (p .at) (length (p .bytes)) < 2 ^ 63

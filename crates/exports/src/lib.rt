@@ -1,19 +1,20 @@
 // The calls for programs in C and Rust: each answer is one number (include/sam_header.h).
-use calls::LeavesAnswer;
 use calls::LengthAnswer;
 use carry_on::Carried;
 use names::NamesAnswer;
+use roots_and_leaves::LeavesAnswer;
 ghost use mathlib.Core.Path.{_≡_};
 ghost use lib.ListN.{length};
 ghost use Rattle.format.specs.Calls.{reading, fresh, tidying, counting, keying, sizing, locating, valuing, rooting, leafing, adding};
-ghost use Rattle.carried.specs.Carrying.{carrying};
-ghost use Rattle.carry_on.specs.Answers.{carriedOf, textOf, tableOf};
+ghost use Rattle.carry_on.specs.Answers.{carriedAnswer, textLeft, tableLeft};
 ghost use Rattle.names.specs.Batch.{batching};
 ghost use Rattle.names.specs.Answers.{namesOf, resultsOf, slotsOf};
 ghost use Rattle.parser.specs.Answers.{answerOf, outputOf, checkedOf};
-ghost use Rattle.calls.specs.Answers.{countOf, keyAnswerOf, lengthAnswerOf, lineAnswerOf, leavesAnswerOf, listOf, valuePlaceOf};
+ghost use Rattle.calls.specs.Answers.{countOf, keyAnswerOf, lengthAnswerOf, lineAnswerOf, valuePlaceOf};
+ghost use Rattle.roots_and_leaves.specs.Answers.{leavesAnswerOf, listOf};
 ghost use Rattle.binary.specs.Binary.{binaryOut, binaryIn};
-ghost use Rattle.words.specs.Words.{answerWord, checkedWord, carriedWord, leavesWord, keyWord, fieldWord, lengthWord, lineWord, lengthLeft, namesWord, namesLeft};
+ghost use Rattle.words.specs.Words.{answerWord, checkedWord, carriedWord, leavesWord, keyWord, fieldWord, lengthWord, lineWord, lengthLeft};
+ghost use Rattle.words.specs.Words.{namesWord, namesLeft};
 
 #[no_mangle]
 pub extern "C" fn sam_header_read(text: &[u8], catalogue: &mut [u8]) -> u64
@@ -40,9 +41,9 @@ pub extern "C" fn sam_header_tidy(text: &[u8], out: &mut [u8]) -> u64
 
 #[no_mangle]
 pub extern "C" fn sam_header_carry_on(text: &[u8], out: &mut [u8], table: &mut [u32]) -> u64
-    ensures answer { λ r. ⌜ r ≡ carriedWord (carriedOf (carrying (now (text .entry)) (length (now (out .entry))) (length (now (table .entry))))) ⌝ }
-    ensures wrote { λ _. ⌜ now (out .exit) ≡ outputOf (textOf (carrying (now (text .entry)) (length (now (out .entry))) (length (now (table .entry))))) (now (out .entry)) ⌝ }
-    ensures listed { λ _. ⌜ now (table .exit) ≡ outputOf (tableOf (carrying (now (text .entry)) (length (now (out .entry))) (length (now (table .entry))))) (now (table .entry)) ⌝ }
+    ensures answer { λ r. ⌜ r ≡ carriedWord (carriedAnswer (now (text .entry)) (now (out .entry)) (now (table .entry))) ⌝ }
+    ensures wrote { λ _. ⌜ now (out .exit) ≡ textLeft (now (text .entry)) (now (out .entry)) (now (table .entry)) ⌝ }
+    ensures listed { λ _. ⌜ now (table .exit) ≡ tableLeft (now (text .entry)) (now (out .entry)) (now (table .entry)) ⌝ }
 {
     match carry_on::carry_on(text, out, table) {
         Carried::Refused(n, line) => words::refusal_word(n, line),
@@ -78,7 +79,7 @@ pub extern "C" fn sam_header_roots(text: &[u8], catalogue: &[u8], out: &mut [u32
     ensures answer { λ r. ⌜ r ≡ answerWord (answerOf (rooting (now (text .entry)) (now (catalogue .entry)) (length (now (out .entry))))) ⌝ }
     ensures wrote { λ _. ⌜ now (out .exit) ≡ outputOf (rooting (now (text .entry)) (now (catalogue .entry)) (length (now (out .entry)))) (now (out .entry)) ⌝ }
 {
-    words::answer_word(calls::roots(text, catalogue, out))
+    words::answer_word(roots_and_leaves::roots(text, catalogue, out))
 }
 
 #[no_mangle]
@@ -87,7 +88,7 @@ pub extern "C" fn sam_header_leaves(text: &[u8], catalogue: &[u8], out: &mut [u3
     ensures wrote { λ _. ⌜ now (out .exit) ≡ outputOf (listOf (leafing (now (text .entry)) (now (catalogue .entry)) (length (now (out .entry)))))
         (now (out .entry)) ⌝ }
 {
-    match calls::leaves(text, catalogue, out) {
+    match roots_and_leaves::leaves(text, catalogue, out) {
         LeavesAnswer::Refused(n, line) => words::refusal_word(n, line),
         LeavesAnswer::Counted(n, hops) => words::pair_word(hops, n as u32),
     }

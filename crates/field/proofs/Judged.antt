@@ -1,59 +1,24 @@
 -- What the readers of a value answer, as what is judged of its bytes.
-use Prim.Native.Nat.{ℕ, _^_}
+use Prim.Native.Nat.{ℕ}
 use mathlib.Core.Path.{_≡_, refl, sym, ap, _∙_}
-use mathlib.Core.Bool.{Bool, true, false, not, cond, false≢true}
-use mathlib.Core.List.{List, [], _∷_}
+use mathlib.Core.Bool.{Bool, true, false, _||_, not, cond, false≢true}
+use mathlib.Core.List.{List}
 use mathlib.Core.Option.{Option, none, some}
-use native.Mathlib.Omega.{arith}
 use lib.ListN.{length}
 use lib.Dec.{eqb, ltb}
-use Rattle.decimal.specs.Number.{digitsNumber}
-use Rattle.decimal.specs.declared.Number.{Number}
-use Rattle.decimal.specs.declared.Number.the-variants as number
 use Rattle.format.specs.Bytes.{none?}
-use Rattle.format.specs.Decimal.{worth}
-use Rattle.format.specs.Decimal.{span}
-use Rattle.format.specs.Fields.{isValue, isWideValue, isWide, allows, good, refusedPiece, goodThen, plain, spelled, versionField, lengthField, valueField}
+use Rattle.format.specs.Decimal.{worth, span}
+use Rattle.format.specs.Fields.{isValue, isWide, allows, good, refusedPiece, goodThen, plain, spelled, versionField, lengthField, valueField}
 use Rattle.format.specs.Fields as fields
 use Rattle.format.specs.Version.{version}
 use Rattle.format.specs.declared.Version.{Version}
 use Rattle.format.specs.declared.Kind.{Kind}
 use Rattle.format.specs.declared.Kind.the-variants.{Header, ReferenceSequence, ReadGroup, Program, Comment}
-use Rattle.field.specs.Parsed.{takenOf, refusedBy, keptBy, versionedBy, sizedBy, isVersion, isLength, parsedOf, fieldNumbers}
-use Rattle.field.specs.declared.ParsedField.{ParsedField}
-
--- ---- what taking a value tells
-
-module _ (p : List ℕ → Bool) where
-  pub a-value : (v : List ℕ) → (takenOf p v ≡ 0 → ⊥) → (p v ≡ true) × (takenOf p v ≡ length v)
-  unfolding takenOf
-  a-value v n = go (p v) refl n
-    where
-      go : (t : Bool) → p v ≡ t → (cond t (length v) 0 ≡ 0 → ⊥) → (p v ≡ true) × (cond t (length v) 0 ≡ length v)
-      go true k n = (k, refl)
-      go false k n = absurd (n refl)
-
-  -- a value has at least one byte
-  module _ (n : p [] ≡ false) where
-    pub some-value : (v : List ℕ) → p v ≡ true → length v ≡ 0 → ⊥
-    some-value [] h e = false≢true (sym n ∙ h)
-    some-value (b ∷ v) h e = omega arith
-
-    pub no-value : (v : List ℕ) → takenOf p v ≡ 0 → p v ≡ false
-    unfolding takenOf
-    no-value v e = go (p v) refl e
-      where
-        go : (t : Bool) → p v ≡ t → cond t (length v) 0 ≡ 0 → p v ≡ false
-        go true k e = absurd (some-value v k e)
-        go false k e = k
-
-pub none-allowed : (k : Kind) (a b : ℕ) → allows k a b [] ≡ false
-unfolding allows isWideValue isValue
-none-allowed k a b = go (isWide k a b)
-  where
-    go : (t : Bool) → cond t false false ≡ false
-    go true = refl
-    go false = refl
+use Rattle.field_tag.specs.Numbers.{isVersion, isLength}
+use Rattle.field_value.specs.Taken.{takenOf}
+use Rattle.field_value.proofs.Taken.{a-value, no-value, none-allowed}
+use Rattle.length.specs.Parsed.{parsedLengthOf}
+use Rattle.field.specs.Parsed.{refusedBy, keptBy, versionedBy, lengthFieldBy, parsedOf, fieldNumbers}
 
 -- in HD no value is in UTF-8
 pub header-value : (k : Kind) (a b : ℕ) (v : List ℕ) → k ≡ Header → isValue v ≡ allows k a b v
@@ -62,31 +27,24 @@ header-value k a b v e = ap (λ l. allows l a b v) (sym e)
 
 -- ---- LN of SQ
 
--- what stands at the front as a number
-unfoldable pub lengthBy : Number → ParsedField
-lengthBy number.NoDigit = refusedBy 12
-lengthBy number.TooLarge = refusedBy 12
-lengthBy (number.Is n k) = cond (eqb n 0) (refusedBy 13) (cond (ltb n (2 ^ 31)) (sizedBy k n) (refusedBy 27))
-
-pub length-sized : (at : ℕ) (ds rest : List ℕ) → parsedOf ReferenceSequence (lengthField at (ds, rest)) ≡ lengthBy (digitsNumber (2 ^ 64) ds)
-unfolding parsedOf lengthField lengthBy digitsNumber
-length-sized at [] rest = refl
-length-sized at (b ∷ ds) rest = go (ltb n (2 ^ 64)) (eqb n 0) refl (ltb n (2 ^ 31)) refl (none? rest)
+-- wherever its value stands
+pub length-anywhere : (at : ℕ) (ds more : List ℕ) → parsedOf ReferenceSequence (lengthField at (ds, more)) ≡ lengthFieldBy (parsedLengthOf (lengthField 0 (ds, more)))
+unfolding parsedOf parsedLengthOf lengthField lengthFieldBy
+length-anywhere at ds more =
+    go (none? ds || not (ltb (worth ds) 18446744073709551616)) (eqb (worth ds) 0) (not (ltb (worth ds) 2147483648)) (none? more)
   where
-    f : fields.Field
-    f = record { tag₀ = 76; tag₁ = 78; value = record { at = at; bytes = b ∷ ds } }
+    f : ℕ → fields.Field
+    f from = record { tag₀ = 76; tag₁ = 78; value = record { at = from; bytes = ds } }
 
-    n : ℕ
-    n = worth (b ∷ ds)
+    judged : ℕ → Bool → Bool → Bool → Bool → fields.JudgedPiece
+    judged from t u v w = cond t (refusedPiece 12) (cond u (refusedPiece 13) (cond v (refusedPiece 27) (cond w (good (f from)) (goodThen (f from) 6))))
 
-    go : (t u : Bool) → eqb n 0 ≡ u → (v : Bool) → ltb n (2 ^ 31) ≡ v → (w : Bool)
-        → parsedOf ReferenceSequence (cond (not t) (refusedPiece 12) (cond u (refusedPiece 13) (cond (not v) (refusedPiece 27) (cond w (good f) (goodThen f 6)))))
-        ≡ lengthBy (cond t (number.Is n (length (b ∷ ds))) number.TooLarge)
-    go true true k v l w = rw k refl
-    go true false k true l true = rw (k, l) refl
-    go true false k true l false = rw (k, l) refl
-    go true false k false l w = rw (k, l) refl
-    go false u k v l w = refl
+    go : (t u v w : Bool) → parsedOf ReferenceSequence (judged at t u v w) ≡ lengthFieldBy (parsedLengthOf (judged 0 t u v w))
+    go true u v w = refl
+    go false true v w = refl
+    go false false true w = refl
+    go false false false true = refl
+    go false false false false = refl
 
 -- ---- by kind and tag
 
@@ -119,10 +77,10 @@ module _ (a b at : ℕ) (v : List ℕ) where
 
   -- ---- what is answered
 
-  pub value-length : (k : Kind) → isLength k a b ≡ true → parsedOf k (valueField k a b at v) ≡ lengthBy (digitsNumber (2 ^ 64) (span v .0))
+  pub value-length : (k : Kind) → isLength k a b ≡ true → parsedOf k (valueField k a b at v) ≡ lengthFieldBy (parsedLengthOf (lengthField 0 (span v)))
   value-length k e =
       let j = judged-length k e in
-      ap (parsedOf k) (j .1) ∙ ap (λ l. parsedOf l (lengthField at (span v))) (j .0) ∙ length-sized at (span v .0) (span v .1)
+      ap (parsedOf k) (j .1) ∙ ap (λ l. parsedOf l (lengthField at (span v))) (j .0) ∙ length-anywhere at (span v .0) (span v .1)
 
   pub value-none : (k : Kind) → isLength k a b ≡ false → takenOf (allows k a b) v ≡ 0 → parsedOf k (valueField k a b at v) ≡ refusedBy 10
   unfolding parsedOf plain versionField

@@ -1,11 +1,2 @@
-pub mod Before
-pub mod Value
-pub mod Wide
-pub mod Sides
 pub mod Judged
 pub mod Place
-pub mod Anywhere
-pub mod Next
-pub mod Answer
-pub mod Shown
-pub mod Refused

@@ -1,43 +1,18 @@
--- What the readers of one field answer, by the definitions of `format`: plain numbers alone.
+-- What reading one field answers, by the definitions of `format`: plain numbers alone.
 use Prim.Native.Nat.{ℕ}
-use mathlib.Core.Bool.{Bool, false, _&&_, cond}
-use mathlib.Core.List.{List}
+use mathlib.Core.Bool.{cond}
 use mathlib.Core.Option.{Option, none, some}
 use lib.ListN.{length}
-use lib.Dec.{eqb}
 use Rattle.format.specs.declared.Kind.{Kind}
-use Rattle.format.specs.declared.Kind.the-variants.{Header, ReferenceSequence, ReadGroup, Program, Comment}
 use Rattle.format.specs.declared.Version.{Version}
 use Rattle.format.specs.Decimal.{worth}
 use Rattle.format.specs.Fields.{JudgedPiece, refusedPiece, good, goodThen}
 use Rattle.format.specs.Fields as fields
 use Rattle.format.specs.Version.{version}
-use Rattle.field.specs.declared.VersionSide.{VersionSide}
-use Rattle.field.specs.declared.VersionSide.the-variants as part
-use Rattle.field.specs.declared.ParsedVersion.{ParsedVersion}
-use Rattle.field.specs.declared.ParsedVersion.the-variants as spelled
+use Rattle.field_tag.specs.Numbers.{isVersion, isLength}
+use Rattle.length.specs.declared.ParsedLength.{ParsedLength}
+use Rattle.length.specs.declared.ParsedLength.the-variants.{Refused, Is}
 use Rattle.field.specs.declared.ParsedField.{ParsedField}
-
--- how many of the bytes before the next tab are taken as a value: all, or none where `allowed` says that they are no value
-unfoldable pub takenOf : (List ℕ → Bool) → List ℕ → ℕ
-takenOf allowed v = cond (allowed v) (length v) 0
-
--- one side of a version's dot
-unfoldable pub versionSideOf : Option ℕ → VersionSide
-versionSideOf none = part.Invalid
-versionSideOf (some n) = part.Is n
-
--- a version, if one is spelled
-unfoldable pub parsedVersionOf : Option Version → ParsedVersion
-parsedVersionOf none = spelled.Invalid
-parsedVersionOf (some v) = spelled.Is v
-
--- the refusal that each is where it is read as VN of HD, and 0 for a version
-unfoldable pub versionRefusal : ParsedVersion → ℕ
-versionRefusal spelled.Invalid = 11
-versionRefusal (spelled.Is v) = 0
-
--- ---- a field
 
 -- the refusal `n`
 abbrev pub refusedBy : ℕ → ParsedField
@@ -56,21 +31,10 @@ versionedBy n (some v) = record { stop = 0; tag_0 = 86; tag_1 = 78; len = n; maj
 abbrev pub sizedBy : ℕ → ℕ → ParsedField
 sizedBy n l = record { stop = 0; tag_0 = 76; tag_1 = 78; len = n; major = 0; minor = 0; length = l }
 
--- VN of HD
-unfoldable pub isVersion : Kind → ℕ → ℕ → Bool
-isVersion Header a b = eqb a 86 && eqb b 78
-isVersion ReferenceSequence a b = false
-isVersion ReadGroup a b = false
-isVersion Program a b = false
-isVersion Comment a b = false
-
--- LN of SQ
-unfoldable pub isLength : Kind → ℕ → ℕ → Bool
-isLength Header a b = false
-isLength ReferenceSequence a b = eqb a 76 && eqb b 78
-isLength ReadGroup a b = false
-isLength Program a b = false
-isLength Comment a b = false
+-- LN of SQ, by what reading its number answered
+unfoldable pub lengthFieldBy : ParsedLength → ParsedField
+lengthFieldBy (Refused n) = refusedBy n
+lengthFieldBy (Is l n) = sizedBy n l
 
 -- a field of a record of kind `k`: VN of HD carries its version, LN of SQ its number
 unfoldable pub fieldNumbers : Kind → fields.Field → ParsedField

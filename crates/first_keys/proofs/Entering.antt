@@ -14,12 +14,14 @@ use Rattle.format.proofs.Slots.{held-none}
 use Rattle.text.specs.Stands.{Stands, Each}
 use Rattle.accepted.specs.Pieces.{pieces}
 use Rattle.record.specs.Head.{headOf, recordHead, stretchOf}
-use Rattle.key_index.specs.Word.{word}
-use Rattle.key_index.specs.Told.{mark, value, tellsKey, start, sought, saysKnown, isMet, afterMeeting}
-use Rattle.key_index.specs.Keyed.{valuesOf, keyValuesOf, Ended}
-use Rattle.key_index.proofs.Looking.{sought-known, found}
-use Rattle.key_index.proofs.Keyed.{value-some, keys-snoc, meeting-length, meeting-met, meeting-holds}
-use Rattle.key_index.proofs.Pointing.{toldBy, tells-one, tells-own}
+use Rattle.key_at.specs.Word.{word}
+use Rattle.key_look.specs.Sought.{mark, tellsKey, sought}
+use Rattle.key_index.specs.Told.{value, start, saysKnown, isMet, afterMeeting}
+use Rattle.line_keys.specs.Ended.{Ended}
+use Rattle.keys_held.specs.Keyed.{valuesOf, keyValuesOf}
+use Rattle.keys_held.proofs.Held.{sought-known, found}
+use Rattle.keys_held.proofs.Keyed.{value-some, keys-snoc, meeting-length, meeting-met, meeting-holds}
+use Rattle.keys_held.proofs.Pointing.{toldBy, tells-one, tells-own}
 use Rattle.first_keys.specs.Blocks.{recordIfRead, readIn, entered}
 use Rattle.first_keys.proofs.Lines.{Sits, sits-stand, sits-ended}
 

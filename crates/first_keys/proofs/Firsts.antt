@@ -17,16 +17,20 @@ use Rattle.text.specs.First.{firstLine}
 use Rattle.text.specs.Stands.{Stands, Each}
 use Rattle.accepted.specs.Pieces.{pieces}
 use Rattle.accepted.proofs.Stands.{line-stand}
+use Rattle.accepted.specs.First.{firstAt}
+use Rattle.accepted.proofs.Ahead.{ahead-none, ahead-one}
 use Rattle.record.specs.Head.{headOf, recordHead, stretchOf}
 use Rattle.admission.proofs.Admission.{taken-clash}
-use Rattle.key_index.specs.Word.{word}
-use Rattle.key_index.specs.Told.{mark, value, tellsKey, sought, pointed, isOwn, soughtOf, offsetOf, afterPointing, isFirstKey}
-use Rattle.key_index.specs.Keyed.{valuesOf, keyValuesOf, Ended}
-use Rattle.key_index.proofs.Looking.{value-place}
-use Rattle.key_index.proofs.Keyed.{value-some, values-few, toldIn, told-taken, pick-append, pointing-length}
-use Rattle.key_index.proofs.Pointing.{toldBy, own-told, tells-own, latest, pointing-told}
-use Rattle.first_keys.specs.Blocks.{firstAt, headKeys, keyedFront, keyedBehind, earlier, recordIfRead, readIn, entered, pointedBack, filledFor}
-use Rattle.first_keys.proofs.Walk.{ahead-none, ahead-one, front-none, front-behind}
+use Rattle.key_at.specs.Word.{word}
+use Rattle.key_index.specs.Told.{value, pointed, isOwn, soughtOf, offsetOf, afterPointing, isFirstKey}
+use Rattle.key_look.specs.Sought.{mark, tellsKey, sought}
+use Rattle.keys_held.specs.Keyed.{valuesOf, keyValuesOf}
+use Rattle.line_keys.specs.Ended.{Ended}
+use Rattle.keys_held.proofs.Held.{value-place}
+use Rattle.keys_held.proofs.Keyed.{value-some, values-few, toldIn, told-taken, pick-append, pointing-length}
+use Rattle.keys_held.proofs.Pointing.{toldBy, own-told, tells-own, latest, pointing-told}
+use Rattle.first_keys.specs.Blocks.{headKeys, keyedFront, keyedBehind, earlier, recordIfRead, readIn, entered, pointedBack, filledFor}
+use Rattle.first_keys.proofs.Walk.{front-none, front-behind}
 use Rattle.first_keys.proofs.Lines.{each-left, each-right, Sits, lines-sit, sits-stand, sits-ended, reads-ended, lines-before, earlier-all, Low, lines-low}
 use Rattle.first_keys.proofs.Entering.{pick-split, entered-length, entered-told}
 
@@ -327,7 +331,6 @@ module _ (strict : Bool) (t : List ℕ) (n from at : ℕ) (es xs ys : List Piece
       go false e = absurd (omega (arith, length-append xs (p ∷ ys), ap length (sym (ap (keyedFront strict (n / 4 * 3)) (ahead-none t at (ltb-false at (length t) e))) ∙ block)))
 
   front : earlier at (linesFrom from (drop from t)) ≡ es
-  unfolding firstAt
   front =
       let next : ℕ = at + firstLine (drop at t) .next in
       let e : linesFrom from (drop from t) ≡ es ++ (firstAt at t ∷ linesFrom next (drop next t)) = split ∙ ap (λ l. es ++ l) (ahead-one t at here) in

@@ -19,14 +19,16 @@ use Rattle.accepted.specs.Sound.{KeyIsValue}
 use Rattle.accepted.specs.Pieces.{pieces}
 use Rattle.accepted.proofs.Sound.{line-sound}
 use Rattle.accepted.proofs.Stands.{line-stand}
+use Rattle.accepted.specs.First.{firstAt}
+use Rattle.accepted.proofs.Ahead.{ahead-none, ahead-one, next-more, ahead-stands}
 use Rattle.admission.proofs.Admission.{stood}
-use Rattle.key_index.specs.Told.{mark, value}
-use Rattle.key_index.specs.Keyed.{valuesOf, keyValuesOf, Ended}
-use Rattle.key_index.proofs.Ahead.{ahead-stands}
-use Rattle.key_index.proofs.Looking.{value-place}
-use Rattle.key_index.proofs.LineKeys.{line-ended}
-use Rattle.first_keys.specs.Blocks.{firstAt, earlier, recordIfRead, readIn}
-use Rattle.first_keys.proofs.Walk.{ahead-none, ahead-one, next-more}
+use Rattle.key_index.specs.Told.{value}
+use Rattle.key_look.specs.Sought.{mark}
+use Rattle.keys_held.specs.Keyed.{valuesOf, keyValuesOf}
+use Rattle.line_keys.specs.Ended.{Ended}
+use Rattle.keys_held.proofs.Held.{value-place}
+use Rattle.line_keys.proofs.LineKeys.{line-ended}
+use Rattle.first_keys.specs.Blocks.{earlier, recordIfRead, readIn}
 
 -- ---- each of a list
 
@@ -49,11 +51,10 @@ each-append P (x ∷ xs) ys h k = (h .0, each-append P xs ys (h .1) k)
 
 -- it is the line at its offset
 unfoldable pub Sits : List ℕ → Piece → Type 0
-unfolding firstAt
 Sits t q = (q .at < length t) × (q ≡ firstAt (q .at) t)
 
 pub lines-sit : (t : List ℕ) (at : ℕ) → Each (Sits t) (linesFrom at (drop at t))
-unfolding Each Sits firstAt
+unfolding Each Sits
 lines-sit t at = by (length t) at (omega arith)
   where
     by : (f at : ℕ) → length t ≤ at + f → Each (Sits t) (linesFrom at (drop at t))
@@ -69,11 +70,11 @@ lines-sit t at = by (length t) at (omega arith)
 
 module _ (strict : Bool) (t : List ℕ) (small : length t ≤ 16777216) (q : Piece) (s : Sits t q) (r : Record) (is : line strict q ≡ read r) where
   pub sits-stand : Each (Stands t 0) (pieces r)
-  unfolding Sits firstAt
+  unfolding Sits
   sits-stand = stood strict t q (subst (Stands t 0) (sym (s .1)) (ahead-stands t (q .at) (s .0))) r is
 
   pub sits-ended : Ended t r
-  unfolding Sits firstAt
+  unfolding Sits
   sits-ended = line-ended strict t (q .at) r small (ap (line strict) (sym (s .1)) ∙ is) sits-stand
 
 pub reads-ended : (strict : Bool) (t : List ℕ) → length t ≤ 16777216 → (qs : List Piece) → Each (Sits t) qs → Each (Ended t) (readIn strict qs)
@@ -92,7 +93,7 @@ Before n q = (q .at < n) × (q .at + length (q .bytes) ≤ n)
 
 -- a line that others stand before
 pub lines-before : (t : List ℕ) (from : ℕ) (qs : List Piece) (p : Piece) (ps : List Piece) → linesFrom from (drop from t) ≡ qs ++ (p ∷ ps) → Each (Before (p .at)) qs
-unfolding Each Before firstAt
+unfolding Each Before
 lines-before t from [] p ps e = tt
 lines-before t from (q ∷ qs) p ps e = go (ltb from (length t)) refl (lines-before t (from + firstLine (drop from t) .next) qs p ps)
   where

@@ -4,42 +4,25 @@ use mathlib.Core.Path.{_≡_, refl, sym, ap, _∙_}
 use mathlib.Core.Bool.{Bool, true, false, cond}
 use mathlib.Core.List.{List, [], _∷_, _++_}
 use native.Mathlib.Omega.{arith}
-use lib.ListN.{length, drop, length-drop, drop-of-length-le}
+use lib.ListN.{length, drop}
 use lib.Dec.{ltb}
 use borrow.Author.Tests.{lt-ltb, le-ltb, ltb-true, ltb-false}
 use Rattle.format.specs.Lines.{Piece, linesFrom}
 use Rattle.format.specs.Records.{line}
 use Rattle.text.specs.First.{firstLine}
-use Rattle.text.proofs.Lines.{lines-none}
-use Rattle.text.proofs.First.{first-within, first-some}
+use Rattle.accepted.specs.First.{firstAt}
+use Rattle.accepted.proofs.Ahead.{ahead-none, ahead-one, next-within, next-more, ahead-stands}
 use Rattle.record.specs.Head.{headOf}
 use Rattle.record.specs.declared.Head.{Head}
 use Rattle.record.specs.declared.Head.the-variants as head
 use Rattle.key_index.specs.Told.{afterMeeting, afterPointing}
 use Rattle.key_index.specs.Keyed.{KeyInText}
-use Rattle.key_index.proofs.Ahead.{first-ahead, ahead-stands}
-use Rattle.key_index.proofs.Keyed.{head-placed}
-use Rattle.first_keys.specs.Blocks.{firstAt, headKeys, keyedFront, keyedBehind, startOf, afterKeyed, earlier, entered, pointedBack}
+use Rattle.keys_held.proofs.Keyed.{head-placed}
+use Rattle.first_keys.specs.Blocks.{headKeys, keyedFront, keyedBehind, startOf, afterKeyed, earlier, entered, pointedBack}
 
--- no line is left
-pub ahead-none : (t : List ℕ) (at : ℕ) → length t ≤ at → linesFrom at (drop at t) ≡ []
-ahead-none t at h = ap (linesFrom at) (drop-of-length-le t h) ∙ lines-none at
-
--- the first line, and the lines after it
-pub ahead-one : (t : List ℕ) (at : ℕ) → at < length t → linesFrom at (drop at t) ≡ firstAt at t ∷ linesFrom (at + firstLine (drop at t) .next) (drop (at + firstLine (drop at t) .next) t)
-unfolding firstAt
-ahead-one t at h = first-ahead t at h
-
--- its key stands in the text
+-- the key of the line at an offset stands in the text
 pub placed-at : (strict : Bool) (t : List ℕ) (at : ℕ) → length t ≤ 16777216 → at < length t → KeyInText (length t) (headOf (line strict (firstAt at t)))
-unfolding firstAt
 placed-at strict t at small h = head-placed strict t at small (ahead-stands t at h)
-
-pub next-within : (t : List ℕ) (at : ℕ) → at < length t → at + firstLine (drop at t) .next ≤ length t
-next-within t at h = omega (arith, first-within (drop at t), length-drop at t, h)
-
-pub next-more : (t : List ℕ) (at : ℕ) → at < length t → at < at + firstLine (drop at t) .next
-next-more t at h = omega (arith, first-some (drop at t) (omega (arith, length-drop at t, h)))
 
 -- ---- the lines of the block
 
@@ -87,7 +70,7 @@ module _ (strict : Bool) where
 
 -- the lines from an offset on start there
 pub start-ahead : (t : List ℕ) (at : ℕ) → at ≤ length t → startOf (length t) (linesFrom at (drop at t)) ≡ at
-unfolding startOf firstAt
+unfolding startOf
 start-ahead t at l = go (ltb at (length t)) refl
   where
     go : (b : Bool) → ltb at (length t) ≡ b → startOf (length t) (linesFrom at (drop at t)) ≡ at
@@ -164,7 +147,7 @@ module _ (strict : Bool) (t : List ℕ) where
 
 module _ (to : ℕ) (t : List ℕ) (at : ℕ) where
   pub earlier-none : to ≤ at → earlier to (linesFrom at (drop at t)) ≡ []
-  unfolding earlier firstAt
+  unfolding earlier
   earlier-none h = go (ltb at (length t)) refl
     where
       go : (b : Bool) → ltb at (length t) ≡ b → earlier to (linesFrom at (drop at t)) ≡ []
@@ -175,7 +158,7 @@ module _ (to : ℕ) (t : List ℕ) (at : ℕ) where
 
   pub earlier-one : at < to → at < length t
       → earlier to (linesFrom at (drop at t)) ≡ firstAt at t ∷ earlier to (linesFrom (at + firstLine (drop at t) .next) (drop (at + firstLine (drop at t) .next) t))
-  unfolding earlier firstAt
+  unfolding earlier
   earlier-one l h =
       ap (earlier to) (ahead-one t at h)
       ∙ ap (λ b. cond b (firstAt at t ∷ earlier to (linesFrom (at + firstLine (drop at t) .next) (drop (at + firstLine (drop at t) .next) t))) []) (lt-ltb at to l)

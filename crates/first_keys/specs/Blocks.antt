@@ -2,20 +2,14 @@
 use Prim.Native.Nat.{ℕ, _-_, _*_, _/_}
 use mathlib.Core.Bool.{Bool, true, cond}
 use mathlib.Core.List.{List, [], _∷_, _++_}
-use lib.ListN.{length, take, drop, replicate}
+use lib.ListN.{length, drop, replicate}
 use lib.Dec.{ltb}
 use Rattle.format.specs.Lines.{Piece, linesFrom}
 use Rattle.format.specs.Records.{Record, Line, refusedLine, read, line}
-use Rattle.text.specs.First.{firstLine}
 use Rattle.record.specs.Head.{headOf}
 use Rattle.record.specs.declared.Head.{Head}
 use Rattle.record.specs.declared.Head.the-variants as head
 use Rattle.key_index.specs.Told.{afterMeeting, afterPointing}
-
--- the line at an offset, without its ending
-unfoldable pub firstAt : ℕ → List ℕ → Piece
-unfolding firstLine
-firstAt at t = record { at = at; bytes = take (firstLine (drop at t) .len) (drop at t) }
 
 -- how many keys a head has that may enter
 unfoldable pub headKeys : Head → ℕ
@@ -75,8 +69,17 @@ unfolding afterPointing headOf line
 pointedBack strict t slots [] = slots
 pointedBack strict t slots (p ∷ ps) = pointedBack strict t (afterPointing t slots (headOf (line strict p))) ps
 
+-- ---- by where the lines stand in the text
+
+-- the keys of the lines from the offset `at` on entered, up to the line with the `n`-th key
+abbrev pub enteredFrom : Bool → List ℕ → List ℕ → ℕ → ℕ → List ℕ
+enteredFrom strict t slots at n = entered strict t slots (keyedFront strict n (linesFrom at (drop at t)))
+
+-- slots were set to the offsets of the lines from the offset `from` on that start before `to`
+abbrev pub pointedFrom : Bool → List ℕ → List ℕ → ℕ → ℕ → List ℕ
+pointedFrom strict t slots from to = pointedBack strict t slots (earlier to (linesFrom from (drop from t)))
+
 -- `n` slots for the block of lines from the offset `at` on, after the lines from `from` on
 unfoldable pub filledFor : Bool → List ℕ → ℕ → ℕ → ℕ → List ℕ
 unfolding entered pointedBack keyedFront earlier linesFrom
-filledFor strict t n from at =
-    pointedBack strict t (entered strict t (replicate n 0) (keyedFront strict (n / 4 * 3) (linesFrom at (drop at t)))) (earlier at (linesFrom from (drop from t)))
+filledFor strict t n from at = pointedFrom strict t (enteredFrom strict t (replicate n 0) at (n / 4 * 3)) from at

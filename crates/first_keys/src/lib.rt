@@ -4,11 +4,11 @@ use record::Head;
 ghost use mathlib.Core.Path.{_≡_};
 ghost use Prim.Native.Nat.{_≤_, _<_, _+_, _*_, _/_};
 ghost use lib.ListN.{length, drop};
-ghost use Rattle.format.specs.Lines.{linesFrom};
 ghost use Rattle.format.specs.Records.{line};
 ghost use Rattle.text.specs.First.{firstLine};
+ghost use Rattle.accepted.specs.First.{firstAt};
 ghost use Rattle.record.specs.Head.{headOf};
-ghost use Rattle.first_keys.specs.Blocks.{firstAt, headKeys, keyedFront, afterKeyed, earlier, entered, pointedBack, filledFor};
+ghost use Rattle.first_keys.specs.Blocks.{headKeys, afterKeyed, enteredFrom, pointedFrom, filledFor};
 
 // A line's head, and the offset of the line after it.
 struct Parsed {
@@ -25,7 +25,7 @@ fn parse_at(text: &[u8], strict: bool, at: usize) -> Parsed
 {
     let cut = text::first_line(&text[at..]);
     let end = at + cut.len;
-    let head = record::parse_record(&text[at..end], at, strict);
+    let head = record_parser::parse_record(&text[at..end], at, strict);
     Parsed {
         head,
         next: at + cut.next,
@@ -53,7 +53,7 @@ fn enter(text: &[u8], strict: bool, area: &mut [u32], at: usize, many: usize) ->
     requires { ⌜ 0 < length (now area) ⌝ }
     requires { ⌜ at ≤ length (now text) ⌝ }
     ensures end { λ r. ⌜ r ≡ afterKeyed strict many at (now (text .entry)) ⌝ }
-    ensures wrote { λ _. ⌜ now (area .exit) ≡ entered strict (now (text .entry)) (now (area .entry)) (keyedFront strict many (linesFrom at (drop at (now (text .entry))))) ⌝ }
+    ensures wrote { λ _. ⌜ now (area .exit) ≡ enteredFrom strict (now (text .entry)) (now (area .entry)) at many ⌝ }
 {
     let mut end = at;
     let mut n: usize = 0;
@@ -75,7 +75,7 @@ fn point_back(text: &[u8], strict: bool, area: &mut [u32], from: usize, to: usiz
     requires { ⌜ length (now text) ≤ 16777216 ⌝ }
     requires { ⌜ 0 < length (now area) ⌝ }
     requires { ⌜ to ≤ length (now text) ⌝ }
-    ensures { λ _. ⌜ now (area .exit) ≡ pointedBack strict (now (text .entry)) (now (area .entry)) (earlier to (linesFrom from (drop from (now (text .entry))))) ⌝ }
+    ensures { λ _. ⌜ now (area .exit) ≡ pointedFrom strict (now (text .entry)) (now (area .entry)) from to ⌝ }
 {
     let mut at = from;
     while at < to {

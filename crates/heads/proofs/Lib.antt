@@ -1,3 +1,4 @@
 pub mod Lax
 pub mod Finds
 pub mod MetKeys
+pub mod Noting

@@ -1,10 +1,10 @@
 // The head of an accepted line: its kind, its key and its number, by where their values stand. Nothing is judged again.
 use decimal::Number;
-use field::ParsedVersion;
 use format::Kind;
 use other_fields::Value;
 use record::Head;
 use record::Stretch;
+use version::ParsedVersion;
 ghost use mathlib.Core.Path.{_≡_};
 ghost use mathlib.Core.Bool.{true, false};
 ghost use Prim.Native.Nat.{_≤_, _+_};
@@ -17,6 +17,14 @@ ghost use Rattle.other_fields.specs.Run.{fieldsFrom};
 ghost use Rattle.other_fields.specs.Tables.{Walkable};
 ghost use Rattle.heads.specs.Found.{kindBy, isComment, uncounted};
 ghost use Rattle.heads.specs.Keys.{noKeyValues, withKey, keysIn};
+ghost use Rattle.heads.specs.Form.{LineOf, IsForm};
+
+// The form of an accepted line: a comment, or fields in which no tag stands twice, or in which one may.
+pub enum Form {
+    Comment,
+    Once(Kind),
+    Repeating(Kind),
+}
 
 // Where the last values of a line's keys stand: VN, SN or ID, and LN of SQ.
 pub struct KeyValues {
@@ -84,7 +92,7 @@ pub fn kind_of(src: &[u8]) -> Kind
 }
 
 // Whether a line of this kind has no fields.
-pub fn is_comment(kind: Kind) -> bool
+fn is_comment(kind: Kind) -> bool
     ensures { λ r. ⌜ r ≡ isComment kind ⌝ }
 {
     match kind {
@@ -94,6 +102,22 @@ pub fn is_comment(kind: Kind) -> bool
         Kind::Program => false,
         Kind::Comment => true,
     }
+}
+
+// The form of an accepted line at the offset `at`.
+pub fn form_of(src: &[u8], at: usize, strict: bool) -> Form
+    requires { ⌜ isRead (line strict (record { at = at; bytes = now src })) ≡ true ⌝ }
+    requires { ⌜ at + length (now src) ≤ 16777216 ⌝ }
+    ensures { λ r. ⌜ IsForm at (now (src .entry)) r ⌝ }
+{
+    let kind = kind_of(src);
+    if is_comment(kind) {
+        return Form::Comment;
+    }
+    if other_fields::is_once(src, at, strict) {
+        return Form::Once(kind);
+    }
+    Form::Repeating(kind)
 }
 
 // The keys of an accepted line of fields.
@@ -126,15 +150,13 @@ pub fn find_keys(kind: Kind, src: &[u8], at: usize, once: bool, tables: &[u32]) 
 
 // The head of an accepted HD: the version that its VN spells.
 fn header_of(src: &[u8], at: usize, version: Value) -> Head
-    requires { ⌜ isRead (line false (record { at = at; bytes = now src })) ≡ true ⌝ }
-    requires { ⌜ kindBy (getD (now src) 1 0) ≡ Header ⌝ }
+    requires { ⌜ LineOf Header at (now src) ⌝ }
     requires { ⌜ version ≡ keysIn Header (fieldsFrom at (now src) 3) .key ⌝ }
-    requires { ⌜ at + length (now src) ≤ 4294967295 ⌝ }
     ensures { λ r. ⌜ r ≡ uncounted (headOf (line false (record { at = at; bytes = now (src .entry) }))) ⌝ }
 {
     let from = version.at - at;
     let len = version.len;
-    match field::parse_version(&src[from..from + len]) {
+    match version::parse_version(&src[from..from + len]) {
         ParsedVersion::Is(v) => Head::Header(v, 0),
         ParsedVersion::Invalid => Head::Refused(11),
     }
@@ -142,10 +164,8 @@ fn header_of(src: &[u8], at: usize, version: Value) -> Head
 
 // The head of an accepted SQ: where its SN stands, and the number that its LN spells.
 fn sequence_of(src: &[u8], at: usize, keys: KeyValues) -> Head
-    requires { ⌜ isRead (line false (record { at = at; bytes = now src })) ≡ true ⌝ }
-    requires { ⌜ kindBy (getD (now src) 1 0) ≡ ReferenceSequence ⌝ }
+    requires { ⌜ LineOf ReferenceSequence at (now src) ⌝ }
     requires { ⌜ keys ≡ keysIn ReferenceSequence (fieldsFrom at (now src) 3) ⌝ }
-    requires { ⌜ at + length (now src) ≤ 4294967295 ⌝ }
     ensures { λ r. ⌜ r ≡ uncounted (headOf (line false (record { at = at; bytes = now (src .entry) }))) ⌝ }
 {
     let name = keys.key;
@@ -165,10 +185,8 @@ fn sequence_of(src: &[u8], at: usize, keys: KeyValues) -> Head
 
 // The head of an accepted line at the offset `at` by its keys, without the number of its other fields.
 pub fn head_of(kind: Kind, src: &[u8], at: usize, keys: KeyValues) -> Head
-    requires { ⌜ isRead (line false (record { at = at; bytes = now src })) ≡ true ⌝ }
-    requires { ⌜ kindBy (getD (now src) 1 0) ≡ kind ⌝ }
+    requires { ⌜ LineOf kind at (now src) ⌝ }
     requires { ⌜ keys ≡ keysIn kind (fieldsFrom at (now src) 3) ⌝ }
-    requires { ⌜ at + length (now src) ≤ 4294967295 ⌝ }
     ensures { λ r. ⌜ r ≡ uncounted (headOf (line false (record { at = at; bytes = now (src .entry) }))) ⌝ }
 {
     let key = keys.key;

@@ -21,15 +21,16 @@ use Rattle.text.proofs.Lines.{lines-none}
 use Rattle.accepted.specs.Pieces.{pieces, Pairs}
 use Rattle.accepted.proofs.Bools.{or-false}
 use Rattle.accepted.proofs.Onward.{lines-count}
+use Rattle.accepted.proofs.Ahead.{ahead-one}
 use Rattle.record.specs.declared.Head.{Head}
 use Rattle.record.specs.Head.{headOf, recordHead}
 use Rattle.admission.proofs.Admission.{stood}
 use Rattle.admission.specs.Admission.{isTaken, programsOf}
 use Rattle.key_index.specs.Told.{start, isMet, afterMeeting}
-use Rattle.key_index.specs.Keyed.{valuesOf, keyValuesOf, Ended}
-use Rattle.key_index.proofs.Ahead.{first-ahead}
-use Rattle.key_index.proofs.LineKeys.{line-ended}
-use Rattle.key_index.proofs.Keyed.{toldIn, told-none, told-append, told-taken, met-told, keys-snoc, ended-snoc, meeting-length, meeting-holds, values-few}
+use Rattle.keys_held.specs.Keyed.{valuesOf, keyValuesOf}
+use Rattle.line_keys.specs.Ended.{Ended}
+use Rattle.line_keys.proofs.LineKeys.{line-ended}
+use Rattle.keys_held.proofs.Keyed.{toldIn, told-none, told-append, told-taken, met-told, keys-snoc, ended-snoc, meeting-length, meeting-holds, values-few}
 use Rattle.judging.specs.declared.Block.{Block}
 use Rattle.judging.specs.Blocks.{clashOf, turned, emptied}
 use Rattle.judging.proofs.Judging.{Judging, judging-start, judging-on, passed-are, line-stands}
@@ -93,7 +94,7 @@ module _ (strict : Bool) (t slots : List ℕ) (clash at n : ℕ) where
         ≡ cond (eqb n clash) clash (cond (isMet t slots (headOf (records.line strict (record { at = at; bytes = take (firstLine (drop at t) .len) (drop at t) })))) n
         (clashOf strict t slots clash (n + 1) (linesFrom (at + firstLine (drop at t) .next) (drop (at + firstLine (drop at t) .next) t))))
     unfolding clashOf
-    step = ap (clashOf strict t slots clash n) (first-ahead t at h)
+    step = ap (clashOf strict t slots clash n) (ahead-one t at h)
 
     pub clash-here : n ≡ clash → clashOf strict t slots clash n (linesFrom at (drop at t)) ≡ clash
     clash-here e = step ∙ simp (eq-eqb n clash e)
@@ -175,7 +176,7 @@ module _ (strict : Bool) (t area₀ area : List ℕ) (b : Block) (at n programs 
 
   module _ (h : at < length t) where
     now-ahead : Ahead strict t (x .old) (b .clash) n (record { at = at; bytes = take (firstLine (drop at t) .len) (drop at t) } ∷ linesFrom (at + firstLine (drop at t) .next) (drop (at + firstLine (drop at t) .next) t))
-    now-ahead = subst (Ahead strict t (x .old) (b .clash) n) (first-ahead t at h) (x .ahead)
+    now-ahead = subst (Ahead strict t (x .old) (b .clash) n) (ahead-one t at h) (x .ahead)
 
     -- the index and the line that is known tell whether its key was used
     pub used-known : (y : Head) → y ≡ headOf (records.line strict (record { at = at; bytes = take (firstLine (drop at t) .len) (drop at t) })) → (isMet t area y || eqb n (b .clash)) ≡ isTaken (j .before) t y

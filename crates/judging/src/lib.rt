@@ -50,7 +50,7 @@ fn first_met(
         }
         let cut = text::first_line(&text[at..]);
         let end = at + cut.len;
-        let head = record::parse_record(&text[at..end], at, strict);
+        let head = record_parser::parse_record(&text[at..end], at, strict);
         if key_index::meet(text, area, head, false) {
             return line;
         }
@@ -118,7 +118,7 @@ fn judge_indexed(text: &[u8], strict: bool, area: &mut [u32]) -> Judged
             return Judged::Accepted(size);
         }
         let end = at + cut.len;
-        let head = record::parse_record(&text[at..end], at, strict);
+        let head = record_parser::parse_record(&text[at..end], at, strict);
         block = turn(text, strict, area, at, line, block);
         let known = key_index::meet(text, area, head, true);
         let n = barred(line, programs, head, known, line == block.clash);

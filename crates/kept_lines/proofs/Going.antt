@@ -9,7 +9,7 @@ use lib.Seq.{drop-at}
 use lib.Dec.{eqb, leb, ltb}
 use borrow.Author.Tests.{eqb-true, eqb-false, ltb-true, ltb-false}
 use Rattle.format.specs.Bytes.{any}
-use Rattle.format.specs.Lines.{Piece, linesFrom}
+use Rattle.format.specs.Lines.{Piece}
 use Rattle.format.specs.Records as records
 use Rattle.format.specs.Records.{Record, header, reference, group, program, comment, code, key, Line, refusedLine, read}
 use Rattle.format.specs.Reading.{clash, ofKind, admitted}
@@ -17,6 +17,8 @@ use Rattle.text.specs.First.{firstLine}
 use Rattle.text.specs.Stands.{Stands, Each}
 use Rattle.accepted.specs.Pieces.{pieces}
 use Rattle.accepted.proofs.OfKind.{ofKind-append}
+use Rattle.accepted.specs.First.{firstAt}
+use Rattle.accepted.proofs.Ahead.{ahead, ahead-none, ahead-one, next-within, next-more, ahead-stands}
 use Rattle.record.specs.Head.{headOf, recordHead, stretchOf}
 use Rattle.record.specs.declared.Head.{Head}
 use Rattle.record.specs.declared.Head.the-variants as head
@@ -26,36 +28,22 @@ use Rattle.admission.proofs.Programs.{programs-one}
 use Rattle.carried.specs.Carrying.{keptOf}
 use Rattle.carried.specs.Judged.{judgedFrom}
 use Rattle.carried.proofs.Judged.{kept-append, judged-append}
+use Rattle.carried.proofs.Count.{judged-length, skips-kept}
 use Rattle.carried.proofs.Keys.{key-lines}
 use Rattle.format.specs.Slots.{Held}
 use Rattle.key_index.specs.Told.{start, isFirstKey}
-use Rattle.key_index.specs.Keyed.{keyValuesOf, Ended}
-use Rattle.key_index.proofs.Keyed.{meeting-length}
-use Rattle.key_index.proofs.Ahead.{ahead-stands}
-use Rattle.key_index.proofs.LineKeys.{line-ended}
-use Rattle.first_keys.specs.Blocks.{firstAt, headKeys, keyedFront, startOf, afterKeyed, recordIfRead, readIn, filledFor}
-use Rattle.first_keys.proofs.Walk.{ahead-none, ahead-one, next-within, next-more, front-one, start-ahead, block-split}
+use Rattle.keys_held.specs.Keyed.{keyValuesOf}
+use Rattle.line_keys.specs.Ended.{Ended}
+use Rattle.keys_held.proofs.Keyed.{meeting-length}
+use Rattle.line_keys.proofs.LineKeys.{line-ended}
+use Rattle.first_keys.specs.Blocks.{headKeys, keyedFront, startOf, afterKeyed, recordIfRead, readIn, filledFor}
+use Rattle.first_keys.proofs.Walk.{front-one, start-ahead, block-split}
 use Rattle.first_keys.proofs.Firsts.{firsts}
 use Rattle.kept_lines.specs.Kept.{usedBy, idsAfter, untilAt, filledAt, advanced}
 use Rattle.kept_lines.specs.Going.{judgedLines, refusalFirst, refusalAt, Block, Going}
 use Rattle.kept_lines.specs.declared.Cursor.{Cursor}
 use Rattle.kept_lines.proofs.Kept.{advanced-kept, advanced-skipped, until-same, until-next, filled-same, filled-next, filled-length}
 use Rattle.kept_lines.proofs.Ids.{met-taken, kept-ended, kept-held, kept-few, skipped-ids}
-
--- the lines from a place on
-abbrev ahead : List ℕ → ℕ → List Piece
-ahead t at = linesFrom at (drop at t)
-
-judged-length : (strict : Bool) (before : List Record) (ps : List Piece) → length (judgedFrom strict before ps) ≡ length ps
-unfolding judgedFrom
-judged-length strict before [] = refl
-judged-length strict before (p ∷ ps) = ap suc (judged-length strict (before ++ keptOf (admitted strict before p ∷ [])) ps)
-
-kept-less : (ls : List Line) → length (keptOf ls) ≤ length ls
-unfolding keptOf
-kept-less [] = omega arith
-kept-less (refusedLine n ∷ ls) = omega (arith, kept-less ls)
-kept-less (read r ∷ ls) = omega (arith, kept-less ls)
 
 read-kept : (strict : Bool) (ps : List Piece) → readIn strict ps ≡ keptOf (map (records.line strict) ps)
 unfolding readIn keptOf recordIfRead
@@ -79,7 +67,7 @@ module _ (strict : Bool) (t : List ℕ) (from : ℕ) (area ids : List ℕ) (c : 
   before = keptOf (judgedFrom strict [] (g .passed))
 
   pub kept-lines : c .kept ≤ c .line
-  kept-lines = omega (arith, g .counted, kept-less (judgedFrom strict [] (g .passed)), judged-length strict [] (g .passed), g .number)
+  kept-lines = omega (arith, g .counted, skips-kept 0 (judgedFrom strict [] (g .passed)), judged-length strict [] (g .passed), g .number)
 
   -- ---- the block
 
@@ -155,7 +143,6 @@ module _ (strict : Bool) (t : List ℕ) (from : ℕ) (area ids : List ℕ) (c : 
   -- ---- the line's key
 
   stands : Stands t 0 p
-  unfolding firstAt
   stands = ahead-stands t (c .at) h
 
   abbrev x : Head
@@ -284,7 +271,7 @@ module _ (strict : Bool) (t : List ℕ) (from : ℕ) (area ids : List ℕ) (c : 
 
   -- it is kept
   going-kept : 0 ≡ lineRefusal (admitted strict before p) → Going strict t from filled slots (advanced c next until x 0)
-  unfolding keptOf headOf firstAt
+  unfolding keptOf headOf
   going-kept e =
       let a = refusal-none strict before p (sym e) in
       let r : Record = a .0 in

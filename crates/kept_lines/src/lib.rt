@@ -94,7 +94,7 @@ pub fn next_line(
     let until = turn(text, strict, from, area, at, c.until);
     let cut = text::first_line(&text[at..]);
     let end = at + cut.len;
-    let head = record::parse_record(&text[at..end], at, strict);
+    let head = record_parser::parse_record(&text[at..end], at, strict);
     let used = is_used(text, area, ids, head, c.programs);
     let n = admission::barred(head, used, c.kept, c.programs);
     Step {

@@ -1,7 +1,1 @@
-pub mod Mixing
-pub mod Word
 pub mod Looking
-pub mod Ahead
-pub mod LineKeys
-pub mod Keyed
-pub mod Pointing

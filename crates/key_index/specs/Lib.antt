@@ -1,4 +1,2 @@
-pub mod Word
-pub mod Hash
 pub mod Told
 pub mod Keyed

@@ -1,72 +1,36 @@
--- What a slot of the index tells, and how looking for a key ends.
-use Prim.Native.Nat.{ℕ, zero, suc, _+_, _*_, _/_, _%_}
-use mathlib.Core.Bool.{Bool, true, false, _&&_, cond}
-use mathlib.Core.List.{List, [], _∷_}
-use lib.ListN.{length, take, drop, set, getD}
+-- The value that tells a key, and the slots after a key was looked for.
+use Prim.Native.Nat.{ℕ, _+_, _*_, _/_, _%_}
+use mathlib.Core.Bool.{Bool, true, false, cond}
+use mathlib.Core.List.{List}
+use lib.ListN.{set, getD}
 use lib.Dec.{eqb}
-use Rattle.format.specs.Bytes.{same}
-use Rattle.key_index.specs.Hash.{keyHash}
-use Rattle.format.specs.Slots.{around}
 use Rattle.record.specs.declared.Stretch.{Stretch}
 use Rattle.record.specs.declared.Head.{Head}
 use Rattle.record.specs.declared.Head.the-variants as head
-use Rattle.key_index.specs.declared.Sought.{Sought}
-use Rattle.key_index.specs.declared.Sought.the-variants.{Known, Free, Full}
-use Rattle.key_index.specs.Word.{word}
+use Rattle.key_look.specs.declared.Sought.{Sought}
+use Rattle.key_look.specs.declared.Sought.the-variants.{Known, Free, Full}
+use Rattle.key_look.specs.Sought.{mark, keyTold, firstSlot, sought, keyAt, soughtAt}
 
--- ---- a slot
-
--- what a slot keeps of a key besides its place: its kind, and the five highest bits of its number, by which most other keys are told
--- apart without a look at the text
-unfoldable pub mark : ℕ → List ℕ → ℕ
-unfolding keyHash
-mark k id = k * 32 + keyHash k id / 134217728 % 32
+-- ---- a value
 
 -- what tells a key with this mark at the offset `at`: offsets are below 2 ^ 24
 unfoldable pub value : ℕ → ℕ → ℕ
 value m at = m * 16777216 + at
 
--- the key that a slot tells
-unfoldable pub keyTold : List ℕ → ℕ → List ℕ
-unfolding word
-keyTold t v = word (drop (v % 16777216) t)
-
--- does it tell the key `id` of kind `k`?
-unfoldable pub tellsKey : List ℕ → ℕ → List ℕ → ℕ → Bool
-unfolding mark same keyTold
-tellsKey t k id v = eqb (mark k id) (v / 16777216) && same id (keyTold t v)
-
--- the slot, of `n`, at which looking for a key starts
-unfoldable pub firstSlot : ℕ → ℕ → List ℕ → ℕ
-unfolding keyHash
-firstSlot n k id = keyHash k id % n
-
--- and for the key that a slot tells
+-- the slot, of `n`, at which looking for the key that it tells starts
 unfoldable pub start : List ℕ → ℕ → ℕ → ℕ
 unfolding firstSlot keyTold
 start t n v = firstSlot n (v / 536870912) (keyTold t v)
 
--- ---- looking
+-- ---- the slots after looking
 
--- along slots, of which the first is the slot `at` of `n`
-unfoldable pub lookAlong : (ℕ → Bool) → ℕ → ℕ → List ℕ → Sought
-lookAlong hit n at [] = Full
-lookAlong hit n at (zero ∷ ss) = Free at
-lookAlong hit n at (suc k ∷ ss) = cond (hit (suc k)) (Known at) (lookAlong hit n ((at + 1) % n) ss)
-
--- for the key `id` of kind `k`
-unfoldable pub sought : List ℕ → List ℕ → ℕ → List ℕ → Sought
-unfolding lookAlong tellsKey firstSlot around
-sought t slots k id =
-    let at : ℕ = firstSlot (length slots) k id in
-    lookAlong (tellsKey t k id) (length slots) at (around at slots)
-
+-- was it found?
 unfoldable pub saysKnown : Sought → Bool
 saysKnown (Known i) = true
 saysKnown (Free i) = false
 saysKnown Full = false
 
--- the slots after that: a key that is new enters, where there is room
+-- a key that is new enters, where there is room
 unfoldable pub afterLooking : Bool → ℕ → List ℕ → Sought → List ℕ
 afterLooking room v slots (Known i) = slots
 afterLooking room v slots (Free i) = cond room (set slots i v) slots
@@ -85,6 +49,10 @@ isOwn at slots (Known i) = eqb (getD slots i 0 % 16777216) at
 isOwn at slots (Free i) = true
 isOwn at slots Full = true
 
+-- the slots after the key of kind `k` at a place of the text was looked for: it enters, where it is new and there is room
+abbrev pub afterMeetingAt : Bool → List ℕ → List ℕ → ℕ → Stretch → List ℕ
+afterMeetingAt room t slots k p = afterLooking room (value (mark k (keyAt t p)) (p .at)) slots (soughtAt t slots k p)
+
 -- ---- the key of a head
 
 -- is it in the slots?
@@ -92,9 +60,9 @@ unfoldable pub isMet : List ℕ → List ℕ → Head → Bool
 unfolding saysKnown sought
 isMet t slots (head.Refused n) = false
 isMet t slots (head.Header v n) = false
-isMet t slots (head.ReferenceSequence p l n) = saysKnown (sought t slots 2 (take (p .len) (drop (p .at) t)))
-isMet t slots (head.ReadGroup p n) = saysKnown (sought t slots 3 (take (p .len) (drop (p .at) t)))
-isMet t slots (head.Program p n) = saysKnown (sought t slots 4 (take (p .len) (drop (p .at) t)))
+isMet t slots (head.ReferenceSequence p l n) = saysKnown (soughtAt t slots 2 p)
+isMet t slots (head.ReadGroup p n) = saysKnown (soughtAt t slots 3 p)
+isMet t slots (head.Program p n) = saysKnown (soughtAt t slots 4 p)
 isMet t slots (head.Comment p) = false
 
 -- the slots after that
@@ -102,9 +70,9 @@ unfoldable pub afterMeeting : Bool → List ℕ → List ℕ → Head → List �
 unfolding afterLooking sought value mark
 afterMeeting room t slots (head.Refused n) = slots
 afterMeeting room t slots (head.Header v n) = slots
-afterMeeting room t slots (head.ReferenceSequence p l n) = afterLooking room (value (mark 2 (take (p .len) (drop (p .at) t))) (p .at)) slots (sought t slots 2 (take (p .len) (drop (p .at) t)))
-afterMeeting room t slots (head.ReadGroup p n) = afterLooking room (value (mark 3 (take (p .len) (drop (p .at) t))) (p .at)) slots (sought t slots 3 (take (p .len) (drop (p .at) t)))
-afterMeeting room t slots (head.Program p n) = afterLooking room (value (mark 4 (take (p .len) (drop (p .at) t))) (p .at)) slots (sought t slots 4 (take (p .len) (drop (p .at) t)))
+afterMeeting room t slots (head.ReferenceSequence p l n) = afterMeetingAt room t slots 2 p
+afterMeeting room t slots (head.ReadGroup p n) = afterMeetingAt room t slots 3 p
+afterMeeting room t slots (head.Program p n) = afterMeetingAt room t slots 4 p
 afterMeeting room t slots (head.Comment p) = slots
 
 -- looking for it; no slot tells a head without a key
@@ -112,9 +80,9 @@ unfoldable pub soughtOf : List ℕ → List ℕ → Head → Sought
 unfolding sought
 soughtOf t slots (head.Refused n) = Full
 soughtOf t slots (head.Header v n) = Full
-soughtOf t slots (head.ReferenceSequence p l n) = sought t slots 2 (take (p .len) (drop (p .at) t))
-soughtOf t slots (head.ReadGroup p n) = sought t slots 3 (take (p .len) (drop (p .at) t))
-soughtOf t slots (head.Program p n) = sought t slots 4 (take (p .len) (drop (p .at) t))
+soughtOf t slots (head.ReferenceSequence p l n) = soughtAt t slots 2 p
+soughtOf t slots (head.ReadGroup p n) = soughtAt t slots 3 p
+soughtOf t slots (head.Program p n) = soughtAt t slots 4 p
 soughtOf t slots (head.Comment p) = Full
 
 -- where it stands; 0 for a head without a key

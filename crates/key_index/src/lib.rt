@@ -1,140 +1,15 @@
 // An exact index of the keys that stood: a slot is 0, or tells a key by its kind and its offset in the text. A key ends at the
 // first byte below 32, or with the text, so that no length is kept.
+use key_at::OFFSETS;
+use key_look::Sought;
 use record::Head;
 use record::Stretch;
 ghost use mathlib.Core.Path.{_≡_};
-ghost use mathlib.Core.Bool.{_&&_};
-ghost use Prim.Native.Nat.{_≤_, _<_, _+_, _*_, _/_, _%_};
-ghost use lib.Dec.{eqb};
-ghost use lib.ListN.{length, take, drop, replicate};
-ghost use Rattle.format.specs.Bytes.{same, none?};
-ghost use Rattle.key_index.specs.Hash.{mixed, wordsFrom, keyHash};
-ghost use Rattle.key_index.specs.Word.{word};
-ghost use Rattle.key_index.specs.Told.{mark, value, keyTold, sought, saysKnown, afterLooking, isMet, afterMeeting, soughtOf, offsetOf, afterPointing, isFirstKey};
+ghost use Prim.Native.Nat.{_≤_, _<_, _+_};
+ghost use lib.ListN.{length, replicate};
+ghost use Rattle.key_look.specs.Sought.{soughtAt};
+ghost use Rattle.key_index.specs.Told.{saysKnown, afterMeetingAt, isMet, afterMeeting, soughtOf, offsetOf, afterPointing, isFirstKey};
 ghost use Rattle.key_index.specs.Keyed.{KeyInText};
-
-// How looking for a key ends: at a slot that tells it, at an empty one, or after all slots.
-pub enum Sought {
-    Known(usize),
-    Free(usize),
-    Full,
-}
-
-// A number with one more mixed in.
-fn mix(h: usize, w: usize) -> usize
-    requires { ⌜ (h < 4294967296) × (w < 4294967296) ⌝ }
-    ensures { λ r. ⌜ r ≡ mixed h w ⌝ }
-{
-    let p = (h + w) % 4294967296 * 2654435761;
-    (p % 4294967296 + p / 4294967296) % 4294967296
-}
-
-// The number of a key's whole words of four bytes.
-fn hash_words(kind: u8, id: &[u8]) -> usize
-    ensures { λ r. ⌜ r ≡ wordsFrom kind (now (id .entry)) ⌝ }
-{
-    let mut h: usize = kind as usize;
-    let mut i: usize = 0;
-    while 4 <= id.len() - i {
-        h = mix(h, text::get_u32(id, i) as usize);
-        i += 4;
-    }
-    h
-}
-
-// The number of a key of this kind: words, and then the bytes that are left.
-fn hash(kind: u8, id: &[u8]) -> usize
-    ensures { λ r. ⌜ r ≡ keyHash kind (now (id .entry)) ⌝ }
-{
-    let mut h = hash_words(kind, id);
-    let mut i = id.len() - id.len() % 4;
-    while i < id.len() {
-        h = mix(h, id[i] as usize);
-        i += 1;
-    }
-    h
-}
-
-// Whether no key goes on at `at`: a byte below 32, or the end of the text.
-fn ends(text: &[u8], at: usize) -> bool
-    ensures { λ r. ⌜ r ≡ none? (word (drop at (now (text .entry)))) ⌝ }
-{
-    if text.len() <= at {
-        return true;
-    }
-    text[at] < 32
-}
-
-// Whether the key at `at` is `id`.
-fn is_at(text: &[u8], at: usize, id: &[u8]) -> bool
-    requires { ⌜ at + length (now id) ≤ 33554432 ⌝ }
-    ensures { λ r. ⌜ r ≡ same (now (id .entry)) (word (drop at (now (text .entry)))) ⌝ }
-{
-    let mut i: usize = 0;
-    while i < id.len() {
-        if ends(text, at + i) {
-            return false; // a key that only starts `id`
-        }
-        if text[at + i] != id[i] {
-            return false;
-        }
-        i += 1;
-    }
-    ends(text, at + i)
-}
-
-// What a slot keeps of a key besides its place, by the key's number.
-fn mark(kind: u8, number: usize) -> u32
-    ensures { λ r. ⌜ r ≡ kind * 32 + number / 134217728 % 32 ⌝ }
-{
-    (kind as u32) * 32 + (number / 134217728 % 32) as u32
-}
-
-// Whether a slot tells the key `id` with this mark: only where the marks are equal the text is looked at.
-fn is_told(text: &[u8], slot: u32, mark: u32, id: &[u8]) -> bool
-    requires { ⌜ length (now id) ≤ 16777216 ⌝ }
-    ensures { λ r. ⌜ r ≡ (eqb mark (slot / 16777216) && same (now (id .entry)) (keyTold (now (text .entry)) slot)) ⌝ }
-{
-    if slot / 16777216 != mark {
-        return false;
-    }
-    is_at(text, (slot % 16777216) as usize, id)
-}
-
-// The slot after `at` of `n`, round the end.
-fn next(at: usize, n: usize) -> usize
-    requires { ⌜ at < n ⌝ }
-    ensures { λ r. ⌜ r ≡ (at + 1) % n ⌝ }
-{
-    if n - at == 1 {
-        return 0;
-    }
-    at + 1
-}
-
-// Looks for the key `id` of this kind, whose number is given: from the slot of its number on, round the end.
-fn look(text: &[u8], area: &[u32], kind: u8, id: &[u8], number: usize) -> Sought
-    requires { ⌜ length (now id) ≤ 16777216 ⌝ }
-    requires { ⌜ 0 < length (now area) ⌝ }
-    requires { ⌜ number ≡ keyHash kind (now id) ⌝ }
-    ensures { λ r. ⌜ r ≡ sought (now (text .entry)) (now (area .entry)) kind (now (id .entry)) ⌝ }
-{
-    let told = mark(kind, number);
-    let mut at: usize = number % area.len();
-    let mut i: usize = 0;
-    while i < area.len() {
-        let slot = area[at];
-        if slot == 0 {
-            return Sought::Free(at);
-        }
-        if is_told(text, slot, told, id) {
-            return Sought::Known(at);
-        }
-        at = next(at, area.len());
-        i += 1;
-    }
-    Sought::Full
-}
 
 // Whether the key of this kind at a place of the text is in the area. One that is not enters, where there is `room`.
 fn meet_at(text: &[u8], area: &mut [u32], kind: u8, place: Stretch, room: bool) -> bool
@@ -142,18 +17,18 @@ fn meet_at(text: &[u8], area: &mut [u32], kind: u8, place: Stretch, room: bool) 
     requires { ⌜ 0 < length (now area) ⌝ }
     requires { ⌜ place .at + place .len ≤ length (now text) ⌝ }
     requires { ⌜ (place .at < 16777216) × (kind ≤ 7) ⌝ }
-    ensures known { λ r. ⌜ r ≡ saysKnown (sought (now (text .entry)) (now (area .entry)) kind (take (place .len) (drop (place .at) (now (text .entry))))) ⌝ }
-    ensures wrote { λ _. ⌜ now (area .exit) ≡ afterLooking room (value (mark kind (take (place .len) (drop (place .at) (now (text .entry))))) (place .at)) (now (area .entry)) (sought (now (text .entry)) (now (area .entry)) kind (take (place .len) (drop (place .at) (now (text .entry))))) ⌝ }
+    ensures known { λ r. ⌜ r ≡ saysKnown (soughtAt (now (text .entry)) (now (area .entry)) kind place) ⌝ }
+    ensures wrote { λ _. ⌜ now (area .exit) ≡ afterMeetingAt room (now (text .entry)) (now (area .entry)) kind place ⌝ }
 {
     let start = place.at;
     let end = start + place.len;
     let id = &text[start..end];
-    let number = hash(kind, id);
-    match look(text, area, kind, id, number) {
+    let number = key_hash::hash(kind, id);
+    match key_look::look(text, area, kind, id, number) {
         Sought::Known(_) => true,
         Sought::Free(i) => {
             if room {
-                area[i] = mark(kind, number) * 16777216 + (start as u32);
+                area[i] = key_look::mark(kind, number) * OFFSETS + (start as u32);
             }
             false
         }
@@ -185,19 +60,6 @@ pub fn meet(text: &[u8], area: &mut [u32], head: Head, room: bool) -> bool
     }
 }
 
-// Looks for the key of this kind at a place of the text.
-fn look_at(text: &[u8], area: &[u32], kind: u8, place: Stretch) -> Sought
-    requires { ⌜ length (now text) ≤ 16777216 ⌝ }
-    requires { ⌜ 0 < length (now area) ⌝ }
-    requires { ⌜ place .at + place .len ≤ length (now text) ⌝ }
-    ensures { λ r. ⌜ r ≡ sought (now (text .entry)) (now (area .entry)) kind (take (place .len) (drop (place .at) (now (text .entry)))) ⌝ }
-{
-    let start = place.at;
-    let end = start + place.len;
-    let id = &text[start..end];
-    look(text, area, kind, id, hash(kind, id))
-}
-
 // Looks for the key of a head. No slot tells a head without a key.
 fn look_for(text: &[u8], area: &[u32], head: Head) -> Sought
     requires { ⌜ length (now text) ≤ 16777216 ⌝ }
@@ -208,9 +70,14 @@ fn look_for(text: &[u8], area: &[u32], head: Head) -> Sought
     match head {
         Head::Refused(_) => Sought::Full,
         Head::Header(_, _) => Sought::Full,
-        Head::ReferenceSequence(p, _, _) => look_at(text, area, format::REFERENCE_SEQUENCE, p),
-        Head::ReadGroup(p, _) => look_at(text, area, format::READ_GROUP, p),
-        Head::Program(p, _) => look_at(text, area, format::PROGRAM, p),
+        Head::ReferenceSequence(p, _, _) => key_look::look_at(
+            text,
+            area,
+            format::REFERENCE_SEQUENCE,
+            p,
+        ),
+        Head::ReadGroup(p, _) => key_look::look_at(text, area, format::READ_GROUP, p),
+        Head::Program(p, _) => key_look::look_at(text, area, format::PROGRAM, p),
         Head::Comment(_) => Sought::Full,
     }
 }
@@ -239,7 +106,7 @@ pub fn point(text: &[u8], area: &mut [u32], head: Head)
     let at = offset_of(head);
     match look_for(text, area, head) {
         Sought::Known(i) => {
-            area[i] = area[i] / 16777216 * 16777216 + (at as u32);
+            area[i] = area[i] / OFFSETS * OFFSETS + (at as u32);
         }
         Sought::Free(_) => {}
         Sought::Full => {}
@@ -255,7 +122,7 @@ pub fn is_first(text: &[u8], area: &[u32], head: Head) -> bool
 {
     let at = offset_of(head);
     match look_for(text, area, head) {
-        Sought::Known(i) => (area[i] % 16777216) as usize == at,
+        Sought::Known(i) => (area[i] % OFFSETS) as usize == at,
         Sought::Free(_) => true,
         Sought::Full => true,
     }

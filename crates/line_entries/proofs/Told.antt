@@ -3,6 +3,7 @@ use Prim.Native.Nat.{ℕ, _+_, _^_, _≤_, _<_}
 use mathlib.Core.Path.{_≡_, refl, sym, ap, _∙_}
 use mathlib.Core.Bool.{Bool, true, false}
 use mathlib.Core.List.{List, [], _++_}
+use native.Mathlib.Omega.{arith}
 use lib.ListN.{length, getD}
 use Rattle.format.specs.Records.{Record, header, reference, group, program, comment, others, read, line}
 use Rattle.format.specs.Catalogue.{tails}
@@ -27,6 +28,7 @@ use Rattle.line_entries.specs.Line.{recordBytes, lineBytes}
 use Rattle.line_entries.specs.Parts.{ownEntry, ownSize, fieldBytes}
 use Rattle.line_entries.proofs.Records.{own-entry, own-bytes}
 use Rattle.line_entries.proofs.Fitting.{head-fits}
+use Rattle.line_entries.proofs.Entries.{entry-then}
 
 -- the number of other fields says nothing of the own entry
 pub own-uncounted : (l : ℕ) (h : Head) → ownEntry l (uncounted h) ≡ ownEntry l h
@@ -92,3 +94,6 @@ module _ (n at : ℕ) (s : List ℕ) (h : isRead (line false (record { at = at; 
   -- a comment
   pub comment-bytes : kindBy (getD s 1 0) ≡ kinds.Comment → lineBytes false n at s ≡ entryBytes own ++ []
   comment-bytes e = parts [] (λ r d. no-rest r (sym (accepted-byte false at s r (line-accepted false (record { at = at; bytes = s }) r d) .1) ∙ e))
+
+  pub comment-long : kindBy (getD s 1 0) ≡ kinds.Comment → length (lineBytes false n at s) ≡ 13
+  comment-long e = omega (arith, entry-then own _ _ (comment-bytes e), own-size kinds.Comment e)

@@ -2,12 +2,13 @@
 use entries::Entry;
 use entries::Place;
 use format::Kind;
+use heads::Form;
 use heads::KeyValues;
 use record::Head;
 ghost use mathlib.Core.Path.{_≡_};
 ghost use mathlib.Core.Bool.{true, false};
 ghost use Prim.Native.Nat.{_≤_, _<_, _+_, _^_};
-ghost use lib.ListN.{length, drop, getD};
+ghost use lib.ListN.{length, drop};
 ghost use Rattle.format.specs.Bytes.{starts};
 ghost use Rattle.format.specs.Records.{line};
 ghost use Rattle.format.specs.declared.Kind.the-variants.{Comment};
@@ -16,9 +17,10 @@ ghost use Rattle.accepted.specs.Read.{isRead};
 ghost use Rattle.record.specs.Head.{headOf};
 ghost use Rattle.other_fields.specs.Run.{fieldsFrom};
 ghost use Rattle.other_fields.specs.Tables.{Walkable};
-ghost use Rattle.heads.specs.Found.{kindBy, isComment};
+ghost use Rattle.heads.specs.Found.{isComment};
+ghost use Rattle.heads.specs.Form.{LineOf};
 ghost use Rattle.heads.specs.Keys.{keysIn};
-ghost use Rattle.entries.specs.Entries.{entrySize, FitsEntry};
+ghost use Rattle.entries.specs.Entries.{entrySize, entryBytes, FitsEntry};
 ghost use Rattle.line_entries.specs.Line.{lineBytes};
 ghost use Rattle.line_entries.specs.Parts.{ownEntry, othersOf, sizeOfHead, ownSize, fieldBytes};
 ghost use Rattle.line_entries.specs.Matched.{metIn, comparedOf, matched};
@@ -123,13 +125,19 @@ fn own_size(kind: Kind) -> usize
 
 // The own entry of an accepted line, by its keys; its number is `number`.
 fn line_entry(kind: Kind, src: &[u8], at: usize, number: u32, keys: KeyValues) -> Entry
-    requires { ⌜ isRead (line false (record { at = at; bytes = now src })) ≡ true ⌝ }
-    requires { ⌜ kindBy (getD (now src) 1 0) ≡ kind ⌝ }
+    requires { ⌜ LineOf kind at (now src) ⌝ }
     requires { ⌜ keys ≡ keysIn kind (fieldsFrom at (now src) 3) ⌝ }
-    requires { ⌜ at + length (now src) ≤ 16777216 ⌝ }
     ensures { λ r. ⌜ r ≡ ownEntry number (headOf (line false (record { at = at; bytes = now (src .entry) }))) ⌝ }
 {
     own_entry(heads::head_of(kind, src, at, keys), number)
+}
+
+// The entry of a comment.
+fn comment_entry(src: &[u8], at: usize, number: u32) -> Entry
+    requires { ⌜ LineOf Comment at (now src) ⌝ }
+    ensures { λ r. ⌜ entryBytes r ≡ lineBytes false number at (now (src .entry)) ⌝ }
+{
+    line_entry(Kind::Comment, src, at, number, KeyValues::new())
 }
 
 // Writes the entries of an accepted line's other fields from `o` on. The same walk meets the keys.
@@ -178,10 +186,9 @@ fn put_line(
     once: bool,
     tables: &[u32],
 ) -> usize
-    requires { ⌜ isRead (line false (record { at = at; bytes = now src })) ≡ true ⌝ }
-    requires { ⌜ (kindBy (getD (now src) 1 0) ≡ kind) × (isComment kind ≡ false) ⌝ }
+    requires { ⌜ LineOf kind at (now src) ⌝ }
+    requires { ⌜ isComment kind ≡ false ⌝ }
     requires { ⌜ Walkable once at (now src) (now tables) ⌝ }
-    requires { ⌜ at + length (now src) ≤ 16777216 ⌝ }
     requires { ⌜ o + length (lineBytes false number at (now src)) ≤ length (now out) ⌝ }
     ensures next { λ r. ⌜ r ≡ o + length (lineBytes false number at (now (src .entry))) ⌝ }
     ensures wrote { λ _. ⌜ now (out .exit) ≡ over (now (out .entry)) o (lineBytes false number at (now (src .entry))) ⌝ }
@@ -189,36 +196,6 @@ fn put_line(
     let met = put_fields(out, o + own_size(kind), kind, src, at, once, tables);
     entries_out::put_entry(out, o, line_entry(kind, src, at, number, met.keys));
     met.next
-}
-
-// Writes the entries of a line in which a tag may stand twice: its tables are made first.
-fn put_noted(out: &mut [u8], o: usize, kind: Kind, src: &[u8], at: usize, number: u32) -> usize
-    requires { ⌜ isRead (line false (record { at = at; bytes = now src })) ≡ true ⌝ }
-    requires { ⌜ (kindBy (getD (now src) 1 0) ≡ kind) × (isComment kind ≡ false) ⌝ }
-    requires { ⌜ at + length (now src) ≤ 16777216 ⌝ }
-    requires { ⌜ o + length (lineBytes false number at (now src)) ≤ length (now out) ⌝ }
-    ensures next { λ r. ⌜ r ≡ o + length (lineBytes false number at (now (src .entry))) ⌝ }
-    ensures wrote { λ _. ⌜ now (out .exit) ≡ over (now (out .entry)) o (lineBytes false number at (now (src .entry))) ⌝ }
-{
-    let mut tables = [0u32; 6448];
-    other_fields::note_tags(src, at, &mut tables);
-    put_line(out, o, kind, src, at, number, false, &tables)
-}
-
-// Writes the entry of a comment.
-fn put_comment(out: &mut [u8], o: usize, src: &[u8], at: usize, number: u32) -> usize
-    requires { ⌜ isRead (line false (record { at = at; bytes = now src })) ≡ true ⌝ }
-    requires { ⌜ kindBy (getD (now src) 1 0) ≡ Comment ⌝ }
-    requires { ⌜ at + length (now src) ≤ 16777216 ⌝ }
-    requires { ⌜ o + length (lineBytes false number at (now src)) ≤ length (now out) ⌝ }
-    ensures next { λ r. ⌜ r ≡ o + length (lineBytes false number at (now (src .entry))) ⌝ }
-    ensures wrote { λ _. ⌜ now (out .exit) ≡ over (now (out .entry)) o (lineBytes false number at (now (src .entry))) ⌝ }
-{
-    entries_out::put_entry(
-        out,
-        o,
-        line_entry(Kind::Comment, src, at, number, KeyValues::new()),
-    )
 }
 
 // Writes the entries of the accepted line `src`, the line `number`, which starts at the offset `at`, from `o` on, and gives the place after them.
@@ -236,14 +213,15 @@ pub fn put_record(
     ensures next { λ r. ⌜ r ≡ o + length (lineBytes strict number at (now (src .entry))) ⌝ }
     ensures wrote { λ _. ⌜ now (out .exit) ≡ over (now (out .entry)) o (lineBytes strict number at (now (src .entry))) ⌝ }
 {
-    let kind = heads::kind_of(src);
-    if heads::is_comment(kind) {
-        return put_comment(out, o, src, at, number);
+    match heads::form_of(src, at, strict) {
+        Form::Comment => entries_out::put_entry(out, o, comment_entry(src, at, number)),
+        Form::Once(kind) => put_line(out, o, kind, src, at, number, true, &[]),
+        Form::Repeating(kind) => {
+            let mut tables = [0u32; 6448];
+            other_fields::note_tags(src, at, &mut tables);
+            put_line(out, o, kind, src, at, number, false, &tables)
+        }
     }
-    if other_fields::is_once(src, at, strict) {
-        return put_line(out, o, kind, src, at, number, true, &[]);
-    }
-    put_noted(out, o, kind, src, at, number)
 }
 
 // Whether the catalogue has the entries of an accepted line's other fields at `o`. The same walk meets the keys.
@@ -294,10 +272,9 @@ fn same_line(
     once: bool,
     tables: &[u32],
 ) -> Matched
-    requires { ⌜ isRead (line false (record { at = at; bytes = now src })) ≡ true ⌝ }
-    requires { ⌜ (kindBy (getD (now src) 1 0) ≡ kind) × (isComment kind ≡ false) ⌝ }
+    requires { ⌜ LineOf kind at (now src) ⌝ }
+    requires { ⌜ isComment kind ≡ false ⌝ }
     requires { ⌜ Walkable once at (now src) (now tables) ⌝ }
-    requires { ⌜ at + length (now src) ≤ 16777216 ⌝ }
     requires { ⌜ o ≤ length (now catalogue) ⌝ }
     ensures { λ r. ⌜ r ≡ matched o (drop o (now (catalogue .entry))) (lineBytes false number at (now (src .entry))) ⌝ }
 {
@@ -311,34 +288,6 @@ fn same_line(
     };
     if entries_same::same_entry(catalogue, o, line_entry(kind, src, at, number, met.keys)) {
         return Matched::Upto(met.next);
-    }
-    Matched::Differs
-}
-
-// The same of a line in which a tag may stand twice: its tables are made first.
-fn same_noted(catalogue: &[u8], o: usize, kind: Kind, src: &[u8], at: usize, number: u32) -> Matched
-    requires { ⌜ isRead (line false (record { at = at; bytes = now src })) ≡ true ⌝ }
-    requires { ⌜ (kindBy (getD (now src) 1 0) ≡ kind) × (isComment kind ≡ false) ⌝ }
-    requires { ⌜ at + length (now src) ≤ 16777216 ⌝ }
-    requires { ⌜ o ≤ length (now catalogue) ⌝ }
-    ensures { λ r. ⌜ r ≡ matched o (drop o (now (catalogue .entry))) (lineBytes false number at (now (src .entry))) ⌝ }
-{
-    let mut tables = [0u32; 6448];
-    other_fields::note_tags(src, at, &mut tables);
-    same_line(catalogue, o, kind, src, at, number, false, &tables)
-}
-
-// The same of a comment.
-fn same_comment(catalogue: &[u8], o: usize, src: &[u8], at: usize, number: u32) -> Matched
-    requires { ⌜ isRead (line false (record { at = at; bytes = now src })) ≡ true ⌝ }
-    requires { ⌜ kindBy (getD (now src) 1 0) ≡ Comment ⌝ }
-    requires { ⌜ at + length (now src) ≤ 16777216 ⌝ }
-    requires { ⌜ o ≤ length (now catalogue) ⌝ }
-    ensures { λ r. ⌜ r ≡ matched o (drop o (now (catalogue .entry))) (lineBytes false number at (now (src .entry))) ⌝ }
-{
-    let e = line_entry(Kind::Comment, src, at, number, KeyValues::new());
-    if entries_same::same_entry(catalogue, o, e) {
-        return Matched::Upto(o + 13);
     }
     Matched::Differs
 }
@@ -357,12 +306,18 @@ pub fn same_record(
     requires { ⌜ o ≤ length (now catalogue) ⌝ }
     ensures { λ r. ⌜ r ≡ matched o (drop o (now (catalogue .entry))) (lineBytes strict number at (now (src .entry))) ⌝ }
 {
-    let kind = heads::kind_of(src);
-    if heads::is_comment(kind) {
-        return same_comment(catalogue, o, src, at, number);
+    match heads::form_of(src, at, strict) {
+        Form::Comment => {
+            if entries_same::same_entry(catalogue, o, comment_entry(src, at, number)) {
+                return Matched::Upto(o + 13);
+            }
+            Matched::Differs
+        }
+        Form::Once(kind) => same_line(catalogue, o, kind, src, at, number, true, &[]),
+        Form::Repeating(kind) => {
+            let mut tables = [0u32; 6448];
+            other_fields::note_tags(src, at, &mut tables);
+            same_line(catalogue, o, kind, src, at, number, false, &tables)
+        }
     }
-    if other_fields::is_once(src, at, strict) {
-        return same_line(catalogue, o, kind, src, at, number, true, &[]);
-    }
-    same_noted(catalogue, o, kind, src, at, number)
 }

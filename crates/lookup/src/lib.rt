@@ -65,7 +65,7 @@ fn line_of(e: Entry) -> Located
 pub fn find_key(catalogue: &[u8], kind: u8, ordinal: u32) -> Found
     ensures { λ r. ⌜ r ≡ keyIn kind ordinal (entriesIn (now (catalogue .entry))) ⌝ }
 {
-    let at = entries::find_record(catalogue, kind, ordinal as usize);
+    let at = record_entries::find_record(catalogue, kind, ordinal as usize);
     key_of(entries::entry_at(catalogue, at))
 }
 
@@ -73,7 +73,7 @@ pub fn find_key(catalogue: &[u8], kind: u8, ordinal: u32) -> Found
 pub fn find_length(catalogue: &[u8], ordinal: u32) -> Sized
     ensures { λ r. ⌜ r ≡ lengthIn ordinal (entriesIn (now (catalogue .entry))) ⌝ }
 {
-    let at = entries::find_record(catalogue, format::REFERENCE_SEQUENCE, ordinal as usize);
+    let at = record_entries::find_record(catalogue, format::REFERENCE_SEQUENCE, ordinal as usize);
     length_of(entries::entry_at(catalogue, at))
 }
 
@@ -81,7 +81,7 @@ pub fn find_length(catalogue: &[u8], ordinal: u32) -> Sized
 pub fn find_line(catalogue: &[u8], kind: u8, ordinal: u32) -> Located
     ensures { λ r. ⌜ r ≡ lineIn kind ordinal (entriesIn (now (catalogue .entry))) ⌝ }
 {
-    let at = entries::find_record(catalogue, kind, ordinal as usize);
+    let at = record_entries::find_record(catalogue, kind, ordinal as usize);
     line_of(entries::entry_at(catalogue, at))
 }
 
@@ -110,7 +110,7 @@ pub fn find_field(catalogue: &[u8], kind: u8, ordinal: u32, a: u8, b: u8) -> Fou
     if 5 < kind {
         return Found::Nothing;
     }
-    let at = entries::find_record(catalogue, kind, ordinal as usize);
+    let at = record_entries::find_record(catalogue, kind, ordinal as usize);
     let len = entries::size(entries::entry_at(catalogue, at));
     field_from(catalogue, at + len, a, b)
 }

@@ -12,13 +12,16 @@ use Rattle.format.specs.declared.LineNo.{LineNo}
 use Rattle.accepted.specs.Read.{recordsOf}
 use Rattle.entries.specs.Entries.{entriesIn, counted}
 use Rattle.parser.specs.Answers.{outputOf}
-use Rattle.calls.proofs.Fresh.{Current, goes-on, stops}
-use Rattle.calls.proofs.Chained.{too-short, fits}
+use Rattle.parser.proofs.Fresh.{Current, goes-on, stops}
+use Rattle.parser.proofs.Told.{too-short, fits}
 use Rattle.name_index.specs.Index.{nameOrdinal, slotCount, index, looks}
 use Rattle.name_index.proofs.Indexed.{index-length}
-use Rattle.sq_index.specs.Filled.{namesIn, Told}
-use Rattle.sq_index.proofs.Named.{names-counted}
-use Rattle.names.specs.Batch.{references, asked, summed, batched, batching}
+use Rattle.sq_entries.specs.Names.{namesIn}
+use Rattle.sq_found.specs.Told.{Told}
+use Rattle.sq_entries.proofs.Names.{names-counted}
+use Rattle.asked_names.specs.Asked.{asked}
+use Rattle.name_search.specs.Summed.{summed}
+use Rattle.names.specs.Batch.{references, batched, batching}
 use Rattle.names.specs.declared.NamesAnswer.the-variants.{Refused, Counted}
 use Rattle.names.specs.Answers.{namesOf, resultsOf, slotsOf}
 use Rattle.names.proofs.References.{text-names, few-names}

@@ -1,38 +1,24 @@
 -- How much a batch looks at: for each name at most one slot more than there are SQ, and so few that the number fits in 64 bits.
-use Prim.Native.Nat.{ℕ, suc, _+_, _*_, _^_, _≤_, _<_}
+use Prim.Native.Nat.{ℕ, _+_, _*_, _^_, _≤_, _<_}
 use mathlib.Core.Path.{_≡_, refl, sym, ap, subst, _∙_}
 use mathlib.Core.Bool.{Bool, true, false, cond}
 use mathlib.Core.List.{List, [], _∷_, map}
 use native.Mathlib.Omega.{arith}
 use native.Mathlib.Nat.{suc-mul, mul-le-mul}
 use lib.ListN.{length, length-map}
-use lib.Dec.{eqb, ltb}
+use lib.Dec.{ltb}
 use borrow.Author.Tests.{ltb-false}
-use Rattle.format.specs.Lines.{onto}
 use Rattle.format.specs.Reading.{longest}
 use Rattle.format.specs.Calls.{Answer, refused, yes, then, fitting}
 use Rattle.accepted.specs.Read.{recordsOf}
-use Rattle.calls.proofs.Fresh.{Current, refused-is-no-answer, passed, goes-on}
+use Rattle.parser.proofs.Fresh.{Current, refused-is-no-answer, passed, goes-on}
 use Rattle.name_index.specs.Index.{nameOrdinal, index, looks}
 use Rattle.name_index.proofs.Indexed.{indexed}
-use Rattle.names.specs.Batch.{references, asked, summed, batched, batching}
+use Rattle.asked_names.specs.Asked.{asked}
+use Rattle.asked_names.proofs.Asked.{asked-few}
+use Rattle.name_search.specs.Summed.{summed}
+use Rattle.names.specs.Batch.{references, batched, batching}
 use Rattle.names.proofs.References.{few-names}
-
--- ---- the names of a list are no more than its bytes
-
-onto-few : (b : ℕ) (ps : List (List ℕ)) → length (onto b ps) ≤ suc (length ps)
-unfolding onto
-onto-few b [] = omega arith
-onto-few b (p ∷ ps) = omega arith
-
-asked-few : (s : List ℕ) → length (asked s) ≤ length s
-unfolding asked
-asked-few [] = omega arith
-asked-few (b ∷ s) = go (eqb b 10) (asked-few s)
-  where
-    go : (t : Bool) → length (asked s) ≤ length s → length (cond t ([] ∷ asked s) (onto b (asked s))) ≤ suc (length s)
-    go true h = omega (arith, h)
-    go false h = omega (arith, h, onto-few b (asked s))
 
 -- ---- over a list of names
 

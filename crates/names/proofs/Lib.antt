@@ -1,6 +1,3 @@
-pub mod Asked
-pub mod Asking
-pub mod Answered
 pub mod Short
 pub mod References
 pub mod Told

@@ -18,7 +18,7 @@ use Rattle.accepted.proofs.Text.{text-stand, text-count, text-fits}
 use Rattle.entries.specs.declared.Entry.{Entry}
 use Rattle.entries.specs.Entries.{kindByte, pieceAt, headEntry, fieldEntry, entriesOn, entriesOf, entriesIn}
 use Rattle.lookup.proofs.Kept.{text-entries}
-use Rattle.sq_index.specs.Filled.{nameIn, namesIn}
+use Rattle.sq_entries.specs.Names.{nameIn, namesIn}
 use Rattle.names.specs.Batch.{references}
 
 -- the entries of fields are passed

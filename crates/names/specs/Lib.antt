@@ -1,7 +1,5 @@
 -- Req 06 and 07 of document 02: many names at once.
 --   Batch     what the call answers, for every argument
 --   Answers   that answer in the code's types
---   Ends      the LFs of a list
 pub mod Batch
 pub mod Answers
-pub mod Ends

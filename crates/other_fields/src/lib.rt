@@ -153,7 +153,7 @@ fn only_value(line: &[u8], at: usize, a: u8, b: u8) -> Value
     let mut i: usize = 3;
     while i < line.len() {
         let end = field_end(line, i);
-        if field::is_same_tag(line[i + 1], line[i + 2], a, b) {
+        if field_tag::is_same_tag(line[i + 1], line[i + 2], a, b) {
             return value_at(at, i, end);
         }
         i = end;

@@ -26,38 +26,7 @@ fn is_other(kind: Kind, line: &[u8], at: usize, i: usize, once: bool, tables: &[
     other_fields::is_first(line, at, i, once, tables)
 }
 
-// Writes the fields of an accepted line that are no keys, each tag at its first place with its last value.
-fn put_other_fields(
-    out: &mut [u8],
-    o: usize,
-    kind: Kind,
-    line: &[u8],
-    at: usize,
-    once: bool,
-    tables: &[u32],
-) -> usize
-    requires { ⌜ Walkable once at (now line) (now tables) ⌝ }
-    requires { ⌜ at + length (now line) ≤ 16777216 ⌝ }
-    requires { ⌜ o + length (othersText kind at (now line)) ≤ length (now out) ⌝ }
-    ensures next { λ r. ⌜ r ≡ o + length (othersText kind at (now (line .entry))) ⌝ }
-    ensures wrote { λ _. ⌜ now (out .exit) ≡ over (now (out .entry)) o (othersText kind at (now (line .entry))) ⌝ }
-{
-    let mut n = o;
-    let mut i: usize = 3;
-    while i < line.len() {
-        let end = other_fields::field_end(line, i);
-        let a = line[i + 1];
-        let b = line[i + 2];
-        if is_other(kind, line, at, i, once, tables) {
-            let v = other_fields::kept_value(line, at, i, end, once, tables);
-            n = parts::put_field(out, n, a, b, line, v.at - at, v.len);
-        }
-        i = end;
-    }
-    n
-}
-
-// Writes the other fields of an accepted line, and the LF that ends its record.
+// Writes the fields of an accepted line that are no keys, each tag at its first place with its last value, and the LF that ends its record.
 pub fn put_rest(
     out: &mut [u8],
     o: usize,
@@ -73,7 +42,18 @@ pub fn put_rest(
     ensures next { λ r. ⌜ r ≡ o + length (othersText kind at (now (line .entry)) ++ (10 ∷ [])) ⌝ }
     ensures wrote { λ _. ⌜ now (out .exit) ≡ over (now (out .entry)) o (othersText kind at (now (line .entry)) ++ (10 ∷ [])) ⌝ }
 {
-    let n = put_other_fields(out, o, kind, line, at, once, tables);
+    let mut n = o;
+    let mut i: usize = 3;
+    while i < line.len() {
+        let end = other_fields::field_end(line, i);
+        let a = line[i + 1];
+        let b = line[i + 2];
+        if is_other(kind, line, at, i, once, tables) {
+            let v = other_fields::kept_value(line, at, i, end, once, tables);
+            n = parts::put_field(out, n, a, b, line, v.at - at, v.len);
+        }
+        i = end;
+    }
     out[n] = b'\n'; // after the last field
     n + 1
 }

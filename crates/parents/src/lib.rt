@@ -110,7 +110,7 @@ pub fn find_leaves(text: &[u8], p: Programs) -> Graph
     }
     let list = parents.list;
     let links = &list[..parents.count];
-    if chains::has_cycle(links) {
+    if chain_walks::has_cycle(links) {
         return refused(23, parents);
     }
     let leaves = chains::leaves(links);

@@ -44,6 +44,16 @@ module _ (t : List ℕ) where
   unfolding fresh then records readAnswer current
   fresh-reads c rs e = rw e refl
 
+-- ---- 20 comes last
+
+pub too-short : (room : ℕ) (xs : List ℕ) → room < length xs → fitting room xs ≡ refused 20 0
+unfolding fitting
+too-short room xs h = rw (lt-ltb _ _ h) refl
+
+pub fits : (room : ℕ) (xs : List ℕ) → length xs ≤ room → fitting room xs ≡ yes xs
+unfolding fitting
+fits room xs h = rw (le-ltb _ _ h) refl
+
 -- ---- the answers in the code's numbers
 
 module _ (a : Answer (List ℕ)) (out : List ℕ) where

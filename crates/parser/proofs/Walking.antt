@@ -14,7 +14,7 @@ use Rattle.text.specs.First.{firstLine}
 use Rattle.text.specs.declared.Cut.{Cut}
 use Rattle.text.proofs.Lines.{lines-none}
 use Rattle.text.proofs.First.{lines-first, first-le, first-within, first-some}
-use Rattle.field.proofs.Before.{rest}
+use Rattle.text.proofs.Before.{rest}
 use Rattle.accepted.specs.Pieces.{Pairs}
 use Rattle.accepted.specs.Admits.{strictly}
 use Rattle.accepted.proofs.Text.{text-lines, text-fits}

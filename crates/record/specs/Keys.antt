@@ -13,7 +13,7 @@ use Rattle.format.specs.declared.Version.{Version}
 use Rattle.format.specs.declared.Kind.{Kind}
 use Rattle.format.specs.declared.Kind.the-variants.{Header, ReferenceSequence, ReadGroup, Program, Comment}
 use Rattle.field.specs.declared.ParsedField as field
-use Rattle.field.specs.Parsed.{isVersion, isLength}
+use Rattle.field_tag.specs.Numbers.{isVersion, isLength}
 use Rattle.record.specs.declared.Stretch.{Stretch}
 use Rattle.record.specs.declared.Keys.{Keys}
 use Rattle.record.specs.declared.Head.{Head}

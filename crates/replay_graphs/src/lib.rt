@@ -1,12 +1,12 @@
 // Reading, and the calls over program graphs: whether each answers as a line of stored answers says (`replay` has the lines' form).
-use calls::LeavesAnswer;
 use parser::Checked;
 use parser::CountAnswer;
+use roots_and_leaves::LeavesAnswer;
 
 // Whether the roots are the line's, in an output of as many elements as it says.
 pub fn is_roots(line: &[u8], text: &[u8], kept: &[u8], out: &mut [u32]) -> bool {
     let room = stored_answers::ordinal_room(stored_cases::word(line, 3), out);
-    match calls::roots(text, kept, &mut out[..room]) {
+    match roots_and_leaves::roots(text, kept, &mut out[..room]) {
         CountAnswer::Refused(n, no) => stored_answers::is_refusal(line, 4, n, no)
             && stored_cases::is_unlisted(out),
         CountAnswer::Count(n) => stored_answers::is_ok(line, 4, 1)
@@ -17,7 +17,7 @@ pub fn is_roots(line: &[u8], text: &[u8], kept: &[u8], out: &mut [u32]) -> bool 
 // Whether the leaves and the hops are the line's, in an output of as many elements as it says.
 pub fn is_leaves(line: &[u8], text: &[u8], kept: &[u8], out: &mut [u32]) -> bool {
     let room = stored_answers::ordinal_room(stored_cases::word(line, 3), out);
-    match calls::leaves(text, kept, &mut out[..room]) {
+    match roots_and_leaves::leaves(text, kept, &mut out[..room]) {
         LeavesAnswer::Refused(n, no) => stored_answers::is_refusal(line, 4, n, no)
             && stored_cases::is_unlisted(out),
         LeavesAnswer::Counted(n, hops) => {
@@ -30,7 +30,7 @@ pub fn is_leaves(line: &[u8], text: &[u8], kept: &[u8], out: &mut [u32]) -> bool
 
 // Whether the roots are the crate's.
 fn are_roots(word: &[u8], text: &[u8], kept: &[u8], out: &mut [u32]) -> bool {
-    match calls::roots(text, kept, out) {
+    match roots_and_leaves::roots(text, kept, out) {
         CountAnswer::Refused(_, _) => false,
         CountAnswer::Count(n) => stored_answers::is_list(word, out, n, 4),
     }
@@ -38,7 +38,7 @@ fn are_roots(word: &[u8], text: &[u8], kept: &[u8], out: &mut [u32]) -> bool {
 
 // Whether the leaves are the crate's, or it found a cycle and the answer is 23.
 fn are_leaves(word: &[u8], text: &[u8], kept: &[u8], out: &mut [u32]) -> bool {
-    match calls::leaves(text, kept, out) {
+    match roots_and_leaves::leaves(text, kept, out) {
         LeavesAnswer::Refused(n, no) => {
             text::same(word, b"cycle") && n == 23 && no.0 == 0 && stored_cases::is_unlisted(out)
         }

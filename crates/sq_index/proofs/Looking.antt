@@ -8,7 +8,7 @@ use lib.ListN.{length, getD, drop, drop-of-length-le}
 use Rattle.name_index.specs.Index.{absent, path, looked}
 use Rattle.name_index.proofs.Passing.{opened}
 use Rattle.name_index.proofs.Path.{path-length}
-use Rattle.sq_index.specs.Filled.{says, landing, looksOf}
+use Rattle.sq_index.specs.Looking.{says, landing, looksOf}
 
 -- the slots `ss` of a path, of which `i` have been passed; the next one is `at`, of `n`
 module _ (ss : List ℕ) (i : ℕ) (hit : ℕ → Bool) (n at : ℕ) where

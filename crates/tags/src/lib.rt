@@ -9,15 +9,15 @@ pub fn is_key(kind: Kind, a: u8, b: u8) -> bool
     ensures { λ r. ⌜ r ≡ isKey kind a b ⌝ }
 {
     match kind {
-        Kind::Header => field::is_same_tag(a, b, b'V', b'N'),
+        Kind::Header => field_tag::is_same_tag(a, b, b'V', b'N'),
         Kind::ReferenceSequence => {
-            if field::is_same_tag(a, b, b'S', b'N') {
+            if field_tag::is_same_tag(a, b, b'S', b'N') {
                 return true;
             }
-            field::is_same_tag(a, b, b'L', b'N')
+            field_tag::is_same_tag(a, b, b'L', b'N')
         }
-        Kind::ReadGroup => field::is_same_tag(a, b, b'I', b'D'),
-        Kind::Program => field::is_same_tag(a, b, b'I', b'D'),
+        Kind::ReadGroup => field_tag::is_same_tag(a, b, b'I', b'D'),
+        Kind::Program => field_tag::is_same_tag(a, b, b'I', b'D'),
         Kind::Comment => false,
     }
 }

@@ -1,12 +1,12 @@
 -- The laws of `upto` and `before`: the piece in front of a byte does not hold it, and the byte stands behind it.
-use Prim.Native.Nat.{ℕ, zero, suc, _≤_, _<_}
+use Prim.Native.Nat.{ℕ, zero, suc, _-_, _≤_, _<_}
 use mathlib.Core.Path.{_≡_, refl, sym, ap, _∙_}
 use mathlib.Core.Bool.{Bool, true, false, cond}
 use mathlib.Core.Logic.{_⊎_, inl, inr}
 use mathlib.Core.List.{List, [], _∷_}
 use native.Mathlib.Omega.{arith}
-use lib.ListN.{length, take, getD}
-use lib.Seq.{length-take-le}
+use lib.ListN.{length, take, drop, getD, length-drop}
+use lib.Seq.{length-take-le, take-all}
 use lib.Dec.{eqb, ltb}
 use borrow.Author.Tests.{eqb-true, ltb-true, ltb-false}
 use Rattle.text.specs.Upto.{upto, before}
@@ -42,6 +42,15 @@ upto-take d (b ∷ s) (suc n) h = go (eqb b d) (upto-take d s n) h
     go true ih k = absurd (omega arith)
     go false ih k = ap suc (ih (omega arith))
 
+-- the piece in front of the next `d`, one byte at a time
+pub before-stop : (d b : ℕ) (s : List ℕ) → eqb b d ≡ true → before d (b ∷ s) ≡ []
+unfolding before
+before-stop d b s e = rw e
+
+pub before-pass : (d b : ℕ) (s : List ℕ) → eqb b d ≡ false → before d (b ∷ s) ≡ b ∷ before d s
+unfolding before
+before-pass d b s e = rw e
+
 pub before-length : (d : ℕ) (s : List ℕ) → length (before d s) ≡ upto d s
 unfolding before
 before-length d s = length-take-le (upto d s) s (upto-le d s)
@@ -49,3 +58,7 @@ before-length d s = length-take-le (upto d s) s (upto-le d s)
 pub before-free : (d : ℕ) (s : List ℕ) → upto d (before d s) ≡ length (before d s)
 unfolding before
 before-free d s = upto-take d s (upto d s) (omega arith) ∙ sym (length-take-le (upto d s) s (upto-le d s))
+
+-- the rest of a slice from `k` on, as a callee that is lent it sees it
+pub rest : (k : ℕ) (s : List ℕ) → take (length s - k) (drop k s) ≡ drop k s
+rest k s = take-all (length s - k) (drop k s) (omega (arith, length-drop k s))

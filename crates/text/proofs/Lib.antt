@@ -5,6 +5,4 @@ pub mod Before
 pub mod First
 pub mod Pieces
 pub mod Stands
-pub mod Little
-pub mod Compared
 pub mod Run

@@ -2,5 +2,4 @@ pub mod Upto
 pub mod Over
 pub mod First
 pub mod Stands
-pub mod Little
 pub mod Run

@@ -3,22 +3,19 @@ use Prim.Native.Nat.{ℕ, _+_, _-_, _≤_, _<_}
 use mathlib.Core.Path.{_≡_, refl, sym, ap, _∙_}
 use mathlib.Core.Bool.{Bool, true}
 use mathlib.Core.List.{List, [], _∷_}
-use native.Mathlib.Omega.{arith}
-use lib.ListN.{length, take, drop, length-drop, drop-of-length-le}
-use lib.Seq.{take-all, drop-drop, length-take-le}
-use Rattle.format.specs.Lines.{Piece, lines, linesFrom}
+use lib.ListN.{length, take, drop}
+use Rattle.format.specs.Lines.{Piece, lines}
 use Rattle.format.specs.Records.{Record, read, line}
 use Rattle.format.specs.Reading.{Reading, refusedText, accept, announced, isStrict, readText}
 use Rattle.text.specs.First.{firstLine}
 use Rattle.text.specs.declared.Cut.{Cut}
-use Rattle.text.proofs.Lines.{lines-none}
-use Rattle.text.proofs.First.{first-le, first-within, first-some, lines-first}
 use Rattle.accepted.specs.Admits.{strictly}
 use Rattle.accepted.specs.Pieces.{Pairs}
+use Rattle.accepted.specs.Read.{isAccepted, isRead, recordsOf}
 use Rattle.accepted.proofs.Bools.{never, and-left, and-right}
 use Rattle.accepted.proofs.Text.{text-fits, text-lines}
 use Rattle.accepted.proofs.Read.{accepted-reads}
-use Rattle.accepted.specs.Read.{isAccepted, isRead, recordsOf}
+use Rattle.accepted.proofs.Ahead.{lent, ahead, ahead-turn, ahead-none}
 use Rattle.tidy_text.specs.Accepted.{withRecord, lineRecords, allRead, recordsFrom}
 
 -- ---- all lines
@@ -37,7 +34,7 @@ pub record Opened (strict : Bool) (t : List ℕ) : Type 0 where
   pub fits : length t ≤ 16777216
   pub reads : readText t ≡ accept (recordsOf t)
   pub records : recordsFrom strict t 0 ≡ recordsOf t
-  pub lines : allRead strict (linesFrom 0 (drop 0 t)) ≡ true
+  pub lines : allRead strict (ahead t 0) ≡ true
 
 pub opened : (strict : Bool) (t : List ℕ) → isAccepted (readText t) ≡ true → strict ≡ isStrict (announced (lines t)) → Opened strict t
 unfolding lines strictly
@@ -48,10 +45,6 @@ opened strict t h s =
 
 -- ---- one turn
 
--- the part of the text that a line is lent as
-abbrev pub lent : List ℕ → ℕ → ℕ → List ℕ
-lent t at n = take (at + n - at) (drop at t)
-
 -- the first line of what is left, at `at`, was cut to `c`
 pub record Turn (strict : Bool) (t : List ℕ) (at : ℕ) (c : Cut) : Type 0 where
   pub inside : at + c .len ≤ length t
@@ -60,31 +53,25 @@ pub record Turn (strict : Bool) (t : List ℕ) (at : ℕ) (c : Cut) : Type 0 whe
   pub size : length (lent t at (c .len)) ≡ c .len
   pub read : isRead (line strict (record { at = at; bytes = lent t at (c .len) })) ≡ true
   pub records : recordsFrom strict t at ≡ withRecord (line strict (record { at = at; bytes = lent t at (c .len) })) (recordsFrom strict t (at + c .next))
-  pub rest : allRead strict (linesFrom (at + c .next) (drop (at + c .next) t)) ≡ true
+  pub rest : allRead strict (ahead t (at + c .next)) ≡ true
 
-pub turn : (strict : Bool) (t : List ℕ) (at : ℕ) → at < length t → allRead strict (linesFrom at (drop at t)) ≡ true
+pub turn : (strict : Bool) (t : List ℕ) (at : ℕ) → at < length t → allRead strict (ahead t at) ≡ true
     → (c : Cut) → c ≡ firstLine (take (length t - at) (drop at t)) → Turn strict t at c
 unfolding allRead lineRecords
 turn strict t at h ok c e =
-    let s : List ℕ = drop at t in
-    let l : length s ≡ length t - at = length-drop at t in
-    let f : c ≡ firstLine s = e ∙ ap firstLine (take-all (length t - at) s (omega arith)) in
-    let bound : (c .len ≤ c .next) × (c .next ≤ length s) × (0 < c .next) = rw f (first-le s, first-within s, first-some s (omega arith)) in
-    let m : at + c .len - at ≡ c .len = omega arith in
-    let cut : linesFrom at s ≡ record { at = at; bytes = lent t at (c .len) } ∷ linesFrom (at + c .next) (drop (at + c .next) t) =
-    rw m (lines-first at s (omega arith) ∙ rw (← f, drop-drop (c .next) at t) refl) in
-    let all = sym (ap (allRead strict) cut) ∙ ok in
+    let a = ahead-turn t at h c e in
+    let all = sym (ap (allRead strict) (a .split)) ∙ ok in
     record {
-      inside = omega (arith, bound);
-      onward = bound .2;
-      within = omega (arith, bound);
-      size = rw m (length-take-le (c .len) s (omega (arith, bound)));
-      read = and-left (isRead (line strict (record { at = at; bytes = lent t at (c .len) }))) (allRead strict (linesFrom (at + c .next) (drop (at + c .next) t))) all;
-      records = ap (lineRecords strict) cut;
-      rest = and-right (isRead (line strict (record { at = at; bytes = lent t at (c .len) }))) (allRead strict (linesFrom (at + c .next) (drop (at + c .next) t))) all;
+      inside = a .inside;
+      onward = a .onward;
+      within = a .within;
+      size = a .size;
+      read = and-left (isRead (line strict (record { at = at; bytes = lent t at (c .len) }))) (allRead strict (ahead t (at + c .next))) all;
+      records = ap (lineRecords strict) (a .split);
+      rest = and-right (isRead (line strict (record { at = at; bytes = lent t at (c .len) }))) (allRead strict (ahead t (at + c .next))) all;
     }
 
 -- after the last
 pub ended : (strict : Bool) (t : List ℕ) (at : ℕ) → length t ≤ at → recordsFrom strict t at ≡ []
 unfolding lineRecords
-ended strict t at h = ap (λ s. lineRecords strict (linesFrom at s)) (drop-of-length-le t h) ∙ ap (lineRecords strict) (lines-none at)
+ended strict t at h = ap (lineRecords strict) (ahead-none t at h)

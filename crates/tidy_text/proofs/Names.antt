@@ -8,6 +8,7 @@ use lib.ListN.{length}
 use Rattle.format.specs.Records.{Record, Line, refusedLine, read, line}
 use Rattle.format.specs.Tidy.{unwritable}
 use Rattle.accepted.proofs.Bools.{never}
+use Rattle.accepted.proofs.Ahead.{lent}
 use Rattle.writer.specs.Line.{lineText, lineWritable, lineSize}
 use Rattle.writer.specs.declared.Size.the-variants.{Unwritable, Is}
 use Rattle.format.specs.declared.Kind.{Kind}
@@ -16,7 +17,7 @@ use Rattle.per_kind.specs.Numbers.{plus}
 use Rattle.tidy_text.specs.Sizes.{grownBy}
 use Rattle.per_kind.specs.declared.PerKind.{PerKind}
 use Rattle.tidy_text.specs.declared.Grown.the-variants as grown
-use Rattle.tidy_text.proofs.Lines.{lent, Turn, ended}
+use Rattle.tidy_text.proofs.Lines.{Turn, ended}
 use Rattle.text.specs.declared.Cut.{Cut}
 use Rattle.accepted.specs.Read.{isRead}
 

@@ -10,11 +10,12 @@ use Rattle.format.specs.Reading.{ofKind, readText}
 use Rattle.format.specs.Tidy.{recordText, text, inOrder, tidy}
 use Rattle.format.specs.declared.Kind.{Kind}
 use Rattle.format.specs.declared.Kind.the-variants.{Header, ReferenceSequence, ReadGroup, Program, Comment}
+use Rattle.accepted.proofs.Ahead.{lent}
 use Rattle.writer.specs.Line.{lineText}
 use Rattle.tidy_text.specs.Accepted.{withRecord, recordsFrom}
 use Rattle.per_kind.specs.Numbers.{kindNumber}
 use Rattle.tidy_text.specs.Kinds.{textOfKind, frontText}
-use Rattle.tidy_text.proofs.Lines.{Opened, lent, Turn, ended}
+use Rattle.tidy_text.proofs.Lines.{Opened, Turn, ended}
 use Rattle.text.specs.declared.Cut.{Cut}
 use Rattle.accepted.specs.Read.{recordsOf}
 use Rattle.roundtrip.proofs.Total.{order-length, tidy-length}

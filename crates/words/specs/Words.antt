@@ -12,8 +12,8 @@ use Rattle.calls.specs.declared.LengthAnswer.{LengthAnswer}
 use Rattle.calls.specs.declared.LengthAnswer.the-variants as ln
 use Rattle.calls.specs.declared.LineAnswer.{LineAnswer}
 use Rattle.calls.specs.declared.LineAnswer.the-variants as line
-use Rattle.calls.specs.declared.LeavesAnswer.{LeavesAnswer}
-use Rattle.calls.specs.declared.LeavesAnswer.the-variants as leaves
+use Rattle.roots_and_leaves.specs.declared.LeavesAnswer.{LeavesAnswer}
+use Rattle.roots_and_leaves.specs.declared.LeavesAnswer.the-variants as leaves
 use Rattle.carry_on.specs.declared.Carried.{Carried}
 use Rattle.carry_on.specs.declared.Carried.the-variants as carried
 use Rattle.names.specs.declared.NamesAnswer.{NamesAnswer}

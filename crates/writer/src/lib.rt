@@ -1,20 +1,22 @@
 // One record of the tidy text: written from its accepted line, or measured.
 use format::Kind;
 use format::Version;
+use heads::Form;
 use heads::KeyValues;
 use record::Head;
 use record::Stretch;
 ghost use mathlib.Core.Path.{_≡_};
-ghost use mathlib.Core.Bool.{true, false, not, _&&_};
+ghost use mathlib.Core.Bool.{true, false};
 ghost use mathlib.Core.List.{[], _∷_, _++_};
-ghost use Prim.Native.Nat.{_≤_, _<_, _+_};
-ghost use lib.ListN.{length, take, drop, getD};
+ghost use Prim.Native.Nat.{_≤_, _+_};
+ghost use lib.ListN.{length};
 ghost use Rattle.format.specs.Records.{line};
 ghost use Rattle.text.specs.Over.{over};
 ghost use Rattle.accepted.specs.Read.{isRead};
 ghost use Rattle.other_fields.specs.Run.{AtField, fieldsFrom};
 ghost use Rattle.other_fields.specs.Tables.{Walkable};
-ghost use Rattle.heads.specs.Found.{kindBy, isComment};
+ghost use Rattle.heads.specs.Found.{isComment};
+ghost use Rattle.heads.specs.Form.{LineOf};
 ghost use Rattle.heads.specs.Keys.{keysIn};
 ghost use Rattle.writer.specs.Line.{lineText, lineWritable, lineSize};
 ghost use Rattle.other_fields_out.specs.Others.{othersText};
@@ -111,10 +113,9 @@ fn put_parts(
     once: bool,
     tables: &[u32],
 ) -> usize
-    requires { ⌜ isRead (line false (record { at = at; bytes = now src })) ≡ true ⌝ }
-    requires { ⌜ (kindBy (getD (now src) 1 0) ≡ kind) × (isComment kind ≡ false) ⌝ }
+    requires { ⌜ LineOf kind at (now src) ⌝ }
+    requires { ⌜ isComment kind ≡ false ⌝ }
     requires { ⌜ Walkable once at (now src) (now tables) ⌝ }
-    requires { ⌜ at + length (now src) ≤ 16777216 ⌝ }
     requires { ⌜ o + length (lineText (line false (record { at = at; bytes = now src }))) ≤ length (now out) ⌝ }
     ensures next { λ r. ⌜ r ≡ o + length (lineText (line false (record { at = at; bytes = now (src .entry) }))) ⌝ }
     ensures wrote { λ _. ⌜ now (out .exit) ≡ over (now (out .entry)) o (lineText (line false (record { at = at; bytes = now (src .entry) }))) ⌝ }
@@ -147,10 +148,9 @@ fn put_whole(out: &mut [u8], o: usize, line: &[u8]) -> usize
 
 // Writes the record of a line in which no tag stands twice: the line itself, where that is tidy.
 fn put_once(out: &mut [u8], o: usize, kind: Kind, src: &[u8], at: usize) -> usize
-    requires { ⌜ isRead (line false (record { at = at; bytes = now src })) ≡ true ⌝ }
-    requires { ⌜ (kindBy (getD (now src) 1 0) ≡ kind) × (isComment kind ≡ false) ⌝ }
+    requires { ⌜ LineOf kind at (now src) ⌝ }
+    requires { ⌜ isComment kind ≡ false ⌝ }
     requires { ⌜ AtField true at (now src) 3 ⌝ }
-    requires { ⌜ at + length (now src) ≤ 16777216 ⌝ }
     requires { ⌜ o + length (lineText (line false (record { at = at; bytes = now src }))) ≤ length (now out) ⌝ }
     ensures next { λ r. ⌜ r ≡ o + length (lineText (line false (record { at = at; bytes = now (src .entry) }))) ⌝ }
     ensures wrote { λ _. ⌜ now (out .exit) ≡ over (now (out .entry)) o (lineText (line false (record { at = at; bytes = now (src .entry) }))) ⌝ }
@@ -161,20 +161,6 @@ fn put_once(out: &mut [u8], o: usize, kind: Kind, src: &[u8], at: usize) -> usiz
     put_parts(out, o, kind, src, at, true, &[])
 }
 
-// Writes the record of a line in which a tag may stand twice: its tables are made first.
-fn put_noted(out: &mut [u8], o: usize, kind: Kind, src: &[u8], at: usize) -> usize
-    requires { ⌜ isRead (line false (record { at = at; bytes = now src })) ≡ true ⌝ }
-    requires { ⌜ (kindBy (getD (now src) 1 0) ≡ kind) × (isComment kind ≡ false) ⌝ }
-    requires { ⌜ at + length (now src) ≤ 16777216 ⌝ }
-    requires { ⌜ o + length (lineText (line false (record { at = at; bytes = now src }))) ≤ length (now out) ⌝ }
-    ensures next { λ r. ⌜ r ≡ o + length (lineText (line false (record { at = at; bytes = now (src .entry) }))) ⌝ }
-    ensures wrote { λ _. ⌜ now (out .exit) ≡ over (now (out .entry)) o (lineText (line false (record { at = at; bytes = now (src .entry) }))) ⌝ }
-{
-    let mut tables = [0u32; 6448];
-    other_fields::note_tags(src, at, &mut tables);
-    put_parts(out, o, kind, src, at, false, &tables)
-}
-
 // Writes the record of an accepted line, which stands at the offset `at` without its ending, and answers the place after it.
 pub fn put_record(out: &mut [u8], o: usize, src: &[u8], at: usize, strict: bool) -> usize
     requires { ⌜ isRead (line strict (record { at = at; bytes = now src })) ≡ true ⌝ }
@@ -183,14 +169,15 @@ pub fn put_record(out: &mut [u8], o: usize, src: &[u8], at: usize, strict: bool)
     ensures next { λ r. ⌜ r ≡ o + length (lineText (line strict (record { at = at; bytes = now (src .entry) }))) ⌝ }
     ensures wrote { λ _. ⌜ now (out .exit) ≡ over (now (out .entry)) o (lineText (line strict (record { at = at; bytes = now (src .entry) }))) ⌝ }
 {
-    let kind = heads::kind_of(src);
-    if heads::is_comment(kind) {
-        return put_whole(out, o, src);
+    match heads::form_of(src, at, strict) {
+        Form::Comment => put_whole(out, o, src),
+        Form::Once(kind) => put_once(out, o, kind, src, at),
+        Form::Repeating(kind) => {
+            let mut tables = [0u32; 6448];
+            other_fields::note_tags(src, at, &mut tables);
+            put_parts(out, o, kind, src, at, false, &tables)
+        }
     }
-    if other_fields::is_once(src, at, strict) {
-        return put_once(out, o, kind, src, at);
-    }
-    put_noted(out, o, kind, src, at)
 }
 
 // How many bytes the fields of a kind's keys have in their line: four before each value.
@@ -235,10 +222,9 @@ fn head_len(head: Head, others: usize) -> usize
 
 // Whether the record of an accepted line of fields can be written: an SQ only if its name follows the specification's rule.
 fn is_writable(kind: Kind, src: &[u8], at: usize, once: bool, tables: &[u32]) -> bool
-    requires { ⌜ isRead (line false (record { at = at; bytes = now src })) ≡ true ⌝ }
-    requires { ⌜ (kindBy (getD (now src) 1 0) ≡ kind) × (isComment kind ≡ false) ⌝ }
+    requires { ⌜ LineOf kind at (now src) ⌝ }
+    requires { ⌜ isComment kind ≡ false ⌝ }
     requires { ⌜ Walkable once at (now src) (now tables) ⌝ }
-    requires { ⌜ at + length (now src) ≤ 16777216 ⌝ }
     ensures { λ r. ⌜ r ≡ lineWritable (line false (record { at = at; bytes = now (src .entry) })) ⌝ }
 {
     match kind {
@@ -254,11 +240,10 @@ fn is_writable(kind: Kind, src: &[u8], at: usize, once: bool, tables: &[u32]) ->
 
 // How many bytes the record of an accepted line of fields has, whose other fields have `others`.
 fn parts_len(kind: Kind, src: &[u8], at: usize, keys: KeyValues, others: usize) -> usize
-    requires { ⌜ isRead (line false (record { at = at; bytes = now src })) ≡ true ⌝ }
-    requires { ⌜ (kindBy (getD (now src) 1 0) ≡ kind) × (isComment kind ≡ false) ⌝ }
+    requires { ⌜ LineOf kind at (now src) ⌝ }
+    requires { ⌜ isComment kind ≡ false ⌝ }
     requires { ⌜ keys ≡ keysIn kind (fieldsFrom at (now src) 3) ⌝ }
     requires { ⌜ others ≡ length (othersText kind at (now src)) ⌝ }
-    requires { ⌜ at + length (now src) ≤ 16777216 ⌝ }
     ensures { λ r. ⌜ r ≡ length (lineText (line false (record { at = at; bytes = now (src .entry) }))) ⌝ }
 {
     head_len(heads::head_of(kind, src, at, keys), others)
@@ -266,10 +251,9 @@ fn parts_len(kind: Kind, src: &[u8], at: usize, keys: KeyValues, others: usize) 
 
 // How many bytes the record of a line in which no tag stands twice has: none of its fields but the keys is looked at.
 fn once_size(kind: Kind, src: &[u8], at: usize) -> Size
-    requires { ⌜ isRead (line false (record { at = at; bytes = now src })) ≡ true ⌝ }
-    requires { ⌜ (kindBy (getD (now src) 1 0) ≡ kind) × (isComment kind ≡ false) ⌝ }
+    requires { ⌜ LineOf kind at (now src) ⌝ }
+    requires { ⌜ isComment kind ≡ false ⌝ }
     requires { ⌜ AtField true at (now src) 3 ⌝ }
-    requires { ⌜ at + length (now src) ≤ 16777216 ⌝ }
     ensures { λ r. ⌜ r ≡ lineSize (line false (record { at = at; bytes = now (src .entry) })) ⌝ }
 {
     if !is_writable(kind, src, at, true, &[]) {
@@ -285,9 +269,8 @@ fn once_size(kind: Kind, src: &[u8], at: usize) -> Size
 
 // How many bytes the record of a line in which a tag may stand twice has: its tables are made first.
 fn noted_size(kind: Kind, src: &[u8], at: usize) -> Size
-    requires { ⌜ isRead (line false (record { at = at; bytes = now src })) ≡ true ⌝ }
-    requires { ⌜ (kindBy (getD (now src) 1 0) ≡ kind) × (isComment kind ≡ false) ⌝ }
-    requires { ⌜ at + length (now src) ≤ 16777216 ⌝ }
+    requires { ⌜ LineOf kind at (now src) ⌝ }
+    requires { ⌜ isComment kind ≡ false ⌝ }
     ensures { λ r. ⌜ r ≡ lineSize (line false (record { at = at; bytes = now (src .entry) })) ⌝ }
 {
     let mut tables = [0u32; 6448];
@@ -306,12 +289,9 @@ pub fn record_size(src: &[u8], at: usize, strict: bool) -> Size
     requires { ⌜ at + length (now src) ≤ 16777216 ⌝ }
     ensures { λ r. ⌜ r ≡ lineSize (line strict (record { at = at; bytes = now (src .entry) })) ⌝ }
 {
-    let kind = heads::kind_of(src);
-    if heads::is_comment(kind) {
-        return Size::Is(src.len() + 1);
+    match heads::form_of(src, at, strict) {
+        Form::Comment => Size::Is(src.len() + 1),
+        Form::Once(kind) => once_size(kind, src, at),
+        Form::Repeating(kind) => noted_size(kind, src, at),
     }
-    if other_fields::is_once(src, at, strict) {
-        return once_size(kind, src, at);
-    }
-    noted_size(kind, src, at)
 }

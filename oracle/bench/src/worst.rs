@@ -102,7 +102,7 @@ fn step(sum: u32) -> u32 {
     (p as u32).wrapping_add((p >> 32) as u32)
 }
 
-/// A key's number in the index, by its kind (2 SQ, 3 RG, 4 PG) and name: `hash` of crates/key_index, which looks for a key from the
+/// A key's number in the index, by its kind (2 SQ, 3 RG, 4 PG) and name: `hash` of crates/key_hash. crates/key_look looks for a key from the
 /// slot number * slots / 2^32 on. What changes there changes here.
 fn key_hash(kind: u32, name: &[u8]) -> u32 {
     let (fours, rest) = name.as_chunks::<4>();

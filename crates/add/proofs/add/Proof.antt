@@ -24,8 +24,8 @@ use Rattle.parents.proofs.Own.{own-count, own-ats, own-lens, ats-inside, lens-i
 use Rattle.parents.proofs.Road.{graph-refusal, graph-list, graph-count, some-leaf}
 use Rattle.parser.specs.Answers.{answerOf, outputOf}
 use Rattle.parser.proofs.Told.{refused-answer}
-use Rattle.calls.proofs.Fresh.{refused-by, fresh-by}
-use Rattle.calls.proofs.Chained.{Opened, opened}
+use Rattle.parser.proofs.Fresh.{Current, refused-by, fresh-by}
+use Rattle.parents.proofs.Opened.{Opened, opened}
 use Rattle.add_input.proofs.InForm.{in-form}
 use Rattle.add.specs.Added.{isNothing, stray, leavesOf, addingOn}
 use Rattle.add.proofs.Prior.{nothing-none}
@@ -34,8 +34,11 @@ use Rattle.add.proofs.add.Statement.{statement}
 use Rattle.add.proofs.add.Tie as tie
 
 -- the catalogue is the text's own
-own : (c : tie.After-enum-told) → let a = c .before .before .before .before .before .before .before .before .args in Opened (a .text .now) (a .kept .now)
-own c = let a = c .before .before .before .before .before .before .before .before .args in opened (a .text .now) (a .kept .now) (fresh-by (a .text .now) (a .kept .now) (c .before .before .check .ensures) (c .enum-told .given .1))
+own : (c : tie.After-enum-told) → let a = c .before .before .before .before .before .before .before .before .args in Current (a .text .now) (a .kept .now)
+own c = let a = c .before .before .before .before .before .before .before .before .args in fresh-by (a .text .now) (a .kept .now) (c .before .before .check .ensures) (c .enum-told .given .1)
+
+opens : (c : tie.After-enum-told) → let a = c .before .before .before .before .before .before .before .before .args in Opened (a .text .now) (a .kept .now)
+opens c = let a = c .before .before .before .before .before .before .before .before .args in opened (a .text .now) (a .kept .now) (own c .reads) (own c .own)
 
 -- what is given is in form
 formed : (c : tie.Else1) → let a = c .before .before .before .before .before .before .before .before .before .before .args in misformed (a .prefix .now) (given (a .fields .now)) ≡ false
@@ -47,10 +50,10 @@ abbrev text : tie.After-gather → List ℕ
 text c = c .before .before .before .before .before .before .before .before .before .before .before .before .args .text .now
 
 accepted : (c : tie.After-gather) → isAccepted (readText (text c)) ≡ true
-accepted c = own (c .before .before .before .before) .accepted
+accepted c = opens (c .before .before .before .before) .accepted
 
 gathers : (c : tie.After-gather) → c .gather .result ≡ gatheredOf (notedIn (entriesIn (catalogue (recordsOf (text c)))))
-gathers c = own (c .before .before .before .before) .gathers (c .gather .result) (c .gather .ensures)
+gathers c = opens (c .before .before .before .before) .gathers (c .gather .result) (c .gather .ensures)
 
 -- the IDs that are lent
 ids-are : (c : tie.After-gather)
@@ -94,7 +97,7 @@ module _ (c : tie.Else3) where
   some h =
       let t = text gathered in
       let p = gathered .gather .result in
-      let few = own (gathered .before .before .before .before) .few in
+      let few = opens (gathered .before .before .before .before) .few in
       let n = own-count t (accepted gathered) p (gathers gathered) in
       let m = own-ats t (accepted gathered) p (gathers gathered) in
       omega (arith, some-leaf (ps asked) few untangled (omega (arith, h, n, m)), ap length leaves-are, counted, front-count xs (asked .find-leaves .result .leaves .list) (asked .find-leaves .result .leaves .count) listed counted)
@@ -116,13 +119,13 @@ returns c =
     let a = c .before .before .before .before .before .before .before .before .before .before .args in
     let room = length (a .out .now) in
     refused-answer (adding (a .text .now) (a .kept .now) (a .prefix .now) (a .fields .now) room) (a .out .now) 26 (record { 0 = 0 })
-    (add-misformed (a .text .now) (a .kept .now) (own (c .before .before) .own) (a .prefix .now) (a .fields .now) room (not-false _ (sym (c .before .is-in-form .ensures) ∙ not-true (c .before .is-in-form .result) (c .if1 .taken))))
+    (add-misformed (a .text .now) (a .kept .now) (own (c .before .before)) (a .prefix .now) (a .fields .now) room (not-false _ (sym (c .before .is-in-form .ensures) ∙ not-true (c .before .is-in-form .result) (c .if1 .taken))))
 
 find-previous-requires : tie.Need-find-previous-requires
 find-previous-requires c κs = let a = c .before .before .before .before .before .before .before .before .before .before .args in in-form (a .prefix .now) (given (a .fields .now)) (formed c) .stop
 
 gather-requires : tie.Need-gather-requires
-gather-requires c κs = own (c .before .before .before) .entries
+gather-requires c κs = opens (c .before .before .before) .entries
 
 array-share-prefix-at : tie.Need-array-share-prefix-at
 array-share-prefix-at c = let g = c .before .before .before in ats-inside (text g) (accepted g) (g .gather .result) (gathers g)
@@ -145,7 +148,7 @@ returns-2 c =
     let a = c .before .before .before .before .before .before .before .before .before .before .before .before .before .before .before .before .before .before .before .args in
     let room = length (a .out .now) in
     refused-answer (adding (a .text .now) (a .kept .now) (a .prefix .now) (a .fields .now) room) (a .out .now) 22 (record { 0 = 0 })
-    (add-stray (a .text .now) (a .kept .now) (own (p .before .before .before) .own) (a .prefix .now) (a .fields .now) room (formed (p .before)) (prior (c .before) ∙ c .if2 .taken))
+    (add-stray (a .text .now) (a .kept .now) (own (p .before .before .before)) (a .prefix .now) (a .fields .now) room (formed (p .before)) (prior (c .before) ∙ c .if2 .taken))
 
 find-leaves-requires : tie.Need-find-leaves-requires
 find-leaves-requires c κs = let g = c .before .before .before .before .before .before .before in (accepted g, gathers g)
@@ -159,7 +162,7 @@ returns-3 c =
     let room = length (a .out .now) in
     let n = f .find-leaves .result .refusal in
     refused-answer (adding (a .text .now) (a .kept .now) (a .prefix .now) (a .fields .now) room) (a .out .now) n (record { 0 = 0 })
-    (add-tangled (a .text .now) (a .kept .now) (own (p .before .before .before) .own) (a .prefix .now) (a .fields .now) room (formed (p .before)) (prior (e .before) ∙ e .if2 .left) n (graph-refusal (links (ps f)) (f .find-leaves .result) (f .find-leaves .ensures)) (c .if3 .taken))
+    (add-tangled (a .text .now) (a .kept .now) (own (p .before .before .before)) (a .prefix .now) (a .fields .now) room (formed (p .before)) (prior (e .before) ∙ e .if2 .left) n (graph-refusal (links (ps f)) (f .find-leaves .result) (f .find-leaves .ensures)) (c .if3 .taken))
 
 array-share-prefix-list : tie.Need-array-share-prefix-list
 array-share-prefix-list c = let e = c .before .before in front-inside (xs e) (asked e .find-leaves .result .leaves .list) (asked e .find-leaves .result .leaves .count) (listed e) (counted e)
@@ -210,7 +213,7 @@ returns-5 c =
     let a = p .before .before .before .before .before .before .before .before .before .before .before .args in
     let room = length (a .out .now) in
     let on : addingOn (recordsOf (a .text .now)) (a .prefix .now) (given (a .fields .now) .fields) room ≡ adding (a .text .now) (a .kept .now) (a .prefix .now) (a .fields .now) room =
-    sym (add-on (a .text .now) (a .kept .now) (own (p .before .before .before) .own) (a .prefix .now) (a .fields .now) room (formed (p .before)) (prior (e .before) ∙ e .if2 .left) (untangled l)) in
+    sym (add-on (a .text .now) (a .kept .now) (own (p .before .before .before)) (a .prefix .now) (a .fields .now) room (formed (p .before)) (prior (e .before) ∙ e .if2 .left) (untangled l)) in
     (w .add-after .ensures .0 ∙ ap answerOf on, w .add-after .ensures .1 ∙ ap (λ x. outputOf x (a .out .now)) on)
 
 pub add-spec : {M : Type 1} → statement M

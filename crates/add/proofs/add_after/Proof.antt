@@ -16,7 +16,7 @@ use Rattle.format.specs.Adding.{given, isKnown, added, used}
 use Rattle.format.specs.Calls.{writing}
 use Rattle.accepted.specs.Read.{recordsOf}
 use Rattle.accepted.proofs.Read.{accepted-reads}
-use Rattle.field.proofs.Before.{rest}
+use Rattle.text.proofs.Before.{rest}
 use Rattle.id_search.specs.Places.{idsAt, PlacesInText}
 use Rattle.id_search.specs.Search.{idsOf}
 use Rattle.id_search.proofs.Search.{ids-length}

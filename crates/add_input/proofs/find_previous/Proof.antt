@@ -5,7 +5,7 @@ use native.Mathlib.Omega.{arith}
 use lib.ListN.{length, drop}
 use borrow.Author.Needs.{needs}
 use Rattle.text.specs.Upto.{upto}
-use Rattle.field.proofs.Before.{rest}
+use Rattle.text.proofs.Before.{rest}
 use Rattle.add_input.proofs.Last.{Seeking, seeking-start, seeking-end, bounds, seeking-same, seeking-other}
 use Rattle.add_input.proofs.find_previous.Statement.{statement}
 use Rattle.add_input.proofs.find_previous.Tie as tie

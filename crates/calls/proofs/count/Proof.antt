@@ -2,7 +2,7 @@
 use mathlib.Core.Path.{sym, ap, _∙_}
 use Rattle.parser.specs.declared.CountAnswer.the-variants.{Count}
 use Rattle.calls.specs.Answers.{countOf}
-use Rattle.calls.proofs.Fresh.{refused-by, fresh-by}
+use Rattle.parser.proofs.Fresh.{refused-by, fresh-by}
 use Rattle.calls.proofs.Told.{count-refused, count-below, count-above, count-served}
 use borrow.Author.Needs.{needs}
 use Rattle.calls.proofs.count.Statement.{statement}

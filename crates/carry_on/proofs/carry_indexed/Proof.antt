@@ -5,31 +5,25 @@ use lib.ListN.{length}
 use Rattle.format.specs.Tidy.{tidy}
 use Rattle.tidy_text.specs.Sizes.{sizesOf}
 use Rattle.tidy.proofs.Writing.{write-bad}
-use Rattle.carried.specs.Carrying.{keptOf, carriedLines, skips, unwritableLine, carrying}
-use Rattle.kept_lines.specs.Going.{judgedLines}
-use Rattle.carry_on.specs.First.{First, keptFrom}
-use Rattle.carry_on.proofs.Split.{first-names}
-use Rattle.carry_on.proofs.Told.{measured-bad, measured-is, told-refused, refused-all}
+use Rattle.carried.specs.Carrying.{keptOf, carriedLines, unwritableLine, carrying}
+use Rattle.kept_from.specs.From.{keptFrom, skippedFrom, unwritableFrom}
+use Rattle.kept_from.proofs.Split.{first-names}
+use Rattle.kept_sizes.proofs.Told.{measured-bad, measured-is}
+use Rattle.carry_on.proofs.Told.{told-refused, refused-all}
 use borrow.Author.Needs.{needs}
 use Rattle.carry_on.proofs.carry_indexed.Statement.{statement}
 use Rattle.carry_on.proofs.carry_indexed.Tie as tie
 use Rattle.carry_on.proofs.carry_indexed.Reads as reads
 use Rattle.carry_on.proofs.carry_indexed.Lts as lts
-use Rattle.carry_on.proofs.measure.Reads as measure-reads
 use Rattle.carry_on.proofs.write_kept.Reads as write-kept-reads
 use Rattle.early_lines.proofs.find_first.Reads as find-first-reads
-
--- where the first line that is kept stands
-first : (c : tie.After-find-first) → First (c .before .before .before .before .before .args .text .now) (c .find-first .result)
-first c =
-    let e = c .find-first .ensures in
-    record { inside = e .0; rest = e .1 .0; line = e .1 .1 .0; slow = e .1 .1 .1 .0; strict = e .1 .1 .1 .1 }
+use Rattle.kept_sizes.proofs.measure.Reads as measure-reads
 
 find-first-requires : tie.Need-find-first-requires
 find-first-requires c κs = search needs
 
 measure-requires : tie.Need-measure-requires
-measure-requires c κs = let s = c .before .before .before .before .before .before in (s .pre .0, (first (c .before), s .pre .1))
+measure-requires c κs = let s = c .before .before .before .before .before .before in (s .pre .0, (c .before .find-first .ensures, s .pre .1))
 
 enum-known-line : tie.Need-enum-known-line
 enum-known-line c = search needs
@@ -42,11 +36,10 @@ write-kept-requires c κs =
     let s = c .before .before .before .before .before .before .before .before .before .before .before .before .before .before .before in
     let t = s .args .text .now in
     let b = c .before .before .before .before .before .before .before .before .before .before .find-first .result in
-    let f = first (c .before .before .before .before .before .before .before .before .before .before) in
+    let f = c .before .before .before .before .before .before .before .before .before .before .find-first .ensures in
     let m = c .before .before .before .before .before .before .before .before .measure .ensures in
-    let ls = judgedLines (b .strict) t (b .at) in
     let g = c .before .before .before .before .sizes .given in
-    let is = measured-is (unwritableLine (b .line) ls) (sizesOf (keptFrom t b)) (length (skips (b .line) ls)) (g .0 .0) (g .0 .1 .0) (sym (m .0) ∙ g .1) in
+    let is = measured-is (unwritableFrom t b) (sizesOf (keptFrom t b)) (length (skippedFrom t b)) (g .0 .0) (g .0 .1 .0) (sym (m .0) ∙ g .1) in
     (s .pre .0, (f, (omega (arith, m .1, s .pre .1), (first-names t b f ∙ is .0, (sym (is .1 .0), sym (is .1 .1))))))
 
 same-length : tie.Need-same-length
@@ -58,13 +51,12 @@ returns c =
     let a = s .args in
     let t = a .text .now in
     let b = c .before .before .before .before .before .before .before .find-first .result in
-    let ls = judgedLines (b .strict) t (b .at) in
     let g = c .before .line .given in
     let l = g .0 .0 in
-    let bad = measured-bad (unwritableLine (b .line) ls) (sizesOf (keptFrom t b)) (length (skips (b .line) ls)) l (sym (c .before .before .before .before .before .measure .ensures .0) ∙ g .1) in
+    let bad = measured-bad (unwritableFrom t b) (sizesOf (keptFrom t b)) (length (skippedFrom t b)) l (sym (c .before .before .before .before .before .measure .ensures .0) ∙ g .1) in
     refused-all (carrying t (length (a .out .now)) (length (a .table .now))) (a .out .now) (a .table .now) 24 l
     (told-refused t (length (a .out .now)) (length (a .table .now)) (s .pre .0) 24 (l .0)
-    (write-bad (length (a .out .now)) (unwritableLine 0 (carriedLines t)) (tidy (keptOf (carriedLines t))) (l .0) (first-names t b (first (c .before .before .before .before .before .before .before)) ∙ bad)))
+    (write-bad (length (a .out .now)) (unwritableLine 0 (carriedLines t)) (tidy (keptOf (carriedLines t))) (l .0) (first-names t b (c .before .before .before .before .before .before .before .find-first .ensures) ∙ bad)))
 
 same-length-2 : tie.Need-same-length-2
 same-length-2 c = search needs

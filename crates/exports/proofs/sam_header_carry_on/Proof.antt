@@ -7,9 +7,9 @@ use lib.ListN.{length}
 use Rattle.format.specs.Calls.{Answer, refused, yes}
 use Rattle.accepted.proofs.Bools.{never}
 use Rattle.carried.specs.Carrying.{carrying}
+use Rattle.carried.proofs.Bound.{carried-few}
 use Rattle.carry_on.specs.declared.Carried.the-variants.{Refused, Written}
 use Rattle.carry_on.specs.Answers.{carriedOf}
-use Rattle.carry_on.proofs.Bound.{carried-few}
 use Rattle.words.specs.Words.{carriedWord}
 use borrow.Author.Needs.{needs}
 use Rattle.exports.proofs.sam_header_carry_on.Statement.{statement}

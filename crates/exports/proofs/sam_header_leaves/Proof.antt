@@ -6,9 +6,9 @@ use native.Mathlib.Omega.{arith}
 use lib.ListN.{length}
 use Rattle.format.specs.Calls.{Answer, refused, yes, leafing}
 use Rattle.accepted.proofs.Bools.{never}
-use Rattle.calls.specs.declared.LeavesAnswer.the-variants.{Refused, Counted}
-use Rattle.calls.specs.Answers.{leavesAnswerOf}
-use Rattle.calls.proofs.Bound.{leaves-few}
+use Rattle.roots_and_leaves.specs.declared.LeavesAnswer.the-variants.{Refused, Counted}
+use Rattle.roots_and_leaves.specs.Answers.{leavesAnswerOf}
+use Rattle.roots_and_leaves.proofs.Bound.{leaves-few}
 use Rattle.words.specs.Words.{leavesWord}
 use borrow.Author.Needs.{needs}
 use Rattle.exports.proofs.sam_header_leaves.Statement.{statement}

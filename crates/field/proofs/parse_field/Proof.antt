@@ -11,7 +11,7 @@ use Rattle.format.specs.declared.Kind.{Kind}
 use Rattle.text.specs.Upto.{before}
 use Rattle.field.specs.Parsed.{parsedOf}
 use Rattle.field.specs.declared.ParsedField.{ParsedField}
-use Rattle.field.proofs.Before.{rest}
+use Rattle.text.proofs.Before.{rest}
 use Rattle.field.proofs.Place.{colonAt, field-in-place, place-short, place-tag, place-colon, colon-none, colon-other, colon-value}
 use Rattle.field.proofs.parse_field.Statement.{statement}
 use Rattle.field.proofs.parse_field.Tie as tie

@@ -7,13 +7,14 @@ use native.Mathlib.Omega.{arith}
 use lib.ListN.{length, take}
 use lib.Seq.{length-take-le}
 use borrow.Author.Needs.{needs}
-use Rattle.format.specs.Decimal.{span}
 use Rattle.format.specs.Version.{version}
 use Rattle.text.proofs.Lines.{upto-le}
 use Rattle.text.specs.Upto.{upto, before}
-use Rattle.field.specs.Parsed.{takenOf, keptBy, versionedBy}
-use Rattle.field.proofs.Before.{before-length}
-use Rattle.field.proofs.Judged.{a-value, length-sized, value-length, value-none, value-version, value-kept}
+use Rattle.field_value.specs.Taken.{takenOf}
+use Rattle.field_value.proofs.Taken.{a-value}
+use Rattle.field.specs.Parsed.{keptBy, versionedBy}
+use Rattle.text.proofs.Before.{before-length}
+use Rattle.field.proofs.Judged.{value-length, value-none, value-version, value-kept}
 use Rattle.field.proofs.parse_field_value.Statement.{statement}
 use Rattle.field.proofs.parse_field_value.Tie as tie
 
@@ -44,7 +45,7 @@ returns c =
     let a = i .before .before .args in
     let v = before 9 (a .src .now) in
     let t = sym (i .is-length .ensures) ∙ c .before .if1 .taken in
-    c .parse-length-value .ensures ∙ length-sized 3 (span v .0) (span v .1) ∙ sym (value-length (a .a) (a .b) 3 v (a .kind) t)
+    c .parse-length-value .ensures ∙ sym (value-length (a .a) (a .b) 3 v (a .kind) t)
 
 allowed-len-requires : tie.Need-allowed-len-requires
 allowed-len-requires c κs = search needs

@@ -7,12 +7,14 @@ use lib.ListN.{length, drop}
 use Rattle.format.specs.Lines.{linesFrom}
 use Rattle.format.specs.Records.{line}
 use Rattle.text.specs.First.{firstLine}
+use Rattle.accepted.specs.First.{firstAt}
+use Rattle.accepted.proofs.Ahead.{next-more, next-within}
 use Rattle.record.specs.Head.{headOf}
 use Rattle.key_index.specs.Told.{afterMeeting}
 use Rattle.key_index.specs.Keyed.{KeyInText}
-use Rattle.key_index.proofs.Keyed.{meeting-length}
-use Rattle.first_keys.specs.Blocks.{firstAt, headKeys, keyedFront, afterKeyed, entered}
-use Rattle.first_keys.proofs.Walk.{keys-most, after-end, after-none, after-on, entered-end, entered-none, entered-on, placed-at, next-more, next-within}
+use Rattle.keys_held.proofs.Keyed.{meeting-length}
+use Rattle.first_keys.specs.Blocks.{headKeys, keyedFront, afterKeyed, entered}
+use Rattle.first_keys.proofs.Walk.{keys-most, after-end, after-none, after-on, entered-end, entered-none, entered-on, placed-at}
 use borrow.Author.Needs.{needs}
 use Rattle.first_keys.proofs.enter.Statement.{statement}
 use Rattle.first_keys.proofs.enter.Tie as tie

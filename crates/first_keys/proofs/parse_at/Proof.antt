@@ -7,15 +7,15 @@ use lib.ListN.{length, take, drop, length-take, length-drop}
 use Rattle.format.specs.Records.{line}
 use Rattle.text.specs.First.{firstLine}
 use Rattle.text.proofs.First.{first-le, first-within}
-use Rattle.field.proofs.Before.{rest}
+use Rattle.text.proofs.Before.{rest}
+use Rattle.accepted.specs.First.{firstAt}
 use Rattle.record.specs.Head.{headOf}
-use Rattle.first_keys.specs.Blocks.{firstAt}
 use borrow.Author.Needs.{needs}
 use Rattle.first_keys.proofs.parse_at.Statement.{statement}
 use Rattle.first_keys.proofs.parse_at.Tie as tie
 use Rattle.first_keys.proofs.parse_at.Reads as reads
 use Rattle.first_keys.proofs.parse_at.Lts as lts
-use Rattle.record.proofs.parse_record.Reads as parse-record-reads
+use Rattle.record_parser.proofs.parse_record.Reads as parse-record-reads
 use Rattle.text.proofs.first_line.Reads as first-line-reads
 
 cut : (c : tie.After-first-line) → let a = c .before .before .before .args in c .first-line .result ≡ firstLine (drop (a .at) (a .text .now))
@@ -34,7 +34,6 @@ inside c =
 head-is : (c : tie.After-parse-record)
     → let a = c .before .before .before .before .before .before .args in
     c .parse-record .result ≡ headOf (line (a .strict) (firstAt (a .at) (a .text .now)))
-unfolding firstAt
 head-is c =
     let q = c .before .before .before in
     let a = q .before .before .before .args in

@@ -6,12 +6,14 @@ use lib.ListN.{length, drop}
 use Rattle.format.specs.Lines.{linesFrom}
 use Rattle.format.specs.Records.{line}
 use Rattle.text.specs.First.{firstLine}
+use Rattle.accepted.specs.First.{firstAt}
+use Rattle.accepted.proofs.Ahead.{next-more}
 use Rattle.record.specs.Head.{headOf}
 use Rattle.key_index.specs.Told.{afterPointing}
 use Rattle.key_index.specs.Keyed.{KeyInText}
-use Rattle.key_index.proofs.Keyed.{pointing-length}
-use Rattle.first_keys.specs.Blocks.{firstAt, earlier, pointedBack}
-use Rattle.first_keys.proofs.Walk.{pointed-end, pointed-on, placed-at, next-more}
+use Rattle.keys_held.proofs.Keyed.{pointing-length}
+use Rattle.first_keys.specs.Blocks.{earlier, pointedBack}
+use Rattle.first_keys.proofs.Walk.{pointed-end, pointed-on, placed-at}
 use Rattle.first_keys.proofs.point_back.Statement.{statement}
 use Rattle.first_keys.proofs.point_back.Tie as tie
 use Rattle.first_keys.proofs.point_back.Reads as reads

@@ -1,6 +1,6 @@
 -- `heads::head_of` meets its contract: an arm for each kind.
 use Prim.Native.Nat.{ℕ, _+_, _-_, _≤_, _^_}
-use mathlib.Core.Path.{_≡_, refl, sym, ap, ap₂, _∙_}
+use mathlib.Core.Path.{_≡_, refl, sym, ap, ap₂, subst, _∙_}
 use mathlib.Core.Bool.{false}
 use mathlib.Core.Option.{some}
 use native.Mathlib.Omega.{arith}
@@ -20,6 +20,7 @@ use Rattle.heads.specs.Keys.{lastKey, lastNumber, keysFrom, keysIn}
 use Rattle.heads.proofs.Finds.{OfHeader, OfReference, OfMap, Held, held, found-place, value-within, value-bytes, front-digits}
 use Rattle.format.specs.declared.Kind.{Kind}
 use Rattle.heads.specs.Found.{kindBy}
+use Rattle.heads.specs.Form.{LineOf}
 use lib.ListN.{getD}
 use borrow.Author.Needs.{needs}
 use Rattle.heads.proofs.head_of.Statement.{statement}
@@ -27,10 +28,13 @@ use Rattle.heads.proofs.head_of.Tie as tie
 
 -- what is held of a line of the kind `k`
 line-held : (s : tie.Start) (k : Kind) → s .args .kind ≡ k → (let a = s .args in Held false k (a .at) (a .src .now) (uncounted (headOf (line false (record { at = a .at; bytes = a .src .now })))))
-line-held s k e = held false (s .args .at) (s .args .src .now) (s .pre .0) k (s .pre .1 .0 ∙ e)
+line-held s k e = held false (s .args .at) (s .args .src .now) (s .pre .0 .accepted) k (s .pre .0 .kind ∙ e)
 
 keys : (s : tie.Start) (k : Kind) → s .args .kind ≡ k → (let a = s .args in a .keys ≡ keysIn k (fieldsFrom (a .at) (a .src .now) 3))
-keys s k e = s .pre .1 .1 .0 ∙ ap (λ k. keysIn k (fieldsFrom (s .args .at) (s .args .src .now) 3)) e
+keys s k e = s .pre .1 ∙ ap (λ k. keysIn k (fieldsFrom (s .args .at) (s .args .src .now) 3)) e
+
+of : (s : tie.Start) (k : Kind) → s .args .kind ≡ k → (let a = s .args in LineOf k (a .at) (a .src .now))
+of s k e = subst (λ k. LineOf k (s .args .at) (s .args .src .now)) e (s .pre .0)
 
 -- the ID of a map
 map : (s : tie.Start) (make : Stretch → Head) → OfMap (s .args .at) (s .args .src .now) make (uncounted (headOf (line false (record { at = s .args .at; bytes = s .args .src .now }))))
@@ -44,7 +48,7 @@ enum-told c = search needs
 header-of-requires : tie.Need-header-of-requires
 header-of-requires c κs =
     let s = c .before .before .before .before in
-    (s .pre .0, (s .pre .1 .0 ∙ c .enum-told .given .1, (ap (λ k. k .key) (keys s Header (c .enum-told .given .1)), s .pre .1 .1 .1)))
+    (of s Header (c .enum-told .given .1), ap (λ k. k .key) (keys s Header (c .enum-told .given .1)))
 
 enum-told-2 : tie.Need-enum-told-2
 enum-told-2 c = search needs
@@ -52,7 +56,7 @@ enum-told-2 c = search needs
 sequence-of-requires : tie.Need-sequence-of-requires
 sequence-of-requires c κs =
     let s = c .before .before .before .before in
-    (s .pre .0, (s .pre .1 .0 ∙ c .enum-told2 .given .1, (keys s ReferenceSequence (c .enum-told2 .given .1), s .pre .1 .1 .1)))
+    (of s ReferenceSequence (c .enum-told2 .given .1), keys s ReferenceSequence (c .enum-told2 .given .1))
 
 enum-told-3 : tie.Need-enum-told-3
 enum-told-3 c = search needs

@@ -18,8 +18,8 @@ use Rattle.heads.specs.Keys.{lastKey, lastNumber, keysFrom, keysIn}
 use Rattle.heads.proofs.Finds.{OfHeader, OfReference, OfMap, Held, held, found-place, value-within, value-bytes, front-digits}
 use Rattle.format.specs.Version.{version}
 use Rattle.format.specs.declared.Version.{Version}
-use Rattle.field.specs.Parsed.{parsedVersionOf}
-use Rattle.field.specs.declared.ParsedVersion.the-variants.{Is, Invalid}
+use Rattle.version.specs.Spelled.{parsedVersionOf}
+use Rattle.version.specs.declared.ParsedVersion.the-variants.{Is, Invalid}
 use borrow.Author.Needs.{needs}
 use Rattle.heads.proofs.header_of.Statement.{statement}
 use Rattle.heads.proofs.header_of.Tie as tie
@@ -34,12 +34,12 @@ version-none v e = never (cc)
 
 kept : (s : tie.Start) → (let a = s .args in OfHeader (a .at) (a .src .now) (uncounted (headOf (line false (record { at = a .at; bytes = a .src .now })))))
 unfolding Held
-kept s = held false (s .args .at) (s .args .src .now) (s .pre .0) Header (s .pre .1 .0) .1
+kept s = held false (s .args .at) (s .args .src .now) (s .pre .0 .accepted) Header (s .pre .0 .kind) .1
 
 -- the value that was found
 value : (s : tie.Start) → (let a = s .args in a .version ≡ orValue noValue (lastOf 86 78 (fieldsFrom (a .at) (a .src .now) 3)))
 unfolding keysIn keysFrom lastKey
-value s = s .pre .1 .1 .0
+value s = s .pre .1
 
 -- VN stands in the line
 within : (s : tie.Start) → (let a = s .args in let v = a .version in (a .at ≤ v .at) × (v .at - a .at + v .len ≤ length (a .src .now)))
@@ -58,7 +58,7 @@ sub-from : tie.Need-sub-from
 sub-from c = within (c .before .before) .0
 
 add-parse-version : tie.Need-add-parse-version
-add-parse-version c = let s = c .before .before in omega (arith, within s, s .pre .1 .1 .1)
+add-parse-version c = let s = c .before .before in omega (arith, within s, s .pre .0 .short)
 
 sub-parse-version : tie.Need-sub-parse-version
 sub-parse-version c = search needs

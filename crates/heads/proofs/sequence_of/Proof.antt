@@ -29,16 +29,16 @@ number-is n k m j e = cc
 
 kept : (s : tie.Start) → (let a = s .args in OfReference (a .at) (a .src .now) (uncounted (headOf (line false (record { at = a .at; bytes = a .src .now })))))
 unfolding Held
-kept s = held false (s .args .at) (s .args .src .now) (s .pre .0) ReferenceSequence (s .pre .1 .0) .1
+kept s = held false (s .args .at) (s .args .src .now) (s .pre .0 .accepted) ReferenceSequence (s .pre .0 .kind) .1
 
 -- the values that were found
 name : (s : tie.Start) → (let a = s .args in a .keys .key ≡ orValue noValue (lastOf 83 78 (fieldsFrom (a .at) (a .src .now) 3)))
 unfolding keysIn keysFrom lastKey
-name s = ap (λ k. k .key) (s .pre .1 .1 .0)
+name s = ap (λ k. k .key) (s .pre .1)
 
 number : (s : tie.Start) → (let a = s .args in a .keys .number ≡ orValue noValue (lastOf 76 78 (fieldsFrom (a .at) (a .src .now) 3)))
 unfolding keysIn keysFrom lastNumber
-number s = ap (λ k. k .number) (s .pre .1 .1 .0)
+number s = ap (λ k. k .number) (s .pre .1)
 
 -- LN stands in the line
 within : (s : tie.Start) → (let a = s .args in let v = a .keys .number in (a .at ≤ v .at) × (v .at - a .at + v .len ≤ length (a .src .now)))
@@ -58,7 +58,7 @@ sub-from : tie.Need-sub-from
 sub-from c = within (c .before .before .before .before) .0
 
 add-read-u64 : tie.Need-add-read-u64
-add-read-u64 c = let s = c .before .before .before .before in omega (arith, within s, s .pre .1 .1 .1)
+add-read-u64 c = let s = c .before .before .before .before in omega (arith, within s, s .pre .0 .short)
 
 sub-read-u64 : tie.Need-sub-read-u64
 sub-read-u64 c = search needs

@@ -14,7 +14,7 @@ use Rattle.format.specs.Catalogue.{catalogue}
 use Rattle.text.specs.First.{firstLine}
 use Rattle.text.specs.Stands.{Stands}
 use Rattle.text.proofs.First.{first-le, first-within}
-use Rattle.field.proofs.Before.{rest}
+use Rattle.text.proofs.Before.{rest}
 use Rattle.record.specs.declared.Head.{Head}
 use Rattle.record.specs.declared.Head.the-variants as head
 use Rattle.record.specs.Head.{headOf, recordHead}
@@ -24,7 +24,7 @@ use Rattle.admission.proofs.Few.{others-few}
 use Rattle.admission.proofs.Programs.{programs-most}
 use Rattle.key_index.specs.Told.{isMet}
 use Rattle.key_index.specs.Keyed.{KeyInText}
-use Rattle.key_index.proofs.Keyed.{head-placed, meeting-length}
+use Rattle.keys_held.proofs.Keyed.{head-placed, meeting-length}
 use Rattle.line_entries.specs.Line.{recordBytes}
 use Rattle.line_entries.specs.Parts.{sizeOfHead, othersOf, ownEntry}
 use Rattle.line_entries.proofs.Records.{catalogue-length, own-others, size-length}
@@ -41,7 +41,7 @@ use Rattle.judging.proofs.turn.Reads as turn-reads
 use Rattle.key_index.proofs.meet.Reads as meet-reads
 use Rattle.line_entries.proofs.record_size.Reads as record-size-reads
 use Rattle.admission.proofs.programs_of.Reads as programs-of-reads
-use Rattle.record.proofs.parse_record.Reads as parse-record-reads
+use Rattle.record_parser.proofs.parse_record.Reads as parse-record-reads
 use Rattle.text.proofs.first_line.Reads as first-line-reads
 
 abbrev Inv-loop : tie.InvT-loop

@@ -9,12 +9,12 @@ use Rattle.format.specs.Records.{line}
 use Rattle.format.specs.Reading.{admitted}
 use Rattle.text.specs.First.{firstLine}
 use Rattle.text.proofs.First.{first-le, first-within}
+use Rattle.accepted.specs.First.{firstAt}
+use Rattle.accepted.proofs.Ahead.{ahead-stands}
 use Rattle.record.specs.Head.{headOf}
 use Rattle.admission.specs.Admission.{lineRefusal, barring}
 use Rattle.key_index.specs.Keyed.{KeyInText}
-use Rattle.key_index.proofs.Keyed.{head-placed}
-use Rattle.key_index.proofs.Ahead.{ahead-stands}
-use Rattle.first_keys.specs.Blocks.{firstAt}
+use Rattle.keys_held.proofs.Keyed.{head-placed}
 use Rattle.kept_lines.specs.Kept.{usedBy, idsAfter, untilAt, filledAt, advanced}
 use Rattle.kept_lines.proofs.Kept.{advanced-to}
 use Rattle.kept_lines.proofs.Going.{filled-long, judged, refusal-here, going-on, ids-length, kept-lines, before}
@@ -27,7 +27,7 @@ use Rattle.admission.proofs.barred.Reads as barred-reads
 use Rattle.kept_lines.proofs.advance.Reads as advance-reads
 use Rattle.kept_lines.proofs.is_used.Reads as is-used-reads
 use Rattle.kept_lines.proofs.turn.Reads as turn-reads
-use Rattle.record.proofs.parse_record.Reads as parse-record-reads
+use Rattle.record_parser.proofs.parse_record.Reads as parse-record-reads
 use Rattle.text.proofs.first_line.Reads as first-line-reads
 
 turn-requires : tie.Need-turn-requires
@@ -61,7 +61,6 @@ inside f =
 
 -- its head
 head-is : (p : tie.After-parse-record) → (let a = p .before .before .before .before .before .before .before .before .before .before .before .before .args in p .parse-record .result ≡ headOf (line (a .strict) (firstAt (a .c .at) (a .text .now))))
-unfolding firstAt
 head-is p =
     let f = p .before .before .before in
     let a = p .before .before .before .before .before .before .before .before .before .before .before .before .args in
@@ -69,7 +68,6 @@ head-is p =
     p .parse-record .ensures ∙ ap (λ b. headOf (line (a .strict) (record { at = a .c .at; bytes = take b (drop (a .c .at) (a .text .now)) }))) (n ∙ ap (λ x. x .len) (cut f))
 
 placed-head : (p : tie.After-parse-record) → KeyInText (length (p .before .before .before .before .before .before .before .before .before .before .before .before .args .text .now)) (p .parse-record .result)
-unfolding firstAt
 placed-head p =
     let s = p .before .before .before .before .before .before .before .before .before .before .before .before in
     let a = s .args in

@@ -8,7 +8,7 @@ use Rattle.key_index.proofs.look_for.Statement.{statement}
 use Rattle.key_index.proofs.look_for.Tie as tie
 use Rattle.key_index.proofs.look_for.Reads as reads
 use Rattle.key_index.proofs.look_for.Lts as lts
-use Rattle.key_index.proofs.look_at.Reads as look-at-reads
+use Rattle.key_look.proofs.look_at.Reads as look-at-reads
 
 enum-told : tie.Need-enum-told
 enum-told c = search needs

@@ -3,11 +3,10 @@ use Prim.Native.Nat.{_<_}
 use mathlib.Core.Path.{_≡_, sym, ap₂, _∙_}
 use native.Mathlib.Omega.{arith}
 use lib.ListN.{length}
-use Rattle.key_index.specs.declared.Sought.{Sought}
-use Rattle.key_index.specs.declared.Sought.the-variants.{Known, Free, Full}
+use Rattle.key_look.specs.declared.Sought.{Sought}
+use Rattle.key_look.specs.declared.Sought.the-variants.{Known, Free, Full}
 use Rattle.key_index.specs.Told.{value, pointed, afterPointing}
-use Rattle.key_index.proofs.Looking.{known-below}
-use Rattle.key_index.proofs.Keyed.{offset-small}
+use Rattle.key_index.proofs.Looking.{known-below, offset-small}
 use borrow.Author.Needs.{needs}
 use Rattle.key_index.proofs.point.Statement.{statement}
 use Rattle.key_index.proofs.point.Tie as tie

@@ -16,10 +16,10 @@ told : (c : tie.After-head-of) → (let a = c .before .before .args in ownEntry 
 told c = let n = c .before .before .args .number in ap (ownEntry n) (c .head-of .ensures) ∙ own-uncounted n _
 
 head-of-requires : tie.Need-head-of-requires
-head-of-requires c κs = let s = c .before in (s .pre .0, (s .pre .1 .0, (s .pre .1 .1 .0, omega (arith, s .pre .1 .1 .1))))
+head-of-requires c κs = c .before .pre
 
 own-entry-requires : tie.Need-own-entry-requires
-own-entry-requires c κs = let s = c .before .before in subst FitsEntry (sym (told c)) (own-fits (s .args .number) (s .args .at) (s .args .src .now) (s .pre .0) (search needs) (s .pre .1 .1 .1))
+own-entry-requires c κs = let s = c .before .before in subst FitsEntry (sym (told c)) (own-fits (s .args .number) (s .args .at) (s .args .src .now) (s .pre .0 .accepted) (search needs) (s .pre .0 .short))
 
 returns : tie.Need-returns
 returns c = c .own-entry .ensures ∙ told (c .before)

@@ -1,25 +1,20 @@
 -- `line_entries::put_record` meets its contract: a line that is accepted is accepted where repeated tags are allowed too, as the same record.
 use Prim.Native.Nat.{_+_, _≤_}
-use mathlib.Core.Path.{_≡_, sym, ap, _∙_}
-use mathlib.Core.Bool.{true, false}
+use mathlib.Core.Path.{_≡_, sym, ap, subst, _∙_}
+use mathlib.Core.Bool.{false}
 use native.Mathlib.Omega.{arith}
-use lib.ListN.{length, getD}
+use lib.ListN.{length}
 use borrow.Author.Needs.{needs}
-use Rattle.format.specs.Records.{line}
-use Rattle.accepted.specs.Read.{isRead}
-use Rattle.other_fields.specs.Tables.{Walkable}
-use Rattle.other_fields.proofs.Start.{once-start, once-walkable}
-use Rattle.heads.specs.Found.{kindBy, isComment}
-use Rattle.heads.proofs.Lax.{line-lax, read-lax}
-use Rattle.heads.proofs.Finds.{comment-is, three, fielded}
-use Rattle.line_entries.specs.Line.{recordBytes, lineBytes}
 use Rattle.text.specs.Over.{over}
+use Rattle.other_fields.proofs.Start.{once-walkable}
+use Rattle.heads.specs.Form.{IsForm}
+use Rattle.heads.specs.declared.Form.{Form}
+use Rattle.heads.proofs.Lax.{line-lax}
+use Rattle.heads.proofs.Noting.{noting, noted-line}
+use Rattle.entries.proofs.Written.{entry-length}
+use Rattle.line_entries.specs.Line.{recordBytes, lineBytes}
 use Rattle.line_entries.proofs.put_record.Statement.{statement}
 use Rattle.line_entries.proofs.put_record.Tie as tie
-
--- where repeated tags are allowed
-read : (s : tie.Start) → (let a = s .args in isRead (line false (record { at = a .at; bytes = a .src .now })) ≡ true)
-read s = read-lax (s .args .strict) (record { at = s .args .at; bytes = s .args .src .now }) (s .pre .0)
 
 same : (s : tie.Start) → (let a = s .args in lineBytes (a .strict) (a .number) (a .at) (a .src .now) ≡ lineBytes false (a .number) (a .at) (a .src .now))
 same s = ap (recordBytes (s .args .number)) (line-lax (s .args .strict) (record { at = s .args .at; bytes = s .args .src .now }) (s .pre .0))
@@ -27,22 +22,66 @@ same s = ap (recordBytes (s .args .number)) (line-lax (s .args .strict) (record 
 room : (s : tie.Start) → (let a = s .args in a .o + length (lineBytes false (a .number) (a .at) (a .src .now)) ≤ length (a .out .now))
 room s = omega (arith, ap length (same s), s .pre .1 .1)
 
--- the kind is the line's
-fieldless : (c : tie.Else1) → (let a = c .before .before .before .before .before .args in isComment (kindBy (getD (a .src .now) 1 0)) ≡ false)
-fieldless c = let k = c .before in ap isComment (sym (k .before .kind-of .ensures)) ∙ sym (k .is-comment .ensures) ∙ c .if1 .left
+-- the form of the line is `x`
+formed : (f : tie.After-form-of) (x : Form) → f .form-of .result ≡ x → (let a = f .before .before .before .args in IsForm (a .at) (a .src .now) x)
+formed f x e = let a = f .before .before .before .args in subst (IsForm (a .at) (a .src .now)) e (f .form-of .ensures)
 
-kind-of-requires : tie.Need-kind-of-requires
-kind-of-requires c κs = let s = c .before .before in three (s .args .strict) (s .args .at) (s .args .src .now) (s .pre .0)
+form-of-requires : tie.Need-form-of-requires
+form-of-requires c κs = search needs
 
-is-comment-requires : tie.Need-is-comment-requires
-is-comment-requires c κs = search needs
+enum-told : tie.Need-enum-told
+enum-told c = search needs
 
-put-comment-requires : tie.Need-put-comment-requires
-put-comment-requires c κs =
-    let t = c .before in
-    let k = t .before in
-    let s = k .before .before .before .before in
-    (read s, (sym (k .before .kind-of .ensures) ∙ comment-is (k .before .kind-of .result) (sym (k .is-comment .ensures) ∙ t .if1 .taken), (s .pre .1 .0, room s)))
+comment-entry-requires : tie.Need-comment-entry-requires
+unfolding IsForm
+comment-entry-requires c κs = let e = c .before in formed (e .before .before) _ (e .enum-told .given .1)
+
+put-entry-requires : tie.Need-put-entry-requires
+put-entry-requires c κs =
+    omega (arith, ap length (c .comment-entry .ensures), entry-length (c .comment-entry .result), room (c .before .before .before .before .before .before .before))
+
+enum-known-kind : tie.Need-enum-known-kind
+enum-known-kind c = search needs
+
+slice-aggregate-put-line : tie.Need-slice-aggregate-put-line
+slice-aggregate-put-line c = search needs
+
+put-line-requires : tie.Need-put-line-requires
+unfolding IsForm
+put-line-requires c κs =
+    let k = c .before .before .before in
+    let f = k .before .before in
+    let s = f .before .before .before in
+    let i = formed f _ (k .kind .given .1) in
+    (i .0, (i .1, (once-walkable (s .args .at) (s .args .src .now) _ (i .2), room s)))
+
+enum-known-kind-2 : tie.Need-enum-known-kind-2
+enum-known-kind-2 c = search needs
+
+slice-aggregate-note-tags : tie.Need-slice-aggregate-note-tags
+slice-aggregate-note-tags c = search needs
+
+note-tags-requires : tie.Need-note-tags-requires
+unfolding IsForm
+note-tags-requires c κs =
+    let k = c .before .before in
+    let f = k .before .before in
+    let a = f .before .before .before .args in
+    let i = formed f _ (k .kind2 .given .1) in
+    noting (k .kind2 .given .0 .0) (a .at) (a .src .now) (i .0) (i .1)
+
+slice-aggregate-put-line-2 : tie.Need-slice-aggregate-put-line-2
+slice-aggregate-put-line-2 c = search needs
+
+put-line-requires-2 : tie.Need-put-line-requires-2
+unfolding IsForm
+put-line-requires-2 c κs =
+    let n = c .before .before .before in
+    let k = n .before .before .before in
+    let f = k .before .before in
+    let s = f .before .before .before in
+    let i = formed f _ (k .kind2 .given .1) in
+    (i .0, (i .1, (noted-line (k .kind2 .given .0 .0) (s .args .at) (s .args .src .now) (i .0) (i .1) _ (n .note-tags .ensures), room s)))
 
 same-length : tie.Need-same-length
 same-length c = search needs
@@ -50,26 +89,10 @@ same-length c = search needs
 returns : tie.Need-returns
 returns c =
     let p = c .before .before in
-    let s = p .before .before .before .before .before .before .before in
-    (p .put-comment .ensures .0 ∙ ap (λ l. s .args .o + length l) (sym (same s)), p .put-comment .ensures .1 ∙ ap (over (s .args .out .now) (s .args .o)) (sym (same s)))
-
-is-once-requires : tie.Need-is-once-requires
-is-once-requires c κs =
-    let s = c .before .before .before .before .before in
-    (fielded (s .args .strict) (s .args .at) (s .args .src .now) (s .pre .0) (fieldless c) .0, omega (arith, s .pre .1 .0))
-
-slice-aggregate-put-line : tie.Need-slice-aggregate-put-line
-slice-aggregate-put-line c = search needs
-
-put-line-requires : tie.Need-put-line-requires
-put-line-requires c κs =
-    let t = c .before .before in
-    let e = t .before .before in
-    let k = e .before in
-    let s = k .before .before .before .before in
-    let a = s .args in
-    let h = fielded (a .strict) (a .at) (a .src .now) (s .pre .0) (fieldless e) .0 in
-    (read s, ((sym (k .before .kind-of .ensures), sym (k .is-comment .ensures) ∙ e .if1 .left), (once-walkable (a .at) (a .src .now) _ (once-start (a .strict) (a .at) (a .src .now) h (sym (t .before .is-once .ensures) ∙ t .if2 .taken)), (s .pre .1 .0, room s))))
+    let e = p .before in
+    let s = e .before .before .before .before .before .before .before in
+    let w = e .comment-entry .ensures ∙ sym (same s) in
+    (omega (arith, p .put-entry .ensures .0, ap length w, entry-length (e .comment-entry .result)), p .put-entry .ensures .1 ∙ ap (over (s .args .out .now) (s .args .o)) w)
 
 same-length-2 : tie.Need-same-length-2
 same-length-2 c = search needs
@@ -77,15 +100,8 @@ same-length-2 c = search needs
 returns-2 : tie.Need-returns-2
 returns-2 c =
     let p = c .before .before in
-    let s = p .before .before .before .before .before .before .before .before .before .before in
+    let s = p .before .before .before .before .before .before .before .before .before in
     (p .put-line .ensures .0 ∙ ap (λ l. s .args .o + length l) (sym (same s)), p .put-line .ensures .1 ∙ ap (over (s .args .out .now) (s .args .o)) (sym (same s)))
-
-put-noted-requires : tie.Need-put-noted-requires
-put-noted-requires c κs =
-    let e = c .before .before .before in
-    let k = e .before in
-    let s = k .before .before .before .before in
-    (read s, ((sym (k .before .kind-of .ensures), sym (k .is-comment .ensures) ∙ e .if1 .left), (s .pre .1 .0, room s)))
 
 same-length-3 : tie.Need-same-length-3
 same-length-3 c = search needs
@@ -93,23 +109,29 @@ same-length-3 c = search needs
 returns-3 : tie.Need-returns-3
 returns-3 c =
     let p = c .before .before in
-    let s = p .before .before .before .before .before .before .before .before .before in
-    (p .put-noted .ensures .0 ∙ ap (λ l. s .args .o + length l) (sym (same s)), p .put-noted .ensures .1 ∙ ap (over (s .args .out .now) (s .args .o)) (sym (same s)))
+    let n = p .before .before .before .before in
+    let s = n .before .before .before .before .before .before .before .before in
+    (p .put-line2 .ensures .0 ∙ ap (λ l. s .args .o + length l) (sym (same s)), p .put-line2 .ensures .1 ∙ ap (over (s .args .out .now) (s .args .o)) (sym (same s)))
 
 pub put-record-spec : {M : Type 1} → statement M
 put-record-spec =
     tie.close
     (tie.spec
-    kind-of-requires
-    is-comment-requires
-    put-comment-requires
-    same-length
-    returns
-    is-once-requires
+    form-of-requires
+    enum-told
+    comment-entry-requires
+    put-entry-requires
+    enum-known-kind
     slice-aggregate-put-line
     put-line-requires
+    enum-known-kind-2
+    slice-aggregate-note-tags
+    note-tags-requires
+    slice-aggregate-put-line-2
+    put-line-requires-2
+    same-length
+    returns
     same-length-2
     returns-2
-    put-noted-requires
     same-length-3
     returns-3)

@@ -33,25 +33,25 @@ differs-says true m e = absurd (never (cc))
 differs-says false m e = refl
 
 -- the entries of the line
-bytes : (s : tie.Start) → (let a = s .args in lineBytes false (a .number) (a .at) (a .src .now) ≡ entryBytes (own (a .number) (a .at) (a .src .now) (s .pre .0)) ++ fieldBytes (a .kind) (a .at) (a .src .now) 3)
-bytes s = let a = s .args in line-bytes (a .number) (a .at) (a .src .now) (s .pre .0) (a .kind) (s .pre .1 .0 .0) (s .pre .1 .0 .1)
+bytes : (s : tie.Start) → (let a = s .args in lineBytes false (a .number) (a .at) (a .src .now) ≡ entryBytes (own (a .number) (a .at) (a .src .now) (s .pre .0 .accepted)) ++ fieldBytes (a .kind) (a .at) (a .src .now) 3)
+bytes s = let a = s .args in line-bytes (a .number) (a .at) (a .src .now) (s .pre .0 .accepted) (a .kind) (s .pre .0 .kind) (s .pre .1 .0)
 
 -- how long they are, and how they are compared
 module _ (c : tie.After-own-size) where
-  size : (let s = c .before .before .before .before in let a = s .args in c .own-size .result ≡ entrySize (own (a .number) (a .at) (a .src .now) (s .pre .0)))
+  size : (let s = c .before .before .before .before in let a = s .args in c .own-size .result ≡ entrySize (own (a .number) (a .at) (a .src .now) (s .pre .0 .accepted)))
   size =
       let s = c .before .before .before .before in
-      c .own-size .ensures ∙ sym (own-size (s .args .number) (s .args .at) (s .args .src .now) (s .pre .0) (s .args .kind) (s .pre .1 .0 .0))
+      c .own-size .ensures ∙ sym (own-size (s .args .number) (s .args .at) (s .args .src .now) (s .pre .0 .accepted) (s .args .kind) (s .pre .0 .kind))
 
   long : (let a = c .before .before .before .before .args in length (lineBytes false (a .number) (a .at) (a .src .now)) ≡ c .own-size .result + length (fieldBytes (a .kind) (a .at) (a .src .now) 3))
   long =
       let s = c .before .before .before .before in
-      entry-then (own (s .args .number) (s .args .at) (s .args .src .now) (s .pre .0)) _ _ (bytes s) ∙ ap (λ m. m + length (fieldBytes (s .args .kind) (s .args .at) (s .args .src .now) 3)) (sym size)
+      entry-then (own (s .args .number) (s .args .at) (s .args .src .now) (s .pre .0 .accepted)) _ _ (bytes s) ∙ ap (λ m. m + length (fieldBytes (s .args .kind) (s .args .at) (s .args .src .now) 3)) (sym size)
 
   told : (let s = c .before .before .before .before in let a = s .args in
       starts (lineBytes false (a .number) (a .at) (a .src .now)) (drop (a .o) (a .catalogue .now))
-      ≡ (starts (entryBytes (own (a .number) (a .at) (a .src .now) (s .pre .0))) (drop (a .o) (a .catalogue .now)) && starts (fieldBytes (a .kind) (a .at) (a .src .now) 3) (drop (a .o + c .own-size .result) (a .catalogue .now))))
-  told = let s = c .before .before .before .before in compared (own (s .args .number) (s .args .at) (s .args .src .now) (s .pre .0)) _ _ (bytes s) (s .args .catalogue .now) (s .args .o) (c .own-size .result) size
+      ≡ (starts (entryBytes (own (a .number) (a .at) (a .src .now) (s .pre .0 .accepted))) (drop (a .o) (a .catalogue .now)) && starts (fieldBytes (a .kind) (a .at) (a .src .now) 3) (drop (a .o + c .own-size .result) (a .catalogue .now))))
+  told = let s = c .before .before .before .before in compared (own (s .args .number) (s .args .at) (s .args .src .now) (s .pre .0 .accepted)) _ _ (bytes s) (s .args .catalogue .now) (s .args .o) (c .own-size .result) size
 
 none-right : (t u : Bool) → u ≡ false → t && u ≡ false
 none-right true u e = e
@@ -68,7 +68,7 @@ returns c =
     let o = c .before in
     let s = o .before .before .before .before in
     let a = s .args in
-    match-gone (a .catalogue .now) (a .o) _ (starts-short (a .catalogue .now) (a .o) _ (s .pre .1 .1 .1 .1) (omega (arith, long o, c .if1 .taken, s .pre .1 .1 .1 .1)))
+    match-gone (a .catalogue .now) (a .o) _ (starts-short (a .catalogue .now) (a .o) _ (s .pre .1 .1 .1) (omega (arith, long o, c .if1 .taken, s .pre .1 .1 .1)))
 
 add-same-fields : tie.Need-add-same-fields
 add-same-fields c = search needs
@@ -76,7 +76,7 @@ add-same-fields c = search needs
 same-fields-requires : tie.Need-same-fields-requires
 same-fields-requires c κs =
     let s = c .before .before .before .before .before in
-    (s .pre .1 .1 .0, (s .pre .1 .1 .1 .0, omega (arith, c .if1 .left, s .pre .1 .1 .1 .1)))
+    (s .pre .1 .1 .0, (s .pre .0 .short, omega (arith, c .if1 .left, s .pre .1 .1 .1)))
 
 enum-known-compared : tie.Need-enum-known-compared
 enum-known-compared c = search needs
@@ -91,7 +91,7 @@ returns-2 c =
     let s = o .before .before .before .before in
     let a = s .args in
     let e = differs-says _ _ (sym (f .same-fields .ensures) ∙ c .enum-told .given .1) in
-    match-gone (a .catalogue .now) (a .o) _ (told o ∙ none-right (starts (entryBytes (own (a .number) (a .at) (a .src .now) (s .pre .0))) (drop (a .o) (a .catalogue .now))) (starts (fieldBytes (a .kind) (a .at) (a .src .now) 3) (drop (a .o + o .own-size .result) (a .catalogue .now))) e)
+    match-gone (a .catalogue .now) (a .o) _ (told o ∙ none-right (starts (entryBytes (own (a .number) (a .at) (a .src .now) (s .pre .0 .accepted))) (drop (a .o) (a .catalogue .now))) (starts (fieldBytes (a .kind) (a .at) (a .src .now) 3) (drop (a .o + o .own-size .result) (a .catalogue .now))) e)
 
 -- the entries of the other fields are there
 there : (k : tie.After-compared)
@@ -104,10 +104,10 @@ unfolding metIn
 line-entry-requires c κs =
     let k = c .before in
     let s = k .before .before .before .before .before .before .before .before in
-    (s .pre .0, (s .pre .1 .0 .0, (sym (ap (λ m. m .keys) (there k .1)), s .pre .1 .1 .1 .0)))
+    (s .pre .0, sym (ap (λ m. m .keys) (there k .1)))
 
 same-entry-requires : tie.Need-same-entry-requires
-same-entry-requires c κs = c .before .before .before .before .before .before .before .before .before .before .pre .1 .1 .1 .1
+same-entry-requires c κs = c .before .before .before .before .before .before .before .before .before .before .pre .1 .1 .1
 
 -- the own entry decides
 decides : (c : tie.After-same-entry)

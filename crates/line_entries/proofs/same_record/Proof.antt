@@ -1,25 +1,22 @@
 -- `line_entries::same_record` meets its contract: a line that is accepted is accepted where repeated tags are allowed too, as the same record.
 use Prim.Native.Nat.{_+_, _≤_}
-use mathlib.Core.Path.{_≡_, sym, ap, _∙_}
-use mathlib.Core.Bool.{true, false}
+use mathlib.Core.Path.{_≡_, sym, ap, subst, _∙_}
+use mathlib.Core.Bool.{false}
 use native.Mathlib.Omega.{arith}
-use lib.ListN.{length, drop, getD}
+use lib.ListN.{length, drop}
 use borrow.Author.Needs.{needs}
-use Rattle.format.specs.Records.{line}
-use Rattle.accepted.specs.Read.{isRead}
-use Rattle.other_fields.specs.Tables.{Walkable}
-use Rattle.other_fields.proofs.Start.{once-start, once-walkable}
-use Rattle.heads.specs.Found.{kindBy, isComment}
-use Rattle.heads.proofs.Lax.{line-lax, read-lax}
-use Rattle.heads.proofs.Finds.{comment-is, three, fielded}
+use Rattle.format.specs.Bytes.{starts}
+use Rattle.other_fields.proofs.Start.{once-walkable}
+use Rattle.heads.specs.Form.{IsForm}
+use Rattle.heads.specs.declared.Form.{Form}
+use Rattle.heads.proofs.Lax.{line-lax}
+use Rattle.heads.proofs.Noting.{noting, noted-line}
 use Rattle.line_entries.specs.Line.{recordBytes, lineBytes}
 use Rattle.line_entries.specs.Matched.{matched}
+use Rattle.line_entries.proofs.Starts.{match-there, match-gone}
+use Rattle.line_entries.proofs.Told.{comment-long}
 use Rattle.line_entries.proofs.same_record.Statement.{statement}
 use Rattle.line_entries.proofs.same_record.Tie as tie
-
--- where repeated tags are allowed
-read : (s : tie.Start) → (let a = s .args in isRead (line false (record { at = a .at; bytes = a .src .now })) ≡ true)
-read s = read-lax (s .args .strict) (record { at = s .args .at; bytes = s .args .src .now }) (s .pre .0)
 
 same : (s : tie.Start)
     → (let a = s .args in
@@ -29,67 +26,120 @@ same s =
     let a = s .args in
     ap (λ l. matched (a .o) (drop (a .o) (a .catalogue .now)) (recordBytes (a .number) l)) (sym (line-lax (a .strict) (record { at = a .at; bytes = a .src .now }) (s .pre .0)))
 
--- the kind is the line's
-fieldless : (c : tie.Else1) → (let a = c .before .before .before .before .before .args in isComment (kindBy (getD (a .src .now) 1 0)) ≡ false)
-fieldless c = let k = c .before in ap isComment (sym (k .before .kind-of .ensures)) ∙ sym (k .is-comment .ensures) ∙ c .if1 .left
+-- the form of the line is `x`
+formed : (f : tie.After-form-of) (x : Form) → f .form-of .result ≡ x → (let a = f .before .before .before .args in IsForm (a .at) (a .src .now) x)
+formed f x e = let a = f .before .before .before .args in subst (IsForm (a .at) (a .src .now)) e (f .form-of .ensures)
 
-kind-of-requires : tie.Need-kind-of-requires
-kind-of-requires c κs = let s = c .before .before in three (s .args .strict) (s .args .at) (s .args .src .now) (s .pre .0)
+form-of-requires : tie.Need-form-of-requires
+form-of-requires c κs = search needs
 
-is-comment-requires : tie.Need-is-comment-requires
-is-comment-requires c κs = search needs
+enum-told : tie.Need-enum-told
+enum-told c = search needs
 
-same-comment-requires : tie.Need-same-comment-requires
-same-comment-requires c κs =
-    let k = c .before in
-    let s = k .before .before .before .before in
-    (read s, (sym (k .before .kind-of .ensures) ∙ comment-is (k .before .kind-of .result) (sym (k .is-comment .ensures) ∙ c .if1 .taken), s .pre .1))
+comment-entry-requires : tie.Need-comment-entry-requires
+unfolding IsForm
+comment-entry-requires c κs = formed (c .before .before) _ (c .enum-told .given .1)
+
+same-entry-requires : tie.Need-same-entry-requires
+same-entry-requires c κs = c .before .before .before .before .before .before .pre .1 .1
+
+-- the test is the line's
+told : (c : tie.After-same-entry)
+    → (let a = c .before .before .before .before .before .before .before .args in starts (lineBytes false (a .number) (a .at) (a .src .now)) (drop (a .o) (a .catalogue .now)) ≡ c .same-entry .result)
+told c =
+    let e = c .before in
+    let a = e .before .before .before .before .before .before .args in
+    sym (c .same-entry .ensures ∙ ap (λ l. starts l (drop (a .o) (a .catalogue .now))) (e .comment-entry .ensures))
+
+add-t15 : tie.Need-add-t15
+add-t15 c = search needs
 
 returns : tie.Need-returns
-returns c = c .same-comment .ensures ∙ same (c .before .before .before .before .before .before)
+unfolding IsForm
+returns c =
+    let t = c .before in
+    let e = t .before .before in
+    let f = e .before .before in
+    let s = f .before .before .before in
+    let a = s .args in
+    let i = formed f _ (e .enum-told .given .1) in
+    match-there (a .catalogue .now) (a .o) _ (a .o + 13) (omega (arith, comment-long (a .number) (a .at) (a .src .now) (i .accepted) (i .kind))) (told t ∙ c .if1 .taken) ∙ same s
 
-is-once-requires : tie.Need-is-once-requires
-is-once-requires c κs =
-    let s = c .before .before .before .before .before in
-    (fielded (s .args .strict) (s .args .at) (s .args .src .now) (s .pre .0) (fieldless c) .0, omega (arith, s .pre .1 .0))
+enum-known-kind : tie.Need-enum-known-kind
+enum-known-kind c = search needs
 
 slice-aggregate-same-line : tie.Need-slice-aggregate-same-line
 slice-aggregate-same-line c = search needs
 
 same-line-requires : tie.Need-same-line-requires
+unfolding IsForm
 same-line-requires c κs =
-    let t = c .before in
-    let e = t .before .before in
-    let k = e .before in
-    let s = k .before .before .before .before in
-    let a = s .args in
-    let h = fielded (a .strict) (a .at) (a .src .now) (s .pre .0) (fieldless e) .0 in
-    (read s, ((sym (k .before .kind-of .ensures), sym (k .is-comment .ensures) ∙ e .if1 .left), (once-walkable (a .at) (a .src .now) _ (once-start (a .strict) (a .at) (a .src .now) h (sym (t .before .is-once .ensures) ∙ t .if2 .taken)), s .pre .1)))
+    let k = c .before .before in
+    let f = k .before .before in
+    let s = f .before .before .before in
+    let i = formed f _ (k .kind .given .1) in
+    (i .0, (i .1, (once-walkable (s .args .at) (s .args .src .now) _ (i .2), s .pre .1 .1)))
+
+enum-known-kind-2 : tie.Need-enum-known-kind-2
+enum-known-kind-2 c = search needs
+
+slice-aggregate-note-tags : tie.Need-slice-aggregate-note-tags
+slice-aggregate-note-tags c = search needs
+
+note-tags-requires : tie.Need-note-tags-requires
+unfolding IsForm
+note-tags-requires c κs =
+    let k = c .before .before in
+    let f = k .before .before in
+    let a = f .before .before .before .args in
+    let i = formed f _ (k .kind2 .given .1) in
+    noting (k .kind2 .given .0 .0) (a .at) (a .src .now) (i .0) (i .1)
+
+slice-aggregate-same-line-2 : tie.Need-slice-aggregate-same-line-2
+slice-aggregate-same-line-2 c = search needs
+
+same-line-requires-2 : tie.Need-same-line-requires-2
+unfolding IsForm
+same-line-requires-2 c κs =
+    let n = c .before .before in
+    let k = n .before .before .before in
+    let f = k .before .before in
+    let s = f .before .before .before in
+    let i = formed f _ (k .kind2 .given .1) in
+    (i .0, (i .1, (noted-line (k .kind2 .given .0 .0) (s .args .at) (s .args .src .now) (i .0) (i .1) _ (n .note-tags .ensures), s .pre .1 .1)))
 
 returns-2 : tie.Need-returns-2
-returns-2 c = c .same-line .ensures ∙ same (c .before .before .before .before .before .before .before .before .before)
-
-same-noted-requires : tie.Need-same-noted-requires
-same-noted-requires c κs =
-    let e = c .before .before in
-    let k = e .before in
-    let s = k .before .before .before .before in
-    (read s, ((sym (k .before .kind-of .ensures), sym (k .is-comment .ensures) ∙ e .if1 .left), s .pre .1))
+returns-2 c =
+    let t = c .before in
+    let s = t .before .before .before .before .before .before .before in
+    match-gone (s .args .catalogue .now) (s .args .o) _ (told t ∙ c .if1 .left) ∙ same s
 
 returns-3 : tie.Need-returns-3
-returns-3 c = c .same-noted .ensures ∙ same (c .before .before .before .before .before .before .before .before)
+returns-3 c = c .same-line .ensures ∙ same (c .before .before .before .before .before .before .before .before)
+
+returns-4 : tie.Need-returns-4
+returns-4 c =
+    let n = c .before .before .before in
+    c .same-line2 .ensures ∙ same (n .before .before .before .before .before .before .before .before)
 
 pub same-record-spec : {M : Type 1} → statement M
 same-record-spec =
     tie.close
     (tie.spec
-    kind-of-requires
-    is-comment-requires
-    same-comment-requires
+    form-of-requires
+    enum-told
+    comment-entry-requires
+    same-entry-requires
+    add-t15
     returns
-    is-once-requires
+    enum-known-kind
     slice-aggregate-same-line
     same-line-requires
+    enum-known-kind-2
+    slice-aggregate-note-tags
+    note-tags-requires
+    slice-aggregate-same-line-2
+    same-line-requires-2
     returns-2
-    same-noted-requires
-    returns-3)
+    returns-3
+    returns-4)

@@ -7,11 +7,13 @@ use lib.ListN.{length, drop, length-map}
 use lib.Seq.{length-take-le}
 use Rattle.entries.specs.Entries.{entriesIn}
 use Rattle.format.specs.Calls.{Answer}
-use Rattle.calls.proofs.Fresh.{Current, refused-by, check-fresh}
+use Rattle.parser.proofs.Fresh.{Current, refused-by, check-fresh}
 use Rattle.name_index.specs.Index.{nameOrdinal, slotCount, index, looks}
 use Rattle.name_index.proofs.Indexed.{index-length}
-use Rattle.sq_index.specs.Filled.{namesIn}
-use Rattle.names.specs.Batch.{asked, summed, batching}
+use Rattle.sq_entries.specs.Names.{namesIn}
+use Rattle.asked_names.specs.Asked.{asked}
+use Rattle.name_search.specs.Summed.{summed}
+use Rattle.names.specs.Batch.{batching}
 use Rattle.names.proofs.Batched.{batch-refused, batch-long, batch-work, batch-room, batch-all, few, short, many, told, told-refusal, told-answer}
 use borrow.Author.Needs.{needs}
 use Rattle.names.proofs.names.Statement.{statement}
@@ -112,19 +114,16 @@ answer-requires c κs =
     let k = c .before .before .before in
     let n = k .before .before in
     let e = n .before .before .before in
-    let a = e .before .before .before .before .before .before .before .before .args in (
-      short (a .text .now) (a .kept .now) (own e),
-      (
-        n .before .before .if1 .left,
-        (
-          few (a .text .now) (a .kept .now) (own e),
-          (
-            length-take-le (n .slot-count .result) (a .work .now) (k .before .if2 .left) ∙ slots n,
-            (length-take-le (k .count-names .result) (a .out .now) (c .before .before .if3 .left) ∙ k .count-names .ensures, (number (n .before), told (a .text .now) (a .kept .now) (own e))),
-          ),
-        ),
-      ),
-    )
+    let a = e .before .before .before .before .before .before .before .before .args in
+    record {
+      short = short (a .text .now) (a .kept .now) (own e);
+      short-list = n .before .before .if1 .left;
+      few = few (a .text .now) (a .kept .now) (own e);
+      size = length-take-le (n .slot-count .result) (a .work .now) (k .before .if2 .left) ∙ slots n;
+      room = length-take-le (k .count-names .result) (a .out .now) (c .before .before .if3 .left) ∙ k .count-names .ensures;
+      count = number (n .before);
+      told = told (a .text .now) (a .kept .now) (own e);
+    }
 
 returns-4 : tie.Need-returns-4
 returns-4 c =

@@ -6,7 +6,7 @@ use lib.ListN.{drop, length-drop}
 use borrow.Author.Needs.{needs}
 use Rattle.text.specs.Upto.{upto}
 use Rattle.text.proofs.Lines.{upto-le}
-use Rattle.field.proofs.Before.{rest}
+use Rattle.text.proofs.Before.{rest}
 use Rattle.other_fields.proofs.field_end.Statement.{statement}
 use Rattle.other_fields.proofs.field_end.Tie as tie
 

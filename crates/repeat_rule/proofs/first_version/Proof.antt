@@ -13,8 +13,8 @@ use Rattle.format.specs.Bytes.{starts}
 use Rattle.format.specs.Lines.{cut}
 use Rattle.format.specs.Reading.{firstVersion}
 use Rattle.format.specs.Version.{version}
-use Rattle.field.specs.Parsed.{parsedVersionOf}
-use Rattle.field.proofs.Before.{rest}
+use Rattle.version.specs.Spelled.{parsedVersionOf}
+use Rattle.text.proofs.Before.{rest}
 use Rattle.text.specs.Upto.{upto, before}
 use Rattle.text.proofs.Lines.{upto-le}
 use Rattle.text.proofs.Before.{before-length}

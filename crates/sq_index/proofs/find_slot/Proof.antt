@@ -9,9 +9,10 @@ use borrow.Author.Needs.{needs}
 use lib.ListN.{length, getD, drop}
 use lib.Dec.{eqb}
 use Rattle.format.specs.Bytes.{same}
-use Rattle.key_index.specs.Word.{word}
+use Rattle.key_at.specs.Word.{word}
 use Rattle.name_index.specs.Index.{absent, first, path, looked}
-use Rattle.sq_index.specs.Filled.{markOf, says, landing, landed, slotOf, looksOf}
+use Rattle.sq_slots.specs.Filled.{markOf}
+use Rattle.sq_index.specs.Looking.{says, landing, landed, slotOf, looksOf}
 use Rattle.name_index.proofs.Path.{first-lt, path-length, path-at}
 use Rattle.name_index.proofs.SlotCount.{power-some}
 use Rattle.sq_index.proofs.Looking.{ended, missed, found, passed}

@@ -5,7 +5,7 @@ use mathlib.Core.Bool.{_&&_}
 use borrow.Author.Tests.{eq-eqb, ne-eqb}
 use lib.ListN.{drop}
 use Rattle.format.specs.Bytes.{same}
-use Rattle.key_index.specs.Word.{word}
+use Rattle.key_at.specs.Word.{word}
 use borrow.Author.Needs.{needs}
 use Rattle.sq_index.proofs.is_told.Statement.{statement}
 use Rattle.sq_index.proofs.is_told.Tie as tie

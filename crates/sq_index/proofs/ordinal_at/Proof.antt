@@ -5,7 +5,7 @@ use native.Mathlib.Omega.{arith}
 use borrow.Author.Needs.{needs}
 use lib.ListN.{List·getD-eq-default}
 use Rattle.name_index.specs.Index.{ordinalOf}
-use Rattle.sq_index.specs.Filled.{ordinalAt}
+use Rattle.sq_index.specs.Looking.{ordinalAt}
 use Rattle.sq_index.proofs.ordinal_at.Statement.{statement}
 use Rattle.sq_index.proofs.ordinal_at.Tie as tie
 

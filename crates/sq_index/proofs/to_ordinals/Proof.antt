@@ -4,7 +4,7 @@ use mathlib.Core.Path.{refl}
 use native.Mathlib.Omega.{arith}
 use borrow.Author.Needs.{needs}
 use lib.ListN.{length, length-set}
-use Rattle.sq_index.specs.Filled.{ordinalAt}
+use Rattle.sq_index.specs.Looking.{ordinalAt}
 use Rattle.sq_index.proofs.Mapped.{Mapped, mapped-on, mapped-all}
 use Rattle.sq_index.proofs.to_ordinals.Statement.{statement}
 use Rattle.sq_index.proofs.to_ordinals.Tie as tie

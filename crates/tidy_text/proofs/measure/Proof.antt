@@ -12,6 +12,7 @@ use Rattle.format.specs.Reading.{readText}
 use Rattle.format.specs.Tidy.{tidy, unwritable}
 use Rattle.format.specs.declared.Kind.{Kind}
 use Rattle.accepted.specs.Read.{recordsOf}
+use Rattle.accepted.proofs.Ahead.{lent}
 use Rattle.writer.specs.Line.{lineText, lineWritable}
 use Rattle.tidy_text.specs.Accepted.{withRecord, measuredOf, allRead, recordsFrom}
 use Rattle.tidy_text.specs.Kinds.{kindText, textOfKind}
@@ -19,7 +20,7 @@ use Rattle.per_kind.specs.Numbers.{get, plus}
 use Rattle.tidy_text.specs.Sizes.{sizesOf}
 use Rattle.heads.specs.Found.{kindBy}
 use Rattle.tidy_text.specs.declared.Measured.the-variants as measured
-use Rattle.tidy_text.proofs.Lines.{Opened, opened, lent, Turn, turn, ended}
+use Rattle.tidy_text.proofs.Lines.{Opened, opened, Turn, turn, ended}
 use Rattle.tidy_text.proofs.OfKind.{only, line-kind}
 use Rattle.tidy_text.proofs.Total.{size, tidy-small}
 use Rattle.tidy_text.proofs.Sizes.{get-none, size-turn, own-size, size-none, size-le, each-get}

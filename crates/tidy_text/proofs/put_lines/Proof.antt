@@ -9,12 +9,13 @@ use Rattle.format.specs.Lines.{linesFrom}
 use Rattle.format.specs.Records.{line}
 use Rattle.format.specs.Reading.{readText}
 use Rattle.accepted.specs.Read.{recordsOf}
+use Rattle.accepted.proofs.Ahead.{lent}
 use Rattle.writer.specs.Line.{lineText}
 use Rattle.tidy_text.specs.Accepted.{withRecord, allRead, recordsFrom}
 use Rattle.per_kind.specs.Numbers.{get, plus}
 use Rattle.heads.specs.Found.{kindBy}
 use Rattle.tidy_text.specs.Placed.{withParts, parts, Apart}
-use Rattle.tidy_text.proofs.Lines.{Opened, opened, lent, Turn, turn, ended}
+use Rattle.tidy_text.proofs.Lines.{Opened, opened, Turn, turn, ended}
 use Rattle.tidy_text.proofs.OfKind.{line-kind}
 use Rattle.tidy_text.proofs.Placed.{Split}
 use Rattle.tidy_text.proofs.Parts.{split-turn, placed-none}

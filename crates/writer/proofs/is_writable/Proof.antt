@@ -47,12 +47,12 @@ nameless at s (head.Comment p) h = refl
 
 -- what the head of the line says
 shown : (s : tie.Start) → (let a = s .args in Told (a .at) (a .src .now) (a .kind) (uncounted (headOf (line false (record { at = a .at; bytes = a .src .now })))))
-shown s = let a = s .args in told (a .at) (a .src .now) (s .pre .0) (a .kind) (s .pre .1 .0 .0) (s .pre .1 .0 .1) _ _ refl refl
+shown s = let a = s .args in told (a .at) (a .src .now) (s .pre .0 .accepted) (a .kind) (s .pre .0 .kind) (s .pre .1 .0) _ _ refl refl
 
 -- an SQ has a name
 kept : (c : tie.After-enum-told) → (let a = c .before .before .before .before .args in OfReference (a .at) (a .src .now) (uncounted (headOf (line false (record { at = a .at; bytes = a .src .now })))))
 unfolding Held
-kept c = let s = c .before .before .before .before in held false (s .args .at) (s .args .src .now) (s .pre .0) kind.ReferenceSequence (s .pre .1 .0 .0 ∙ c .enum-told .given .1) .1
+kept c = let s = c .before .before .before .before in held false (s .args .at) (s .args .src .now) (s .pre .0 .accepted) kind.ReferenceSequence (s .pre .0 .kind ∙ c .enum-told .given .1) .1
 
 -- the value that was found
 value : (c : tie.After-find-value) → (let a = c .before .before .before .before .before .args in c .find-value .result ≡ orValue noValue (lastOf 83 78 (fieldsFrom (a .at) (a .src .now) 3)))
@@ -69,13 +69,13 @@ enum-told : tie.Need-enum-told
 enum-told c = search needs
 
 find-value-requires : tie.Need-find-value-requires
-find-value-requires c κs = let s = c .before .before .before .before in (s .pre .1 .1 .0, (sn, omega (arith, s .pre .1 .1 .1)))
+find-value-requires c κs = let s = c .before .before .before .before in (s .pre .1 .1, (sn, omega (arith, s .pre .0 .short)))
 
 sub-from : tie.Need-sub-from
 sub-from c = within (c .before) .0
 
 add-is-name : tie.Need-add-is-name
-add-is-name c = omega (arith, within (c .before), c .before .before .before .before .before .before .pre .1 .1 .1)
+add-is-name c = omega (arith, within (c .before), c .before .before .before .before .before .before .pre .0 .short)
 
 sub-is-name : tie.Need-sub-is-name
 sub-is-name c = search needs

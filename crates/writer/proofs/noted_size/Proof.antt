@@ -1,32 +1,22 @@
 -- `writer::noted_size` meets its contract: the tables are the line's.
-use Prim.Native.Nat.{ℕ, _+_}
 use mathlib.Core.Path.{_≡_, refl, sym, ap, _∙_}
 use mathlib.Core.Bool.{false}
 use native.Mathlib.Omega.{arith}
-use lib.ListN.{length, length-replicate}
 use borrow.Author.Needs.{needs}
 use borrow.Author.Tests.{not-true, not-false}
-use Rattle.text.specs.Stands.{Each}
-use Rattle.other_fields.specs.Run.{AtField, fieldsFrom}
-use Rattle.other_fields.specs.Tables.{HasTag, Walkable}
-use Rattle.other_fields.proofs.Start.{blank-tables, noted-walkable}
-use Rattle.heads.specs.Found.{isComment}
-use Rattle.heads.proofs.Finds.{fielded}
+use Rattle.other_fields.specs.Tables.{Walkable}
+use Rattle.heads.proofs.Noting.{noting, noted-line}
 use Rattle.writer.specs.Line.{lineSize}
 use Rattle.writer.specs.declared.Size.the-variants.{Is}
 use Rattle.writer.proofs.noted_size.Statement.{statement}
 use Rattle.writer.proofs.noted_size.Tie as tie
-
--- the line can be walked
-fields : (s : tie.Start) → (let a = s .args in AtField false (a .at) (a .src .now) 3 × Each HasTag (fieldsFrom (a .at) (a .src .now) 3))
-fields s = fielded false (s .args .at) (s .args .src .now) (s .pre .0) (ap isComment (s .pre .1 .0 .0) ∙ s .pre .1 .0 .1)
 
 -- its tables
 tables : (n : tie.After-note-tags) → (let a = n .before .before .before .args in Walkable false (a .at) (a .src .now) (n .note-tags .last .1 .1 .0))
 tables n =
     let s = n .before .before .before in
     let a = s .args in
-    noted-walkable false (a .at) (a .src .now) _ _ (fields s .0) (fields s .1) blank-tables (n .note-tags .ensures)
+    noted-line (a .kind) (a .at) (a .src .now) (s .pre .0) (s .pre .1) _ (n .note-tags .ensures)
 
 slice-aggregate-note-tags : tie.Need-slice-aggregate-note-tags
 slice-aggregate-note-tags c = search needs
@@ -34,7 +24,7 @@ slice-aggregate-note-tags c = search needs
 note-tags-requires : tie.Need-note-tags-requires
 note-tags-requires c κs =
     let s = c .before .before in
-    (fields s .0, (fields s .1, (omega (arith, s .pre .1 .1), length-replicate {A = ℕ} 6448 0)))
+    noting (s .args .kind) (s .args .at) (s .args .src .now) (s .pre .0) (s .pre .1)
 
 slice-aggregate-is-writable : tie.Need-slice-aggregate-is-writable
 slice-aggregate-is-writable c = search needs
@@ -43,7 +33,7 @@ is-writable-requires : tie.Need-is-writable-requires
 is-writable-requires c κs =
     let n = c .before .before in
     let s = n .before .before .before in
-    (s .pre .0, (s .pre .1 .0, (tables n, s .pre .1 .1)))
+    (s .pre .0, (s .pre .1, tables n))
 
 returns : tie.Need-returns
 unfolding lineSize
@@ -55,7 +45,7 @@ slice-aggregate-find-keys c = search needs
 find-keys-requires : tie.Need-find-keys-requires
 find-keys-requires c κs =
     let n = c .before .before .before .before .before in
-    (tables n, omega (arith, n .before .before .before .pre .1 .1))
+    (tables n, omega (arith, n .before .before .before .pre .0 .short))
 
 slice-aggregate-other-fields-len : tie.Need-slice-aggregate-other-fields-len
 slice-aggregate-other-fields-len c = search needs
@@ -63,13 +53,13 @@ slice-aggregate-other-fields-len c = search needs
 other-fields-len-requires : tie.Need-other-fields-len-requires
 other-fields-len-requires c κs =
     let n = c .before .before .before .before .before .before .before in
-    (tables n, n .before .before .before .pre .1 .1)
+    (tables n, n .before .before .before .pre .0 .short)
 
 parts-len-requires : tie.Need-parts-len-requires
 parts-len-requires c κs =
     let k = c .before .before in
     let s = k .before .before .before .before .before .before .before .before .before in
-    (s .pre .0, (s .pre .1 .0, (k .find-keys .ensures, (c .other-fields-len .ensures, s .pre .1 .1))))
+    (s .pre .0, (s .pre .1, (k .find-keys .ensures, c .other-fields-len .ensures)))
 
 returns-2 : tie.Need-returns-2
 unfolding lineSize

@@ -32,7 +32,7 @@ parts c =
     let s = c .before .before .before .before .before .before .before .before in
     let a = s .args in
     ap (λ k. 3 + keysLength (a .kind) k + length (othersText (a .kind) (a .at) (a .src .now))) (c .find-keys .ensures)
-    ∙ once-others (a .at) (a .src .now) (s .pre .0) (a .kind) (s .pre .1 .0 .0) (s .pre .1 .0 .1) (s .pre .1 .1 .0)
+    ∙ once-others (a .at) (a .src .now) (s .pre .0 .accepted) (a .kind) (s .pre .0 .kind) (s .pre .1 .0) (s .pre .1 .1)
 
 -- and what is left of it
 others : (c : tie.After-keys-len)
@@ -46,14 +46,14 @@ slice-aggregate-is-writable c = search needs
 is-writable-requires : tie.Need-is-writable-requires
 is-writable-requires c κs =
     let s = c .before .before in
-    (s .pre .0, (s .pre .1 .0, (once-walkable (s .args .at) (s .args .src .now) _ (s .pre .1 .1 .0), s .pre .1 .1 .1)))
+    (s .pre .0, (s .pre .1 .0, once-walkable (s .args .at) (s .args .src .now) _ (s .pre .1 .1)))
 
 returns : tie.Need-returns
 unfolding lineSize
 returns c = let w = c .before in rw (sym (w .is-writable .ensures) ∙ not-true (w .is-writable .result) (c .if1 .taken)) refl
 
 is-neat-requires : tie.Need-is-neat-requires
-is-neat-requires c κs = let s = c .before .before .before .before in three false (s .args .at) (s .args .src .now) (s .pre .0)
+is-neat-requires c κs = let s = c .before .before .before .before in three false (s .args .at) (s .args .src .now) (s .pre .0 .accepted)
 
 add-t14 : tie.Need-add-t14
 add-t14 c = search needs
@@ -65,7 +65,7 @@ returns-2 c =
     let e = n .before in
     let s = e .before .before .before .before in
     let a = s .args in
-    let w = whole-text (a .at) (a .src .now) (s .pre .0) (s .pre .1 .1 .0) (a .kind) (s .pre .1 .0 .0) (sym (n .is-neat .ensures) ∙ c .if2 .taken) in
+    let w = whole-text (a .at) (a .src .now) (s .pre .0 .accepted) (s .pre .1 .1) (a .kind) (s .pre .0 .kind) (sym (n .is-neat .ensures) ∙ c .if2 .taken) in
     rw (writable e) (ap Is (omega (arith, ap length w, length-append (a .src .now) (10 ∷ []))))
 
 slice-aggregate-find-keys : tie.Need-slice-aggregate-find-keys
@@ -74,13 +74,13 @@ slice-aggregate-find-keys c = search needs
 find-keys-requires : tie.Need-find-keys-requires
 find-keys-requires c κs =
     let s = c .before .before .before .before .before .before .before in
-    (once-walkable (s .args .at) (s .args .src .now) _ (s .pre .1 .1 .0), omega (arith, s .pre .1 .1 .1))
+    (once-walkable (s .args .at) (s .args .src .now) _ (s .pre .1 .1), omega (arith, s .pre .0 .short))
 
 sub-others : tie.Need-sub-others
 sub-others c = omega (arith, parts c)
 
 keys-len-requires : tie.Need-keys-len-requires
-keys-len-requires c κs = omega (arith, parts c, c .before .before .before .before .before .before .before .before .pre .1 .1 .1)
+keys-len-requires c κs = omega (arith, parts c, c .before .before .before .before .before .before .before .before .pre .0 .short)
 
 sub-others-2 : tie.Need-sub-others-2
 sub-others-2 c = omega (arith, others c)
@@ -89,7 +89,7 @@ parts-len-requires : tie.Need-parts-len-requires
 parts-len-requires c κs =
     let k = c .before in
     let s = k .before .before .before .before .before .before .before .before in
-    (s .pre .0, (s .pre .1 .0, (k .find-keys .ensures, (others c .1, s .pre .1 .1 .1))))
+    (s .pre .0, (s .pre .1 .0, (k .find-keys .ensures, others c .1)))
 
 returns-3 : tie.Need-returns-3
 unfolding lineSize

@@ -4,8 +4,7 @@ use mathlib.Core.Path.{_≡_, refl, sym, ap, _∙_}
 use native.Mathlib.Omega.{arith}
 use lib.ListN.{length}
 use Rattle.other_fields.specs.Run.{AtField}
-use Rattle.heads.specs.Found.{isComment}
-use Rattle.heads.proofs.Finds.{fielded}
+use Rattle.heads.proofs.Noting.{of-fields}
 use Rattle.writer.specs.Heads.{headLength}
 use Rattle.writer.proofs.Heads.{Told, told}
 use Rattle.other_fields_out.proofs.Others.{others-short}
@@ -18,18 +17,18 @@ shown : (c : tie.After-head-of) → (let a = c .before .before .args in Told (a 
 shown c =
     let s = c .before .before in
     let a = s .args in
-    told (a .at) (a .src .now) (s .pre .0) (a .kind) (s .pre .1 .0 .0) (s .pre .1 .0 .1) (c .head-of .result) (c .head-of .result) (c .head-of .ensures) refl
+    told (a .at) (a .src .now) (s .pre .0 .accepted) (a .kind) (s .pre .0 .kind) (s .pre .1 .0) (c .head-of .result) (c .head-of .result) (c .head-of .ensures) refl
 
 head-of-requires : tie.Need-head-of-requires
-head-of-requires c κs = let s = c .before in (s .pre .0, (s .pre .1 .0 .0, (s .pre .1 .1 .0, omega (arith, s .pre .1 .1 .1 .1))))
+head-of-requires c κs = let s = c .before in (s .pre .0, s .pre .1 .1 .0)
 
 head-len-requires : tie.Need-head-len-requires
 head-len-requires c κs =
     let s = c .before .before in
     let a = s .args in
-    let f = fielded false (a .at) (a .src .now) (s .pre .0) (ap isComment (s .pre .1 .0 .0) ∙ s .pre .1 .0 .1) .0 in (
-      omega (arith, s .pre .1 .1 .1 .0, others-short false (a .at) (a .src .now) (a .kind) f, s .pre .1 .1 .1 .1),
-      omega (arith, place-short (a .at) (a .src .now) (c .head-of .result) (shown c .holds), s .pre .1 .1 .1 .1),
+    let f = of-fields (a .kind) (a .at) (a .src .now) (s .pre .0) (s .pre .1 .0) .0 in (
+      omega (arith, s .pre .1 .1 .1, others-short false (a .at) (a .src .now) (a .kind) f, s .pre .0 .short),
+      omega (arith, place-short (a .at) (a .src .now) (c .head-of .result) (shown c .holds), s .pre .0 .short),
     )
 
 returns : tie.Need-returns
@@ -38,7 +37,7 @@ returns c =
     let s = h .before .before in
     let a = s .args in
     c .head-len .ensures
-    ∙ ap (headLength (h .head-of .result)) (s .pre .1 .1 .1 .0)
+    ∙ ap (headLength (h .head-of .result)) (s .pre .1 .1 .1)
     ∙ sym (ap length (shown h .text) ∙ head-size (a .at) (a .src .now) (a .kind) (h .head-of .result) (shown h .holds) (shown h .kind-is))
 
 pub parts-len-spec : {M : Type 1} → statement M

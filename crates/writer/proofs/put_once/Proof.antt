@@ -19,16 +19,16 @@ whole : (t : tie.Then1) → (let a = t .before .before .before .before .args in 
 whole t =
     let s = t .before .before .before .before in
     let a = s .args in
-    whole-text (a .at) (a .src .now) (s .pre .0) (s .pre .1 .1 .0) (a .kind) (s .pre .1 .0 .0) (sym (t .before .is-neat .ensures) ∙ t .if1 .taken)
+    whole-text (a .at) (a .src .now) (s .pre .0 .accepted) (s .pre .1 .1 .0) (a .kind) (s .pre .0 .kind) (sym (t .before .is-neat .ensures) ∙ t .if1 .taken)
 
 is-neat-requires : tie.Need-is-neat-requires
-is-neat-requires c κs = let s = c .before .before in three false (s .args .at) (s .args .src .now) (s .pre .0)
+is-neat-requires c κs = let s = c .before .before in three false (s .args .at) (s .args .src .now) (s .pre .0 .accepted)
 
 put-whole-requires : tie.Need-put-whole-requires
 put-whole-requires c κs =
     let t = c .before in
     let s = t .before .before .before .before in
-    omega (arith, s .pre .1 .1 .1 .1, ap length (whole t), length-append (s .args .src .now) (10 ∷ []))
+    omega (arith, s .pre .1 .1 .1, ap length (whole t), length-append (s .args .src .now) (10 ∷ []))
 
 same-length : tie.Need-same-length
 same-length c = search needs

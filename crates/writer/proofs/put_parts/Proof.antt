@@ -16,20 +16,20 @@ shown : (c : tie.After-head-of) (d : Head) → c .head-of .result ≡ d → (let
 shown c d e =
     let s = c .before .before .before .before .before in
     let a = s .args in
-    told (a .at) (a .src .now) (s .pre .0) (a .kind) (s .pre .1 .0 .0) (s .pre .1 .0 .1) (c .head-of .result) d (c .head-of .ensures) e
+    told (a .at) (a .src .now) (s .pre .0 .accepted) (a .kind) (s .pre .0 .kind) (s .pre .1 .0) (c .head-of .result) d (c .head-of .ensures) e
 
 -- it has room
 room : (c : tie.After-head-of) (d : Head) → c .head-of .result ≡ d
     → (let a = c .before .before .before .before .before .args in a .o + length (headText (a .at) (a .src .now) d) ≤ length (a .out .now))
-room c d e = let s = c .before .before .before .before .before in subst (λ l. s .args .o + length l ≤ length (s .args .out .now)) (shown c d e .text) (s .pre .1 .1 .1 .1)
+room c d e = let s = c .before .before .before .before .before in subst (λ l. s .args .o + length l ≤ length (s .args .out .now)) (shown c d e .text) (s .pre .1 .1 .1)
 
 find-keys-requires : tie.Need-find-keys-requires
-find-keys-requires c κs = let s = c .before .before .before in (s .pre .1 .1 .0, omega (arith, s .pre .1 .1 .1 .0))
+find-keys-requires c κs = let s = c .before .before .before in (s .pre .1 .1 .0, omega (arith, s .pre .0 .short))
 
 head-of-requires : tie.Need-head-of-requires
 head-of-requires c κs =
     let s = c .before .before .before .before in
-    (s .pre .0, (s .pre .1 .0 .0, (c .find-keys .ensures, omega (arith, s .pre .1 .1 .1 .0))))
+    (s .pre .0, c .find-keys .ensures)
 
 enum-told : tie.Need-enum-told
 enum-told c = search needs
@@ -43,7 +43,7 @@ put-header-requires c κs =
     let k = c .before .before in
     let p = k .before .before in
     let s = p .before .before .before .before .before in
-    (s .pre .1 .1 .0, (s .pre .1 .1 .1 .0, room p _ (k .head .given .1)))
+    (s .pre .1 .1 .0, (s .pre .0 .short, room p _ (k .head .given .1)))
 
 enum-known-head-2 : tie.Need-enum-known-head-2
 enum-known-head-2 c = search needs
@@ -54,7 +54,7 @@ put-reference-sequence-requires c κs =
     let k = c .before .before in
     let p = k .before .before in
     let s = p .before .before .before .before .before in
-    (s .pre .1 .1 .0, (s .pre .1 .1 .1 .0, (shown p _ (k .head2 .given .1) .holds, room p _ (k .head2 .given .1))))
+    (s .pre .1 .1 .0, (s .pre .0 .short, (shown p _ (k .head2 .given .1) .holds, room p _ (k .head2 .given .1))))
 
 enum-known-head-3 : tie.Need-enum-known-head-3
 enum-known-head-3 c = search needs
@@ -65,7 +65,7 @@ put-map-requires c κs =
     let k = c .before .before in
     let p = k .before .before in
     let s = p .before .before .before .before .before in
-    (s .pre .1 .1 .0, (s .pre .1 .1 .1 .0, (shown p _ (k .head3 .given .1) .holds, room p _ (k .head3 .given .1))))
+    (s .pre .1 .1 .0, (s .pre .0 .short, (shown p _ (k .head3 .given .1) .holds, room p _ (k .head3 .given .1))))
 
 enum-known-head-4 : tie.Need-enum-known-head-4
 enum-known-head-4 c = search needs
@@ -76,7 +76,7 @@ put-map-requires-2 c κs =
     let k = c .before .before in
     let p = k .before .before in
     let s = p .before .before .before .before .before in
-    (s .pre .1 .1 .0, (s .pre .1 .1 .1 .0, (shown p _ (k .head4 .given .1) .holds, room p _ (k .head4 .given .1))))
+    (s .pre .1 .1 .0, (s .pre .0 .short, (shown p _ (k .head4 .given .1) .holds, room p _ (k .head4 .given .1))))
 
 enum-told-2 : tie.Need-enum-told-2
 enum-told-2 c = search needs

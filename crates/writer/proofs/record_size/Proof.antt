@@ -1,89 +1,81 @@
 -- `writer::record_size` meets its contract: a line that is accepted is accepted where repeated tags are allowed too, as the same record.
 use Prim.Native.Nat.{_+_}
-use mathlib.Core.Path.{_≡_, refl, sym, ap, _∙_}
-use mathlib.Core.Bool.{true, false}
+use mathlib.Core.Path.{_≡_, sym, ap, subst, _∙_}
+use mathlib.Core.Bool.{false}
 use mathlib.Core.List.{[], _∷_}
 use native.Mathlib.Omega.{arith}
-use lib.ListN.{length, getD, length-append}
+use lib.ListN.{length, length-append}
 use borrow.Author.Needs.{needs}
-use Rattle.format.specs.Records.{Line, line}
-use Rattle.accepted.specs.Read.{isRead}
-use Rattle.other_fields.proofs.Start.{once-start}
-use Rattle.heads.specs.Found.{kindBy, isComment}
-use Rattle.heads.proofs.Lax.{line-lax, read-lax}
-use Rattle.heads.proofs.Finds.{comment-is, three, fielded}
-use Rattle.writer.specs.Line.{lineText, lineWritable, lineSize}
+use Rattle.format.specs.Records.{line}
+use Rattle.heads.specs.Form.{IsForm}
+use Rattle.heads.specs.declared.Form.{Form}
+use Rattle.heads.proofs.Lax.{line-lax}
+use Rattle.writer.specs.Line.{lineSize}
 use Rattle.writer.specs.declared.Size.the-variants.{Is}
 use Rattle.writer.proofs.Whole.{comment-text}
 use Rattle.writer.proofs.record_size.Statement.{statement}
 use Rattle.writer.proofs.record_size.Tie as tie
 
--- where repeated tags are allowed
-read : (s : tie.Start) → (let a = s .args in isRead (line false (record { at = a .at; bytes = a .src .now })) ≡ true)
-read s = read-lax (s .args .strict) (record { at = s .args .at; bytes = s .args .src .now }) (s .pre .0)
-
 same : (s : tie.Start) → (let a = s .args in line (a .strict) (record { at = a .at; bytes = a .src .now }) ≡ line false (record { at = a .at; bytes = a .src .now }))
 same s = line-lax (s .args .strict) (record { at = s .args .at; bytes = s .args .src .now }) (s .pre .0)
 
--- the kind is the line's
-fieldless : (c : tie.Else1) → (let a = c .before .before .before .before .args in isComment (kindBy (getD (a .src .now) 1 0)) ≡ false)
-fieldless c = let k = c .before in ap isComment (sym (k .before .kind-of .ensures)) ∙ sym (k .is-comment .ensures) ∙ c .if1 .left
+-- the form of the line is `x`
+formed : (f : tie.After-form-of) (x : Form) → f .form-of .result ≡ x → (let a = f .before .before .args in IsForm (a .at) (a .src .now) x)
+formed f x e = let a = f .before .before .args in subst (IsForm (a .at) (a .src .now)) e (f .form-of .ensures)
 
-kind-of-requires : tie.Need-kind-of-requires
-kind-of-requires c κs = let s = c .before in three (s .args .strict) (s .args .at) (s .args .src .now) (s .pre .0)
+form-of-requires : tie.Need-form-of-requires
+form-of-requires c κs = search needs
 
-is-comment-requires : tie.Need-is-comment-requires
-is-comment-requires c κs = search needs
+enum-told : tie.Need-enum-told
+enum-told c = search needs
 
-add-t7 : tie.Need-add-t7
-add-t7 c = search needs
+add-t9 : tie.Need-add-t9
+add-t9 c = search needs
 
-returns : tie.Need-returns
-unfolding lineSize
-returns c =
-    let k = c .before in
-    let s = k .before .before .before in
-    let a = s .args in
-    let w = comment-text (a .at) (a .src .now) (read s) (sym (k .before .kind-of .ensures) ∙ comment-is (k .before .kind-of .result) (sym (k .is-comment .ensures) ∙ c .if1 .taken)) in
-    rw (same s, w .1) (ap Is (omega (arith, ap length (w .0), length-append (a .src .now) (10 ∷ []))))
-
-is-once-requires : tie.Need-is-once-requires
-is-once-requires c κs =
-    let s = c .before .before .before .before in
-    (fielded (s .args .strict) (s .args .at) (s .args .src .now) (s .pre .0) (fieldless c) .0, omega (arith, s .pre .1))
+enum-known-kind : tie.Need-enum-known-kind
+enum-known-kind c = search needs
 
 once-size-requires : tie.Need-once-size-requires
+unfolding IsForm
 once-size-requires c κs =
-    let e = c .before .before in
-    let k = e .before in
-    let s = k .before .before .before in
-    let a = s .args in
-    let h = fielded (a .strict) (a .at) (a .src .now) (s .pre .0) (fieldless e) .0 in
-    (read s, ((sym (k .before .kind-of .ensures), sym (k .is-comment .ensures) ∙ e .if1 .left), (once-start (a .strict) (a .at) (a .src .now) h (sym (c .before .is-once .ensures) ∙ c .if2 .taken), s .pre .1)))
+    let k = c .before in
+    let i = formed (k .before .before) _ (k .kind .given .1) in
+    (i .0, (i .1, i .2))
 
-returns-2 : tie.Need-returns-2
-returns-2 c = c .once-size .ensures ∙ ap lineSize (sym (same (c .before .before .before .before .before .before .before)))
+enum-known-kind-2 : tie.Need-enum-known-kind-2
+enum-known-kind-2 c = search needs
 
 noted-size-requires : tie.Need-noted-size-requires
-noted-size-requires c κs =
-    let e = c .before .before in
-    let k = e .before in
-    let s = k .before .before .before in
-    (read s, ((sym (k .before .kind-of .ensures), sym (k .is-comment .ensures) ∙ e .if1 .left), s .pre .1))
+unfolding IsForm
+noted-size-requires c κs = let k = c .before in formed (k .before .before) _ (k .kind2 .given .1)
+
+returns : tie.Need-returns
+unfolding IsForm lineSize
+returns c =
+    let f = c .before .before in
+    let s = f .before .before in
+    let a = s .args in
+    let i = formed f _ (c .enum-told .given .1) in
+    let w = comment-text (a .at) (a .src .now) (i .accepted) (i .kind) in
+    rw (same s, w .1) (ap Is (omega (arith, ap length (w .0), length-append (a .src .now) (10 ∷ []))))
+
+returns-2 : tie.Need-returns-2
+returns-2 c = c .once-size .ensures ∙ ap lineSize (sym (same (c .before .before .before .before .before .before)))
 
 returns-3 : tie.Need-returns-3
-returns-3 c = c .noted-size .ensures ∙ ap lineSize (sym (same (c .before .before .before .before .before .before .before)))
+returns-3 c = c .noted-size .ensures ∙ ap lineSize (sym (same (c .before .before .before .before .before .before)))
 
 pub record-size-spec : {M : Type 1} → statement M
 record-size-spec =
     tie.close
     (tie.spec
-    kind-of-requires
-    is-comment-requires
-    add-t7
-    returns
-    is-once-requires
+    form-of-requires
+    enum-told
+    add-t9
+    enum-known-kind
     once-size-requires
-    returns-2
+    enum-known-kind-2
     noted-size-requires
+    returns
+    returns-2
     returns-3)

@@ -1,0 +1,4 @@
+pub mod Anywhere
+pub mod Next
+pub mod Answer
+pub mod Shown

@@ -1,0 +1,26 @@
+-- An accepted line of a text, by its kind and by its form: a comment, or fields in which no tag stands twice, or in which one may.
+use Prim.Native.Nat.{ℕ, _+_, _≤_}
+use mathlib.Core.Path.{_≡_}
+use mathlib.Core.Bool.{true, false}
+use mathlib.Core.List.{List}
+use lib.ListN.{length, getD}
+use Rattle.format.specs.Records.{line}
+use Rattle.format.specs.declared.Kind.{Kind}
+use Rattle.format.specs.declared.Kind.the-variants as kind
+use Rattle.accepted.specs.Read.{isRead}
+use Rattle.other_fields.specs.Run.{AtField}
+use Rattle.heads.specs.Found.{kindBy, isComment}
+use Rattle.heads.specs.declared.Form.{Form}
+use Rattle.heads.specs.declared.Form.the-variants.{Comment, Once, Repeating}
+
+-- the line `s` at the offset `at` of a text is accepted where repeated tags are allowed, and its kind is `k`
+pub record LineOf (k : Kind) (at : ℕ) (s : List ℕ) : Type 0 where
+  pub accepted : isRead (line false (record { at = at; bytes = s })) ≡ true
+  pub kind : kindBy (getD s 1 0) ≡ k
+  pub short : at + length s ≤ 16777216
+
+-- its form is told rightly
+unfoldable pub IsForm : ℕ → List ℕ → Form → Type 0
+IsForm at s Comment = LineOf kind.Comment at s
+IsForm at s (Once k) = LineOf k at s × (isComment k ≡ false) × AtField true at s 3
+IsForm at s (Repeating k) = LineOf k at s × (isComment k ≡ false)

@@ -1,0 +1,4 @@
+pub mod Turn
+pub mod Split
+pub mod Begun
+pub mod Steps

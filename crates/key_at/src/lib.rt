@@ -1,0 +1,91 @@
+// A key or a name by the offset where it stands in the text: it ends at the first byte below 32, or with the text.
+ghost use mathlib.Core.Path.{_≡_};
+ghost use mathlib.Core.Bool.{false, cond, _&&_};
+ghost use Prim.Native.Nat.{_≤_, _+_};
+ghost use lib.Dec.{eqb, ltb};
+ghost use lib.ListN.{length, drop};
+ghost use Rattle.format.specs.Bytes.{same, none?};
+ghost use Rattle.key_at.specs.Word.{word, sameFrom};
+
+// Offsets of a text are below this.
+pub const OFFSETS: u32 = 16777216;
+
+// Whether no key goes on at `at`: a byte below 32, or the end of the text.
+fn ends(text: &[u8], at: usize) -> bool
+    ensures { λ r. ⌜ r ≡ none? (word (drop at (now (text .entry)))) ⌝ }
+{
+    if text.len() <= at {
+        return true;
+    }
+    text[at] < 32
+}
+
+// Whether a key goes on with the byte `b` where the text has `a`: no key goes on with a byte below 32.
+fn goes_on(a: u8, b: u8) -> bool
+    ensures { λ r. ⌜ r ≡ cond (ltb a 32) false (eqb b a) ⌝ }
+{
+    if a < 32 {
+        return false;
+    }
+    b == a
+}
+
+// Whether the eight bytes at `i` of a key are those at `at` of the text, and none of them ends a key there: all are looked at, with no way
+// out, so that a processor can take them at once.
+fn is_same_block(text: &[u8], at: usize, key: &[u8], i: usize) -> bool
+    requires { ⌜ at + 8 ≤ length (now text) ⌝ }
+    requires { ⌜ i + 8 ≤ length (now key) ⌝ }
+    ensures { λ r. ⌜ sameFrom (now (key .entry)) i (now (text .entry)) at ≡ (r && sameFrom (now (key .entry)) (i + 8) (now (text .entry)) (at + 8)) ⌝ }
+{
+    let mut all = true;
+    let mut j: usize = 0;
+    while j < 8 {
+        if !goes_on(text[at + j], key[i + j]) {
+            all = false;
+        }
+        j += 1;
+    }
+    all
+}
+
+// How many bytes of a key stand in whole blocks of eight that are equal, from the front: what is behind them decides.
+fn pass_same(text: &[u8], at: usize, key: &[u8]) -> usize
+    requires { ⌜ at + length (now key) ≤ length (now text) ⌝ }
+    ensures within { λ r. ⌜ r ≤ length (now (key .entry)) ⌝ }
+    ensures rest { λ r. ⌜ same (now (key .entry)) (word (drop at (now (text .entry)))) ≡ sameFrom (now (key .entry)) r (now (text .entry)) (at + r) ⌝ }
+{
+    let mut i: usize = 0;
+    while 8 <= key.len() - i {
+        if !is_same_block(text, at + i, key, i) {
+            return i;
+        }
+        i += 8;
+    }
+    i
+}
+
+// Whether the key at `at` is `key`: first whether it ends there, then block by block, and then byte by byte.
+pub fn is_at(text: &[u8], at: usize, key: &[u8]) -> bool
+    requires { ⌜ at + length (now key) ≤ 67108864 ⌝ }
+    ensures { λ r. ⌜ r ≡ same (now (key .entry)) (word (drop at (now (text .entry)))) ⌝ }
+{
+    let end = at + key.len();
+    if text.len() < end {
+        return key.len() == 0; // behind the text there is but the empty key
+    }
+    if !ends(text, end) {
+        return false; // a key that goes on
+    }
+    let mut i = pass_same(text, at, key);
+    while i < key.len() {
+        let b = key[i];
+        if text[at + i] != b {
+            return false;
+        }
+        if b < 32 {
+            return false; // a key that ended before
+        }
+        i += 1;
+    }
+    true
+}

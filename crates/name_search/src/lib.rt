@@ -1,0 +1,32 @@
+// The search for each name of a list among the SQ names whose places stand in slots.
+ghost use mathlib.Core.Path.{_≡_};
+ghost use mathlib.Core.List.{map};
+ghost use Prim.Native.Nat.{ℕ, _≤_, _^_};
+ghost use lib.ListN.{length};
+ghost use Rattle.text.specs.Over.{over};
+ghost use Rattle.asked_names.specs.Asked.{asked};
+ghost use Rattle.sq_index.specs.Looking.{slotOf, looksOf};
+ghost use Rattle.name_search.specs.Summed.{summed};
+
+// Looks for each name of a list: the slot with it goes into `out`, and the slots that were looked at are summed.
+pub fn find_slots(text: &[u8], slots: &[u32], list: &[u8], out: &mut [u32]) -> u64
+    requires { ⌜ length (now slots) ≤ 33554432 ⌝ }
+    requires { ⌜ ((e : ℕ) × (length (now slots) ≡ 2 ^ e)) ⌝ }
+    requires { ⌜ length (now list) ≤ 16777216 ⌝ }
+    requires { ⌜ length (asked (now list)) ≤ length (now out) ⌝ }
+    ensures wrote { λ _. ⌜ now (out .exit) ≡ over (now (out .entry)) 0 (map (slotOf (now (text .entry)) (now (slots .entry))) (asked (now (list .entry)))) ⌝ }
+    ensures looks { λ r. ⌜ r ≡ summed (looksOf (now (text .entry)) (now (slots .entry))) (asked (now (list .entry))) ⌝ }
+{
+    let mut at: usize = 0;
+    let mut j: usize = 0;
+    let mut looks: u64 = 0;
+    while at < list.len() {
+        let end = at + text::upto(&list[at..], b'\n');
+        let found = sq_index::find_slot(text, slots, &list[at..end]);
+        out[j] = found.slot;
+        looks += found.looks as u64;
+        j += 1;
+        at = end + 1; // an empty name may follow
+    }
+    looks
+}

@@ -1,0 +1,35 @@
+-- What gathering the programs from a text's own catalogue, and the search for their parents, ask.
+use Prim.Native.Nat.{ℕ, _≤_}
+use mathlib.Core.Path.{_≡_, sym, ap, subst, _∙_}
+use mathlib.Core.Bool.{true}
+use mathlib.Core.List.{List}
+use lib.ListN.{length}
+use Rattle.format.specs.Reading.{accept, readText}
+use Rattle.format.specs.Catalogue.{catalogue}
+use Rattle.format.specs.Programs.{programs}
+use Rattle.accepted.specs.Read.{isAccepted, recordsOf}
+use Rattle.entries.specs.Entries.{entriesIn, counted}
+use Rattle.lookup.proofs.Kept.{text-few}
+use Rattle.programs.specs.declared.Programs.{Programs}
+use Rattle.programs.specs.Gathered.{notedIn, gatheredOf}
+use Rattle.parents.proofs.Own.{few-programs}
+
+-- what is gathered from it is what the text's programs are
+pub record Opened (t c : List ℕ) : Type 0 where
+  pub accepted : isAccepted (readText t) ≡ true
+  pub entries : counted 4 (entriesIn c) ≤ 1024
+  pub gathers : (p : Programs) → p ≡ gatheredOf (notedIn (entriesIn c)) → p ≡ gatheredOf (notedIn (entriesIn (catalogue (recordsOf t))))
+  pub few : length (programs (recordsOf t)) ≤ 1024
+
+module _ (t c : List ℕ) (reads : readText t ≡ accept (recordsOf t)) (own : c ≡ catalogue (recordsOf t)) where
+  own-accepted : isAccepted (readText t) ≡ true
+  unfolding isAccepted
+  own-accepted = ap isAccepted reads
+
+  pub opened : Opened t c
+  opened = record {
+    accepted = own-accepted;
+    entries = subst (λ s. counted 4 (entriesIn s) ≤ 1024) (sym own) (text-few t (recordsOf t) reads);
+    gathers = λ p e. e ∙ ap (λ s. gatheredOf (notedIn (entriesIn s))) own;
+    few = few-programs t own-accepted;
+  }

@@ -1,6 +1,0 @@
-pub mod Turn
-pub mod Made
-pub mod Walked
-pub mod Step
-pub mod Dispatch
-pub mod Marks

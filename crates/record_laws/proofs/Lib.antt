@@ -1,0 +1,4 @@
+pub mod Turn
+pub mod Made
+pub mod Walked
+pub mod Step

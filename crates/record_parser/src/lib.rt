@@ -1,0 +1,97 @@
+// One line of a header: the record that it is, or the refusal that it gets.
+use format::Kind;
+use kind::ParsedKind;
+use record::Head;
+use record::Stretch;
+ghost use mathlib.Core.Path.{_≡_};
+ghost use Prim.Native.Nat.{_≤_, _+_};
+ghost use lib.ListN.{length, drop};
+ghost use Rattle.format.specs.Bytes.{any};
+ghost use Rattle.format.specs.Records.{line, prefixed, body, remark, breaks};
+ghost use Rattle.record.specs.Head.{headOf, hasFields};
+
+// Whether LF or CR stands in `src`.
+fn has_break(src: &[u8]) -> bool
+    ensures { λ r. ⌜ r ≡ any breaks (now (src .entry)) ⌝ }
+{
+    if text::upto(src, b'\n') < src.len() {
+        return true;
+    }
+    text::upto(src, b'\r') < src.len()
+}
+
+// CO: one tab, then any bytes, also none.
+fn parse_comment(src: &[u8], at: usize) -> Head
+    requires { ⌜ 3 ≤ length (now src) ⌝ }
+    requires { ⌜ at + length (now src) ≤ 4294967295 ⌝ }
+    ensures { λ r. ⌜ r ≡ headOf (remark (at + 3) (drop 3 (now (src .entry)))) ⌝ }
+{
+    if src.len() == 3 {
+        return Head::Refused(7);
+    }
+    if src[3] != b'\t' {
+        return Head::Refused(6);
+    }
+    let place = Stretch {
+        at: at + 4,
+        len: src.len() - 4,
+    };
+    Head::Comment(place)
+}
+
+// What follows the kind bytes.
+fn parse_value(kind: Kind, src: &[u8], at: usize, strict: bool) -> Head
+    requires { ⌜ 3 ≤ length (now src) ⌝ }
+    requires { ⌜ at + length (now src) ≤ 4294967295 ⌝ }
+    ensures { λ r. ⌜ r ≡ headOf (body strict kind (at + 3) (drop 3 (now (src .entry)))) ⌝ }
+{
+    match kind {
+        Kind::Comment => parse_comment(src, at),
+        Kind::Header | Kind::ReferenceSequence | Kind::ReadGroup | Kind::Program =>
+            record_fields::parse_fields(kind, src, at, strict),
+    }
+}
+
+// A line in which LF and CR are bytes like any other.
+fn parse_bytes(src: &[u8], at: usize, strict: bool) -> Head
+    requires { ⌜ at + length (now src) ≤ 4294967295 ⌝ }
+    ensures { λ r. ⌜ r ≡ headOf (prefixed strict at (now (src .entry))) ⌝ }
+{
+    if !text::leads(src, b'@') {
+        return Head::Refused(3);
+    }
+    match kind::parse_kind(&src[1..]) {
+        ParsedKind::Empty => Head::Refused(4),
+        ParsedKind::Invalid => Head::Refused(5),
+        ParsedKind::Is(k) => parse_value(k, src, at, strict),
+    }
+}
+
+// Whether a head is that of accepted fields: no LF and no CR stands in such a line.
+fn has_fields(head: Head) -> bool
+    ensures { λ r. ⌜ r ≡ hasFields head ⌝ }
+{
+    match head {
+        Head::Refused(_) => false,
+        Head::Header(_, _) => true,
+        Head::ReferenceSequence(_, _, _) => true,
+        Head::ReadGroup(_, _) => true,
+        Head::Program(_, _) => true,
+        Head::Comment(_) => false,
+    }
+}
+
+// A line without its ending, which starts at the offset `at`: its record, or why it is refused; `strict` forbids repeated tags.
+pub fn parse_record(src: &[u8], at: usize, strict: bool) -> Head
+    requires { ⌜ at + length (now src) ≤ 4294967295 ⌝ }
+    ensures { λ r. ⌜ r ≡ headOf (line strict (record { at = at; bytes = now (src .entry) })) ⌝ }
+{
+    let head = parse_bytes(src, at, strict);
+    if has_fields(head) {
+        return head;
+    }
+    if has_break(src) {
+        return Head::Refused(2);
+    }
+    head
+}

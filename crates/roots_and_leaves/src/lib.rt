@@ -1,0 +1,81 @@
+// The roots and the leaves of the programs over a text and its catalogue. Each call judges the text and the catalogue first.
+use format::LineNo;
+use parser::Checked;
+use parser::CountAnswer;
+ghost use mathlib.Core.Path.{_≡_};
+ghost use lib.ListN.{length};
+ghost use Rattle.format.specs.Calls.{fitting, rooting, leafing};
+ghost use Rattle.parser.specs.Answers.{answerOf, outputOf};
+ghost use Rattle.roots_and_leaves.specs.Answers.{leavesAnswerOf, listOf, withHops};
+
+// A refusal and its line, or how many leaves are written, and the hops.
+pub enum LeavesAnswer {
+    Refused(u8, LineNo),
+    Counted(usize, u32),
+}
+
+// Writes ordinals to the front of `out`, and answers how many: 20 where it is too short.
+fn put_ordinals(out: &mut [u32], from: &[u32]) -> CountAnswer
+    ensures answer { λ r. ⌜ r ≡ answerOf (fitting (length (now (out .entry))) (now (from .entry))) ⌝ }
+    ensures wrote { λ _. ⌜ now (out .exit) ≡ outputOf (fitting (length (now (out .entry))) (now (from .entry))) (now (out .entry)) ⌝ }
+{
+    if out.len() < from.len() {
+        return CountAnswer::Refused(20, LineNo(0));
+    }
+    let mut i: usize = 0;
+    while i < from.len() {
+        out[i] = from[i];
+        i += 1;
+    }
+    CountAnswer::Count(i)
+}
+
+// The programs without PP at the front of `out`: no graph check.
+pub fn roots(text: &[u8], kept: &[u8], out: &mut [u32]) -> CountAnswer
+    ensures answer { λ r. ⌜ r ≡ answerOf (rooting (now (text .entry)) (now (kept .entry)) (length (now (out .entry)))) ⌝ }
+    ensures wrote { λ _. ⌜ now (out .exit) ≡ outputOf (rooting (now (text .entry)) (now (kept .entry)) (length (now (out .entry)))) (now (out .entry)) ⌝ }
+{
+    match parser::check(text, kept) {
+        Checked::Refused(n, line) => CountAnswer::Refused(n, line),
+        Checked::Fresh => {
+            let parents = parents::find_parents(text, programs::gather(kept));
+            let list = parents.list;
+            let found = chains::roots(&list[..parents.count]);
+            let ordinals = found.list;
+            put_ordinals(out, &ordinals[..found.count])
+        }
+    }
+}
+
+// An answer with the hops beside the number of leaves.
+fn with_hops(a: CountAnswer, hops: u32) -> LeavesAnswer
+    ensures { λ r. ⌜ r ≡ withHops a hops ⌝ }
+{
+    match a {
+        CountAnswer::Refused(n, line) => LeavesAnswer::Refused(n, line),
+        CountAnswer::Count(n) => LeavesAnswer::Counted(n, hops),
+    }
+}
+
+// The leaves at the front of `out`, in the crate's order, and the hops: 22 where a PP dangles, 23 where there is a cycle.
+pub fn leaves(text: &[u8], kept: &[u8], out: &mut [u32]) -> LeavesAnswer
+    ensures answer { λ r. ⌜ r ≡ leavesAnswerOf (leafing (now (text .entry)) (now (kept .entry)) (length (now (out .entry)))) ⌝ }
+    ensures wrote { λ _. ⌜ now (out .exit) ≡ outputOf (listOf (leafing (now (text .entry)) (now (kept .entry)) (length (now (out .entry)))))
+        (now (out .entry)) ⌝ }
+{
+    match parser::check(text, kept) { // 21 comes before 22
+        Checked::Refused(n, line) => LeavesAnswer::Refused(n, line),
+        Checked::Fresh => {
+            let graph = parents::find_leaves(text, programs::gather(kept));
+            if graph.refusal != 0 {
+                return LeavesAnswer::Refused(graph.refusal, LineNo(0));
+            }
+            let parents = graph.parents;
+            let list = parents.list;
+            let hops = chain_walks::hops(&list[..parents.count]);
+            let leaves = graph.leaves;
+            let ordinals = leaves.list;
+            with_hops(put_ordinals(out, &ordinals[..leaves.count]), hops)
+        }
+    }
+}

@@ -1,0 +1,3 @@
+pub mod Recoded
+pub mod Named
+pub mod Found

@@ -1,0 +1,23 @@
+-- What the readers of a version answer, by the definitions of `format`.
+use Prim.Native.Nat.{ℕ}
+use mathlib.Core.Option.{Option, none, some}
+use Rattle.format.specs.declared.Version.{Version}
+use Rattle.version.specs.declared.VersionSide.{VersionSide}
+use Rattle.version.specs.declared.VersionSide.the-variants as part
+use Rattle.version.specs.declared.ParsedVersion.{ParsedVersion}
+use Rattle.version.specs.declared.ParsedVersion.the-variants as spelled
+
+-- one side of a version's dot
+unfoldable pub versionSideOf : Option ℕ → VersionSide
+versionSideOf none = part.Invalid
+versionSideOf (some n) = part.Is n
+
+-- a version, if one is spelled
+unfoldable pub parsedVersionOf : Option Version → ParsedVersion
+parsedVersionOf none = spelled.Invalid
+parsedVersionOf (some v) = spelled.Is v
+
+-- the refusal that each is where it is read as VN of HD, and 0 for a version
+unfoldable pub versionRefusal : ParsedVersion → ℕ
+versionRefusal spelled.Invalid = 11
+versionRefusal (spelled.Is v) = 0
