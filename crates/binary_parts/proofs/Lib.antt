@@ -1,0 +1,4 @@
+pub mod Taken
+pub mod Closed
+pub mod Listed
+pub mod Unpadded

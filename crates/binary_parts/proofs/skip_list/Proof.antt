@@ -1,0 +1,69 @@
+-- `binary_parts::skip_list` meets its contract: what is after the list is what is after the references still to pass.
+use Prim.Native.Nat.{_≤_, _+_, _-_}
+use mathlib.Core.Path.{_≡_, refl, sym, ap, _∙_}
+use native.Mathlib.Omega.{arith}
+use lib.ListN.{length, take, drop}
+use Rattle.binary.specs.Binary.{takeList}
+use Rattle.binary_parts.specs.Parts.{restOf, restFrom}
+use Rattle.binary_parts.proofs.Listed.{list-short, list-on, list-done}
+use borrow.Author.Tests.{not-true, not-false}
+use Rattle.binary_parts.proofs.skip_list.Statement.{statement}
+use Rattle.binary_parts.proofs.skip_list.Tie as tie
+use Rattle.binary_parts.proofs.skip_list.Reads as reads
+use Rattle.binary_parts.proofs.skip_list.Lts as lts
+use Rattle.binary_parts.proofs.take_reference.Reads as take-reference-reads
+
+abbrev Inv-loop : tie.InvT-loop
+Inv-loop bytes start count at₀ left₀ at left = (at ≤ length bytes) × (restOf (takeList count (drop start bytes)) ≡ restOf (takeList left (drop at bytes)))
+
+abbrev μ-loop : tie.MeasureT-loop
+μ-loop bytes start count at₀ left₀ at left = left
+
+loop-holds : tie.Need-loop-holds Inv-loop μ-loop
+loop-holds c = (omega arith, refl)
+
+take-reference-requires : tie.Need-take-reference-requires Inv-loop μ-loop
+take-reference-requires c κs = omega arith
+
+returns : tie.Need-returns Inv-loop μ-loop
+unfolding restFrom
+returns c =
+    let r = c .before .before in
+    let l = r .before .before in
+    let s = l .before .before .args .bytes .now in
+    (l .loop .inv .1 ∙ list-short s (l .loop .at) (l .loop .left) (omega arith) (r .take-reference .result) (r .take-reference .ensures .0) (not-true _ (c .if1 .taken)), l .loop .inv .0)
+
+sub-left : tie.Need-sub-left Inv-loop μ-loop
+sub-left c = omega arith
+
+loop-less : tie.Need-loop-less Inv-loop μ-loop
+loop-less c = omega arith
+
+loop-again : tie.Need-loop-again Inv-loop μ-loop
+loop-again c =
+    let r = c .before .before in
+    let l = r .before .before in
+    let s = l .before .before .args .bytes .now in
+    (r .take-reference .ensures .1 .0, l .loop .inv .1 ∙ list-on s (l .loop .at) (l .loop .left) (omega arith) (r .take-reference .result) (r .take-reference .ensures .0) (not-false _ (c .if1 .left)))
+
+returns-2 : tie.Need-returns-2 Inv-loop μ-loop
+unfolding restFrom
+returns-2 c =
+    let l = c .before in
+    let s = l .before .before .args .bytes .now in
+    let z : l .loop .left ≡ 0 = omega arith in
+    (l .loop .inv .1 ∙ ap (λ n. restOf (takeList n (drop (l .loop .at) s))) z ∙ list-done (drop (l .loop .at) s), l .loop .inv .0)
+
+pub skip-list-spec : {M : Type 1} → statement M
+skip-list-spec =
+    tie.close
+    (tie.spec
+    Inv-loop
+    μ-loop
+    loop-holds
+    take-reference-requires
+    returns
+    sub-left
+    loop-less
+    loop-again
+    returns-2)
