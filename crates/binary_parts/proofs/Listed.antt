@@ -1,15 +1,18 @@
 -- A reference list, one reference after another.
-use Prim.Native.Nat.{ℕ, zero, suc, _-_, _<_}
+use Prim.Native.Nat.{ℕ, suc, _-_, _≤_, _<_}
 use mathlib.Core.Path.{_≡_, refl, sym, ap, _∙_}
-use mathlib.Core.Bool.{Bool, true, false}
+use mathlib.Core.Bool.{Bool, true, false, false≢true}
 use mathlib.Core.List.{List, [], _∷_}
 use mathlib.Core.Option.{Option, none, some}
 use native.Mathlib.Omega.{arith}
-use lib.ListN.{take, drop}
+use lib.ListN.{length, take, drop, length-drop}
+use lib.Dec.{eqb}
+use borrow.Author.Tests.{eq-eqb, ne-eqb}
+use Rattle.format.specs.Bytes.{none?}
 use Rattle.binary.specs.References.{Reference}
 use Rattle.binary.specs.Binary.{andThen, takeReference, takeList}
 use Rattle.binary_parts.specs.declared.ReferenceAt.{ReferenceAt}
-use Rattle.binary_parts.specs.Parts.{referenceFrom, restOf, listed}
+use Rattle.binary_parts.specs.Parts.{referenceFrom, isWhole, listed}
 
 -- the name and the length that stand there
 unfoldable pub referenceIn : List ℕ → ReferenceAt → Reference
@@ -19,44 +22,48 @@ module _ (s : List ℕ) (at left : ℕ) (k : 0 < left) (r : ReferenceAt) (e : ta
   one-less : left ≡ suc (left - 1)
   one-less = omega arith
 
-  pub list-short : r .ok ≡ false → restOf (takeList left (drop at s)) ≡ none
-  unfolding restOf takeList andThen referenceFrom
-  list-short f = ap (λ n. restOf (takeList n (drop at s))) one-less ∙ rw (e, f) refl
+  pub list-short : r .ok ≡ false → isWhole (takeList left (drop at s)) ≡ false
+  unfolding isWhole takeList andThen referenceFrom
+  list-short f = ap (λ n. isWhole (takeList n (drop at s))) one-less ∙ rw (e, f) refl
 
   opened : r .ok ≡ true → takeList left (drop at s) ≡ andThen (takeList (left - 1) (drop (r .next) s)) (λ rs. some (referenceIn s r ∷ rs .0, rs .1))
   unfolding takeList andThen referenceFrom referenceIn
   opened t = ap (λ n. takeList n (drop at s)) one-less ∙ rw (e, t) refl
 
-  pub list-on : r .ok ≡ true → restOf (takeList left (drop at s)) ≡ restOf (takeList (left - 1) (drop (r .next) s))
-  unfolding restOf andThen
-  list-on t = ap restOf (opened t) ∙ go (takeList (left - 1) (drop (r .next) s))
+  pub list-on : r .ok ≡ true → isWhole (takeList left (drop at s)) ≡ isWhole (takeList (left - 1) (drop (r .next) s))
+  unfolding isWhole andThen
+  list-on t = ap isWhole (opened t) ∙ go (takeList (left - 1) (drop (r .next) s))
     where
-      go : (o : Option (List Reference × List ℕ)) → restOf (andThen o (λ rs. some (referenceIn s r ∷ rs .0, rs .1))) ≡ restOf o
+      go : (o : Option (List Reference × List ℕ)) → isWhole (andThen o (λ rs. some (referenceIn s r ∷ rs .0, rs .1))) ≡ isWhole o
       go none = refl
       go (some p) = refl
 
   -- a whole list has its first reference
-  pub list-whole : (rest : List ℕ) → restOf (takeList left (drop at s)) ≡ some rest → r .ok ≡ true
-  list-whole rest w = go (r .ok) refl
+  pub list-whole : isWhole (takeList left (drop at s)) ≡ true → r .ok ≡ true
+  list-whole w = go (r .ok) refl
     where
       go : (b : Bool) → r .ok ≡ b → r .ok ≡ true
       go true q = q
-      go false q = absurd (let h : restOf (takeList left (drop at s)) ≡ none = list-short q in let z : _≡_ {A = ℕ} 0 1 = cc in omega arith)
+      go false q = absurd (false≢true (sym (list-short q) ∙ w))
 
-  pub list-first : (rest : List ℕ) → restOf (takeList left (drop at s)) ≡ some rest
+  pub list-first : isWhole (takeList left (drop at s)) ≡ true
       → listed (takeList left (drop at s)) ≡ referenceIn s r ∷ listed (takeList (left - 1) (drop (r .next) s))
-  unfolding restOf andThen listed
-  list-first rest w =
-      let t : r .ok ≡ true = list-whole rest w in
+  unfolding isWhole andThen listed
+  list-first w =
+      let t : r .ok ≡ true = list-whole w in
       ap listed (opened t) ∙ go (takeList (left - 1) (drop (r .next) s)) (sym (list-on t) ∙ w)
     where
-      go : (o : Option (List Reference × List ℕ)) → restOf o ≡ some rest → listed (andThen o (λ rs. some (referenceIn s r ∷ rs .0, rs .1))) ≡ referenceIn s r ∷ listed o
-      go none q = absurd (let z : _≡_ {A = ℕ} 0 1 = cc in omega arith)
+      go : (o : Option (List Reference × List ℕ)) → isWhole o ≡ true → listed (andThen o (λ rs. some (referenceIn s r ∷ rs .0, rs .1))) ≡ referenceIn s r ∷ listed o
+      go none q = absurd (false≢true q)
       go (some p) q = refl
 
-pub list-done : (s : List ℕ) → restOf (takeList 0 s) ≡ some s
-unfolding restOf takeList
-list-done s = refl
+pub list-end : (s : List ℕ) (at : ℕ) → at ≤ length s → eqb at (length s) ≡ isWhole (takeList 0 (drop at s))
+unfolding isWhole takeList none?
+list-end s at h = go (drop at s) (length-drop at s)
+  where
+    go : (t : List ℕ) → length t ≡ length s - at → eqb at (length s) ≡ none? t
+    go [] e = eq-eqb at (length s) (omega arith)
+    go (b ∷ t) e = ne-eqb at (length s) (λ z. omega arith)
 
 pub listed-done : (s : List ℕ) → listed (takeList 0 s) ≡ []
 unfolding listed takeList

@@ -14,7 +14,7 @@ use Rattle.binary.specs.Binary.{andThen, takeBytes, takeNumber, takeSized, clos
 use Rattle.binary_parts.specs.declared.NumberAt.{NumberAt}
 use Rattle.binary_parts.specs.declared.RunAt.{RunAt}
 use Rattle.binary_parts.specs.declared.ReferenceAt.{ReferenceAt}
-use Rattle.binary_parts.specs.Parts.{numberFrom, runFrom, referenceFrom, restOf}
+use Rattle.binary_parts.specs.Parts.{numberFrom, runFrom, referenceFrom}
 
 -- ---- bytes and numbers
 

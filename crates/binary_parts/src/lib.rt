@@ -1,14 +1,11 @@
 // A binary header taken apart: where its text and its reference list stand, or that it is none.
 ghost use mathlib.Core.Path.{_≡_};
-ghost use mathlib.Core.Bool.{true};
-ghost use mathlib.Core.List.{[]};
-ghost use mathlib.Core.Option.{some};
-ghost use Prim.Native.Nat.{_+_, _≤_, _<_};
+ghost use Prim.Native.Nat.{_+_, _≤_};
 ghost use lib.Dec.{eqb};
 ghost use lib.ListN.{length, drop};
 ghost use Rattle.format.specs.Programs.{lastOr};
-ghost use Rattle.binary.specs.Binary.{takeNumber, takeSized, takeReference, takeList, binaryParts, unpadded};
-ghost use Rattle.binary_parts.specs.Parts.{numberFrom, runFrom, referenceFrom, restOf, restFrom, partsFrom};
+ghost use Rattle.binary.specs.Binary.{takeNumber, takeSized, takeReference, takeList, takeBoth, binaryParts, unpadded};
+ghost use Rattle.binary_parts.specs.Parts.{numberFrom, runFrom, referenceFrom, isWhole, partsFrom, PartsStand};
 
 // A number, and where the bytes after it start.
 pub struct NumberAt {
@@ -33,14 +30,8 @@ pub struct ReferenceAt {
     pub next: usize,
 }
 
-// Where the bytes after a reference list start.
-pub struct ListEnd {
-    pub ok: bool,
-    pub at: usize,
-}
-
 // Where the text stands, and where the reference list starts and how many it has.
-pub struct Parts {
+pub struct PartsAt {
     pub ok: bool,
     pub text: usize,
     pub len: usize,
@@ -132,23 +123,69 @@ pub fn take_reference(bytes: &[u8], at: usize) -> ReferenceAt
     }
 }
 
-// Where the list of `count` references at `start` ends.
-fn skip_list(bytes: &[u8], start: usize, count: u32) -> ListEnd
+// Whether `count` references stand at `start`, and nothing after them.
+fn is_whole_list(bytes: &[u8], start: usize, count: u32) -> bool
     requires { ⌜ start ≤ length (now bytes) ⌝ }
-    ensures taken { λ r. ⌜ restOf (takeList count (drop start (now (bytes .entry)))) ≡ restFrom (now (bytes .entry)) r ⌝ }
-    ensures inside { λ r. ⌜ r .at ≤ length (now (bytes .entry)) ⌝ }
+    ensures { λ r. ⌜ r ≡ isWhole (takeList count (drop start (now (bytes .entry)))) ⌝ }
 {
     let mut at = start;
     let mut left = count;
     while 0 < left {
         let reference = take_reference(bytes, at);
         if !reference.ok {
-            return ListEnd { ok: false, at };
+            return false;
         }
         at = reference.next;
         left -= 1;
     }
-    ListEnd { ok: true, at }
+    at == bytes.len()
+}
+
+// The text and the reference list at `at`, with nothing after them.
+fn take_both(bytes: &[u8], at: usize) -> PartsAt
+    requires { ⌜ at ≤ length (now bytes) ⌝ }
+    ensures taken { λ r. ⌜ takeBoth (drop at (now (bytes .entry))) ≡ partsFrom (now (bytes .entry)) r ⌝ }
+    ensures stands { λ r. ⌜ PartsStand (now (bytes .entry)) r ⌝ }
+{
+    let text = take_sized(bytes, at);
+    if text.ok {
+        let end = text.at + text.len;
+        let count = take_number(bytes, end);
+        if count.ok {
+            let ok = is_whole_list(bytes, count.next, count.value);
+            return PartsAt {
+                ok,
+                text: text.at,
+                len: text.len,
+                list: count.next,
+                count: count.value,
+            };
+        }
+    }
+    PartsAt {
+        ok: false,
+        text: 0,
+        len: 0,
+        list: 0,
+        count: 0,
+    }
+}
+
+// The parts of a binary header: `BAM` and 1 at the start, then the text and the reference list.
+pub fn parts(bytes: &[u8]) -> PartsAt
+    ensures taken { λ r. ⌜ binaryParts (now (bytes .entry)) ≡ partsFrom (now (bytes .entry)) r ⌝ }
+    ensures stands { λ r. ⌜ PartsStand (now (bytes .entry)) r ⌝ }
+{
+    if text::starts(b"BAM\x01", bytes) {
+        return take_both(bytes, 4);
+    }
+    PartsAt {
+        ok: false,
+        text: 0,
+        len: 0,
+        list: 0,
+        count: 0,
+    }
 }
 
 // How many bytes are left without the zero bytes at the end.
