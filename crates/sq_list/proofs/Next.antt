@@ -1,11 +1,11 @@
 -- The SQ list line by line: the first line's reference, and those of the lines after it.
 use Prim.Native.Nat.{ℕ, _+_, _-_, _≤_, _<_}
 use mathlib.Core.Path.{_≡_, refl, sym, ap, subst, _∙_}
-use mathlib.Core.Bool.{Bool, true, false}
+use mathlib.Core.Bool.{Bool, true, false, cond}
 use mathlib.Core.List.{List, [], _∷_, _++_}
 use native.Mathlib.Omega.{arith}
 use lib.ListN.{length, take, drop, length-drop, drop-of-length-le}
-use lib.Seq.{drop-drop}
+use lib.Seq.{drop-drop, length-take-le}
 use Rattle.format.specs.Lines.{Piece, lines, linesFrom}
 use Rattle.format.specs.Records as records
 use Rattle.format.specs.Records.{Record, header, reference, group, program, comment, Line, refusedLine, read}
@@ -31,7 +31,8 @@ use Rattle.record.specs.declared.Head.{Head}
 use Rattle.record.specs.declared.Head.the-variants as head
 use Rattle.record.specs.declared.Stretch.{Stretch}
 use Rattle.binary.specs.References.{Reference, sqList}
-use Rattle.sq_list.specs.Next.{withReference, lineReferences, sqFrom}
+use Rattle.sq_list.specs.Next.{withReference, lineReferences, sqFrom, toldReference, toldList}
+use Rattle.sq_list.specs.declared.NextReference.{NextReference}
 
 -- ---- all lines of an accepted text
 
@@ -146,3 +147,21 @@ other-head (read (comment p)) h rest = refl
 
 pub sq-other : (l : Line) (x : Head) → x ≡ headOf l → OneOf (0 ∷ 1 ∷ 3 ∷ 4 ∷ 5 ∷ []) (tagOf the-type x) → (rest : List Reference) → withReference l rest ≡ rest
 sq-other l x e h = other-head l (subst (λ y. OneOf (0 ∷ 1 ∷ 3 ∷ 4 ∷ 5 ∷ []) (tagOf the-type y)) e h)
+
+-- ---- by what the next reference tells
+
+module _ (strict : Bool) (t : List ℕ) (r : NextReference) where
+  -- it is found: it comes before those behind it
+  pub told-one : r .found ≡ true → toldList strict t r ≡ toldReference t r ∷ sqFrom strict t (r .next)
+  unfolding toldList
+  told-one e = ap (λ b. cond b (toldReference t r ∷ sqFrom strict t (r .next)) []) e
+
+  -- none is left
+  pub told-none : r .found ≡ false → toldList strict t r ≡ []
+  unfolding toldList
+  told-none e = ap (λ b. cond b (toldReference t r ∷ sqFrom strict t (r .next)) []) e
+
+  -- how long its name is
+  pub told-length : r .name .at + r .name .len ≤ length t → length (toldReference t r .name) ≡ r .name .len
+  unfolding toldReference
+  told-length h = length-take-le (r .name .len) (drop (r .name .at) t) (omega (arith, length-drop (r .name .at) t, h))
