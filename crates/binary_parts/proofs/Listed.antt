@@ -5,18 +5,14 @@ use mathlib.Core.Bool.{Bool, true, false, false≢true}
 use mathlib.Core.List.{List, [], _∷_}
 use mathlib.Core.Option.{Option, none, some}
 use native.Mathlib.Omega.{arith}
-use lib.ListN.{length, take, drop, length-drop}
+use lib.ListN.{length, drop, length-drop}
 use lib.Dec.{eqb}
 use borrow.Author.Tests.{eq-eqb, ne-eqb}
 use Rattle.format.specs.Bytes.{none?}
 use Rattle.binary.specs.References.{Reference}
 use Rattle.binary.specs.Binary.{andThen, takeReference, takeList}
 use Rattle.binary_parts.specs.declared.ReferenceAt.{ReferenceAt}
-use Rattle.binary_parts.specs.Parts.{referenceFrom, isWhole, listed}
-
--- the name and the length that stand there
-unfoldable pub referenceIn : List ℕ → ReferenceAt → Reference
-referenceIn s r = record { name = take (r .len) (drop (r .name) s); size = r .size }
+use Rattle.binary_parts.specs.Parts.{referenceIn, referenceFrom, isWhole, listed}
 
 module _ (s : List ℕ) (at left : ℕ) (k : 0 < left) (r : ReferenceAt) (e : takeReference (drop at s) ≡ referenceFrom s r) where
   one-less : left ≡ suc (left - 1)

@@ -21,9 +21,14 @@ numberFrom s r = cond (r .ok) (some (r .value, drop (r .next) s)) none
 unfoldable pub runFrom : List ℕ → RunAt → Option (List ℕ × List ℕ)
 runFrom s r = cond (r .ok) (some (take (r .len) (drop (r .at) s), drop (r .at + r .len) s)) none
 
--- a reference, and the bytes after it
+-- a reference: the bytes where its name stands, and its length
+unfoldable pub referenceIn : List ℕ → ReferenceAt → Reference
+referenceIn s r = record { name = take (r .len) (drop (r .name) s); size = r .size }
+
+-- the same, and the bytes after it
 unfoldable pub referenceFrom : List ℕ → ReferenceAt → Option (Reference × List ℕ)
-referenceFrom s r = cond (r .ok) (some (record { name = take (r .len) (drop (r .name) s); size = r .size }, drop (r .next) s)) none
+unfolding referenceIn
+referenceFrom s r = cond (r .ok) (some (referenceIn s r, drop (r .next) s)) none
 
 -- was a reference list taken, with nothing after it?
 unfoldable pub isWhole : Option (List Reference × List ℕ) → Bool
