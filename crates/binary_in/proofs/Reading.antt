@@ -1,12 +1,11 @@
 -- What taking apart, judging and comparing say of the answer.
 use Prim.Native.Nat.{ℕ}
-use mathlib.Core.Path.{_≡_, refl, sym, ap, _∙_}
+use mathlib.Core.Path.{_≡_, refl}
 use mathlib.Core.Bool.{true, false}
 use mathlib.Core.List.{List}
-use mathlib.Core.Option.{Option, none, some}
 use lib.ListN.{take, drop}
 use Rattle.format.specs.Reading.{refusedText, accept, readText}
-use Rattle.format.specs.Calls.{Answer, refused, yes, then, readAnswer, records}
+use Rattle.format.specs.Calls.{refused, then, readAnswer, records}
 use Rattle.accepted.specs.Read.{recordsOf}
 use Rattle.tidy.specs.Written.{writingTidy}
 use Rattle.binary.specs.References.{sqList, sameReferences}

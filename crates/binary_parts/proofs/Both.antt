@@ -1,6 +1,6 @@
 -- The text and the reference list, with nothing after them; and the four bytes before them.
 use Prim.Native.Nat.{ℕ, _+_, _≤_}
-use mathlib.Core.Path.{_≡_, refl, sym, ap, _∙_}
+use mathlib.Core.Path.{_≡_, refl, sym, _∙_}
 use mathlib.Core.Bool.{Bool, true, false, cond, false≢true}
 use mathlib.Core.List.{List}
 use mathlib.Core.Option.{Option, none, some}
@@ -32,6 +32,7 @@ module _ (s : List ℕ) (at : ℕ) (t : RunAt) (e : takeSized (drop at s) ≡ ru
       where
         text : List ℕ
         text = take (t .len) (drop (t .at) s)
+
         go : (l : Option (List Reference × List ℕ)) → andThen {B = List ℕ × List Reference} l (λ list. cond (none? (list .1)) (some (text, list .0)) none) ≡ cond (isWhole l) (some (text, listed l)) none
         go none = refl
         go (some p) = refl

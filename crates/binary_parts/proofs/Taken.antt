@@ -1,19 +1,18 @@
 -- What is taken off the bytes from a place on: the places say what stands there.
-use Prim.Native.Nat.{ℕ, suc, _+_, _-_, _≤_, _<_}
-use mathlib.Core.Path.{_≡_, refl, sym, ap, _∙_}
+use Prim.Native.Nat.{ℕ, _+_, _-_, _≤_, _<_}
+use mathlib.Core.Path.{_≡_, refl, _∙_}
 use mathlib.Core.Bool.{Bool, true, false, cond}
-use mathlib.Core.List.{List, [], _∷_}
-use mathlib.Core.Option.{Option, none, some}
+use mathlib.Core.List.{List}
+use mathlib.Core.Option.{none, some}
 use native.Mathlib.Omega.{arith}
 use lib.ListN.{length, take, drop, length-drop}
 use lib.Seq.{drop-drop}
 use borrow.Author.Tests.{le-leb, lt-leb}
 use Rattle.text.specs.Little.{ofLittle}
 use Rattle.binary.specs.References.{Reference}
-use Rattle.binary.specs.Binary.{andThen, takeBytes, takeNumber, takeSized, closedName, takeReference, takeList}
+use Rattle.binary.specs.Binary.{andThen, takeBytes, takeNumber, takeSized, closedName, takeReference}
 use Rattle.binary_parts.specs.declared.NumberAt.{NumberAt}
 use Rattle.binary_parts.specs.declared.RunAt.{RunAt}
-use Rattle.binary_parts.specs.declared.ReferenceAt.{ReferenceAt}
 use Rattle.binary_parts.specs.Parts.{numberFrom, runFrom, referenceFrom}
 
 -- ---- bytes and numbers

@@ -78,7 +78,11 @@ fn take_sized(bytes: &[u8], at: usize) -> RunAt
             };
         }
     }
-    RunAt { ok: false, at, len: 0 }
+    RunAt {
+        ok: false,
+        at,
+        len: 0,
+    }
 }
 
 // Whether a zero byte closes the run: no bytes at all are not closed.

@@ -3,9 +3,8 @@ use Prim.Native.Nat.{ℕ, _-_, _<_}
 use mathlib.Core.Path.{_≡_, refl, sym, ap, _∙_}
 use mathlib.Core.Bool.{Bool, true, false, not}
 use mathlib.Core.List.{List, [], _∷_}
-use native.Mathlib.Omega.{arith}
 use lib.ListN.{drop}
-use Rattle.binary.specs.References.{Reference, sameReference, sameReferences}
+use Rattle.binary.specs.References.{sameReference, sameReferences}
 use Rattle.binary.specs.Binary.{takeReference, takeList}
 use Rattle.binary_parts.specs.declared.ReferenceAt.{ReferenceAt}
 use Rattle.binary_parts.specs.Parts.{referenceIn, referenceFrom, isWhole, listed}
@@ -25,6 +24,7 @@ module _ (s t : List ℕ) (strict : Bool) (at left line : ℕ) (w : isWhole (tak
     where
       none : listed (takeList left (drop at s)) ≡ []
       none = ap (λ n. listed (takeList n (drop at s))) z ∙ listed-done (drop at s)
+
       go : (b : Bool) → q .found ≡ b → not b ≡ alikeFrom s t strict at left line
       go true f = sym (one-ends (toldReference t q) (sqFrom strict t (q .next)) none (e ∙ told-one strict t q f))
       go false f = sym (both-end none (e ∙ told-none strict t q f))

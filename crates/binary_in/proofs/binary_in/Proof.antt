@@ -1,7 +1,6 @@
 -- `binary_in::binary_in` meets its contract: the parts, the judgement of the text and the comparison of the lists decide in turn.
 use Prim.Native.Nat.{ℕ, _+_, _-_, _≤_}
-use mathlib.Core.Path.{_≡_, refl, sym, ap, _∙_}
-use mathlib.Core.Bool.{Bool, true, false}
+use mathlib.Core.Path.{_≡_, sym, ap, _∙_}
 use mathlib.Core.List.{List}
 use native.Mathlib.Omega.{arith}
 use lib.ListN.{length, take, drop}
@@ -21,14 +20,6 @@ use Rattle.binary_in.proofs.Reading.{in-none, in-refused, in-other, in-
 use borrow.Author.Needs.{needs}
 use Rattle.binary_in.proofs.binary_in.Statement.{statement}
 use Rattle.binary_in.proofs.binary_in.Tie as tie
-use Rattle.binary_in.proofs.binary_in.Reads as reads
-use Rattle.binary_in.proofs.binary_in.Lts as lts
-use Rattle.binary_parts.proofs.parts.Reads as parts-reads
-use Rattle.binary_parts.proofs.unpadded_len.Reads as unpadded-len-reads
-use Rattle.judging.proofs.judge.Reads as judge-reads
-use Rattle.references_in.proofs.is_sq_list.Reads as is-sq-list-reads
-use Rattle.repeat_rule.proofs.is_strict.Reads as is-strict-reads
-use Rattle.tidy.proofs.write_accepted.Reads as write-accepted-reads
 
 -- src/lib.rt:15:9
 -- ---- the text without its zero bytes

@@ -1,17 +1,14 @@
 -- `binary_parts::is_whole_list` meets its contract: the references still to pass decide.
-use Prim.Native.Nat.{_≤_, _+_, _-_}
+use Prim.Native.Nat.{_≤_}
 use mathlib.Core.Path.{_≡_, refl, sym, ap, _∙_}
 use native.Mathlib.Omega.{arith}
-use lib.ListN.{length, take, drop}
+use lib.ListN.{length, drop}
 use Rattle.binary.specs.Binary.{takeList}
 use Rattle.binary_parts.specs.Parts.{isWhole}
 use Rattle.binary_parts.proofs.Listed.{list-short, list-on, list-end}
 use borrow.Author.Tests.{not-true, not-false}
 use Rattle.binary_parts.proofs.is_whole_list.Statement.{statement}
 use Rattle.binary_parts.proofs.is_whole_list.Tie as tie
-use Rattle.binary_parts.proofs.is_whole_list.Reads as reads
-use Rattle.binary_parts.proofs.is_whole_list.Lts as lts
-use Rattle.binary_parts.proofs.take_reference.Reads as take-reference-reads
 
 abbrev Inv-loop : tie.InvT-loop
 Inv-loop bytes start count at₀ left₀ at left = (at ≤ length bytes) × (isWhole (takeList count (drop start bytes)) ≡ isWhole (takeList left (drop at bytes)))

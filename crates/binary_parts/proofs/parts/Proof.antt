@@ -1,19 +1,14 @@
 -- `binary_parts::parts` meets its contract: after `BAM` and 1 the two parts decide.
-use Prim.Native.Nat.{_≤_, _<_}
-use mathlib.Core.Path.{_≡_, refl, sym, ap, _∙_}
-use mathlib.Core.Bool.{true, false, false≢true}
+use mathlib.Core.Path.{_≡_, sym, _∙_}
+use mathlib.Core.Bool.{true, false≢true}
 use native.Mathlib.Omega.{arith}
 use borrow.Author.Needs.{needs}
 use Rattle.format.specs.Bytes.{starts}
-use Rattle.binary.specs.Binary.{magic, binaryParts}
+use Rattle.binary.specs.Binary.{magic}
 use Rattle.binary_parts.specs.Parts.{partsFrom}
 use Rattle.binary_parts.proofs.Both.{started, other-start, start-long}
 use Rattle.binary_parts.proofs.parts.Statement.{statement}
 use Rattle.binary_parts.proofs.parts.Tie as tie
-use Rattle.binary_parts.proofs.parts.Reads as reads
-use Rattle.binary_parts.proofs.parts.Lts as lts
-use Rattle.binary_parts.proofs.take_both.Reads as take-both-reads
-use Rattle.text.proofs.starts.Reads as starts-reads
 
 -- it starts with them
 begins : (c : tie.Then1) → starts magic (c .before .before .before .before .args .bytes .now) ≡ true
@@ -34,9 +29,10 @@ returns c = (started (c .before .before .before .before .before .args .bytes .no
 
 returns-2 : tie.Need-returns-2
 unfolding partsFrom magic
-returns-2 c =
-    (other-start (c .before .before .before .before .args .bytes .now) (sym (c .before .starts .ensures) ∙ c .if1 .left),
-    record { text = omega arith; list = omega arith; whole = λ q. absurd (false≢true q) })
+returns-2 c = (
+  other-start (c .before .before .before .before .args .bytes .now) (sym (c .before .starts .ensures) ∙ c .if1 .left),
+  record { text = omega arith; list = omega arith; whole = λ q. absurd (false≢true q) },
+)
 
 pub parts-spec : {M : Type 1} → statement M
 parts-spec =

@@ -1,17 +1,13 @@
 -- `binary_parts::take_number` meets its contract: fewer than four bytes are left, or the number stands in them.
 use Prim.Native.Nat.{_+_}
-use mathlib.Core.Path.{_≡_, refl, sym, ap, _∙_}
+use mathlib.Core.Path.{sym, ap, _∙_}
 use mathlib.Core.Option.{some}
-use native.Mathlib.Omega.{arith}
-use lib.ListN.{length, take, drop}
+use lib.ListN.{drop}
 use Rattle.binary_parts.specs.Parts.{numberFrom}
 use Rattle.binary_parts.proofs.Taken.{number-short, number-at}
 use borrow.Author.Needs.{needs}
 use Rattle.binary_parts.proofs.take_number.Statement.{statement}
 use Rattle.binary_parts.proofs.take_number.Tie as tie
-use Rattle.binary_parts.proofs.take_number.Reads as reads
-use Rattle.binary_parts.proofs.take_number.Lts as lts
-use Rattle.text.proofs.get_u32.Reads as get-u32-reads
 
 sub-if1 : tie.Need-sub-if1
 sub-if1 c = search needs

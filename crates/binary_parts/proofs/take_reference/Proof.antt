@@ -1,6 +1,6 @@
 -- `binary_parts::take_reference` meets its contract: the name is there, a zero byte closes it, and the length stands behind.
 use Prim.Native.Nat.{_+_, _-_}
-use mathlib.Core.Path.{_≡_, refl, sym, ap, _∙_}
+use mathlib.Core.Path.{_≡_, sym, ap, _∙_}
 use native.Mathlib.Omega.{arith}
 use lib.ListN.{take, drop}
 use lib.Dec.{eqb}
@@ -11,11 +11,6 @@ use Rattle.binary_parts.proofs.Taken.{reference-none, reference-open, r
 use borrow.Author.Needs.{needs}
 use Rattle.binary_parts.proofs.take_reference.Statement.{statement}
 use Rattle.binary_parts.proofs.take_reference.Tie as tie
-use Rattle.binary_parts.proofs.take_reference.Reads as reads
-use Rattle.binary_parts.proofs.take_reference.Lts as lts
-use Rattle.binary_parts.proofs.is_closed.Reads as is-closed-reads
-use Rattle.binary_parts.proofs.take_number.Reads as take-number-reads
-use Rattle.binary_parts.proofs.take_sized.Reads as take-sized-reads
 
 -- whether a zero byte closes the name
 closes : (c : tie.After-is-closed)
@@ -63,10 +58,11 @@ returns c =
     let a = r .before .before .args in
     let s = a .bytes .now in
     let q = r .take-sized .result in
-    let n = c .before .take-number in
-    (reference-at s (a .at) q (r .take-sized .ensures .0) (i .before .before .if1 .taken) (q .len - 1) (n .result)
-    (run-name s (q .at) (q .len) (r .take-sized .ensures .1) (sym (closes i) ∙ c .before .before .if2 .taken)) (n .ensures .0),
-    (n .ensures .1, omega (arith, r .take-sized .ensures .1)))
+    let n = c .before .take-number in (
+      reference-at s (a .at) q (r .take-sized .ensures .0) (i .before .before .if1 .taken) (q .len - 1) (n .result)
+          (run-name s (q .at) (q .len) (r .take-sized .ensures .1) (sym (closes i) ∙ c .before .before .if2 .taken)) (n .ensures .0),
+      (n .ensures .1, omega (arith, r .take-sized .ensures .1)),
+    )
 
 returns-2 : tie.Need-returns-2
 unfolding referenceFrom
@@ -75,9 +71,11 @@ returns-2 c =
     let r = i .before .before .before .before in
     let a = r .before .before .args in
     let s = a .bytes .now in
-    let q = r .take-sized .result in
-    (reference-open s (a .at) q (r .take-sized .ensures .0) (i .before .before .if1 .taken)
-    (open-name (take (q .len) (drop (q .at) s)) (sym (closes i) ∙ c .if2 .left)), search needs)
+    let q = r .take-sized .result in (
+      reference-open s (a .at) q (r .take-sized .ensures .0) (i .before .before .if1 .taken)
+          (open-name (take (q .len) (drop (q .at) s)) (sym (closes i) ∙ c .if2 .left)),
+      search needs,
+    )
 
 returns-3 : tie.Need-returns-3
 unfolding referenceFrom

@@ -1,15 +1,9 @@
 -- `binary_parts::take_sized` meets its contract: the length is there, and as many bytes after it.
-use mathlib.Core.Path.{_≡_, refl, sym, ap, _∙_}
-use native.Mathlib.Omega.{arith}
-use lib.ListN.{length, take, drop}
 use Rattle.binary_parts.specs.Parts.{runFrom}
 use Rattle.binary_parts.proofs.Taken.{sized-none, sized-short, sized-at}
 use borrow.Author.Needs.{needs}
 use Rattle.binary_parts.proofs.take_sized.Statement.{statement}
 use Rattle.binary_parts.proofs.take_sized.Tie as tie
-use Rattle.binary_parts.proofs.take_sized.Reads as reads
-use Rattle.binary_parts.proofs.take_sized.Lts as lts
-use Rattle.binary_parts.proofs.take_number.Reads as take-number-reads
 
 take-number-requires : tie.Need-take-number-requires
 take-number-requires c κs = search needs

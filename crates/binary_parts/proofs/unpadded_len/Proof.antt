@@ -1,6 +1,6 @@
 -- `binary_parts::unpadded_len` meets its contract: behind `n` are only zero bytes.
 use Prim.Native.Nat.{_≤_}
-use mathlib.Core.Path.{_≡_, refl, sym, ap, _∙_}
+use mathlib.Core.Path.{_≡_, sym, ap, _∙_}
 use native.Mathlib.Omega.{arith}
 use lib.ListN.{length, take}
 use lib.Seq.{take-length, length-take-le}
@@ -8,8 +8,6 @@ use Rattle.binary.specs.Binary.{unpadded}
 use Rattle.binary_parts.proofs.Unpadded.{unpadded-on, unpadded-at}
 use Rattle.binary_parts.proofs.unpadded_len.Statement.{statement}
 use Rattle.binary_parts.proofs.unpadded_len.Tie as tie
-use Rattle.binary_parts.proofs.unpadded_len.Reads as reads
-use Rattle.binary_parts.proofs.unpadded_len.Lts as lts
 
 abbrev Inv-loop : tie.InvT-loop
 Inv-loop run n₀ n = (n ≤ length run) × (unpadded run ≡ unpadded (take n run))

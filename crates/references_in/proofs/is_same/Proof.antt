@@ -1,6 +1,6 @@
 -- `references_in::is_same` meets its contract: the lengths decide, and then the names.
 use Prim.Native.Nat.{_+_, _-_}
-use mathlib.Core.Path.{_≡_, refl, sym, ap, ap₂, _∙_}
+use mathlib.Core.Path.{_≡_, ap₂, _∙_}
 use native.Mathlib.Omega.{arith}
 use lib.ListN.{take, drop}
 use borrow.Author.Needs.{needs}
@@ -10,9 +10,6 @@ use Rattle.sq_list.specs.Next.{toldReference}
 use Rattle.references_in.proofs.Alike.{other-size, one-size}
 use Rattle.references_in.proofs.is_same.Statement.{statement}
 use Rattle.references_in.proofs.is_same.Tie as tie
-use Rattle.references_in.proofs.is_same.Reads as reads
-use Rattle.references_in.proofs.is_same.Lts as lts
-use Rattle.text.proofs.same.Reads as same-reads
 
 returns : tie.Need-returns
 unfolding referenceIn toldReference

@@ -1,23 +1,17 @@
 -- `references_in::is_sq_list` meets its contract: the references left on both sides decide.
-use Prim.Native.Nat.{_≤_, _-_}
-use mathlib.Core.Path.{_≡_, refl, sym, ap, _∙_}
-use mathlib.Core.Bool.{true, false, not}
-use mathlib.Core.List.{List, [], _∷_}
+use Prim.Native.Nat.{_≤_}
+use mathlib.Core.Path.{_≡_, refl, sym, _∙_}
+use mathlib.Core.Bool.{Bool, true, false}
 use native.Mathlib.Omega.{arith}
 use lib.ListN.{length, drop}
 use borrow.Author.Tests.{not-true, not-false}
-use Rattle.binary.specs.References.{Reference, sameReference, sameReferences}
+use Rattle.binary.specs.References.{sameReference}
 use Rattle.binary.specs.Binary.{takeList}
-use Rattle.binary_parts.specs.Parts.{referenceIn, isWhole, listed}
+use Rattle.binary_parts.specs.Parts.{referenceIn, isWhole}
+use Rattle.sq_list.specs.Next.{toldReference}
 use Rattle.references_in.proofs.Turn.{alikeFrom, list-ends, still-whole, text-ends, one-differs, one-alike}
-use borrow.Author.Needs.{needs}
 use Rattle.references_in.proofs.is_sq_list.Statement.{statement}
 use Rattle.references_in.proofs.is_sq_list.Tie as tie
-use Rattle.references_in.proofs.is_sq_list.Reads as reads
-use Rattle.references_in.proofs.is_sq_list.Lts as lts
-use Rattle.binary_parts.proofs.take_reference.Reads as take-reference-reads
-use Rattle.references_in.proofs.is_same.Reads as is-same-reads
-use Rattle.sq_list.proofs.next_reference.Reads as next-reference-reads
 
 abbrev Inv-loop : tie.InvT-loop
 Inv-loop bytes list count text strict at₀ left₀ line₀ at left line =
@@ -28,6 +22,14 @@ Inv-loop bytes list count text strict at₀ left₀ line₀ at left line =
 
 abbrev μ-loop : tie.MeasureT-loop
 μ-loop bytes list count text strict at₀ left₀ line₀ at left line = left
+
+-- whether the two references are alike
+answered : (c : tie.After-is-same Inv-loop μ-loop) (b : Bool) → c .is-same .result ≡ b
+    → let r = c .before .before .before in
+    let n = r .before .before in
+    let a = n .before .before .before .before .args in
+    sameReference (referenceIn (a .bytes .now) (r .take-reference .result)) (toldReference (a .text .now) (n .next-reference .result)) ≡ b
+answered c b e = sym (c .is-same .ensures) ∙ e
 
 loop-holds : tie.Need-loop-holds Inv-loop μ-loop
 loop-holds c = let s = c .before .before in (s .pre .0, omega arith, s .pre .1 .0, refl)
@@ -71,7 +73,7 @@ returns-3 c =
     (l .loop .inv .3
     ∙ one-differs (a .bytes .now) (a .text .now) (a .strict) (l .loop .at) (l .loop .left) (l .loop .line) (l .loop .inv .2) (n .next-reference .result) (n .next-reference .ensures .0)
     (omega (arith, r .before .if1 .left)) (r .take-reference .result) (r .take-reference .ensures .0) (not-false (n .next-reference .result .found) (d .if2 .left))
-    (sym (c .before .is-same .ensures) ∙ not-true (c .before .is-same .result) (c .if3 .taken)))
+    (answered (c .before) false (not-true (c .before .is-same .result) (c .if3 .taken))))
 
 sub-left : tie.Need-sub-left Inv-loop μ-loop
 sub-left c = omega (arith, c .before .before .before .before .before .if1 .left)
@@ -85,15 +87,16 @@ loop-again c =
     let r = d .before .before in
     let n = r .before .before in
     let l = n .before in
-    let a = l .before .before .before .args in
-    (r .take-reference .ensures .1 .0,
-    n .next-reference .ensures .1 .within,
-    still-whole (a .bytes .now) (a .text .now) (a .strict) (l .loop .at) (l .loop .left) (l .loop .line) (l .loop .inv .2) (n .next-reference .result) (n .next-reference .ensures .0)
-    (omega (arith, r .before .if1 .left)) (r .take-reference .result) (r .take-reference .ensures .0),
-    l .loop .inv .3
-    ∙ one-alike (a .bytes .now) (a .text .now) (a .strict) (l .loop .at) (l .loop .left) (l .loop .line) (l .loop .inv .2) (n .next-reference .result) (n .next-reference .ensures .0)
-    (omega (arith, r .before .if1 .left)) (r .take-reference .result) (r .take-reference .ensures .0) (not-false (n .next-reference .result .found) (d .if2 .left))
-    (sym (c .before .is-same .ensures) ∙ not-false (c .before .is-same .result) (c .if3 .left)))
+    let a = l .before .before .before .args in (
+      r .take-reference .ensures .1 .0,
+      n .next-reference .ensures .1 .within,
+      still-whole (a .bytes .now) (a .text .now) (a .strict) (l .loop .at) (l .loop .left) (l .loop .line) (l .loop .inv .2) (n .next-reference .result) (n .next-reference .ensures .0)
+          (omega (arith, r .before .if1 .left)) (r .take-reference .result) (r .take-reference .ensures .0),
+      l .loop .inv .3
+          ∙ one-alike (a .bytes .now) (a .text .now) (a .strict) (l .loop .at) (l .loop .left) (l .loop .line) (l .loop .inv .2) (n .next-reference .result) (n .next-reference .ensures .0)
+          (omega (arith, r .before .if1 .left)) (r .take-reference .result) (r .take-reference .ensures .0) (not-false (n .next-reference .result .found) (d .if2 .left))
+          (answered (c .before) true (not-false (c .before .is-same .result) (c .if3 .left))),
+    )
 
 pub is-sq-list-spec : {M : Type 1} → statement M
 is-sq-list-spec =
