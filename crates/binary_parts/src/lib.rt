@@ -91,7 +91,7 @@ fn is_closed(run: &[u8]) -> bool
 {
     let n = run.len();
     if n == 0 {
-        return false;
+        return false; // nothing closes no bytes
     }
     run[n - 1] == 0
 }
