@@ -17,7 +17,7 @@ fn is_same(bytes: &[u8], reference: ReferenceAt, text: &[u8], next: NextReferenc
     ensures { λ r. ⌜ r ≡ sameReference (referenceIn (now (bytes .entry)) reference) (toldReference (now (text .entry)) next) ⌝ }
 {
     if reference.size != next.length {
-        return false;
+        return false; // whatever the names are
     }
     let start = reference.name;
     let end = start + reference.len;
