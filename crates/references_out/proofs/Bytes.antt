@@ -11,7 +11,7 @@ use Rattle.text.proofs.Over.{over-length, over-over}
 use Rattle.binary.specs.References.{Reference}
 use Rattle.binary.specs.Binary.{sized, referenceBytes, listBytes}
 
-little-length : (n v : ℕ) → length (little n v) ≡ n
+pub little-length : (n v : ℕ) → length (little n v) ≡ n
 unfolding little
 little-length zero v = refl
 little-length (suc n) v = ap suc (little-length n (v / 256))

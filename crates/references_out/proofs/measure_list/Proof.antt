@@ -44,7 +44,7 @@ returns c =
     let l = n .before in
     let a = l .before .before .args in
     let none : sqFrom (a .strict) (a .text .now) (l .loop .at) ≡ [] = n .next-reference .ensures .0 ∙ told-none (a .strict) (a .text .now) (n .next-reference .result) (not-true (n .next-reference .result .found) (c .if1 .taken)) in
-    sizes (omega (arith, l .loop .inv .3, ap length none)) (omega (arith, l .loop .inv .4, ap (λ rs. length (listBytes rs)) none))
+    (sizes (omega (arith, l .loop .inv .3, ap length none)) (omega (arith, l .loop .inv .4, ap (λ rs. length (listBytes rs)) none)), omega (arith, l .loop .inv .0, l .loop .inv .2, l .before .before .pre))
 
 add-count : tie.Need-add-count Inv-loop μ-loop
 add-count c = let l = c .before .before .before in omega (arith, l .loop .inv .0, l .loop .inv .1, l .before .before .pre)
