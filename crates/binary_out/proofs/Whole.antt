@@ -1,23 +1,24 @@
 -- The binary header part by part, and what judging and measuring say of the call's answer.
-use Prim.Native.Nat.{ℕ, zero, suc, _+_, _-_, _/_, _≤_, _<_}
+use Prim.Native.Nat.{ℕ, _+_, _-_, _≤_, _<_}
 use mathlib.Core.Path.{_≡_, refl, sym, ap, _∙_}
-use mathlib.Core.Bool.{Bool, true, false, cond}
+use mathlib.Core.Bool.{true}
 use mathlib.Core.List.{List, [], _∷_, _++_, append-assoc, append-nil}
-use mathlib.Core.Option.{Option, none, some}
+use mathlib.Core.Option.{none, some}
 use native.Mathlib.Omega.{arith}
 use lib.ListN.{length, take, drop, length-append, length-take, drop-of-length-le}
 use lib.Seq.{drop-drop}
 use borrow.Author.Tests.{lt-ltb, le-ltb}
 use Rattle.format.specs.Catalogue.{little}
-use Rattle.format.specs.Reading.{refusedText, accept, readText, longest}
+use Rattle.format.specs.Reading.{refusedText, readText, longest}
 use Rattle.format.specs.Tidy.{tidy, unwritable}
-use Rattle.format.specs.Calls.{Answer, refused, yes, then, readAnswer, records, fitting, writing}
+use Rattle.format.specs.Calls.{refused, yes, then, readAnswer, records, fitting, writing}
 use Rattle.text.specs.Over.{over}
+use Rattle.text.proofs.Little.{little-length}
 use Rattle.accepted.specs.Read.{isAccepted, recordsOf}
 use Rattle.accepted.proofs.Read.{accepted-reads}
 use Rattle.binary.specs.References.{Reference, sqList}
 use Rattle.binary.specs.Binary.{magic, sized, listBytes, binary, binaryOut}
-use Rattle.references_out.proofs.Bytes.{little-length, behind}
+use Rattle.references_out.proofs.Bytes.{behind}
 use Rattle.tidy.proofs.Writing.{write-bad, write-long, write-fits}
 use Rattle.binary_out.specs.Written.{binaryOf, writingBinary}
 
