@@ -140,8 +140,16 @@ refs-order rs =
     let a : List Record = ofKind 1 rs ++ ofKind 2 rs in
     let b : List Record = a ++ ofKind 3 rs in
     let c : List Record = b ++ ofKind 4 rs in
-    refs-append c (ofKind 5 rs) ∙ rw (refs-none 5 rs refl, refs-append b (ofKind 4 rs), refs-none 4 rs refl, refs-append a (ofKind 3 rs), refs-none 3 rs refl,
-      refs-append (ofKind 1 rs) (ofKind 2 rs), refs-none 1 rs refl, refs-two rs) (nil4 (sqList rs))
+    refs-append c (ofKind 5 rs) ∙ rw (
+      refs-none 5 rs refl,
+      refs-append b (ofKind 4 rs),
+      refs-none 4 rs refl,
+      refs-append a (ofKind 3 rs),
+      refs-none 3 rs refl,
+      refs-append (ofKind 1 rs) (ofKind 2 rs),
+      refs-none 1 rs refl,
+      refs-two rs,
+    ) (nil4 (sqList rs))
   where
     nil4 : (s : List Reference) → s ++ [] ++ [] ++ [] ≡ s
     nil4 s = append-nil (s ++ [] ++ []) ∙ append-nil (s ++ []) ∙ append-nil s
@@ -161,9 +169,10 @@ refs-small : (rs : List Record) → length (text rs) ≤ 16777216 → Each Sound
 unfolding sqList AllSmall Small Each FitsRecord
 refs-small [] h z = tt
 refs-small (header v fs ∷ rs) h z = refs-small rs (omega (arith, h, more (header v fs) rs)) (z .1)
-refs-small (reference p n fs ∷ rs) h z =
-    ((omega (arith, h, length-append (p .bytes) (0 ∷ []), name-length p n fs, more (reference p n fs) rs), omega (arith, z .0 .fits .1)),
-     refs-small rs (omega (arith, h, more (reference p n fs) rs)) (z .1))
+refs-small (reference p n fs ∷ rs) h z = (
+  (omega (arith, h, length-append (p .bytes) (0 ∷ []), name-length p n fs, more (reference p n fs) rs), omega (arith, z .0 .fits .1)),
+  refs-small rs (omega (arith, h, more (reference p n fs) rs)) (z .1),
+)
 refs-small (group p fs ∷ rs) h z = refs-small rs (omega (arith, h, more (group p fs) rs)) (z .1)
 refs-small (program p fs ∷ rs) h z = refs-small rs (omega (arith, h, more (program p fs) rs)) (z .1)
 refs-small (comment p ∷ rs) h z = refs-small rs (omega (arith, h, more (comment p) rs)) (z .1)
@@ -196,7 +205,6 @@ module _ (t : List ℕ) (rs : List Record) (e : readText t ≡ accept rs) (h : l
   tidied : (room : ℕ) → tidying t room ≡ writing room none (tidy rs)
   unfolding tidying then records readAnswer
   tidied room = rw (e, u) refl
-
 
 -- ---- what is known where out answers bytes
 

@@ -71,7 +71,7 @@ reference-back : (r : Reference) (t : List ℕ) → Small r → takeReference (r
 unfolding Small
 reference-back r t h =
     from-binaryParts (referenceBytes r ++ t) (r .name ++ (0 ∷ [])) t (r .name) (r .size) (little 4 (r .size) ++ t)
-      (ap takeSized (reference-is r t) ∙ sized-back (r .name ++ (0 ∷ [])) (little 4 (r .size) ++ t) (h .0)) (closed-back (r .name)) (number-back (r .size) t (h .1))
+    (ap takeSized (reference-is r t) ∙ sized-back (r .name ++ (0 ∷ [])) (little 4 (r .size) ++ t) (h .0)) (closed-back (r .name)) (number-back (r .size) t (h .1))
 
 -- ---- the list
 
@@ -93,7 +93,7 @@ unfolding takeList listBytes AllSmall
 list-back [] t h = refl
 list-back (r ∷ rs) t h =
     one-more (length rs) (listBytes (r ∷ rs) ++ t) (listBytes rs ++ t) t r rs
-      (ap takeReference (list-is r rs t) ∙ reference-back r (listBytes rs ++ t) (h .0)) (list-back rs t (h .1))
+    (ap takeReference (list-is r rs t) ∙ reference-back r (listBytes rs ++ t) (h .0)) (list-back rs t (h .1))
 
 -- ---- the whole
 
@@ -118,5 +118,5 @@ unfolding body
 parts-back t rs h k a =
     ap binaryParts (binary-is t rs) ∙ begun (body t rs)
     ∙ whole (body t rs) (little 4 (length rs) ++ listBytes rs) (listBytes rs) t (length rs) rs
-        (sized-back t (little 4 (length rs) ++ listBytes rs) h) (number-back (length rs) (listBytes rs) k)
-        (ap (takeList (length rs)) (sym (append-nil (listBytes rs))) ∙ list-back rs [] a)
+    (sized-back t (little 4 (length rs) ++ listBytes rs) h) (number-back (length rs) (listBytes rs) k)
+    (ap (takeList (length rs)) (sym (append-nil (listBytes rs))) ∙ list-back rs [] a)

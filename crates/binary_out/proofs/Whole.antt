@@ -76,10 +76,10 @@ binary-over out text list n count e f h =
     let lb : length b ≡ 8 + length text = omega (arith, la, length-append a text) in
     let lc : length c ≡ 12 + length text = omega (arith, lb, length-append b (little 4 (length list)), little-length 4 (length list)) in
     rw (e, f) (
-      ap (λ o. over (over o (8 + length text) (little 4 (length list))) (12 + length text) (listBytes list)) (behind out 0 a text 8 (omega (arith, la)) (omega (arith, la, h, size)))
-      ∙ ap (λ o. over o (12 + length text) (listBytes list)) (behind out 0 b (little 4 (length list)) (8 + length text) (omega (arith, lb)) (omega (arith, lb, h, size, little-length 4 (length list))))
-      ∙ behind out 0 c (listBytes list) (12 + length text) (omega (arith, lc)) (omega (arith, lc, h, size))
-      ∙ ap (over out 0) (parts text list)
+    ap (λ o. over (over o (8 + length text) (little 4 (length list))) (12 + length text) (listBytes list)) (behind out 0 a text 8 (omega (arith, la)) (omega (arith, la, h, size)))
+    ∙ ap (λ o. over o (12 + length text) (listBytes list)) (behind out 0 b (little 4 (length list)) (8 + length text) (omega (arith, lb)) (omega (arith, lb, h, size, little-length 4 (length list))))
+    ∙ behind out 0 c (listBytes list) (12 + length text) (omega (arith, lc)) (omega (arith, lc, h, size))
+    ∙ ap (over out 0) (parts text list)
     )
 
 -- ---- 24, then 1, then 20

@@ -146,9 +146,9 @@ loop-again c =
       omega (arith, w .put-reference .ensures .0, size, v .2, room e .0, length-append (v .0) one),
       w .put-reference .kept .0 ∙ v .3,
       w .put-reference .ensures .1
-      ∙ ap (λ x. over (l .loop .out) (l .loop .o) (referenceBytes (record { name = x; size = r .length }))) (named e)
-      ∙ ap (λ o. over o (l .loop .o) one) (v .4)
-      ∙ behind (a .out .now) (a .start) (v .0) one (l .loop .o) (v .2) (omega (arith, room e .0, room e .1)),
+          ∙ ap (λ x. over (l .loop .out) (l .loop .o) (referenceBytes (record { name = x; size = r .length }))) (named e)
+          ∙ ap (λ o. over o (l .loop .o) one) (v .4)
+          ∙ behind (a .out .now) (a .start) (v .0) one (l .loop .o) (v .2) (omega (arith, room e .0, room e .1)),
       v .5 ∙ ap (λ x. v .0 ++ x) (listed e) ∙ sym (append-assoc (v .0) one rest),
     )
 

@@ -118,9 +118,9 @@ loop-again c =
       omega (arith, l .loop .inv .0),
       u .within,
       l .loop .inv .2
-      ∙ u .list
-      ∙ sq-other (line (a .strict) (record { at = l .loop .at; bytes = lent (a .text .now) (l .loop .at) (q .first-line .result .len) })) (p .parse-record .result) (p .parse-record .ensures) (c .match .keys2)
-      (sqFrom (a .strict) (a .text .now) (l .loop .at + q .first-line .result .next)),
+          ∙ u .list
+          ∙ sq-other (line (a .strict) (record { at = l .loop .at; bytes = lent (a .text .now) (l .loop .at) (q .first-line .result .len) })) (p .parse-record .result) (p .parse-record .ensures) (c .match .keys2)
+          (sqFrom (a .strict) (a .text .now) (l .loop .at + q .first-line .result .next)),
     )
 
 returns-2 : tie.Need-returns-2 Inv-loop μ-loop
