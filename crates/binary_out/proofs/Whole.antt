@@ -2,7 +2,7 @@
 use Prim.Native.Nat.{ℕ, _+_, _-_, _≤_, _<_}
 use mathlib.Core.Path.{_≡_, refl, sym, ap, _∙_}
 use mathlib.Core.Bool.{true}
-use mathlib.Core.List.{List, [], _∷_, _++_, append-assoc, append-nil}
+use mathlib.Core.List.{List, [], _++_, append-assoc, append-nil}
 use mathlib.Core.Option.{none, some}
 use native.Mathlib.Omega.{arith}
 use lib.ListN.{length, take, drop, length-append, length-take, drop-of-length-le}
@@ -11,7 +11,7 @@ use borrow.Author.Tests.{lt-ltb, le-ltb}
 use Rattle.format.specs.Catalogue.{little}
 use Rattle.format.specs.Reading.{refusedText, readText, longest}
 use Rattle.format.specs.Tidy.{tidy, unwritable}
-use Rattle.format.specs.Calls.{refused, yes, then, readAnswer, records, fitting, writing}
+use Rattle.format.specs.Calls.{refused, yes, then, readAnswer, records, fitting}
 use Rattle.text.specs.Over.{over}
 use Rattle.text.proofs.Little.{little-length}
 use Rattle.accepted.specs.Read.{isAccepted, recordsOf}

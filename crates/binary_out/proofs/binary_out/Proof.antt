@@ -1,7 +1,5 @@
 -- `binary_out::binary_out` meets its contract: the text is judged, then its binary header written.
-use Prim.Native.Nat.{ℕ, _≤_, _<_}
-use mathlib.Core.Path.{_≡_, refl, sym, ap, _∙_}
-use native.Mathlib.Omega.{arith}
+use mathlib.Core.Path.{_≡_, sym, ap, _∙_}
 use mathlib.Core.Bool.{true}
 use lib.ListN.{length}
 use Rattle.format.specs.Reading.{readText}
@@ -14,11 +12,6 @@ use Rattle.binary_out.proofs.Whole.{out-refused, out-accepted}
 use borrow.Author.Needs.{needs}
 use Rattle.binary_out.proofs.binary_out.Statement.{statement}
 use Rattle.binary_out.proofs.binary_out.Tie as tie
-use Rattle.binary_out.proofs.binary_out.Reads as reads
-use Rattle.binary_out.proofs.binary_out.Lts as lts
-use Rattle.judging.proofs.judge.Reads as judge-reads
-use Rattle.repeat_rule.proofs.is_strict.Reads as is-strict-reads
-use Rattle.binary_out.proofs.write_accepted.Reads as write-accepted-reads
 
 -- the text is accepted
 accepted : (c : tie.After-enum-told) → isAccepted (readText (c .before .before .before .before .before .args .text .now)) ≡ true

@@ -1,7 +1,6 @@
 -- `binary_out::put_binary` meets its contract: the parts of the binary header stand one behind the other.
 use Prim.Native.Nat.{_+_, _≤_}
-use mathlib.Core.Path.{_≡_, sym, ap, _∙_}
-use mathlib.Core.List.{_++_}
+use mathlib.Core.Path.{_≡_, ap, _∙_}
 use native.Mathlib.Omega.{arith}
 use lib.ListN.{length}
 use Rattle.format.specs.Catalogue.{little}
@@ -11,11 +10,10 @@ use Rattle.accepted.specs.Read.{recordsOf}
 use Rattle.accepted.proofs.Read.{accepted-reads}
 use Rattle.accepted.proofs.Text.{text-fits}
 use Rattle.binary.specs.References.{sqList}
-use Rattle.binary.specs.Binary.{magic, listBytes}
+use Rattle.binary.specs.Binary.{listBytes}
 use Rattle.sq_list.specs.Next.{sqFrom}
 use Rattle.sq_list.proofs.Next.{sq-all}
 use Rattle.binary_out.proofs.Whole.{binary-length, binary-over}
-use borrow.Author.Needs.{needs}
 use Rattle.binary_out.proofs.put_binary.Statement.{statement}
 use Rattle.binary_out.proofs.put_binary.Tie as tie
 

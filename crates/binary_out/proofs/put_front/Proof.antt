@@ -1,5 +1,4 @@
 -- `binary_out::put_front` meets its contract: the length stands behind the magic bytes.
-use Prim.Native.Nat.{_+_}
 use mathlib.Core.Path.{ap, _∙_}
 use native.Mathlib.Omega.{arith}
 use Rattle.format.specs.Catalogue.{little}

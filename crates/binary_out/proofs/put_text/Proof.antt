@@ -1,9 +1,7 @@
 -- `binary_out::put_text` meets its contract: the part that was lent holds the tidy text and nothing else.
 use Prim.Native.Nat.{_+_, _-_}
-use mathlib.Core.Path.{_≡_, ap, _∙_}
 use native.Mathlib.Omega.{arith}
-use lib.ListN.{length, drop, length-take, length-drop}
-use borrow.Rule.Slice.PartMut.{same-len-mid}
+use lib.ListN.{drop, length-take, length-drop}
 use Rattle.format.specs.Tidy.{tidy}
 use Rattle.accepted.specs.Read.{recordsOf}
 use Rattle.binary_out.proofs.Whole.{part-over}
@@ -30,9 +28,7 @@ put-tidy-requires c κs =
     (s .pre .0, (s .pre .1 .0, (s .pre .1 .1 .0, omega (arith, s .pre .1 .1 .1 .0, s .pre .1 .1 .1 .1, length-take (8 + n - 8) (drop 8 (s .args .out .now)), length-drop 8 (s .args .out .now)))))
 
 same-length : tie.Need-same-length
-same-length c =
-    let w = c .before .before in
-    same-len-mid 8 (8 + w .before .before .before .before .args .n - 8) (w .before .before .before .before .args .out .now) (w .put-tidy .last .1 .1 .1 .0) (w .put-tidy .kept .1 .1 .1 .0)
+same-length c = search needs
 
 returns : tie.Need-returns
 returns c =

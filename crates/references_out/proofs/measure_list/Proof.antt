@@ -1,18 +1,16 @@
 -- `references_out::measure_list` meets its contract: what was counted, and the list from the line at hand on, make up the whole list.
-use Prim.Native.Nat.{ℕ, _+_, _-_, _*_, _≤_, _<_}
-use mathlib.Core.Path.{_≡_, refl, sym, ap, _∙_}
-use mathlib.Core.Bool.{true, false}
-use mathlib.Core.List.{List, [], _∷_}
+use Prim.Native.Nat.{ℕ, _+_, _-_, _*_, _≤_}
+use mathlib.Core.Path.{_≡_, refl, ap, _∙_}
+use mathlib.Core.List.{[], _∷_}
 use native.Mathlib.Omega.{arith}
 use lib.ListN.{length}
 use borrow.Author.Tests.{not-true, not-false}
 use Rattle.binary.specs.Binary.{listBytes}
-use Rattle.sq_list.specs.Next.{sqFrom, toldReference, toldList}
+use Rattle.sq_list.specs.Next.{sqFrom, toldReference}
 use Rattle.sq_list.proofs.Next.{told-one, told-none, told-length}
 use Rattle.references_out.specs.Size.{listSize}
 use Rattle.references_out.specs.declared.ListSize.{ListSize}
 use Rattle.references_out.proofs.Bytes.{list-length}
-use borrow.Author.Needs.{needs}
 use Rattle.references_out.proofs.measure_list.Statement.{statement}
 use Rattle.references_out.proofs.measure_list.Tie as tie
 

@@ -1,18 +1,16 @@
 -- `references_out::put_list` meets its contract: what was written, and the list from the line at hand on, make up the whole list.
-use Prim.Native.Nat.{ℕ, _+_, _-_, _≤_, _<_}
+use Prim.Native.Nat.{ℕ, _+_, _-_, _≤_}
 use mathlib.Core.Path.{_≡_, refl, sym, ap, _∙_}
-use mathlib.Core.Bool.{true, false}
-use mathlib.Core.List.{List, [], _∷_, _++_, append-assoc, append-nil}
+use mathlib.Core.List.{List, [], _++_, append-assoc, append-nil}
 use native.Mathlib.Omega.{arith}
 use lib.ListN.{length, take, drop, length-append}
 use borrow.Author.Tests.{not-true, not-false}
 use Rattle.text.specs.Over.{over}
 use Rattle.text.proofs.Over.{over-none}
 use Rattle.binary.specs.Binary.{referenceBytes, listBytes}
-use Rattle.sq_list.specs.Next.{sqFrom, toldReference, toldList}
+use Rattle.sq_list.specs.Next.{sqFrom, toldReference}
 use Rattle.sq_list.proofs.Next.{told-one, told-none, told-length}
 use Rattle.references_out.proofs.Bytes.{reference-length, behind}
-use borrow.Author.Needs.{needs}
 use Rattle.references_out.proofs.put_list.Statement.{statement}
 use Rattle.references_out.proofs.put_list.Tie as tie
 

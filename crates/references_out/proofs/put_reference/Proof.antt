@@ -1,6 +1,6 @@
 -- `references_out::put_reference` meets its contract: the parts of a reference stand one behind the other.
 use Prim.Native.Nat.{_+_}
-use mathlib.Core.Path.{refl, sym, ap, _∙_}
+use mathlib.Core.Path.{refl, ap, _∙_}
 use native.Mathlib.Omega.{arith}
 use lib.ListN.{length, set, length-set}
 use Rattle.format.specs.Catalogue.{little}
