@@ -1,20 +1,16 @@
 -- The bytes of a reference list: how many, and one reference before the others.
-use Prim.Native.Nat.{ℕ, zero, suc, _+_, _/_, _≤_}
-use mathlib.Core.Path.{_≡_, refl, sym, ap, _∙_}
+use Prim.Native.Nat.{ℕ, _+_, _≤_}
+use mathlib.Core.Path.{_≡_, sym, ap, _∙_}
 use mathlib.Core.List.{List, [], _∷_, _++_, append-assoc}
 use native.Mathlib.Omega.{arith}
 use lib.ListN.{length, set, length-append}
 use lib.Seq.{sets-eq}
 use Rattle.format.specs.Catalogue.{little}
 use Rattle.text.specs.Over.{over}
+use Rattle.text.proofs.Little.{little-length}
 use Rattle.text.proofs.Over.{over-length, over-over}
 use Rattle.binary.specs.References.{Reference}
 use Rattle.binary.specs.Binary.{sized, referenceBytes, listBytes}
-
-little-length : (n v : ℕ) → length (little n v) ≡ n
-unfolding little
-little-length zero v = refl
-little-length (suc n) v = ap suc (little-length n (v / 256))
 
 pub reference-length : (r : Reference) → length (referenceBytes r) ≡ length (r .name) + 9
 unfolding referenceBytes sized

@@ -1,6 +1,6 @@
 // The SQ list of a text, measured, and written as a reference list of the binary header.
 ghost use mathlib.Core.Path.{_≡_};
-ghost use Prim.Native.Nat.{_≤_, _+_};
+ghost use Prim.Native.Nat.{_≤_, _+_, _*_};
 ghost use lib.ListN.{length};
 ghost use Rattle.text.specs.Over.{over};
 ghost use Rattle.binary.specs.Binary.{referenceBytes, listBytes};
@@ -13,10 +13,12 @@ pub struct ListSize {
     pub bytes: usize,
 }
 
-// The size of a text's SQ list; `strict` is what the text says of repeated tags.
+// The size of a text's SQ list; `strict` is what the text says of repeated tags. There are no more references than bytes of the text, and
+// no name is longer than it.
 pub fn measure_list(text: &[u8], strict: bool) -> ListSize
     requires { ⌜ length (now text) ≤ 16777216 ⌝ }
-    ensures { λ r. ⌜ r ≡ listSize (sqFrom strict (now (text .entry)) 0) ⌝ }
+    ensures size { λ r. ⌜ r ≡ listSize (sqFrom strict (now (text .entry)) 0) ⌝ }
+    ensures small { λ r. ⌜ r .bytes ≤ 16777216 * 16777225 ⌝ }
 {
     let mut count: u32 = 0;
     let mut bytes: usize = 0;

@@ -1,18 +1,16 @@
 -- `references_out::put_list` meets its contract: what was written, and the list from the line at hand on, make up the whole list.
-use Prim.Native.Nat.{ℕ, _+_, _-_, _≤_, _<_}
+use Prim.Native.Nat.{ℕ, _+_, _-_, _≤_}
 use mathlib.Core.Path.{_≡_, refl, sym, ap, _∙_}
-use mathlib.Core.Bool.{true, false}
-use mathlib.Core.List.{List, [], _∷_, _++_, append-assoc, append-nil}
+use mathlib.Core.List.{List, [], _++_, append-assoc, append-nil}
 use native.Mathlib.Omega.{arith}
 use lib.ListN.{length, take, drop, length-append}
 use borrow.Author.Tests.{not-true, not-false}
 use Rattle.text.specs.Over.{over}
 use Rattle.text.proofs.Over.{over-none}
 use Rattle.binary.specs.Binary.{referenceBytes, listBytes}
-use Rattle.sq_list.specs.Next.{sqFrom, toldReference, toldList}
+use Rattle.sq_list.specs.Next.{sqFrom, toldReference}
 use Rattle.sq_list.proofs.Next.{told-one, told-none, told-length}
 use Rattle.references_out.proofs.Bytes.{reference-length, behind}
-use borrow.Author.Needs.{needs}
 use Rattle.references_out.proofs.put_list.Statement.{statement}
 use Rattle.references_out.proofs.put_list.Tie as tie
 
@@ -146,9 +144,9 @@ loop-again c =
       omega (arith, w .put-reference .ensures .0, size, v .2, room e .0, length-append (v .0) one),
       w .put-reference .kept .0 ∙ v .3,
       w .put-reference .ensures .1
-      ∙ ap (λ x. over (l .loop .out) (l .loop .o) (referenceBytes (record { name = x; size = r .length }))) (named e)
-      ∙ ap (λ o. over o (l .loop .o) one) (v .4)
-      ∙ behind (a .out .now) (a .start) (v .0) one (l .loop .o) (v .2) (omega (arith, room e .0, room e .1)),
+          ∙ ap (λ x. over (l .loop .out) (l .loop .o) (referenceBytes (record { name = x; size = r .length }))) (named e)
+          ∙ ap (λ o. over o (l .loop .o) one) (v .4)
+          ∙ behind (a .out .now) (a .start) (v .0) one (l .loop .o) (v .2) (omega (arith, room e .0, room e .1)),
       v .5 ∙ ap (λ x. v .0 ++ x) (listed e) ∙ sym (append-assoc (v .0) one rest),
     )
 

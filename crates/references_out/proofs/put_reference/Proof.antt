@@ -1,6 +1,6 @@
 -- `references_out::put_reference` meets its contract: the parts of a reference stand one behind the other.
 use Prim.Native.Nat.{_+_}
-use mathlib.Core.Path.{refl, sym, ap, _∙_}
+use mathlib.Core.Path.{refl, ap, _∙_}
 use native.Mathlib.Omega.{arith}
 use lib.ListN.{length, set, length-set}
 use Rattle.format.specs.Catalogue.{little}
@@ -65,8 +65,8 @@ returns c =
     let n = length (a .name .now) in (
       refl,
       third .put-u322 .ensures
-      ∙ ap (λ o. over (set o (a .at + 4 + n) 0) (a .at + 5 + n) (little 4 (a .size))) (second .put-bytes .ensures ∙ ap (λ o. over o (a .at + 4) (a .name .now)) (first .put-u32 .ensures))
-      ∙ reference-over (a .out .now) (a .at) (a .name .now) (a .size) (first .before .before .before .before .pre .1),
+          ∙ ap (λ o. over (set o (a .at + 4 + n) 0) (a .at + 5 + n) (little 4 (a .size))) (second .put-bytes .ensures ∙ ap (λ o. over o (a .at + 4) (a .name .now)) (first .put-u32 .ensures))
+          ∙ reference-over (a .out .now) (a .at) (a .name .now) (a .size) (first .before .before .before .before .pre .1),
     )
 
 pub put-reference-spec : {M : Type 1} → statement M

@@ -1,23 +1,17 @@
 -- `sq_list::next_reference` meets its contract: the list from the start on is the list of the lines still to come.
-use Prim.Native.Nat.{ℕ, _+_, _-_, _≤_, _<_}
+use Prim.Native.Nat.{_+_, _-_, _≤_}
 use mathlib.Core.Path.{_≡_, refl, sym, ap, _∙_}
-use mathlib.Core.Bool.{true, false, false≢true}
-use mathlib.Core.List.{List}
+use mathlib.Core.Bool.{false≢true}
 use native.Mathlib.Omega.{arith}
-use lib.ListN.{length, take, drop, length-take}
+use lib.ListN.{length, drop, length-take}
 use Rattle.format.specs.Records.{line}
 use Rattle.text.specs.First.{firstLine}
 use Rattle.field.proofs.Before.{rest}
-use Rattle.record.specs.Head.{headOf}
-use Rattle.sq_list.specs.Next.{sqFrom, withReference, toldReference, toldList}
+use Rattle.sq_list.specs.Next.{sqFrom, toldReference, toldList}
 use Rattle.sq_list.proofs.Next.{lent, Turn, turn, sq-none, IsSq, sq-line, sq-other}
 use borrow.Author.Needs.{needs}
 use Rattle.sq_list.proofs.next_reference.Statement.{statement}
 use Rattle.sq_list.proofs.next_reference.Tie as tie
-use Rattle.sq_list.proofs.next_reference.Reads as reads
-use Rattle.sq_list.proofs.next_reference.Lts as lts
-use Rattle.record.proofs.parse_record.Reads as parse-record-reads
-use Rattle.text.proofs.first_line.Reads as first-line-reads
 
 abbrev Inv-loop : tie.InvT-loop
 Inv-loop text strict start at₀ at = (start ≤ at) × (at ≤ length text) × (sqFrom strict text start ≡ sqFrom strict text at)
@@ -118,9 +112,9 @@ loop-again c =
       omega (arith, l .loop .inv .0),
       u .within,
       l .loop .inv .2
-      ∙ u .list
-      ∙ sq-other (line (a .strict) (record { at = l .loop .at; bytes = lent (a .text .now) (l .loop .at) (q .first-line .result .len) })) (p .parse-record .result) (p .parse-record .ensures) (c .match .keys2)
-      (sqFrom (a .strict) (a .text .now) (l .loop .at + q .first-line .result .next)),
+          ∙ u .list
+          ∙ sq-other (line (a .strict) (record { at = l .loop .at; bytes = lent (a .text .now) (l .loop .at) (q .first-line .result .len) })) (p .parse-record .result) (p .parse-record .ensures) (c .match .keys2)
+          (sqFrom (a .strict) (a .text .now) (l .loop .at + q .first-line .result .next)),
     )
 
 returns-2 : tie.Need-returns-2 Inv-loop μ-loop
