@@ -14,7 +14,7 @@ use Rattle.format.specs.Catalogue.{little}
 use Rattle.format.specs.Programs.{lastOr, butLast}
 use Rattle.format.specs.Tidy.{tidy, unwritable}
 use Rattle.format.specs.Calls.{Answer, refused, yes, then, records, fitting, writing}
-use Rattle.text.specs.Little.{ofLittle}
+use Rattle.little.specs.Little.{ofLittle}
 use Rattle.binary.specs.References.{Reference, sqList, sameReferences}
 
 -- ---- the bytes
