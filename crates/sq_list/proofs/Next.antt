@@ -1,11 +1,12 @@
 -- The SQ list line by line: the first line's reference, and those of the lines after it.
 use Prim.Native.Nat.{ℕ, _+_, _-_, _≤_, _<_}
 use mathlib.Core.Path.{_≡_, refl, sym, ap, subst, _∙_}
-use mathlib.Core.Bool.{Bool, true, false, cond}
+use mathlib.Core.Bool.{Bool, true, false, false≢true, cond}
 use mathlib.Core.List.{List, [], _∷_, _++_}
 use native.Mathlib.Omega.{arith}
-use lib.ListN.{length, take, drop, length-drop, drop-of-length-le}
+use lib.ListN.{length, take, drop, getD, length-drop, drop-of-length-le}
 use lib.Seq.{drop-drop, length-take-le}
+use borrow.Author.Tests.{eq-eqb}
 use Rattle.format.specs.Lines.{Piece, lines, linesFrom}
 use Rattle.format.specs.Records as records
 use Rattle.format.specs.Records.{Record, header, reference, group, program, comment, Line, refusedLine, read}
@@ -18,9 +19,12 @@ use Rattle.text.proofs.First.{lines-first, first-le, first-within, first-some}
 use Rattle.text.proofs.Stands.{stands-front, stands-onward}
 use Rattle.accepted.specs.Pieces.{Pairs, pieces}
 use Rattle.accepted.specs.Admits.{strictly}
-use Rattle.accepted.specs.Sound.{FitsRecord}
+use Rattle.accepted.specs.Sound.{FitsRecord, kind}
+use Rattle.accepted.specs.Spelled as sp
+use Rattle.accepted.specs.Spelled.{AcceptedLine, kind₀}
 use Rattle.accepted.proofs.Bools.{never}
-use Rattle.accepted.proofs.Sound.{line-sound}
+use Rattle.accepted.proofs.Sound.{made-kind, line-sound}
+use Rattle.accepted.proofs.Spelled.{line-accepted}
 use Rattle.accepted.proofs.Stands.{stands-within, line-stand}
 use Rattle.accepted.proofs.Text.{text-lines}
 use denote.Enum.Declared.{tagOf}
@@ -31,7 +35,7 @@ use Rattle.record.specs.declared.Head.{Head}
 use Rattle.record.specs.declared.Head.the-variants as head
 use Rattle.record.specs.declared.Stretch.{Stretch}
 use Rattle.binary.specs.References.{Reference, sqList}
-use Rattle.sq_list.specs.Next.{withReference, lineReferences, sqFrom, toldReference, toldList}
+use Rattle.sq_list.specs.Next.{mayBeSq, withReference, lineReferences, sqFrom, toldReference, toldList}
 use Rattle.sq_list.specs.declared.NextReference.{NextReference}
 
 -- ---- all lines of an accepted text
@@ -147,6 +151,30 @@ other-head (read (comment p)) h rest = refl
 
 pub sq-other : (l : Line) (x : Head) → x ≡ headOf l → OneOf (0 ∷ 1 ∷ 3 ∷ 4 ∷ 5 ∷ []) (tagOf the-type x) → (rest : List Reference) → withReference l rest ≡ rest
 sq-other l x e h = other-head l (subst (λ y. OneOf (0 ∷ 1 ∷ 3 ∷ 4 ∷ 5 ∷ []) (tagOf the-type y)) e h)
+
+-- ---- by the line's second byte
+
+second-byte : (strict : Bool) (at : ℕ) (s : List ℕ) (r : Record) → AcceptedLine strict at s r → getD s 1 0 ≡ kind₀ (kind r)
+unfolding kind₀ kind
+second-byte strict at s r (sp.of-remark t) = refl
+second-byte strict at s r (sp.of-fields a) = ap (λ l. getD l 1 0) (a .spells) ∙ ap kind₀ (sym (made-kind (a .fields) (a .kind) r (a .made)))
+
+no-sq : (s : List ℕ) (r : Record) → getD s 1 0 ≡ kind₀ (kind r) → mayBeSq s ≡ false → (rest : List Reference) → withReference (read r) rest ≡ rest
+unfolding kind₀ kind mayBeSq withReference sqList
+no-sq s (header v fs) e h rest = refl
+no-sq s (reference p n fs) e h rest = absurd (false≢true (sym h ∙ eq-eqb (getD s 1 0) 83 e))
+no-sq s (group p fs) e h rest = refl
+no-sq s (program p fs) e h rest = refl
+no-sq s (comment p) e h rest = refl
+
+-- a line whose second byte is not `S` has no reference
+pub sq-never : (strict : Bool) (p : Piece) → mayBeSq (p .bytes) ≡ false → (rest : List Reference) → withReference (records.line strict p) rest ≡ rest
+unfolding withReference
+sq-never strict p h rest = go (records.line strict p) refl
+  where
+    go : (l : Line) → records.line strict p ≡ l → withReference l rest ≡ rest
+    go (refusedLine n) e = refl
+    go (read r) e = no-sq (p .bytes) r (second-byte strict (p .at) (p .bytes) r (line-accepted strict p r e)) h rest
 
 -- ---- by what the next reference tells
 

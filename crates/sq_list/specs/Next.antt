@@ -3,11 +3,16 @@ use Prim.Native.Nat.{ℕ, _+_, _≤_, _<_}
 use mathlib.Core.Path.{_≡_}
 use mathlib.Core.Bool.{Bool, true, cond}
 use mathlib.Core.List.{List, [], _∷_, _++_}
-use lib.ListN.{length, take, drop}
+use lib.ListN.{length, take, drop, getD}
+use lib.Dec.{eqb}
 use Rattle.format.specs.Lines.{Piece, linesFrom}
 use Rattle.format.specs.Records.{Line, refusedLine, read, line}
 use Rattle.binary.specs.References.{Reference, sqList}
 use Rattle.sq_list.specs.declared.NextReference.{NextReference}
+
+-- is the second byte of a line `S`?
+unfoldable pub mayBeSq : List ℕ → Bool
+mayBeSq s = eqb (getD s 1 0) 83
 
 -- the reference of a line, if it is an SQ, before those of the lines after it
 unfoldable pub withReference : Line → List Reference → List Reference
