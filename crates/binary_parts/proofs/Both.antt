@@ -13,21 +13,21 @@ use Rattle.binary.specs.References.{Reference}
 use Rattle.binary.specs.Binary.{andThen, takeNumber, takeSized, takeList, takeBoth, magic, binaryParts}
 use Rattle.binary_parts.specs.declared.NumberAt.{NumberAt}
 use Rattle.binary_parts.specs.declared.RunAt.{RunAt}
-use Rattle.binary_parts.specs.Parts.{numberFrom, runFrom, isWhole, listed, partsFrom}
+use Rattle.binary_parts.specs.Parts.{numberTaken, runFrom, isWhole, listed, partsFrom}
 
 module _ (s : List ℕ) (at : ℕ) (t : RunAt) (e : takeSized (drop at s) ≡ runFrom s t) where
   pub both-none : t .ok ≡ false → takeBoth (drop at s) ≡ none
   unfolding takeBoth andThen runFrom
   both-none f = rw (e, f) refl
 
-  module _ (o : t .ok ≡ true) (n : NumberAt) (k : takeNumber (drop (t .at + t .len) s) ≡ numberFrom s n) where
+  module _ (o : t .ok ≡ true) (n : NumberAt) (k : takeNumber (drop (t .at + t .len) s) ≡ numberTaken s n) where
     pub both-short : n .ok ≡ false → takeBoth (drop at s) ≡ none
-    unfolding takeBoth andThen runFrom numberFrom
+    unfolding takeBoth andThen runFrom numberTaken
     both-short f = rw (e, o, k, f) refl
 
     pub both-at : n .ok ≡ true → (w : Bool) → w ≡ isWhole (takeList (n .value) (drop (n .next) s))
         → takeBoth (drop at s) ≡ partsFrom s (record { ok = w; text = t .at; len = t .len; list = n .next; count = n .value })
-    unfolding takeBoth andThen runFrom numberFrom partsFrom isWhole listed
+    unfolding takeBoth andThen runFrom numberTaken partsFrom isWhole listed
     both-at q w i = rw (e, o, k, q, i) (go (takeList (n .value) (drop (n .next) s)))
       where
         text : List ℕ

@@ -13,7 +13,7 @@ use Rattle.binary.specs.References.{Reference}
 use Rattle.binary.specs.Binary.{andThen, takeBytes, takeNumber, takeSized, closedName, takeReference}
 use Rattle.binary_parts.specs.declared.NumberAt.{NumberAt}
 use Rattle.binary_parts.specs.declared.RunAt.{RunAt}
-use Rattle.binary_parts.specs.Parts.{numberFrom, runFrom, referenceFrom}
+use Rattle.binary_parts.specs.Parts.{numberTaken, runFrom, referenceFrom}
 
 -- ---- bytes and numbers
 
@@ -37,13 +37,13 @@ module _ (s : List ℕ) (at : ℕ) where
 
 -- ---- a run of bytes after its length
 
-module _ (s : List ℕ) (at : ℕ) (n : NumberAt) (e : takeNumber (drop at s) ≡ numberFrom s n) where
+module _ (s : List ℕ) (at : ℕ) (n : NumberAt) (e : takeNumber (drop at s) ≡ numberTaken s n) where
   pub sized-none : n .ok ≡ false → takeSized (drop at s) ≡ none
-  unfolding takeSized andThen numberFrom
+  unfolding takeSized andThen numberTaken
   sized-none f = rw (e, f) refl
 
   sized-is : n .ok ≡ true → takeSized (drop at s) ≡ takeBytes (n .value) (drop (n .next) s)
-  unfolding takeSized andThen numberFrom
+  unfolding takeSized andThen numberTaken
   sized-is t = rw (e, t) refl
 
   pub sized-short : n .ok ≡ true → length s - n .next < n .value → takeSized (drop at s) ≡ none
@@ -66,9 +66,9 @@ module _ (s : List ℕ) (at : ℕ) (r : RunAt) (e : takeSized (drop at s) ≡ ru
     reference-open o = rw (e, t, o) refl
 
     pub reference-at : (m : ℕ) (n : NumberAt) → closedName (take (r .len) (drop (r .at) s)) ≡ some (take m (drop (r .at) s))
-        → takeNumber (drop (r .at + r .len) s) ≡ numberFrom s n
+        → takeNumber (drop (r .at + r .len) s) ≡ numberTaken s n
         → takeReference (drop at s) ≡ referenceFrom s (record { ok = n .ok; name = r .at; len = m; size = n .value; next = n .next })
-    unfolding takeReference andThen runFrom numberFrom referenceFrom
+    unfolding takeReference andThen runFrom numberTaken referenceFrom
     reference-at m n o k = rw (e, t, o, k) (go (n .ok))
       where
         go : (b : Bool) → andThen {A = ℕ × List ℕ} {B = Reference × List ℕ} (cond b (some (n .value, drop (n .next) s)) none) (λ x. some (record { name = take m (drop (r .at) s); size = x .0 }, x .1))

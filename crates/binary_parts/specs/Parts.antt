@@ -14,8 +14,8 @@ use Rattle.binary_parts.specs.declared.ReferenceAt.{ReferenceAt}
 use Rattle.binary_parts.specs.declared.PartsAt.{PartsAt}
 
 -- a number, and the bytes after it
-unfoldable pub numberFrom : List ℕ → NumberAt → Option (ℕ × List ℕ)
-numberFrom s r = cond (r .ok) (some (r .value, drop (r .next) s)) none
+unfoldable pub numberTaken : List ℕ → NumberAt → Option (ℕ × List ℕ)
+numberTaken s r = cond (r .ok) (some (r .value, drop (r .next) s)) none
 
 -- a run of bytes, and the bytes after it
 unfoldable pub runFrom : List ℕ → RunAt → Option (List ℕ × List ℕ)

@@ -5,7 +5,7 @@ ghost use lib.Dec.{eqb};
 ghost use lib.ListN.{length, drop};
 ghost use Rattle.format.specs.Programs.{lastOr};
 ghost use Rattle.binary.specs.Binary.{takeNumber, takeSized, takeReference, takeList, takeBoth, binaryParts, unpadded};
-ghost use Rattle.binary_parts.specs.Parts.{numberFrom, runFrom, referenceFrom, isWhole, partsFrom, PartsStand};
+ghost use Rattle.binary_parts.specs.Parts.{numberTaken, runFrom, referenceFrom, isWhole, partsFrom, PartsStand};
 
 // A number, and where the bytes after it start.
 pub struct NumberAt {
@@ -42,7 +42,7 @@ pub struct PartsAt {
 // The number in the four bytes at `at`, if they are there.
 fn take_number(bytes: &[u8], at: usize) -> NumberAt
     requires { ⌜ at ≤ length (now bytes) ⌝ }
-    ensures taken { λ r. ⌜ takeNumber (drop at (now (bytes .entry))) ≡ numberFrom (now (bytes .entry)) r ⌝ }
+    ensures taken { λ r. ⌜ takeNumber (drop at (now (bytes .entry))) ≡ numberTaken (now (bytes .entry)) r ⌝ }
     ensures inside { λ r. ⌜ r .next ≤ length (now (bytes .entry)) ⌝ }
 {
     if bytes.len() - at < 4 {

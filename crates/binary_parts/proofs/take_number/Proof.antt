@@ -3,7 +3,7 @@ use Prim.Native.Nat.{_+_}
 use mathlib.Core.Path.{sym, ap, _∙_}
 use mathlib.Core.Option.{some}
 use lib.ListN.{drop}
-use Rattle.binary_parts.specs.Parts.{numberFrom}
+use Rattle.binary_parts.specs.Parts.{numberTaken}
 use Rattle.binary_parts.proofs.Taken.{number-short, number-at}
 use borrow.Author.Needs.{needs}
 use Rattle.binary_parts.proofs.take_number.Statement.{statement}
@@ -13,7 +13,7 @@ sub-if1 : tie.Need-sub-if1
 sub-if1 c = search needs
 
 returns : tie.Need-returns
-unfolding numberFrom
+unfolding numberTaken
 returns c = let a = c .before .before .args in (number-short (a .bytes .now) (a .at) (c .if1 .taken), search needs)
 
 get-u32-requires : tie.Need-get-u32-requires
@@ -23,7 +23,7 @@ add-t4 : tie.Need-add-t4
 add-t4 c = search needs
 
 returns-2 : tie.Need-returns-2
-unfolding numberFrom
+unfolding numberTaken
 returns-2 c =
     let a = c .before .before .before .args in
     (number-at (a .bytes .now) (a .at) (c .before .if1 .left) ∙ ap (λ v. some (v, drop (a .at + 4) (a .bytes .now))) (sym (c .get-u32 .ensures)), search needs)
