@@ -27,8 +27,8 @@ pub record Answerable (text kept : List ℕ) (m : ℕ) (list slots out : List �
   pub told : Each (Told text) (entriesIn kept)
 
 -- the index of these names
-abbrev pub indexIn : List ℕ → List ℕ → List ℕ
-indexIn text kept = index (namesOfSq text kept)
+abbrev pub nameIndexIn : List ℕ → List ℕ → List ℕ
+nameIndexIn text kept = index (namesOfSq text kept)
 
 -- the ordinal of each asked name among them
 abbrev pub ordinalsIn : List ℕ → List ℕ → List ℕ → List ℕ

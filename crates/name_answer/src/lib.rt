@@ -1,6 +1,6 @@
 // The answer of many names at once, where nothing refuses: an index of the SQ names, and by it the ordinal of each name of a list.
 ghost use mathlib.Core.Path.{_≡_};
-ghost use Rattle.name_answer.specs.Answering.{Answerable, indexIn, ordinalsIn, looksIn};
+ghost use Rattle.name_answer.specs.Answering.{Answerable, nameIndexIn, ordinalsIn, looksIn};
 
 // Once nothing refuses: each name's ordinal in `out`, the index in `slots`, and the slots that were looked at. While names are looked for
 // the slots tell where names stand, so that a slot's name is found at once, and the ordinals afterwards: each of the `m` names of the SQ keeps
@@ -15,7 +15,7 @@ fn answer_noting(
     notes: &mut [u32],
 ) -> u64
     requires { ⌜ Answerable (now text) (now kept) m (now list) (now slots) (now out) ⌝ }
-    ensures slots { λ _. ⌜ now (slots .exit) ≡ indexIn (now (text .entry)) (now (kept .entry)) ⌝ }
+    ensures slots { λ _. ⌜ now (slots .exit) ≡ nameIndexIn (now (text .entry)) (now (kept .entry)) ⌝ }
     ensures found { λ _. ⌜ now (out .exit) ≡ ordinalsIn (now (text .entry)) (now (kept .entry)) (now (list .entry)) ⌝ }
     ensures looks { λ r. ⌜ r ≡ looksIn (now (text .entry)) (now (kept .entry)) (now (list .entry)) ⌝ }
 {
@@ -36,7 +36,7 @@ pub fn answer(
     out: &mut [u32],
 ) -> u64
     requires { ⌜ Answerable (now text) (now kept) m (now list) (now slots) (now out) ⌝ }
-    ensures slots { λ _. ⌜ now (slots .exit) ≡ indexIn (now (text .entry)) (now (kept .entry)) ⌝ }
+    ensures slots { λ _. ⌜ now (slots .exit) ≡ nameIndexIn (now (text .entry)) (now (kept .entry)) ⌝ }
     ensures found { λ _. ⌜ now (out .exit) ≡ ordinalsIn (now (text .entry)) (now (kept .entry)) (now (list .entry)) ⌝ }
     ensures looks { λ r. ⌜ r ≡ looksIn (now (text .entry)) (now (kept .entry)) (now (list .entry)) ⌝ }
 {
