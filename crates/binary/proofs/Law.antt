@@ -98,7 +98,7 @@ refs-append (comment p ∷ rs) qs = refs-append rs qs
 
 -- ---- sizes
 
-more : (r : Record) (rs : List Record) → length (text (r ∷ rs)) ≡ length (recordText r) + length (text rs)
+pub more : (r : Record) (rs : List Record) → length (text (r ∷ rs)) ≡ length (recordText r) + length (text rs)
 unfolding text
 more r rs = length-append (recordText r) (text rs)
 
@@ -157,7 +157,8 @@ refs-order rs =
 refs-found : (rs qs : List Record) → map bare qs ≡ map bare (inOrder rs) → sqList qs ≡ sqList rs
 refs-found rs qs e = sym (refs-bare qs) ∙ ap sqList e ∙ refs-bare (inOrder rs) ∙ refs-order rs
 
-name-length : (p : Piece) (n : ℕ) (fs : List Field) → length (p .bytes) + 1 ≤ length (recordText (reference p n fs))
+-- a name and nine bytes more, as many as a reference has
+pub name-length : (p : Piece) (n : ℕ) (fs : List Field) → length (p .bytes) + 9 ≤ length (recordText (reference p n fs))
 unfolding recordText fieldText
 name-length p n fs =
     let a : List ℕ = (64 ∷ 83 ∷ 81 ∷ []) ++ fieldText 83 78 (p .bytes) in
@@ -243,14 +244,33 @@ read-of t rs e = go (readText t) e
     go (refusedText n l) e = absurd (never (cc))
     go (accept qs) e = let q : qs ≡ rs = cc in ap accept q
 
--- in after out gives the tidy text back
-pub in-after-out : InAfterOut
-unfolding InAfterOut binaryOut longest
-in-after-out t bytes room more e =
+-- the text was accepted, its names and its tidy text can be written, and these are the bytes
+pub record Wrote (t bytes : List ℕ) : Type 0 where
+  pub records : List Record
+  pub reads : readText t ≡ accept records
+  pub writable : unwritable 0 records ≡ none
+  pub small : length (tidy records) ≤ 16777216
+  pub bytes-are : bytes ≡ binary (tidy records) (sqList records)
+
+pub wrote : (t bytes : List ℕ) (room : ℕ) → binaryOut t room ≡ yes bytes → Wrote t bytes
+unfolding binaryOut longest
+wrote t bytes room e =
     let a : Gave (records t) (λ rs. then (writing longest (unwritable 0 rs) (tidy rs)) (λ x. fitting room (binary x (sqList rs)))) bytes = then-yes _ _ bytes e in
     let rs : List Record = a .value in
-    let q : readText t ≡ accept rs = read-of t rs (a .first) in
     let c : Gave (writing longest (unwritable 0 rs) (tidy rs)) (λ x. fitting room (binary x (sqList rs))) bytes = then-yes _ _ bytes (a .second) in
     let w : (unwritable 0 rs ≡ none) × (length (tidy rs) ≤ 16777216) × (c .value ≡ tidy rs) = writing-yes (unwritable 0 rs) (tidy rs) (c .value) (c .first) in
-    let s : bytes ≡ binary (tidy rs) (sqList rs) = fitting-yes room (binary (c .value) (sqList rs)) bytes (c .second) ∙ ap (λ x. binary x (sqList rs)) (w .2) in
-    ap (λ x. binaryIn x more) s ∙ back t rs q (w .1) (w .0) more ∙ sym (tidied t rs q (w .1) (w .0) more)
+    record {
+      records = rs;
+      reads = read-of t rs (a .first);
+      writable = w .0;
+      small = w .1;
+      bytes-are = fitting-yes room (binary (c .value) (sqList rs)) bytes (c .second) ∙ ap (λ x. binary x (sqList rs)) (w .2);
+    }
+
+-- in after out gives the tidy text back
+pub in-after-out : InAfterOut
+unfolding InAfterOut
+in-after-out t bytes room more e =
+    let w : Wrote t bytes = wrote t bytes room e in
+    ap (λ x. binaryIn x more) (w .bytes-are) ∙ back t (w .records) (w .reads) (w .small) (w .writable) more
+    ∙ sym (tidied t (w .records) (w .reads) (w .small) (w .writable) more)

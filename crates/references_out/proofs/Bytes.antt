@@ -1,4 +1,4 @@
--- The bytes of a reference list: how many, and one reference before the others.
+-- The bytes of a reference, written part by part.
 use Prim.Native.Nat.{ℕ, _+_, _≤_}
 use mathlib.Core.Path.{_≡_, sym, ap, _∙_}
 use mathlib.Core.List.{List, [], _∷_, _++_, append-assoc}
@@ -10,24 +10,7 @@ use Rattle.text.specs.Over.{over}
 use Rattle.little.proofs.Little.{little-length}
 use Rattle.text.proofs.Over.{over-length, over-over}
 use Rattle.binary.specs.References.{Reference}
-use Rattle.binary.specs.Binary.{sized, referenceBytes, listBytes}
-
-pub reference-length : (r : Reference) → length (referenceBytes r) ≡ length (r .name) + 9
-unfolding referenceBytes sized
-reference-length r =
-    let name : List ℕ = r .name ++ (0 ∷ []) in
-    omega (
-      arith,
-      length-append (little 4 (length name) ++ name) (little 4 (r .size)),
-      length-append (little 4 (length name)) name,
-      length-append (r .name) (0 ∷ []),
-      little-length 4 (length name),
-      little-length 4 (r .size),
-    )
-
-pub list-length : (r : Reference) (list : List Reference) → length (listBytes (r ∷ list)) ≡ length (r .name) + 9 + length (listBytes list)
-unfolding listBytes
-list-length r list = length-append (referenceBytes r) (listBytes list) ∙ ap (λ n. n + length (listBytes list)) (reference-length r)
+use Rattle.binary.specs.Binary.{sized, referenceBytes}
 
 -- ---- a reference written part by part
 

@@ -71,7 +71,7 @@ pub fn carry_on(text: &[u8]) -> Result<(Vec<u8>, Vec<Refusal>), Refusal> {
 
 /// The uncompressed binary header of a header.
 pub fn binary_out(text: &[u8]) -> Result<Vec<u8>, Refusal> {
-    let mut out = vec![0; 2 * text.len() + 13]; // as much as any accepted text needs
+    let mut out = vec![0; 2 * text.len() + 14]; // as much as any accepted text needs
     let n = answer(unsafe { sam_header_binary_out(text.as_ptr(), text.len(), out.as_mut_ptr(), out.len()) })?;
     out.truncate(n as usize);
     Ok(out)

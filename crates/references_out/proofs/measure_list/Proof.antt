@@ -10,7 +10,7 @@ use Rattle.sq_list.specs.Next.{sqFrom, toldReference}
 use Rattle.sq_list.proofs.Next.{told-one, told-none, told-length}
 use Rattle.references_out.specs.Size.{listSize}
 use Rattle.references_out.specs.declared.ListSize.{ListSize}
-use Rattle.references_out.proofs.Bytes.{list-length}
+use Rattle.binary.proofs.Room.{list-length}
 use Rattle.references_out.proofs.measure_list.Statement.{statement}
 use Rattle.references_out.proofs.measure_list.Tie as tie
 

@@ -10,7 +10,8 @@ use Rattle.text.proofs.Over.{over-none}
 use Rattle.binary.specs.Binary.{referenceBytes, listBytes}
 use Rattle.sq_list.specs.Next.{sqFrom, toldReference}
 use Rattle.sq_list.proofs.Next.{told-one, told-none, told-length}
-use Rattle.references_out.proofs.Bytes.{reference-length, behind}
+use Rattle.binary.proofs.Room.{reference-length}
+use Rattle.references_out.proofs.Bytes.{behind}
 use Rattle.references_out.proofs.put_list.Statement.{statement}
 use Rattle.references_out.proofs.put_list.Tie as tie
 
