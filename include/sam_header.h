@@ -4,7 +4,7 @@
  * PTRDIFF_MAX; and no slice that a call writes overlaps another slice of that call. Calls keep no state and lend nothing on: they may run side by side.
  * A call takes less than 1 MiB of stack.
  *
- * Room that always suffices: for read 3 * text_len + 1 bytes; for tidy and carry_on text_len + 1, and two numbers for each line in carry_on's table; for roots and leaves 1,024 ordinals; for names as many ordinals as the
+ * Room that always suffices: for read 3 * text_len + 1 bytes; for tidy, carry_on and binary_in as many as the text has and one more, and two numbers for each line in carry_on's table; for binary_out twice text_len and 14; for roots and leaves 1,024 ordinals; for names as many ordinals as the
  * list has names, and the slots that are said there; for add what tidy needs and for each new program, one after each leaf, prefix_len + fields_len, twice
  * the leaf's ID and 13 bytes more. An output that is too short is refusal 20.
  *
@@ -60,7 +60,9 @@ enum {
     SAM_HEADER_UNWRITABLE = 24,    /* SN can't be written */
     SAM_HEADER_NO_RECORD = 25,     /* kind not served, or no record at that ordinal */
     SAM_HEADER_BAD_GIVEN = 26,     /* add: prefix or fields */
-    SAM_HEADER_LONG_LENGTH = 27    /* LN of SQ: above 2,147,483,647, in 64 bits */
+    SAM_HEADER_LONG_LENGTH = 27,   /* LN of SQ: above 2,147,483,647, in 64 bits */
+    SAM_HEADER_BAD_BINARY = 28,    /* binary_in: not the form of a binary header */
+    SAM_HEADER_OTHER_LIST = 29     /* binary_in: the reference list is not the text's SQ list */
 };
 
 /* Field's answer where the caller's stand-in takes the value's place: all ones. It has no number and no line. */
@@ -88,6 +90,16 @@ uint64_t sam_header_tidy(const uint8_t *text, size_t text_len, uint8_t *out, siz
  * and an HD may still be kept; a key of a skipped line is free. 1 for the text, then 24, 1 for the text to be written, 20 for a short output or a
  * short table; then neither of them changes. */
 uint64_t sam_header_carry_on(const uint8_t *text, size_t text_len, uint8_t *out, size_t out_len, uint32_t *table, size_t table_len);
+
+/* Writes the uncompressed binary header of a header: the bytes BAM and 1, the length of the tidy text and the tidy text, how many SQ there are, and for each,
+ * in the text's order, the length of its name with a closing zero byte, the name, that byte, and its LN; numbers have 4 bytes, the lowest first. Refused as
+ * tidy is; an `out` that takes the tidy text alone is too short. */
+uint64_t sam_header_binary_out(const uint8_t *text, size_t text_len, uint8_t *out, size_t out_len);
+
+/* Writes the tidy text of an uncompressed binary header, whose text may end with zero bytes. 28 where the bytes have another form: another start, too few or
+ * too many, a name length of 0, a name without its closing zero. Then reading's refusals of the text, with lines of the text; 29 where the list is not the
+ * text's SQ list, names and lengths in order; then as tidy. */
+uint64_t sam_header_binary_in(const uint8_t *bytes, size_t bytes_len, uint8_t *out, size_t out_len);
 
 /* ---- over a text and its catalogue: reading's own refusal comes first, then 21.
  * Kinds are HD 1, SQ 2, RG 3, PG 4, CO 5; ordinals count from 0 within a kind. */

@@ -12,6 +12,7 @@ ghost use Rattle.names.specs.Answers.{namesOf, resultsOf, slotsOf};
 ghost use Rattle.parser.specs.Answers.{answerOf, outputOf, checkedOf};
 ghost use Rattle.calls.specs.Answers.{countOf, keyAnswerOf, lengthAnswerOf, lineAnswerOf, valuePlaceOf};
 ghost use Rattle.roots_and_leaves.specs.Answers.{leavesAnswerOf, listOf};
+ghost use Rattle.binary.specs.Binary.{binaryOut, binaryIn};
 ghost use Rattle.words.specs.Words.{answerWord, checkedWord, carriedWord, leavesWord, keyWord, fieldWord, lengthWord, lineWord, lengthLeft};
 ghost use Rattle.words.specs.Words.{namesWord, namesLeft};
 
@@ -48,6 +49,22 @@ pub extern "C" fn sam_header_carry_on(text: &[u8], out: &mut [u8], table: &mut [
         Carried::Refused(n, line) => words::refusal_word(n, line),
         Carried::Written(n, lines) => words::pair_word(lines as u32, n as u32),
     }
+}
+
+#[no_mangle]
+pub extern "C" fn sam_header_binary_out(text: &[u8], out: &mut [u8]) -> u64
+    ensures answer { λ r. ⌜ r ≡ answerWord (answerOf (binaryOut (now (text .entry)) (length (now (out .entry))))) ⌝ }
+    ensures wrote { λ _. ⌜ now (out .exit) ≡ outputOf (binaryOut (now (text .entry)) (length (now (out .entry)))) (now (out .entry)) ⌝ }
+{
+    words::answer_word(binary_out::binary_out(text, out))
+}
+
+#[no_mangle]
+pub extern "C" fn sam_header_binary_in(bytes: &[u8], out: &mut [u8]) -> u64
+    ensures answer { λ r. ⌜ r ≡ answerWord (answerOf (binaryIn (now (bytes .entry)) (length (now (out .entry))))) ⌝ }
+    ensures wrote { λ _. ⌜ now (out .exit) ≡ outputOf (binaryIn (now (bytes .entry)) (length (now (out .entry)))) (now (out .entry)) ⌝ }
+{
+    words::answer_word(binary_in::binary_in(bytes, out))
 }
 
 #[no_mangle]

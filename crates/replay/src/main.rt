@@ -28,8 +28,11 @@
 //     tidy TEXT ROOM ok BYTES
 //     carry_on TEXT ROOM TABLE ok BYTES ROWS
 //     read TEXT ROOM ok CATALOGUE
+//     binary_out TEXT ROOM ok BYTES
+//     binary_in BYTES ROOM ok BYTES
 // have what the program on standard input writes, the tidy text, the tidy text of what is kept with the table of what is skipped, eight
-// digits for each number, and the catalogue, which the check must then take, and refuse when its last byte is another. A line of the oracle has its text first; each such text is read, tidied, and asked for its roots and leaves. Of an
+// digits for each number, the catalogue, which the check must then take, and refuse when its last byte is another, the binary header, and the
+// tidy text of a binary header. A line of the oracle has its text first; each such text is read, tidied, and asked for its roots and leaves. Of an
 // output that is lent every element is looked at: what is not the answer must be as it was. Where the field call's answer stands no program
 // can see: its contract says it.
 //
@@ -38,6 +41,8 @@
 use libc::STDOUT_FILENO;
 use replay_asked::ACCEPTED;
 use replay_asked::ADDED;
+use replay_asked::BINARY_IN;
+use replay_asked::BINARY_OUT;
 use replay_asked::CARRIED;
 use replay_asked::COUNT;
 use replay_asked::FIELD;
@@ -89,7 +94,7 @@ fn is_answer(line: &[u8], asked: usize, text: &[u8]) -> bool {
     is_call(line, asked, text, &kept[..n], &mut out)
 }
 
-// Whether a call over a text alone answers as the line says.
+// Whether a call over a text, or a binary header, alone answers as the line says.
 fn is_written(line: &[u8], asked: usize, text: &[u8]) -> bool {
     if asked == PROGRAM {
         return replay_texts::is_program(line, text);
@@ -101,6 +106,8 @@ fn is_written(line: &[u8], asked: usize, text: &[u8]) -> bool {
     }
     match asked {
         READ => replay_graphs::is_reading(line, text, &mut out),
+        BINARY_OUT => replay_texts::is_binary_out(line, text, &mut out),
+        BINARY_IN => replay_texts::is_binary_in(line, text, &mut out),
         _ => replay_texts::is_tidied(line, text, &mut out),
     }
 }
@@ -240,7 +247,7 @@ fn replay(place: usize) {
         os::fail(&name[..n]);
         return;
     }
-    let mut tally: [u32; 20] = [0; 20];
+    let mut tally: [u32; 22] = [0; 22];
     all_blocks(fd, &mut tally);
     libc::close(fd);
     io::write_all(STDOUT_FILENO, &name[..n]);

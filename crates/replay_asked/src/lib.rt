@@ -30,19 +30,23 @@ pub const CARRIED: usize = 11;
 
 pub const READ: usize = 12;
 
-pub const REFUSED: usize = 13;
+pub const BINARY_OUT: usize = 13;
 
-pub const ACCEPTED: usize = 14;
+pub const BINARY_IN: usize = 14;
 
-pub const UNWRITABLE: usize = 15;
+pub const REFUSED: usize = 15;
 
-pub const UNKNOWN: usize = 16;
+pub const ACCEPTED: usize = 16;
 
-pub const WRONG: usize = 17;
+pub const UNWRITABLE: usize = 17;
 
-pub const MARKED: usize = 18;
+pub const UNKNOWN: usize = 18;
 
-pub const FOUND: usize = 19;
+pub const WRONG: usize = 19;
+
+pub const MARKED: usize = 20;
+
+pub const FOUND: usize = 21;
 
 // What a line asks: its first word is a call, or its second what the crate makes of the text.
 pub fn asked_by(line: &[u8]) -> usize {
@@ -77,7 +81,7 @@ pub fn asked_by(line: &[u8]) -> usize {
     written_by(line)
 }
 
-// What a line asks of a text alone.
+// What a line asks of a text alone, or of a binary header.
 fn written_by(line: &[u8]) -> usize {
     let call = stored_cases::word(line, 0);
     if text::same(call, b"program") {
@@ -91,6 +95,12 @@ fn written_by(line: &[u8]) -> usize {
     }
     if text::same(call, b"read") {
         return READ;
+    }
+    if text::same(call, b"binary_out") {
+        return BINARY_OUT;
+    }
+    if text::same(call, b"binary_in") {
+        return BINARY_IN;
     }
     judged_by(stored_cases::word(line, 1))
 }
@@ -135,7 +145,7 @@ fn print_count(name: &[u8], n: u32) {
 
 // Writes how many lines ask for something written.
 fn print_written(tally: &[u32])
-    requires { ⌜ length (now tally) ≡ 20 ⌝ }
+    requires { ⌜ length (now tally) ≡ 22 ⌝ }
 {
     print_count(b" add ", tally[ADDED]);
     print_count(b" names ", tally[NAMES]);
@@ -143,11 +153,13 @@ fn print_written(tally: &[u32])
     print_count(b" tidy ", tally[TIDIED]);
     print_count(b" carry_on ", tally[CARRIED]);
     print_count(b" read ", tally[READ]);
+    print_count(b" binary_out ", tally[BINARY_OUT]);
+    print_count(b" binary_in ", tally[BINARY_IN]);
 }
 
 // Writes how many lines ask each call.
 pub fn print_asked(tally: &[u32])
-    requires { ⌜ length (now tally) ≡ 20 ⌝ }
+    requires { ⌜ length (now tally) ≡ 22 ⌝ }
 {
     print_count(b" count ", tally[COUNT]);
     print_count(b" key ", tally[KEY]);
@@ -161,7 +173,7 @@ pub fn print_asked(tally: &[u32])
 
 // Writes how many texts the crate judged in each way, and how many lines ask nothing.
 pub fn print_judged(tally: &[u32])
-    requires { ⌜ length (now tally) ≡ 20 ⌝ }
+    requires { ⌜ length (now tally) ≡ 22 ⌝ }
 {
     print_count(b" refused ", tally[REFUSED]);
     print_count(b" accepted ", tally[ACCEPTED]);
@@ -171,7 +183,7 @@ pub fn print_judged(tally: &[u32])
 
 // Writes how many answers were wrong, and how many of the marked lines were found.
 pub fn print_found(tally: &[u32])
-    requires { ⌜ length (now tally) ≡ 20 ⌝ }
+    requires { ⌜ length (now tally) ≡ 22 ⌝ }
 {
     print_number(b" wrong ", tally[WRONG]);
     print_number(b", known wrong found ", tally[FOUND]);

@@ -33,15 +33,49 @@ fn tidied(text: &[u8], out: &mut [u8]) -> CountAnswer
     tidy::tidy(text, out)
 }
 
-// Whether the tidy text is the line's, in an output of as many bytes as it says.
-pub fn is_tidied(line: &[u8], text: &[u8], out: &mut [u8]) -> bool {
-    let room = stored_answers::byte_room(stored_cases::word(line, 2), out);
-    match tidied(text, &mut out[..room]) {
+// The binary header of a text, named in this place alone.
+fn written_out(text: &[u8], out: &mut [u8]) -> CountAnswer
+    ensures { λ _. ⌜ length (now (out .exit)) ≡ length (now (out .entry)) ⌝ }
+{
+    binary_out::binary_out(text, out)
+}
+
+// The tidy text of a binary header, named in this place alone.
+fn read_in(bytes: &[u8], out: &mut [u8]) -> CountAnswer
+    ensures { λ _. ⌜ length (now (out .exit)) ≡ length (now (out .entry)) ⌝ }
+{
+    binary_in::binary_in(bytes, out)
+}
+
+// Whether the answer and what it left in the output are the line's.
+fn is_answered(line: &[u8], answer: CountAnswer, out: &[u8]) -> bool {
+    match answer {
         CountAnswer::Refused(n, no) => stored_answers::is_refusal(line, 3, n, no)
             && stored_cases::is_untouched(out),
         CountAnswer::Count(n) => stored_answers::is_ok(line, 3, 1)
             && stored_answers::is_text(stored_cases::word(line, 4), out, n),
     }
+}
+
+// Whether the tidy text is the line's, in an output of as many bytes as it says.
+pub fn is_tidied(line: &[u8], text: &[u8], out: &mut [u8]) -> bool {
+    let room = stored_answers::byte_room(stored_cases::word(line, 2), out);
+    let answer = tidied(text, &mut out[..room]);
+    is_answered(line, answer, out)
+}
+
+// Whether the binary header of a text is the line's, in an output of as many bytes as it says.
+pub fn is_binary_out(line: &[u8], text: &[u8], out: &mut [u8]) -> bool {
+    let room = stored_answers::byte_room(stored_cases::word(line, 2), out);
+    let answer = written_out(text, &mut out[..room]);
+    is_answered(line, answer, out)
+}
+
+// Whether the tidy text of a binary header is the line's, in an output of as many bytes as it says.
+pub fn is_binary_in(line: &[u8], bytes: &[u8], out: &mut [u8]) -> bool {
+    let room = stored_answers::byte_room(stored_cases::word(line, 2), out);
+    let answer = read_in(bytes, &mut out[..room]);
+    is_answered(line, answer, out)
 }
 
 // Whether tidying refuses a text as reading does, and writes nothing.

@@ -14,7 +14,7 @@ ghost use Rattle.parser.specs.Answers.{answerOf, outputOf};
 ghost use Rattle.tidy.specs.Written.{writingTidy};
 
 // Writes the tidy text of an accepted text: 24, then 1, then 20.
-fn write_accepted(text: &[u8], strict: bool, out: &mut [u8]) -> CountAnswer
+pub fn write_accepted(text: &[u8], strict: bool, out: &mut [u8]) -> CountAnswer
     requires { ⌜ isAccepted (readText (now text)) ≡ true ⌝ }
     requires { ⌜ strict ≡ isStrict (announced (lines (now text))) ⌝ }
     ensures answer { λ r. ⌜ r ≡ answerOf (writingTidy (now (text .entry)) (length (now (out .entry)))) ⌝ }

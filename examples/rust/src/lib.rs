@@ -7,6 +7,8 @@ unsafe extern "C" {
     fn sam_header_check(text: *const u8, text_len: usize, catalogue: *const u8, catalogue_len: usize) -> u64;
     fn sam_header_tidy(text: *const u8, text_len: usize, out: *mut u8, out_len: usize) -> u64;
     fn sam_header_carry_on(text: *const u8, text_len: usize, out: *mut u8, out_len: usize, table: *mut u32, table_len: usize) -> u64;
+    fn sam_header_binary_out(text: *const u8, text_len: usize, out: *mut u8, out_len: usize) -> u64;
+    fn sam_header_binary_in(bytes: *const u8, bytes_len: usize, out: *mut u8, out_len: usize) -> u64;
     fn sam_header_count(text: *const u8, text_len: usize, catalogue: *const u8, catalogue_len: usize, kind: u8) -> u64;
     fn sam_header_key(text: *const u8, text_len: usize, catalogue: *const u8, catalogue_len: usize, kind: u8, ordinal: u32) -> u64;
     fn sam_header_line(text: *const u8, text_len: usize, catalogue: *const u8, catalogue_len: usize, kind: u8, ordinal: u32) -> u64;
@@ -65,6 +67,22 @@ pub fn carry_on(text: &[u8]) -> Result<(Vec<u8>, Vec<Refusal>), Refusal> {
     out.truncate(word as u32 as usize);
     let skipped = table.chunks(2).take((word >> 32) as usize);
     Ok((out, skipped.map(|row| Refusal { number: row[1] as u8, line: row[0] }).collect()))
+}
+
+/// The uncompressed binary header of a header.
+pub fn binary_out(text: &[u8]) -> Result<Vec<u8>, Refusal> {
+    let mut out = vec![0; 2 * text.len() + 14]; // as much as any accepted text needs
+    let n = answer(unsafe { sam_header_binary_out(text.as_ptr(), text.len(), out.as_mut_ptr(), out.len()) })?;
+    out.truncate(n as usize);
+    Ok(out)
+}
+
+/// The tidy text of an uncompressed binary header.
+pub fn binary_in(bytes: &[u8]) -> Result<Vec<u8>, Refusal> {
+    let mut out = vec![0; bytes.len() + 1]; // the text is shorter than the whole, and its tidy text at most one byte longer
+    let n = answer(unsafe { sam_header_binary_in(bytes.as_ptr(), bytes.len(), out.as_mut_ptr(), out.len()) })?;
+    out.truncate(n as usize);
+    Ok(out)
 }
 
 /// A text that reading accepts, and its catalogue.
@@ -184,11 +202,23 @@ mod tests {
     }
 
     #[test]
+    fn out_and_in() {
+        let bytes = binary_out(b"@SQ\tLN:08\tSN:a").unwrap();
+        assert_eq!(bytes, b"BAM\x01\x0e\0\0\0@SQ\tSN:a\tLN:8\n\x01\0\0\0\x02\0\0\0a\0\x08\0\0\0");
+        assert_eq!(binary_in(&bytes), tidy(b"@SQ\tLN:08\tSN:a"));
+        assert_eq!(binary_in(&bytes[1..]), Err(Refusal { number: 28, line: 0 }));
+        let other = bytes.iter().map(|&b| if b == b'a' { b'b' } else { b }).collect::<Vec<u8>>();
+        assert_eq!(binary_in(&other), Ok(b"@SQ\tSN:b\tLN:8\n".to_vec()));
+        assert_eq!(binary_in(&[&bytes[..22], &b"\0\0\0\0"[..]].concat()), Err(Refusal { number: 29, line: 0 }));
+    }
+
+    #[test]
     fn room_for_every_text() {
         for text in [&b""[..], b"@CO\t", b"@CO\t\n@CO\t", b"@RG\tID:a\tAA:a\tAB:a\tAC:a"] {
             assert!(Header::read(text).is_ok());
             assert!(tidy(text).is_ok());
             assert_eq!(carry_on(text), tidy(text).map(|t| (t, Vec::new())));
+            assert_eq!(binary_in(&binary_out(text).unwrap()), tidy(text));
         }
     }
 }

@@ -484,6 +484,8 @@ impl Checker {
         self.held(Call::Read, said);
         let said = outputs(&mut self.bytes, Err(r), |o| library::tidy(text, o));
         self.held(Call::Tidy, said);
+        #[cfg(feature = "binary")]
+        self.binary_refused(text, r);
         for catalogue in [&b""[..], b"\x01\x01\x00\x00\x00\x06\x00\x00\x00\x00\x00\x00\x00"] {
             self.still(Call::Check, library::check(text, catalogue), r);
             #[cfg(feature = "lookup")]
@@ -549,6 +551,8 @@ impl Checker {
         }
 
         self.tidy(text, header);
+        #[cfg(feature = "binary")]
+        self.binary(text, header, &mut rng);
         #[cfg(feature = "lookup")]
         {
             self.lookup(text, catalogue, &damaged, header, &mut rng);
@@ -972,6 +976,97 @@ impl Checker {
         }
         None
     }
+}
+
+/// A run of bytes behind its length.
+#[cfg(feature = "binary")]
+fn sized(bytes: &[u8]) -> Vec<u8> {
+    [&(bytes.len() as u32).to_le_bytes(), bytes].concat()
+}
+
+/// A binary header by the SAM specification: made here, of a text and of names and lengths from the crate's table.
+#[cfg(feature = "binary")]
+fn packed(text: &[u8], references: &[(Vec<u8>, u32)]) -> Vec<u8> {
+    let entry = |(name, n): &(Vec<u8>, u32)| [sized(&[name, &b"\0"[..]].concat()), n.to_le_bytes().to_vec()].concat();
+    let list: Vec<u8> = references.iter().flat_map(entry).collect();
+    [b"BAM\x01", &sized(text)[..], &(references.len() as u32).to_le_bytes(), &list].concat()
+}
+
+#[cfg(feature = "binary")]
+impl Checker {
+    // Out and in give reading's refusal: in only where no zero byte would be dropped.
+    fn binary_refused(&mut self, text: &[u8], r: Refusal) {
+        let said = outputs(&mut self.bytes, Err(r), |o| library::binary_out(text, o));
+        self.held(Call::BinaryOut, said);
+        if text.last() != Some(&0) && text.len() <= u32::MAX as usize {
+            let bytes = packed(text, &[]);
+            let said = outputs(&mut self.bytes, Err(r), |o| library::binary_in(&bytes, o));
+            self.held(Call::BinaryIn, said);
+        }
+    }
+
+    // Out is the crate's tidy text and its table of references; in takes it back, and refuses what differs from it.
+    fn binary(&mut self, text: &[u8], header: &Header, rng: &mut Rng) {
+        let references = header.reference_sequences().iter();
+        let list: Vec<(Vec<u8>, u32)> = references.map(|(name, map)| (name[..].to_vec(), map.length().get() as u32)).collect();
+        let written = oracle::tidy(header);
+        let refused = match &written {
+            Ok(t) if t.len() > oracle::LONGEST => Some(refusal(1)),
+            Ok(_) => None,
+            Err(_) => Some(Self::unwritable(text, header)),
+        };
+        let tidy = written.unwrap_or_default();
+        let full = packed(&tidy, &list);
+        let want = refused.map_or(Ok((&full[..], full.len() as u64)), Err);
+        let said = outputs(&mut self.bytes, want, |o| library::binary_out(text, o));
+        self.said(Call::BinaryOut, refused.map_or(0, |r| r.number), said);
+        if text.last() == Some(&0) {
+            return; // a comment's zero bytes at the end of the text would be dropped
+        }
+        let given = packed(text, &list);
+        let back = refused.map_or(Ok((&tidy[..], tidy.len() as u64)), Err);
+        let number = refused.map_or(0, |r| r.number);
+        let zeros = [text, &b"\0\0\0"[..1 + rng.below(3)]].concat();
+        for bytes in [&given, &packed(&zeros, &list)] {
+            let said = outputs(&mut self.bytes, back, |o| library::binary_in(bytes, o));
+            self.said(Call::BinaryIn, number, said);
+        }
+        if refused.is_none() {
+            let said = outputs(&mut self.bytes, back, |o| library::binary_in(&full, o));
+            self.said(Call::BinaryIn, 0, said);
+        }
+        for (bytes, number) in unlike(text, &list, &given, rng) {
+            let said = outputs(&mut self.bytes, Err(refusal(number)), |o| library::binary_in(&bytes, o));
+            self.said(Call::BinaryIn, number, said);
+        }
+    }
+}
+
+/// Binary headers that are not this one's, with the refusal that each gets.
+#[cfg(feature = "binary")]
+fn unlike(text: &[u8], list: &[(Vec<u8>, u32)], given: &[u8], rng: &mut Rng) -> Vec<(Vec<u8>, u32)> {
+    let mut all = vec![(given[..rng.below(given.len())].to_vec(), 28), ([given, b"\0"].concat(), 28)];
+    let mut start = given.to_vec();
+    start[rng.below(4)] ^= 1 << rng.below(8);
+    all.push((start, 28));
+    all.push((packed(text, &[list, &[(b"another".to_vec(), 1)]].concat()), 29));
+    if let Some(i) = (!list.is_empty()).then(|| rng.below(list.len())) {
+        let with = |change: &dyn Fn(&mut Vec<(Vec<u8>, u32)>)| {
+            let mut other = list.to_vec();
+            change(&mut other);
+            (packed(text, &other), 29)
+        };
+        all.push(with(&|l| l[i].1 ^= 1 << (i % 32)));
+        all.push(with(&|l| l[i].0.push(0)));
+        all.push(with(&|l| drop(l.remove(i))));
+        if list.len() > 1 {
+            all.push(with(&|l| l.rotate_left(1)));
+        }
+        let mut open = given.to_vec();
+        open[given.len() - 5] = 1 + rng.below(255) as u8; // the last name's closing zero
+        all.push((open, 28));
+    }
+    all
 }
 
 /// What asking for names leaves: the index, each name's ordinal, and how many slots were looked at.

@@ -310,6 +310,7 @@ fn main() -> ExitCode {
         ("add", cfg!(feature = "add")),
         ("names", cfg!(feature = "names")),
         ("carry_on", cfg!(feature = "carry_on")),
+        ("binary", cfg!(feature = "binary")),
     ]
     .iter()
     .filter_map(|&(name, there)| there.then_some(name))

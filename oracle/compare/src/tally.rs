@@ -18,9 +18,11 @@ pub enum Call {
     Add,
     Names,
     CarryOn,
+    BinaryOut,
+    BinaryIn,
 }
 
-const CALLS: [Call; 13] = [
+const CALLS: [Call; 15] = [
     Call::Read,
     Call::Check,
     Call::Tidy,
@@ -34,6 +36,8 @@ const CALLS: [Call; 13] = [
     Call::Add,
     Call::Names,
     Call::CarryOn,
+    Call::BinaryOut,
+    Call::BinaryIn,
 ];
 
 /// Refusals have the numbers from 1 to 27.

@@ -113,6 +113,12 @@ unsafe extern "C" {
     ) -> u64;
 }
 
+#[cfg(feature = "binary")]
+unsafe extern "C" {
+    fn sam_header_binary_out(text: *const u8, text_len: usize, out: *mut u8, out_len: usize) -> u64;
+    fn sam_header_binary_in(bytes: *const u8, bytes_len: usize, out: *mut u8, out_len: usize) -> u64;
+}
+
 /// A refusal: its number and its line.
 #[derive(Clone, Copy, Debug, Eq, PartialEq)]
 pub struct Refusal {
@@ -225,6 +231,16 @@ pub fn carry_on(text: &[u8], out: &mut [u8], table: &mut [u32]) -> Answer {
     answer(unsafe {
         sam_header_carry_on(text.as_ptr(), text.len(), out.as_mut_ptr(), out.len(), table.as_mut_ptr(), table.len())
     })
+}
+
+#[cfg(feature = "binary")]
+pub fn binary_out(text: &[u8], out: &mut [u8]) -> Answer {
+    answer(unsafe { sam_header_binary_out(text.as_ptr(), text.len(), out.as_mut_ptr(), out.len()) })
+}
+
+#[cfg(feature = "binary")]
+pub fn binary_in(bytes: &[u8], out: &mut [u8]) -> Answer {
+    answer(unsafe { sam_header_binary_in(bytes.as_ptr(), bytes.len(), out.as_mut_ptr(), out.len()) })
 }
 
 /// What an output may hold.

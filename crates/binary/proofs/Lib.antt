@@ -1,0 +1,4 @@
+pub mod Parts
+pub mod Law
+pub mod Example
+pub mod Room

@@ -1,0 +1,33 @@
+// Reading a binary header in: the tidy text of its text, if its reference list is that text's SQ list.
+use format::LineNo;
+use judging::Judged;
+use parser::CountAnswer;
+ghost use mathlib.Core.Path.{_≡_};
+ghost use lib.ListN.{length};
+ghost use Rattle.binary.specs.Binary.{binaryIn};
+ghost use Rattle.parser.specs.Answers.{answerOf, outputOf};
+
+// Reads a binary header: the tidy text at the front of `out`, or the first refusal, which changes nothing.
+pub fn binary_in(bytes: &[u8], out: &mut [u8]) -> CountAnswer
+    ensures answer { λ r. ⌜ r ≡ answerOf (binaryIn (now (bytes .entry)) (length (now (out .entry)))) ⌝ }
+    ensures wrote { λ _. ⌜ now (out .exit) ≡ outputOf (binaryIn (now (bytes .entry)) (length (now (out .entry)))) (now (out .entry)) ⌝ }
+{
+    let parts = binary_parts::parts(bytes);
+    if !parts.ok {
+        return CountAnswer::Refused(28, LineNo(0));
+    }
+    let start = parts.text;
+    let end = start + parts.len;
+    let kept = start + binary_parts::unpadded_len(&bytes[start..end]);
+    let text = &bytes[start..kept];
+    match judging::judge(text) {
+        Judged::Refused(n, line) => CountAnswer::Refused(n, line),
+        Judged::Accepted(_) => {
+            let strict = repeat_rule::is_strict(text);
+            if !references_in::is_sq_list(bytes, parts.list, parts.count, text, strict) {
+                return CountAnswer::Refused(29, LineNo(0));
+            }
+            tidy::write_accepted(text, strict, out)
+        }
+    }
+}

@@ -1,0 +1,98 @@
+// The binary header of the SAM specification, written from an accepted text: its tidy text and its SQ list.
+use format::LineNo;
+use judging::Judged;
+use parser::CountAnswer;
+use per_kind::PerKind;
+use tidy_text::Measured;
+ghost use mathlib.Core.Path.{_≡_};
+ghost use mathlib.Core.Bool.{true};
+ghost use mathlib.Core.List.{_++_};
+ghost use Prim.Native.Nat.{_≤_, _+_};
+ghost use lib.ListN.{length};
+ghost use Rattle.format.specs.Lines.{lines};
+ghost use Rattle.format.specs.Reading.{announced, isStrict, readText};
+ghost use Rattle.format.specs.Catalogue.{little};
+ghost use Rattle.format.specs.Tidy.{tidy};
+ghost use Rattle.text.specs.Over.{over};
+ghost use Rattle.accepted.specs.Read.{isAccepted, recordsOf};
+ghost use Rattle.binary.specs.References.{sqList};
+ghost use Rattle.binary.specs.Binary.{magic, binaryOut};
+ghost use Rattle.parser.specs.Answers.{answerOf, outputOf};
+ghost use Rattle.tidy_text.specs.Sizes.{sizesOf};
+ghost use Rattle.binary_out.specs.Written.{binaryOf, writingBinary};
+
+// Writes what stands before the text: the magic bytes, and that it has `n` bytes.
+fn put_front(out: &mut [u8], n: usize)
+    requires { ⌜ n ≤ 16777216 ⌝ }
+    requires { ⌜ 8 ≤ length (now out) ⌝ }
+    ensures { λ _. ⌜ now (out .exit) ≡ over (now (out .entry)) 0 (magic ++ little 4 n) ⌝ }
+{
+    text::put_bytes(out, 0, b"BAM\x01");
+    little::put_u32(out, 4, n as u32);
+}
+
+// Writes the tidy text of an accepted text behind these. `sizes` are those that measuring gives, and `n` is its length.
+fn put_text(text: &[u8], strict: bool, sizes: PerKind, n: usize, out: &mut [u8])
+    requires { ⌜ isAccepted (readText (now text)) ≡ true ⌝ }
+    requires { ⌜ strict ≡ isStrict (announced (lines (now text))) ⌝ }
+    requires { ⌜ sizes ≡ sizesOf (recordsOf (now text)) ⌝ }
+    requires { ⌜ n ≡ length (tidy (recordsOf (now text))) ⌝ }
+    requires { ⌜ 8 + n ≤ length (now out) ⌝ }
+    ensures { λ _. ⌜ now (out .exit) ≡ over (now (out .entry)) 8 (tidy (recordsOf (now (text .entry)))) ⌝ }
+{
+    tidy_text::put_tidy(text, strict, sizes, &mut out[8..8 + n]);
+}
+
+// Writes the binary header of an accepted text. `sizes` are those that measuring gives, `n` is the length of its tidy text, and `count`
+// is how many SQ it has.
+fn put_binary(text: &[u8], strict: bool, sizes: PerKind, n: usize, count: u32, out: &mut [u8])
+    requires { ⌜ isAccepted (readText (now text)) ≡ true ⌝ }
+    requires { ⌜ strict ≡ isStrict (announced (lines (now text))) ⌝ }
+    requires { ⌜ sizes ≡ sizesOf (recordsOf (now text)) ⌝ }
+    requires { ⌜ n ≡ length (tidy (recordsOf (now text))) ⌝ }
+    requires { ⌜ count ≡ length (sqList (recordsOf (now text))) ⌝ }
+    requires { ⌜ n ≤ 16777216 ⌝ }
+    requires { ⌜ length (binaryOf (now text)) ≤ length (now out) ⌝ }
+    ensures { λ _. ⌜ now (out .exit) ≡ over (now (out .entry)) 0 (binaryOf (now (text .entry))) ⌝ }
+{
+    put_front(out, n);
+    put_text(text, strict, sizes, n, out);
+    little::put_u32(out, 8 + n, count);
+    references_out::put_list(text, strict, out, 12 + n);
+}
+
+// Writes the binary header of an accepted text: 24, then 1, then 20.
+fn write_accepted(text: &[u8], strict: bool, out: &mut [u8]) -> CountAnswer
+    requires { ⌜ isAccepted (readText (now text)) ≡ true ⌝ }
+    requires { ⌜ strict ≡ isStrict (announced (lines (now text))) ⌝ }
+    ensures answer { λ r. ⌜ r ≡ answerOf (writingBinary (now (text .entry)) (length (now (out .entry)))) ⌝ }
+    ensures wrote { λ _. ⌜ now (out .exit) ≡ outputOf (writingBinary (now (text .entry)) (length (now (out .entry)))) (now (out .entry)) ⌝ }
+{
+    match tidy_text::measure(text, strict) {
+        Measured::Unwritable(line) => CountAnswer::Refused(24, line),
+        Measured::Is(sizes) => {
+            let n = sizes.total();
+            if format::LONGEST < n {
+                return CountAnswer::Refused(1, LineNo(0));
+            }
+            let list = references_out::measure_list(text, strict);
+            let whole = 12 + n + list.bytes;
+            if out.len() < whole {
+                return CountAnswer::Refused(20, LineNo(0));
+            }
+            put_binary(text, strict, sizes, n, list.count, out);
+            CountAnswer::Count(whole)
+        }
+    }
+}
+
+// Writes the binary header of `text` to the front of `out`, or answers the first refusal, which changes nothing.
+pub fn binary_out(text: &[u8], out: &mut [u8]) -> CountAnswer
+    ensures answer { λ r. ⌜ r ≡ answerOf (binaryOut (now (text .entry)) (length (now (out .entry)))) ⌝ }
+    ensures wrote { λ _. ⌜ now (out .exit) ≡ outputOf (binaryOut (now (text .entry)) (length (now (out .entry)))) (now (out .entry)) ⌝ }
+{
+    match judging::judge(text) {
+        Judged::Refused(n, line) => CountAnswer::Refused(n, line),
+        Judged::Accepted(_) => write_accepted(text, repeat_rule::is_strict(text), out),
+    }
+}

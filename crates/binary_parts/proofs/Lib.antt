@@ -1,0 +1,5 @@
+pub mod Taken
+pub mod Closed
+pub mod Listed
+pub mod Both
+pub mod Unpadded

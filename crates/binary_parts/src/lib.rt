@@ -1,0 +1,207 @@
+// A binary header taken apart: where its text and its reference list stand, or that it is none.
+ghost use mathlib.Core.Path.{_≡_};
+ghost use Prim.Native.Nat.{_+_, _≤_};
+ghost use lib.Dec.{eqb};
+ghost use lib.ListN.{length, drop};
+ghost use Rattle.format.specs.Programs.{lastOr};
+ghost use Rattle.binary.specs.Binary.{takeNumber, takeSized, takeReference, takeList, takeBoth, binaryParts, unpadded};
+ghost use Rattle.binary_parts.specs.Parts.{numberTaken, runFrom, referenceFrom, isWhole, partsFrom, PartsStand};
+
+// A number, and where the bytes after it start.
+pub struct NumberAt {
+    pub ok: bool,
+    pub value: u32,
+    pub next: usize,
+}
+
+// A run of bytes: the bytes after it start at its end.
+pub struct RunAt {
+    pub ok: bool,
+    pub at: usize,
+    pub len: usize,
+}
+
+// A reference: where its name stands, its length, and where the bytes after it start.
+pub struct ReferenceAt {
+    pub ok: bool,
+    pub name: usize,
+    pub len: usize,
+    pub size: u32,
+    pub next: usize,
+}
+
+// Where the text stands, and where the reference list starts and how many it has.
+pub struct PartsAt {
+    pub ok: bool,
+    pub text: usize,
+    pub len: usize,
+    pub list: usize,
+    pub count: u32,
+}
+
+// The number in the four bytes at `at`, if they are there.
+fn take_number(bytes: &[u8], at: usize) -> NumberAt
+    requires { ⌜ at ≤ length (now bytes) ⌝ }
+    ensures taken { λ r. ⌜ takeNumber (drop at (now (bytes .entry))) ≡ numberTaken (now (bytes .entry)) r ⌝ }
+    ensures inside { λ r. ⌜ r .next ≤ length (now (bytes .entry)) ⌝ }
+{
+    if bytes.len() - at < 4 {
+        return NumberAt {
+            ok: false,
+            value: 0,
+            next: at,
+        };
+    }
+    let value = little::get_u32(bytes, at);
+    NumberAt {
+        ok: true,
+        value,
+        next: at + 4,
+    }
+}
+
+// The run of bytes at `at`, after its length.
+fn take_sized(bytes: &[u8], at: usize) -> RunAt
+    requires { ⌜ at ≤ length (now bytes) ⌝ }
+    ensures taken { λ r. ⌜ takeSized (drop at (now (bytes .entry))) ≡ runFrom (now (bytes .entry)) r ⌝ }
+    ensures inside { λ r. ⌜ r .at + r .len ≤ length (now (bytes .entry)) ⌝ }
+{
+    let number = take_number(bytes, at);
+    let start = number.next;
+    let len = number.value as usize;
+    if number.ok {
+        if len <= bytes.len() - start {
+            return RunAt {
+                ok: true,
+                at: start,
+                len,
+            };
+        }
+    }
+    RunAt {
+        ok: false,
+        at,
+        len: 0,
+    }
+}
+
+// Whether a zero byte closes the run: no bytes at all are not closed.
+fn is_closed(run: &[u8]) -> bool
+    ensures { λ r. ⌜ r ≡ eqb (lastOr 1 (now (run .entry))) 0 ⌝ }
+{
+    let n = run.len();
+    if n == 0 {
+        return false; // nothing closes no bytes
+    }
+    run[n - 1] == 0
+}
+
+// The reference at `at`.
+pub fn take_reference(bytes: &[u8], at: usize) -> ReferenceAt
+    requires { ⌜ at ≤ length (now bytes) ⌝ }
+    ensures taken { λ r. ⌜ takeReference (drop at (now (bytes .entry))) ≡ referenceFrom (now (bytes .entry)) r ⌝ }
+    ensures inside { λ r. ⌜ r .next ≤ length (now (bytes .entry)) ⌝ }
+    ensures name { λ r. ⌜ r .name + r .len ≤ length (now (bytes .entry)) ⌝ }
+{
+    let run = take_sized(bytes, at);
+    let start = run.at;
+    let end = run.at + run.len;
+    if run.ok {
+        if is_closed(&bytes[start..end]) {
+            let size = take_number(bytes, end);
+            return ReferenceAt {
+                ok: size.ok,
+                name: start,
+                len: run.len - 1,
+                size: size.value,
+                next: size.next,
+            };
+        }
+    }
+    ReferenceAt {
+        ok: false,
+        name: at,
+        len: 0,
+        size: 0,
+        next: at,
+    }
+}
+
+// Whether `count` references stand at `start`, and nothing after them.
+fn is_whole_list(bytes: &[u8], start: usize, count: u32) -> bool
+    requires { ⌜ start ≤ length (now bytes) ⌝ }
+    ensures { λ r. ⌜ r ≡ isWhole (takeList count (drop start (now (bytes .entry)))) ⌝ }
+{
+    let mut at = start;
+    let mut left = count;
+    while 0 < left {
+        let reference = take_reference(bytes, at);
+        if !reference.ok {
+            return false;
+        }
+        at = reference.next;
+        left -= 1;
+    }
+    at == bytes.len()
+}
+
+// The text and the reference list at `at`, with nothing after them.
+fn take_both(bytes: &[u8], at: usize) -> PartsAt
+    requires { ⌜ at ≤ length (now bytes) ⌝ }
+    ensures taken { λ r. ⌜ takeBoth (drop at (now (bytes .entry))) ≡ partsFrom (now (bytes .entry)) r ⌝ }
+    ensures stands { λ r. ⌜ PartsStand (now (bytes .entry)) r ⌝ }
+{
+    let text = take_sized(bytes, at);
+    if text.ok {
+        let end = text.at + text.len;
+        let count = take_number(bytes, end);
+        if count.ok {
+            let ok = is_whole_list(bytes, count.next, count.value);
+            return PartsAt {
+                ok,
+                text: text.at,
+                len: text.len,
+                list: count.next,
+                count: count.value,
+            };
+        }
+    }
+    PartsAt {
+        ok: false,
+        text: 0,
+        len: 0,
+        list: 0,
+        count: 0,
+    }
+}
+
+// The parts of a binary header: `BAM` and 1 at the start, then the text and the reference list.
+pub fn parts(bytes: &[u8]) -> PartsAt
+    ensures taken { λ r. ⌜ binaryParts (now (bytes .entry)) ≡ partsFrom (now (bytes .entry)) r ⌝ }
+    ensures stands { λ r. ⌜ PartsStand (now (bytes .entry)) r ⌝ }
+{
+    if text::starts(b"BAM\x01", bytes) {
+        return take_both(bytes, 4);
+    }
+    PartsAt {
+        ok: false,
+        text: 0,
+        len: 0,
+        list: 0,
+        count: 0,
+    }
+}
+
+// How many bytes are left without the zero bytes at the end.
+pub fn unpadded_len(run: &[u8]) -> usize
+    ensures { λ r. ⌜ r ≡ length (unpadded (now (run .entry))) ⌝ }
+{
+    let mut n = run.len();
+    while 0 < n {
+        if run[n - 1] != 0 {
+            return n;
+        }
+        n -= 1;
+    }
+    n
+}
