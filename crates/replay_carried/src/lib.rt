@@ -13,7 +13,7 @@ fn carried(text: &[u8], out: &mut [u8], table: &mut [u32]) -> Carried
 
 // Whether the rows of as many skipped lines are these, eight digits each number, and the rest of the table as it was.
 fn is_table(word: &[u8], table: &[u32], skipped: usize) -> bool {
-    if 16777216 < skipped {
+    if format::LONGEST < skipped {
         return false;
     }
     stored_answers::is_list(word, table, 2 * skipped, 8)

@@ -49,7 +49,7 @@ pub fn count(catalogue: &[u8]) -> usize
     loop {
         at = next_sq(catalogue, at);
         let e = entries::entry_at(catalogue, at);
-        if entries::kind_of(e) != 2 {
+        if entries::kind_of(e) != format::REFERENCE_SEQUENCE {
             return n;
         }
         n += 1;
