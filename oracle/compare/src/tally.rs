@@ -40,8 +40,8 @@ const CALLS: [Call; 15] = [
     Call::BinaryIn,
 ];
 
-/// Refusals have the numbers from 1 to 27.
-const NUMBERS: usize = 28;
+/// Refusals have the numbers from 1 to 29.
+const NUMBERS: usize = 30;
 
 /// How often both sides agreed. A number is a refusal's, 0 an acceptance. Field lookup gives no number: where the stand-in takes
 /// the value's place, it is counted under the number that key would give.
