@@ -7,7 +7,7 @@ use mathlib.Core.Option.{none, some}
 use lib.ListN.{length, drop, getD, length-map, List·getD-map}
 use lib.Dec.{eqb, ltb}
 use borrow.Author.Tests.{ltb-true, eqb-false, eq-eqb, not-true}
-use Rattle.format.specs.Bytes.{same, any, none?}
+use Rattle.format.specs.Bytes.{same, any, none?, distinct}
 use Rattle.format.specs.Fields.{Field}
 use Rattle.format.specs.Records.{Record, program, code, key, others}
 use Rattle.format.specs.Reading.{readText, accept, ofKind}
@@ -17,7 +17,7 @@ use Rattle.text.specs.Stands.{Each}
 use Rattle.text.proofs.Stands.{each-map}
 use Rattle.accepted.proofs.Bools.{or-left, or-right, or-false, or-true, and-left, and-right, split}
 use Rattle.accepted.proofs.Pairs.{each-all, each-both}
-use Rattle.chains.specs.Listed.{named, distinct}
+use Rattle.chains.specs.Listed.{named}
 use Rattle.chains.proofs.Leaf.{leaves-exactly, leaves-distinct}
 use Rattle.id_search.specs.Search.{idsOf, idOrdinalFrom}
 use Rattle.id_search.proofs.Search.{ordinal-ids}
@@ -49,7 +49,7 @@ unfolding any Each
 none-each x [] h = tt
 none-each x (y ∷ xs) h = (or-left (eqb x y) (any (eqb x) xs) h, none-each x xs (or-right (eqb x y) (any (eqb x) xs) h))
 
-some-each : (P : ℕ → Type 0) (xs : List ℕ) → ((x : ℕ) → any (eqb x) xs ≡ true → P x) → Each P xs
+pub some-each : (P : ℕ → Type 0) (xs : List ℕ) → ((x : ℕ) → any (eqb x) xs ≡ true → P x) → Each P xs
 unfolding any Each
 some-each P [] h = tt
 some-each P (x ∷ xs) h = (h x (rw (eq-eqb x x refl) refl), some-each P xs (λ y e. h y (rw e (or-true (eqb y x)))))

@@ -6,17 +6,17 @@ use mathlib.Core.List.{List, [], _∷_, _++_, map, append-nil}
 use mathlib.Core.Option.{Option, none, some}
 use native.Mathlib.Omega.{arith}
 use lib.ListN.{length, length-append}
-use lib.Dec.{eqb, ltb}
-use borrow.Author.Tests.{ltb-false, eq-eqb}
+use lib.Dec.{eqb}
+use borrow.Author.Tests.{eq-eqb}
 use Rattle.format.specs.Bytes.{all, same}
 use Rattle.format.specs.Records.{Record, header, reference, group, program, comment, code}
-use Rattle.format.specs.Reading.{Reading, refusedText, accept, readText, ofKind, longest}
+use Rattle.format.specs.Reading.{accept, readText, ofKind, longest}
 use Rattle.format.specs.Programs.{lastOr}
 use Rattle.format.specs.Tidy.{tidy, text, inOrder, recordText, fieldText, fieldsText, unwritable}
 use Rattle.format.specs.Decimal.{written}
 use Rattle.format.specs.Lines.{Piece}
 use Rattle.format.specs.Fields.{Field}
-use Rattle.format.specs.Calls.{Answer, refused, yes, then, readAnswer, records, fitting, writing, tidying}
+use Rattle.format.specs.Calls.{yes, then, readAnswer, records, fitting, writing, tidying}
 use Rattle.text.specs.Stands.{Each}
 use Rattle.text.proofs.Equal.{same-self}
 use Rattle.accepted.specs.Sound.{FitsRecord, Sound}
@@ -24,12 +24,14 @@ use Rattle.accepted.proofs.Bools.{never}
 use Rattle.accepted.proofs.Text.{text-sound}
 use Rattle.roundtrip.specs.Bare.{bare}
 use Rattle.roundtrip.specs.Line.{recordLine}
-use Rattle.roundtrip.proofs.Gathered.{text-gathered}
+use Rattle.roundtrip.specs.Writable.{Writable}
+use Rattle.roundtrip.proofs.Gathered.{text-gathered, gathered-writable}
+use Rattle.roundtrip.proofs.Answered.{Gave, then-yes, read-of, fitting-yes, writing-yes}
 use Rattle.roundtrip.proofs.Back.{Back}
 use Rattle.roundtrip.proofs.Line.{record-line}
 use Rattle.roundtrip.proofs.Total.{record-length, order-length}
 use Rattle.roundtrip.proofs.Tidy.{tidy-back, tidy-again, names-again}
-use Rattle.binary.specs.References.{Reference, sqList, sameReference, sameReferences}
+use Rattle.format.specs.References.{Reference, sqList, sameReference, sameReferences}
 use Rattle.binary.specs.Binary.{binary, binaryParts, unpadded, wellFormed, listedAlike, binaryOut, binaryIn}
 use Rattle.binary.specs.Undone.{InAfterOut}
 use Rattle.binary.proofs.Parts.{Small, AllSmall, parts-back}
@@ -185,8 +187,11 @@ module _ (t : List ℕ) (rs : List Record) (e : readText t ≡ accept rs) (h : l
   unfolding tidy
   long = order-length rs
 
+  w : Writable rs
+  w = gathered-writable t rs (text-gathered t rs e)
+
   b : Back (inOrder rs) (readText (tidy rs))
-  b = tidy-back t rs (text-gathered t rs e) h
+  b = tidy-back rs w h
 
   taken : binaryParts (binary (tidy rs) (sqList rs)) ≡ some (tidy rs, sqList rs)
   taken = parts-back (tidy rs) (sqList rs) (omega (arith, h)) (omega (arith, h, long, refs-count rs)) (refs-small rs (omega (arith, h, long)) (text-sound t rs e))
@@ -201,48 +206,13 @@ module _ (t : List ℕ) (rs : List Record) (e : readText t ≡ accept rs) (h : l
 
   back : (room : ℕ) → binaryIn (binary (tidy rs) (sqList rs)) room ≡ writing room none (tidy rs)
   unfolding binaryIn then wellFormed b
-  back room = rw (taken, tidy-unpadded rs, found, equal, names-again rs (b .found) (b .same) u, tidy-again t rs (text-gathered t rs e) h) refl
+  back room = rw (taken, tidy-unpadded rs, found, equal, names-again rs (b .found) (b .same) u, tidy-again rs w h) refl
 
   tidied : (room : ℕ) → tidying t room ≡ writing room none (tidy rs)
   unfolding tidying then records readAnswer
   tidied room = rw (e, u) refl
 
 -- ---- what is known where out answers bytes
-
-fitting-yes : (room : ℕ) (s bytes : List ℕ) → fitting room s ≡ yes bytes → bytes ≡ s
-unfolding fitting
-fitting-yes room s bytes e = go (ltb room (length s)) e
-  where
-    go : (t : Bool) → cond t (refused 20 0) (yes s) ≡ yes bytes → bytes ≡ s
-    go true e = absurd (never (cc))
-    go false e = cc
-
-writing-yes : (o : Option ℕ) (s x : List ℕ) → writing 16777216 o s ≡ yes x → (o ≡ none) × (length s ≤ 16777216) × (x ≡ s)
-unfolding writing longest
-writing-yes (some l) s x e = absurd (never (cc))
-writing-yes none s x e = go (ltb 16777216 (length s)) refl e
-  where
-    go : (t : Bool) → ltb 16777216 (length s) ≡ t → cond t (refused 1 0) (fitting 16777216 s) ≡ yes x → (_≡_ {A = Option ℕ} none none) × (length s ≤ 16777216) × (x ≡ s)
-    go true q e = absurd (never (cc))
-    go false q e = (refl, ltb-false 16777216 (length s) q, fitting-yes 16777216 s x e)
-
-record Gave {A B : Type 0} (a : Answer A) (f : A → Answer B) (y : B) : Type 0 where
-  pub value : A
-  pub first : a ≡ yes value
-  pub second : f value ≡ yes y
-
-then-yes : {A B : Type 0} (a : Answer A) (f : A → Answer B) (y : B) → then a f ≡ yes y → Gave a f y
-unfolding then
-then-yes (refused n l) f y e = absurd (never (cc))
-then-yes (yes x) f y e = record { value = x; first = refl; second = e }
-
-read-of : (t : List ℕ) (rs : List Record) → records t ≡ yes rs → readText t ≡ accept rs
-unfolding records readAnswer
-read-of t rs e = go (readText t) e
-  where
-    go : (g : Reading) → readAnswer g ≡ yes rs → g ≡ accept rs
-    go (refusedText n l) e = absurd (never (cc))
-    go (accept qs) e = let q : qs ≡ rs = cc in ap accept q
 
 -- the text was accepted, its names and its tidy text can be written, and these are the bytes
 pub record Wrote (t bytes : List ℕ) : Type 0 where
@@ -258,7 +228,7 @@ wrote t bytes room e =
     let a : Gave (records t) (λ rs. then (writing longest (unwritable 0 rs) (tidy rs)) (λ x. fitting room (binary x (sqList rs)))) bytes = then-yes _ _ bytes e in
     let rs : List Record = a .value in
     let c : Gave (writing longest (unwritable 0 rs) (tidy rs)) (λ x. fitting room (binary x (sqList rs))) bytes = then-yes _ _ bytes (a .second) in
-    let w : (unwritable 0 rs ≡ none) × (length (tidy rs) ≤ 16777216) × (c .value ≡ tidy rs) = writing-yes (unwritable 0 rs) (tidy rs) (c .value) (c .first) in
+    let w : (unwritable 0 rs ≡ none) × (length (tidy rs) ≤ 16777216) × (c .value ≡ tidy rs) = writing-yes 16777216 (unwritable 0 rs) (tidy rs) (c .value) (c .first) in
     record {
       records = rs;
       reads = read-of t rs (a .first);

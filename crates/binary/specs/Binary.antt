@@ -15,7 +15,7 @@ use Rattle.format.specs.Programs.{lastOr, butLast}
 use Rattle.format.specs.Tidy.{tidy, unwritable}
 use Rattle.format.specs.Calls.{Answer, refused, yes, then, records, fitting, writing}
 use Rattle.little.specs.Little.{ofLittle}
-use Rattle.binary.specs.References.{Reference, sqList, sameReferences}
+use Rattle.format.specs.References.{Reference, sqList, sameReferences}
 
 -- ---- the bytes
 

@@ -5,7 +5,7 @@ use Rattle.format.specs.Reading.{longest}
 use Rattle.format.specs.Tidy.{tidy, unwritable}
 use Rattle.format.specs.Calls.{Answer, then, fitting, writing}
 use Rattle.accepted.specs.Read.{recordsOf}
-use Rattle.binary.specs.References.{sqList}
+use Rattle.format.specs.References.{sqList}
 use Rattle.binary.specs.Binary.{binary}
 
 -- its tidy text and its SQ list

@@ -14,9 +14,11 @@ use Rattle.format.specs.Tidy.{tidy}
 use Rattle.format.specs.Calls.{yes, then, readAnswer, records, fitting, writing, tidying}
 use Rattle.accepted.proofs.Bools.{never}
 use Rattle.roundtrip.specs.Bare.{Equal}
+use Rattle.roundtrip.specs.Writable.{Writable}
 use Rattle.roundtrip.specs.Gathered.{Gathered}
 use Rattle.roundtrip.specs.Faithful.{Holds}
 use Rattle.roundtrip.proofs.Bare.{tidy-equal}
+use Rattle.roundtrip.proofs.Gathered.{gathered-writable}
 use Rattle.roundtrip.proofs.Total.{gathered-length}
 use Rattle.roundtrip.proofs.Tidy.{tidy-tells}
 use Rattle.roundtrip.proofs.Faithful.{holds}
@@ -58,11 +60,14 @@ module _ (t : List ℕ) (ls : List Line) (a : AllowedLines t ls) where
   gathered : Gathered t (keptOf ls)
   gathered = rw (← a .judged) (carried-gathered t)
 
+  writable : Writable (keptOf ls)
+  writable = gathered-writable t (keptOf ls) gathered
+
   fits : length (tidy (keptOf ls)) ≤ 16777216
   fits = omega (arith, gathered-length t (keptOf ls) gathered, a .small)
 
   held : Holds (keptOf ls)
-  held = holds t (keptOf ls) gathered fits (kept-names 0 0 ls (a .names))
+  held = holds (keptOf ls) writable fits (kept-names 0 0 ls (a .names))
 
   answers : (room table : ℕ) → carrying t room table ≡ then (fitting room (tidy (keptOf ls))) (λ out. then (fitting table (rows (skips 0 ls))) (λ ss. yes (out, ss)))
   unfolding carrying longest writing
@@ -81,7 +86,7 @@ module _ (t : List ℕ) (ls : List Line) (a : AllowedLines t ls) where
 
 told : (t u : List ℕ) (ls ms : List Line) → AllowedLines t ls → AllowedLines u ms → (tidy (keptOf ls) ≡ tidy (keptOf ms)) ↔ Equal (keptOf ls) (keptOf ms)
 told t u ls ms a b = (
-  tidy-tells t u (keptOf ls) (keptOf ms) (gathered t ls a) (gathered u ms b) (fits t ls a),
+  tidy-tells (keptOf ls) (keptOf ms) (writable t ls a) (writable u ms b) (fits t ls a),
   tidy-equal (keptOf ls) (keptOf ms),
 )
 

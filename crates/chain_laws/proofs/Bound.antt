@@ -20,7 +20,7 @@ use Rattle.chain_laws.proofs.Paths.{Below, below-at, depth-less}
 use Rattle.chains.proofs.Walks.{map-at, depth-root, depth-dangling}
 
 -- a walk that ends in time is the same with one step less
-depth-same : (ls : List Link) (f : ℕ) (l : Link) → depth ls (suc f) l ≤ f → depth ls f l ≡ depth ls (suc f) l
+pub depth-same : (ls : List Link) (f : ℕ) (l : Link) → depth ls (suc f) l ≤ f → depth ls f l ≡ depth ls (suc f) l
 unfolding depth
 depth-same ls zero root h = refl
 depth-same ls zero dangling h = refl
@@ -29,7 +29,7 @@ depth-same ls (suc f) root h = refl
 depth-same ls (suc f) dangling h = refl
 depth-same ls (suc f) (child k) h = ap suc (depth-same ls f (getD ls k root) (omega arith))
 
-depth-next : (ls : List Link) (n k : ℕ) → depth ls n (getD ls k root) < n → depth ls n (child k) ≡ suc (depth ls n (getD ls k root))
+pub depth-next : (ls : List Link) (n k : ℕ) → depth ls n (getD ls k root) < n → depth ls n (child k) ≡ suc (depth ls n (getD ls k root))
 unfolding depth
 depth-next ls zero k h = absurd (omega arith)
 depth-next ls (suc f) k h = ap suc (depth-same ls f (getD ls k root) (omega arith))

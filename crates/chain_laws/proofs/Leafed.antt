@@ -9,12 +9,12 @@ use native.Mathlib.Omega.{arith}
 use lib.ListN.{length, length-map}
 use lib.Dec.{eqb, ltb}
 use borrow.Author.Tests.{ltb-true, ltb-false, lt-ltb, le-ltb}
-use Rattle.format.specs.Bytes.{same, any}
+use Rattle.format.specs.Bytes.{same, any, distinct}
 use Rattle.format.specs.Lines.{Piece}
 use Rattle.format.specs.Records.{Record}
 use Rattle.format.specs.Programs.{Program, Link, found, link, links, programs, ordinalFrom, isDangling, loopsFrom, tangled, leaves, hops}
 use Rattle.format.specs.Calls.{Answer, refused, yes, then, fitting, untangled, fresh, leafing}
-use Rattle.chains.specs.Listed.{named, distinct}
+use Rattle.chains.specs.Listed.{named}
 use Rattle.chain_laws.specs.Leafed.{isStray, strays, returns, Leaves, Leafed, AllLeafed}
 use Rattle.chains.proofs.Leaf.{leaves-exactly, leaves-distinct}
 

@@ -87,7 +87,7 @@ path-any ls i (suc f) root = refl
 path-any ls i (suc f) dangling = refl
 path-any ls i (suc f) (child k) = ap (λ t. eqb i k || t) (path-any ls i f (getD ls k root))
 
-reaches-fewer : (ls : List Link) (i f n : ℕ) (l : Link) → f ≤ n → reaches ls i n l ≡ false → reaches ls i f l ≡ false
+pub reaches-fewer : (ls : List Link) (i f n : ℕ) (l : Link) → f ≤ n → reaches ls i n l ≡ false → reaches ls i f l ≡ false
 unfolding reaches
 reaches-fewer ls i zero n l h e = refl
 reaches-fewer ls i (suc f) zero l h e = absurd (omega arith)
@@ -99,7 +99,7 @@ reaches-fewer ls i (suc f) (suc n) (child k) h e =
 
 -- ---- no cycle
 
-loops-at : (all : List Link) (i : ℕ) (ls : List Link) (j : ℕ) → loopsFrom all i ls ≡ false → reaches all (i + j) (length all) (getD ls j root) ≡ false
+pub loops-at : (all : List Link) (i : ℕ) (ls : List Link) (j : ℕ) → loopsFrom all i ls ≡ false → reaches all (i + j) (length all) (getD ls j root) ≡ false
 unfolding loopsFrom
 loops-at all i [] j e = reaches-root all (i + j) (length all)
 loops-at all i (l ∷ ls) zero e =
@@ -132,7 +132,7 @@ below-at n (child k ∷ ls) b zero = b k (named-here k ls)
 below-at n (l ∷ ls) b (suc j) = below-at n ls (λ k e. b k (named-later k l ls e)) j
 
 module _ (ls : List Link) (acyclic : loopsFrom ls 0 ls ≡ false) (below : (k : ℕ) → named k ls ≡ true → k < length ls) where
-  no-return : (k : ℕ) → reaches ls k (length ls) (getD ls k root) ≡ false
+  pub no-return : (k : ℕ) → reaches ls k (length ls) (getD ls k root) ≡ false
   no-return k = ap (λ n. reaches ls n (length ls) (getD ls k root)) (sym (zero-add k)) ∙ loops-at ls 0 ls k acyclic
 
   path-once : (f : ℕ) (l : Link) → f ≤ suc (length ls) → Once (path ls f l)

@@ -14,7 +14,7 @@ use Rattle.chains.proofs.Leaf.{leaves-exactly}
 use Rattle.chain_laws.proofs.Paths.{depth-less}
 
 -- a program that is a parent is the parent of some program
-named-at : (k : ℕ) (ls : List Link) → named k ls ≡ true → (j : ℕ) × (j < length ls) × (getD ls j root ≡ child k)
+pub named-at : (k : ℕ) (ls : List Link) → named k ls ≡ true → (j : ℕ) × (j < length ls) × (getD ls j root ≡ child k)
 unfolding named
 named-at k [] e = absurd (false≢true e)
 named-at k (root ∷ ls) e = let r = named-at k ls e in (suc (r .0), omega (arith, r .1), r .2)

@@ -8,12 +8,12 @@ use mathlib.Core.List.{List}
 use mathlib.Core.Option.{Option, none, some}
 use lib.ListN.{length}
 use lib.Dec.{eqb, ltb}
-use Rattle.format.specs.Bytes.{same, any}
+use Rattle.format.specs.Bytes.{same, any, distinct}
 use Rattle.format.specs.Lines.{Piece}
 use Rattle.format.specs.Records.{Record}
 use Rattle.format.specs.Programs.{Program, programs, links, loopsFrom, leaves}
 use Rattle.format.specs.Calls.{Answer, refused, yes, fresh, leafing}
-use Rattle.chains.specs.Listed.{named, distinct}
+use Rattle.chains.specs.Listed.{named}
 
 -- does this PP equal no ID?
 unfoldable pub isStray : List Program → Option Piece → Bool

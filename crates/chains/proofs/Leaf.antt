@@ -8,9 +8,9 @@ use native.Mathlib.Omega.{arith}
 use lib.ListN.{length, length-map}
 use lib.Dec.{eqb, ltb}
 use borrow.Author.Tests.{eqb-true, eqb-false, ltb-true, ltb-false}
-use Rattle.format.specs.Bytes.{any}
+use Rattle.format.specs.Bytes.{any, distinct}
 use Rattle.format.specs.Programs.{Link, root, dangling, child, rootsFrom, roots, numbersFrom, lastOr, butLast, instead, swapRemove, leavesFrom, leaves}
-use Rattle.chains.specs.Listed.{named, distinct}
+use Rattle.chains.specs.Listed.{named}
 use Rattle.chains.proofs.Times.{hit, times, Once, hit-same, hit-other, times-none, times-some, swap-once, swap-none, swap-some}
 use Rattle.chains.proofs.Swaps.{front-length}
 

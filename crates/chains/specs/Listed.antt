@@ -1,9 +1,8 @@
--- What the laws of leaves speak of: the programs that are a parent, and lists without repetition.
+-- What the laws of leaves speak of: the programs that are a parent.
 use Prim.Native.Nat.{ℕ}
-use mathlib.Core.Bool.{Bool, true, false, not, _&&_, _||_}
+use mathlib.Core.Bool.{Bool, false, _||_}
 use mathlib.Core.List.{List, [], _∷_}
 use lib.Dec.{eqb}
-use Rattle.format.specs.Bytes.{any}
 use Rattle.format.specs.Programs.{Link, root, dangling, child}
 
 -- is `x` the parent of some program?
@@ -12,9 +11,3 @@ named x [] = false
 named x (root ∷ ls) = named x ls
 named x (dangling ∷ ls) = named x ls
 named x (child k ∷ ls) = eqb x k || named x ls
-
--- does no number stand in it twice?
-unfoldable pub distinct : List ℕ → Bool
-unfolding any
-distinct [] = true
-distinct (x ∷ xs) = not (any (eqb x) xs) && distinct xs

@@ -19,6 +19,7 @@ use Rattle.accepted.proofs.Pairs.{each-at}
 use Rattle.chains.specs.Parents.{nobody, linksOf, areParents, inArray}
 use Rattle.chains.specs.Listed.{named}
 use Rattle.chains.proofs.Arrays.{array-push}
+use Rattle.chain_laws.proofs.Paths.{Below}
 use Rattle.chain_laws.proofs.Bound.{within-below}
 use Rattle.chains.proofs.Walks.{map-at, link-none, link-some}
 use Rattle.parents.specs.declared.Parents.{Parents}
@@ -26,13 +27,8 @@ use Rattle.parents.specs.Parents.{stranger, linkNumber, parentsOf}
 
 -- ---- a child's parent is one of the programs
 
-unfoldable Below : ℕ → Link → Type 0
-Below n root = Unit
-Below n dangling = Unit
-Below n (child k) = k < n
-
 found-below : (n k : ℕ) (id : List ℕ) (ps : List Program) → k + length ps ≤ n → Below n (found (ordinalFrom k id ps))
-unfolding Below found ordinalFrom
+unfolding found ordinalFrom
 found-below n k id [] h = tt
 found-below n k id (p ∷ ps) h = go (same id (p .id)) (found-below n (k + 1) id ps (omega arith))
   where
@@ -40,8 +36,8 @@ found-below n k id (p ∷ ps) h = go (same id (p .id)) (found-below n (k + 1) id
     go true ih = omega arith
     go false ih = ih
 
-link-below : (ps : List Program) (o : Option Piece) → Below (length ps) (link ps o)
-unfolding Below link
+pub link-below : (ps : List Program) (o : Option Piece) → Below (length ps) (link ps o)
+unfolding link
 link-below ps none = tt
 link-below ps (some p) = found-below (length ps) 0 (p .bytes) ps (omega arith)
 
@@ -59,27 +55,27 @@ links-below ps = each-below ps ps
 module _ (n : ℕ) (small : n ≤ 1024) where
   -- a link is a stranger's exactly if it dangles
   number-stray : (l : Link) → Below n l → eqb 4294967294 (linkNumber l) ≡ isDangling l
-  unfolding Below isDangling stranger linkNumber nobody
+  unfolding isDangling stranger linkNumber nobody
   number-stray root h = refl
   number-stray dangling h = refl
   number-stray (child k) h = ne-eqb 4294967294 k (λ e. omega arith)
 
   same-links : (ls : List Link) → Each (Below n) ls → any isDangling ls ≡ false → linksOf (map linkNumber ls) ≡ ls
-  unfolding Each Below any isDangling linksOf linkNumber nobody
+  unfolding Each any isDangling linksOf linkNumber nobody
   same-links [] h d = refl
   same-links (root ∷ ls) h d = ap₂ (λ x xs. x ∷ xs) (link-none 4294967295 refl) (same-links ls (h .1) d)
   same-links (dangling ∷ ls) h d = absurd (never (cc))
   same-links (child k ∷ ls) h d = ap₂ (λ x xs. x ∷ xs) (link-some k (λ e. omega (arith, h .0))) (same-links ls (h .1) d)
 
   all-within : (ls : List Link) → Each (Below n) ls → any isDangling ls ≡ false → areParents n (map linkNumber ls) ≡ true
-  unfolding Each Below any all isDangling areParents linkNumber nobody
+  unfolding Each any all isDangling areParents linkNumber nobody
   all-within [] h d = refl
   all-within (root ∷ ls) h d = all-within ls (h .1) d
   all-within (dangling ∷ ls) h d = absurd (never (cc))
   all-within (child k ∷ ls) h d = rw (lt-ltb k n (h .0), or-true (eqb k 4294967295)) (all-within ls (h .1) d)
 
   same-roots : (i : ℕ) (ls : List Link) → Each (Below n) ls → rootsFrom i (linksOf (map linkNumber ls)) ≡ rootsFrom i ls
-  unfolding Each Below rootsFrom linksOf linkNumber nobody stranger
+  unfolding Each rootsFrom linksOf linkNumber nobody stranger
   same-roots i [] h = refl
   same-roots i (root ∷ ls) h = ap (λ xs. i ∷ xs) (same-roots (i + 1) ls (h .1))
   same-roots i (dangling ∷ ls) h = same-roots (i + 1) ls (h .1)

@@ -20,11 +20,11 @@ use Rattle.parents.proofs.Numbers.{numbers, links-count, numbers-count,
 -- ---- what links say
 
 module _ (ls : List Link) where
-  tangled-dangling : any isDangling ls ≡ true → tangled ls ≡ 22
+  pub tangled-dangling : any isDangling ls ≡ true → tangled ls ≡ 22
   unfolding tangled
   tangled-dangling d = rw d refl
 
-  tangled-loops : (b : Bool) → any isDangling ls ≡ false → loopsFrom ls 0 ls ≡ b → tangled ls ≡ cond b 23 0
+  pub tangled-loops : (b : Bool) → any isDangling ls ≡ false → loopsFrom ls 0 ls ≡ b → tangled ls ≡ cond b 23 0
   unfolding tangled
   tangled-loops b d e = rw (d, e) refl
 

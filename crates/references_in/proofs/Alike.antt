@@ -4,7 +4,7 @@ use mathlib.Core.Bool.{Bool, true, false, _&&_}
 use mathlib.Core.List.{List, [], _∷_}
 use borrow.Author.Tests.{eq-eqb, ne-eqb}
 use Rattle.format.specs.Bytes.{same}
-use Rattle.binary.specs.References.{Reference, sameReference, sameReferences}
+use Rattle.format.specs.References.{Reference, sameReference, sameReferences}
 
 -- ---- one reference
 

@@ -4,7 +4,7 @@ use mathlib.Core.Path.{_≡_, refl, sym, ap, _∙_}
 use mathlib.Core.Bool.{Bool, true, false, not}
 use mathlib.Core.List.{List, [], _∷_}
 use lib.ListN.{drop}
-use Rattle.binary.specs.References.{sameReference, sameReferences}
+use Rattle.format.specs.References.{sameReference, sameReferences}
 use Rattle.binary.specs.Binary.{takeReference, takeList}
 use Rattle.binary_parts.specs.declared.ReferenceAt.{ReferenceAt}
 use Rattle.binary_parts.specs.Parts.{referenceIn, referenceFrom, isWhole, listed}

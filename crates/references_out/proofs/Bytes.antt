@@ -9,7 +9,7 @@ use Rattle.format.specs.Catalogue.{little}
 use Rattle.text.specs.Over.{over}
 use Rattle.little.proofs.Little.{little-length}
 use Rattle.text.proofs.Over.{over-length, over-over}
-use Rattle.binary.specs.References.{Reference}
+use Rattle.format.specs.References.{Reference}
 use Rattle.binary.specs.Binary.{sized, referenceBytes}
 
 -- ---- a reference written part by part

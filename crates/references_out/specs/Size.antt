@@ -1,7 +1,7 @@
 -- How many references a list has, and how many bytes these take.
 use mathlib.Core.List.{List}
 use lib.ListN.{length}
-use Rattle.binary.specs.References.{Reference}
+use Rattle.format.specs.References.{Reference}
 use Rattle.binary.specs.Binary.{listBytes}
 use Rattle.references_out.specs.declared.ListSize.{ListSize}
 

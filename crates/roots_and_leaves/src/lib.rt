@@ -15,7 +15,7 @@ pub enum LeavesAnswer {
 }
 
 // Writes ordinals to the front of `out`, and answers how many: 20 where it is too short.
-fn put_ordinals(out: &mut [u32], from: &[u32]) -> CountAnswer
+pub fn put_ordinals(out: &mut [u32], from: &[u32]) -> CountAnswer
     ensures answer { λ r. ⌜ r ≡ answerOf (fitting (length (now (out .entry))) (now (from .entry))) ⌝ }
     ensures wrote { λ _. ⌜ now (out .exit) ≡ outputOf (fitting (length (now (out .entry))) (now (from .entry))) (now (out .entry)) ⌝ }
 {

@@ -10,7 +10,8 @@ use Rattle.format.specs.Reading.{sameKeys, clash, ofKind, barred}
 use Rattle.roundtrip.specs.Bare.{bareBytes, bare}
 use Rattle.roundtrip.proofs.Bare.{code-bare, kind-bare}
 
-bareKey : Option Piece → Option Piece
+-- a piece without its offset
+unfoldable pub bareKey : Option Piece → Option Piece
 bareKey none = none
 bareKey (some p) = some (bareBytes (p .bytes))
 

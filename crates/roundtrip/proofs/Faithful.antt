@@ -8,44 +8,36 @@ use native.Mathlib.Omega.{arith}
 use lib.ListN.{length}
 use borrow.Author.Tests.{le-ltb}
 use Rattle.format.specs.Records.{Record}
-use Rattle.format.specs.Reading.{Reading, refusedText, accept, readText, longest}
+use Rattle.format.specs.Reading.{readText, longest}
 use Rattle.format.specs.Tidy.{inOrder, tidy, unwritable}
 use Rattle.format.specs.Calls.{Answer, yes, then, readAnswer, records, fitting, writing, tidying}
-use Rattle.accepted.proofs.Bools.{never}
 use Rattle.roundtrip.specs.Bare.{Equal}
+use Rattle.roundtrip.specs.Writable.{Writable}
 use Rattle.roundtrip.specs.Gathered.{Gathered}
 use Rattle.roundtrip.specs.Faithful.{Allowed, Holds, Kept, tidied, Faithful}
+use Rattle.roundtrip.proofs.Answered.{read-of}
 use Rattle.roundtrip.proofs.Bare.{tidy-equal}
 use Rattle.roundtrip.proofs.Back.{Back}
-use Rattle.roundtrip.proofs.Gathered.{text-gathered}
+use Rattle.roundtrip.proofs.Gathered.{text-gathered, gathered-writable}
 use Rattle.roundtrip.proofs.Total.{gathered-length}
 use Rattle.roundtrip.proofs.Tidy.{tidy-back, back-equal, tidy-again, tidy-tells, names-again}
-
--- a text whose records are answered was accepted
-read-of : (t : List ℕ) (rs : List Record) → records t ≡ yes rs → readText t ≡ accept rs
-unfolding records readAnswer
-read-of t rs e = go (readText t) e
-  where
-    go : (g : Reading) → readAnswer g ≡ yes rs → g ≡ accept rs
-    go (refusedText n l) e = absurd (never (cc))
-    go (accept qs) e = let q : qs ≡ rs = cc in ap accept q
 
 -- a header that can be written
 tidying-fits : (t : List ℕ) (rs : List Record) (room : ℕ) → records t ≡ yes rs → unwritable 0 rs ≡ none → length (tidy rs) ≤ 16777216 → tidying t room ≡ fitting room (tidy rs)
 unfolding tidying then writing longest
 tidying-fits t rs room e n h = rw (e, n, le-ltb 16777216 (length (tidy rs)) h) refl
 
--- records gathered from a text
-pub holds : (t : List ℕ) (rs : List Record) → Gathered t rs → length (tidy rs) ≤ 16777216 → unwritable 0 rs ≡ none → Holds rs
+-- records that a text can hold
+pub holds : (rs : List Record) → Writable rs → length (tidy rs) ≤ 16777216 → unwritable 0 rs ≡ none → Holds rs
 unfolding records readAnswer
-holds t rs g h n =
-    let b : Back (inOrder rs) (readText (tidy rs)) = tidy-back t rs g h in
+holds rs w h n =
+    let b : Back (inOrder rs) (readText (tidy rs)) = tidy-back rs w h in
     let yes-found : records (tidy rs) ≡ yes (b .found) = ap readAnswer (b .reads) in
-    let self : tidy (b .found) ≡ tidy rs = tidy-again t rs g h in
+    let self : tidy (b .found) ≡ tidy rs = tidy-again rs w h in
     record {
       found = b .found;
       accepted = yes-found;
-      equal = back-equal t rs g h;
+      equal = back-equal rs w h;
       order = b .same;
       again = λ room. tidying-fits (tidy rs) (b .found) room yes-found (names-again rs (b .found) (b .same) n) (rw self h) ∙ ap (fitting room) self;
     }
@@ -53,6 +45,9 @@ holds t rs g h n =
 module _ (t : List ℕ) (rs : List Record) (a : Allowed t rs) where
   gathered : Gathered t rs
   gathered = text-gathered t rs (read-of t rs (a .accepted))
+
+  writable : Writable rs
+  writable = gathered-writable t rs gathered
 
   fits : length (tidy rs) ≤ 16777216
   fits = omega (arith, gathered-length t rs gathered, a .small)
@@ -62,7 +57,7 @@ module _ (t : List ℕ) (rs : List Record) (a : Allowed t rs) where
       record {
         answers = λ room. tidying-fits t rs room (a .accepted) (a .names) fits;
         long = gathered-length t rs gathered;
-        holds = holds t rs gathered fits (a .names);
+        holds = holds rs writable fits (a .names);
       }
 
   tidied-yes : tidied t ≡ yes (tidy rs)
@@ -74,7 +69,7 @@ one-yes x y e = cc
 
 told : (t u : List ℕ) (rs qs : List Record) → Allowed t rs → Allowed u qs → (tidied t ≡ tidied u) ↔ Equal rs qs
 told t u rs qs a b = (
-  λ e. tidy-tells t u rs qs (gathered t rs a) (gathered u qs b) (fits t rs a) (one-yes (tidy rs) (tidy qs) (sym (tidied-yes t rs a) ∙ e ∙ tidied-yes u qs b)),
+  λ e. tidy-tells rs qs (writable t rs a) (writable u qs b) (fits t rs a) (one-yes (tidy rs) (tidy qs) (sym (tidied-yes t rs a) ∙ e ∙ tidied-yes u qs b)),
   λ e. tidied-yes t rs a ∙ ap yes (tidy-equal rs qs e) ∙ sym (tidied-yes u qs b),
 )
 

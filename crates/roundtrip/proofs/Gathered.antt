@@ -19,6 +19,7 @@ use Rattle.accepted.proofs.Sound.{line-sound}
 use Rattle.accepted.proofs.Spelled.{line-prefixed, line-accepted}
 use Rattle.accepted.proofs.Text.{text-lines, text-unbarred}
 use Rattle.roundtrip.specs.Line.{Unbroken}
+use Rattle.roundtrip.specs.Writable.{Writable}
 use Rattle.roundtrip.specs.Gathered as ga
 use Rattle.roundtrip.specs.Gathered.{From, Gathered}
 
@@ -55,6 +56,9 @@ module _ (t : List ℕ) (rs : List Record) (g : Gathered t rs) where
 
   pub gathered-unbroken : Each Unbroken rs
   gathered-unbroken = from-each Unbroken line-unbroken (lines t) rs (g .from)
+
+  pub gathered-writable : Writable rs
+  gathered-writable = record { unbarred = g .unbarred; sound = gathered-sound; unbroken = gathered-unbroken }
 
 -- ---- an accepted text
 

@@ -7,12 +7,14 @@ pub mod Line
 pub mod Lines
 pub mod Unbarred
 pub mod Barred
+pub mod Programs
 pub mod Order
 pub mod Back
 pub mod Gathered
 pub mod Length
 pub mod Total
 pub mod Room
+pub mod Answered
 pub mod Tidy
 pub mod Faithful
 pub mod Example

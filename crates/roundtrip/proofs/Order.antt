@@ -15,7 +15,7 @@ use Rattle.roundtrip.proofs.Unbarred.{kind-other, kind-same}
 -- ---- each
 
 module _ (P : Record → Type 0) where
-  each-append : (xs ys : List Record) → Each P xs → Each P ys → Each P (xs ++ ys)
+  pub each-append : (xs ys : List Record) → Each P xs → Each P ys → Each P (xs ++ ys)
   unfolding Each
   each-append [] ys h g = g
   each-append (x ∷ xs) ys h g = (h .0, each-append xs ys (h .1) g)
@@ -36,16 +36,24 @@ module _ (rs : List Record) where
   unfolding inOrder
   kinds k = simp ofKind-append
 
+  pub order-1 : ofKind 1 (inOrder rs) ≡ ofKind 1 rs
+  order-1 = rw (kinds 1, kind-same 1 rs, no 1 2 (λ q. omega arith), no 1 3 (λ q. omega arith), no 1 4 (λ q. omega arith), no 1 5 (λ q. omega arith)) (simp append-nil)
+
+  pub order-2 : ofKind 2 (inOrder rs) ≡ ofKind 2 rs
+  order-2 = rw (kinds 2, kind-same 2 rs, no 2 1 (λ q. omega arith), no 2 3 (λ q. omega arith), no 2 4 (λ q. omega arith), no 2 5 (λ q. omega arith)) (simp append-nil)
+
+  pub order-3 : ofKind 3 (inOrder rs) ≡ ofKind 3 rs
+  order-3 = rw (kinds 3, kind-same 3 rs, no 3 1 (λ q. omega arith), no 3 2 (λ q. omega arith), no 3 4 (λ q. omega arith), no 3 5 (λ q. omega arith)) (simp append-nil)
+
+  pub order-4 : ofKind 4 (inOrder rs) ≡ ofKind 4 rs
+  order-4 = rw (kinds 4, kind-same 4 rs, no 4 1 (λ q. omega arith), no 4 2 (λ q. omega arith), no 4 3 (λ q. omega arith), no 4 5 (λ q. omega arith)) (simp append-nil)
+
+  pub order-5 : ofKind 5 (inOrder rs) ≡ ofKind 5 rs
+  order-5 = rw (kinds 5, kind-same 5 rs, no 5 1 (λ q. omega arith), no 5 2 (λ q. omega arith), no 5 3 (λ q. omega arith), no 5 4 (λ q. omega arith)) refl
+
   pub order-equal : Equal (inOrder rs) rs
   unfolding bares
-  order-equal =
-      record {
-        hd = rw (kinds 1, kind-same 1 rs, no 1 2 (λ q. omega arith), no 1 3 (λ q. omega arith), no 1 4 (λ q. omega arith), no 1 5 (λ q. omega arith)) (simp append-nil);
-        sq = rw (kinds 2, kind-same 2 rs, no 2 1 (λ q. omega arith), no 2 3 (λ q. omega arith), no 2 4 (λ q. omega arith), no 2 5 (λ q. omega arith)) (simp append-nil);
-        rg = rw (kinds 3, kind-same 3 rs, no 3 1 (λ q. omega arith), no 3 2 (λ q. omega arith), no 3 4 (λ q. omega arith), no 3 5 (λ q. omega arith)) (simp append-nil);
-        pg = rw (kinds 4, kind-same 4 rs, no 4 1 (λ q. omega arith), no 4 2 (λ q. omega arith), no 4 3 (λ q. omega arith), no 4 5 (λ q. omega arith)) (simp append-nil);
-        co = rw (kinds 5, kind-same 5 rs, no 5 1 (λ q. omega arith), no 5 2 (λ q. omega arith), no 5 3 (λ q. omega arith), no 5 4 (λ q. omega arith)) refl;
-      }
+  order-equal = record { hd = ap (map bare) order-1; sq = ap (map bare) order-2; rg = ap (map bare) order-3; pg = ap (map bare) order-4; co = ap (map bare) order-5 }
 
 -- equal records, place by place, are equal kind by kind
 pub same-equal : (rs qs : List Record) → map bare rs ≡ map bare qs → Equal rs qs

@@ -1,4 +1,4 @@
--- The tidy text of records gathered from a text: it reads back as the records in order, has itself for tidy text, and tells headers apart.
+-- The tidy text of records that a text can hold: it reads back as the records in order, has itself for tidy text, and tells headers apart.
 use Prim.Native.Nat.{ℕ, _+_, _≤_}
 use mathlib.Core.Path.{_≡_, refl, sym, ap, _∙_}
 use mathlib.Core.Bool.{Bool, true, false, cond}
@@ -13,19 +13,18 @@ use Rattle.accepted.specs.Sound.{Sound}
 use Rattle.accepted.proofs.Bools.{never}
 use Rattle.roundtrip.specs.Bare.{bareBytes, bare, Equal}
 use Rattle.roundtrip.specs.Line.{Unbroken}
-use Rattle.roundtrip.specs.Gathered.{Gathered}
+use Rattle.roundtrip.specs.Writable.{Writable}
 use Rattle.roundtrip.proofs.Bare.{tidy-equal}
 use Rattle.roundtrip.proofs.Unbarred.{unbarred-order}
 use Rattle.roundtrip.proofs.Order.{each-order, order-equal, same-equal, equal-sym, equal-trans}
 use Rattle.roundtrip.proofs.Back.{Back, text-back}
-use Rattle.roundtrip.proofs.Gathered.{gathered-sound, gathered-unbroken}
 
-module _ (t : List ℕ) (rs : List Record) (g : Gathered t rs) (h : length (tidy rs) ≤ 16777216) where
+module _ (rs : List Record) (w : Writable rs) (h : length (tidy rs) ≤ 16777216) where
   -- the tidy text is accepted
   pub tidy-back : Back (inOrder rs) (readText (tidy rs))
   unfolding tidy
   tidy-back =
-      text-back (inOrder rs) (unbarred-order rs (g .unbarred)) (each-order Sound rs (gathered-sound t rs g)) (each-order Unbroken rs (gathered-unbroken t rs g)) h
+      text-back (inOrder rs) (unbarred-order rs (w .unbarred)) (each-order Sound rs (w .sound)) (each-order Unbroken rs (w .unbroken)) h
 
   -- it holds the same records
   pub back-equal : Equal (tidy-back .found) rs
@@ -40,13 +39,13 @@ accept-one : (rs qs : List Record) → accept rs ≡ accept qs → rs ≡ qs
 accept-one rs qs e = cc
 
 -- headers with one tidy text are equal
-pub tidy-tells : (t u : List ℕ) (rs qs : List Record) → Gathered t rs → Gathered u qs → length (tidy rs) ≤ 16777216 → tidy rs ≡ tidy qs → Equal rs qs
-tidy-tells t u rs qs g f h q =
+pub tidy-tells : (rs qs : List Record) → Writable rs → Writable qs → length (tidy rs) ≤ 16777216 → tidy rs ≡ tidy qs → Equal rs qs
+tidy-tells rs qs w v h q =
     let k : length (tidy qs) ≤ 16777216 = rw (← q) h in
-    let b : Back (inOrder rs) (readText (tidy rs)) = tidy-back t rs g h in
-    let c : Back (inOrder qs) (readText (tidy qs)) = tidy-back u qs f k in
+    let b : Back (inOrder rs) (readText (tidy rs)) = tidy-back rs w h in
+    let c : Back (inOrder qs) (readText (tidy qs)) = tidy-back qs v k in
     let one : b .found ≡ c .found = accept-one (b .found) (c .found) (sym (b .reads) ∙ ap readText q ∙ c .reads) in
-    equal-trans rs (c .found) qs (equal-sym (c .found) rs (rw one at (back-equal t rs g h))) (back-equal u qs f k)
+    equal-trans rs (c .found) qs (equal-sym (c .found) rs (rw one at (back-equal rs w h))) (back-equal qs v k)
 
 -- ---- reference names
 

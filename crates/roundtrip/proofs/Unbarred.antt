@@ -109,7 +109,8 @@ unbarred-kind k a b (r ∷ rs) s h = go (eqb (code r) k) refl (λ a b. unbarred-
         (barred-kind a b r (rw q s) (h .0), ih (a ++ (r ∷ [])) (b ++ (r ∷ [])) (stand-on k a (b ++ (r ∷ [])) r on) (h .1))
     go false e ih = ih (a ++ (r ∷ [])) b (stand-on k a b r (kind-snoc-other k a r e ∙ s .kinds)) (h .1)
 
-unbarred-append : (a xs ys : List Record) → Unbarred a xs → Unbarred (a ++ xs) ys → Unbarred a (xs ++ ys)
+-- those that follow what follows
+pub unbarred-append : (a xs ys : List Record) → Unbarred a xs → Unbarred (a ++ xs) ys → Unbarred a (xs ++ ys)
 unfolding Unbarred
 unbarred-append a [] ys h g = rw (append-nil a) at g
 unbarred-append a (x ∷ xs) ys h g = (h .0, unbarred-append (a ++ (x ∷ [])) xs ys (h .1) (rw (append-snoc a x xs) g))

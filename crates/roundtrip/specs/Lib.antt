@@ -1,4 +1,5 @@
 pub mod Bare
 pub mod Line
+pub mod Writable
 pub mod Gathered
 pub mod Faithful

@@ -34,7 +34,7 @@ use Rattle.record.specs.Head.{stretchOf, recordHead, headOf}
 use Rattle.record.specs.declared.Head.{Head}
 use Rattle.record.specs.declared.Head.the-variants as head
 use Rattle.record.specs.declared.Stretch.{Stretch}
-use Rattle.binary.specs.References.{Reference, sqList}
+use Rattle.format.specs.References.{Reference, sqList}
 use Rattle.sq_list.specs.Next.{mayBeSq, withReference, lineReferences, sqFrom, toldReference, toldList}
 use Rattle.sq_list.specs.declared.NextReference.{NextReference}
 
@@ -154,7 +154,7 @@ sq-other l x e h = other-head l (subst (λ y. OneOf (0 ∷ 1 ∷ 3 ∷ 4 ∷ 5 �
 
 -- ---- by the line's second byte
 
-second-byte : (strict : Bool) (at : ℕ) (s : List ℕ) (r : Record) → AcceptedLine strict at s r → getD s 1 0 ≡ kind₀ (kind r)
+pub second-byte : (strict : Bool) (at : ℕ) (s : List ℕ) (r : Record) → AcceptedLine strict at s r → getD s 1 0 ≡ kind₀ (kind r)
 unfolding kind₀ kind
 second-byte strict at s r (sp.of-remark t) = refl
 second-byte strict at s r (sp.of-fields a) = ap (λ l. getD l 1 0) (a .spells) ∙ ap kind₀ (sym (made-kind (a .fields) (a .kind) r (a .made)))

@@ -7,7 +7,7 @@ use lib.ListN.{length, take, drop, getD}
 use lib.Dec.{eqb}
 use Rattle.format.specs.Lines.{Piece, linesFrom}
 use Rattle.format.specs.Records.{Line, refusedLine, read, line}
-use Rattle.binary.specs.References.{Reference, sqList}
+use Rattle.format.specs.References.{Reference, sqList}
 use Rattle.sq_list.specs.declared.NextReference.{NextReference}
 
 -- is the second byte of a line `S`?

@@ -125,7 +125,7 @@ first-before s = ⊎-elim
     (upto-cases 10 s)
 
 -- the bytes of the line
-first-bytes : (s : List ℕ) → chomp (take (suc (upto 10 s)) s) ≡ take (firstLine s .len) s
+pub first-bytes : (s : List ℕ) → chomp (take (suc (upto 10 s)) s) ≡ take (firstLine s .len) s
 unfolding firstLine
 first-bytes s =
     let n : ℕ = suc (upto 10 s) in

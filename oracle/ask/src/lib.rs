@@ -306,10 +306,12 @@ pub fn is_id(id: &[u8]) -> bool {
         && parser.finish().programs().as_ref().get_index(0).is_some_and(|(key, _)| key == id)
 }
 
-/// Whether the PP among these fields names a program of the header; None if there is no PP.
-pub fn names_program(header: &Header, fields: &Map<Program>) -> Option<bool> {
-    let pp = fields.other_fields().get(&tag::PREVIOUS_PROGRAM_ID)?;
-    Some(header.programs().as_ref().contains_key(pp))
+/// The program of the header that the PP among these fields names.
+pub fn given_parent(header: &Header, fields: &Map<Program>) -> Parent {
+    match fields.other_fields().get(&tag::PREVIOUS_PROGRAM_ID) {
+        None => Parent::Absent,
+        Some(id) => header.programs().as_ref().get_index_of(id).map_or(Parent::Nobody, Parent::Program),
+    }
 }
 
 /// The header after the crate's add; None if it says that an ID is used already. Only for headers with `Leaves::List`.

@@ -102,7 +102,7 @@ fn do_add(o: &mut String, enc: Enc, text: &[u8], prefix: &[u8], given: &[u8]) {
         Ok(map) => map,
         Err(n) => return writeln!(o, "fields refused {n}").unwrap(),
     };
-    if oracle::names_program(&header, &map) == Some(false) {
+    if oracle::given_parent(&header, &map) == oracle::Parent::Nobody {
         o.push_str("note: the given PP names no program\n");
     }
     match oracle::leaves(&header) {

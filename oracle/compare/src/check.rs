@@ -10,6 +10,8 @@ use oracle::{
 
 #[cfg(feature = "carry_on")]
 use crate::carried;
+#[cfg(feature = "add")]
+use crate::grown::{self, Grown};
 use crate::{
     known::{self, Kind},
     tally::{Call, Tally},
@@ -770,6 +772,7 @@ impl Checker {
             }
         }
         let given = oracle::program_fields(fields).ok().filter(|_| oracle::is_id(prefix));
+        let parent = given.as_ref().map_or(oracle::Parent::Absent, |map| oracle::given_parent(header, map));
         let (mut kind, mut out) = (None, Vec::new());
         // The crate's answer; where it has none, or another by intent, a known kind.
         let leaves = oracle::leaves(header);
@@ -780,7 +783,7 @@ impl Checker {
                 kind = odd;
                 Err(refusal(22))
             }
-            Some(map) if oracle::names_program(header, &map) == Some(false) => {
+            Some(_) if parent == oracle::Parent::Nobody => {
                 kind = Some(Kind::AddNobody);
                 Err(refusal(22))
             }
@@ -814,6 +817,14 @@ impl Checker {
             self.differ(Call::Add, Some(kind), format!("refused {number}; the crate does not"));
         }
         self.said(Call::Add, number, said);
+        if number == 0 {
+            match oracle::parse(&out).map(|after| grown::grown(header, &after, parent)) {
+                Ok(Grown::Right) => self.tally.grown(),
+                Ok(Grown::Unasked) => {}
+                Ok(Grown::Wrong(what)) => self.differ(Call::Add, None, what),
+                Err(r) => self.differ(Call::Add, None, format!("the crate refuses the text that was written: {r:?}")),
+            }
+        }
         let c = rng.of(damaged);
         let said = outputs(&mut self.bytes, Err(STALE), |o| library::add(text, c, prefix, fields, o));
         self.said(Call::Add, 21, said);

@@ -10,6 +10,8 @@
 #[cfg(feature = "carry_on")]
 mod carried;
 mod check;
+#[cfg(feature = "add")]
+mod grown;
 mod known;
 mod reduce;
 mod tally;

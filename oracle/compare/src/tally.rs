@@ -50,6 +50,7 @@ pub struct Tally {
     texts: [u64; NUMBERS],
     calls: [[u64; NUMBERS]; CALLS.len()],
     refused: [u64; CALLS.len()],
+    grown: u64,
 }
 
 impl Tally {
@@ -66,6 +67,12 @@ impl Tally {
     /// A call over a refused text gave reading's refusal, for every length of its output.
     pub fn refused(&mut self, call: Call) {
         self.refused[call as usize] += 1;
+    }
+
+    /// An add to a header with programs did to its chains what it must.
+    #[cfg(feature = "add")]
+    pub fn grown(&mut self) {
+        self.grown += 1;
     }
 }
 
@@ -89,6 +96,6 @@ impl fmt::Display for Tally {
                 row(f, &self.calls[i])?;
             }
         }
-        Ok(())
+        writeln!(f, "Chains after add that are as they must be: {}", self.grown)
     }
 }

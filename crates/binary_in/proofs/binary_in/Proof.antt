@@ -8,7 +8,7 @@ use borrow.Author.Tests.{not-true, not-false}
 use Rattle.format.specs.Reading.{accept, readText}
 use Rattle.accepted.specs.Read.{isAccepted, recordsOf}
 use Rattle.accepted.proofs.Text.{text-fits}
-use Rattle.binary.specs.References.{sqList, sameReferences}
+use Rattle.format.specs.References.{sqList, sameReferences}
 use Rattle.binary.specs.Binary.{takeList, unpadded, binaryIn}
 use Rattle.binary_parts.specs.Parts.{listed}
 use Rattle.sq_list.proofs.Next.{sq-all}

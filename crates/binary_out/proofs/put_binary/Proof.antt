@@ -9,7 +9,7 @@ use Rattle.text.specs.Over.{over}
 use Rattle.accepted.specs.Read.{recordsOf}
 use Rattle.accepted.proofs.Read.{accepted-reads}
 use Rattle.accepted.proofs.Text.{text-fits}
-use Rattle.binary.specs.References.{sqList}
+use Rattle.format.specs.References.{sqList}
 use Rattle.binary.specs.Binary.{listBytes}
 use Rattle.sq_list.specs.Next.{sqFrom}
 use Rattle.sq_list.proofs.Next.{sq-all}

@@ -8,7 +8,7 @@ use Rattle.format.specs.Tidy.{tidy, unwritable}
 use Rattle.accepted.specs.Read.{recordsOf}
 use Rattle.accepted.proofs.Read.{accepted-reads}
 use Rattle.accepted.proofs.Text.{text-fits}
-use Rattle.binary.specs.References.{sqList}
+use Rattle.format.specs.References.{sqList}
 use Rattle.binary.specs.Binary.{listBytes}
 use Rattle.sq_list.proofs.Next.{sq-all}
 use Rattle.references_out.specs.Size.{listSize}

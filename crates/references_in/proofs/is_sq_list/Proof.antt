@@ -5,7 +5,7 @@ use mathlib.Core.Bool.{Bool, true, false}
 use native.Mathlib.Omega.{arith}
 use lib.ListN.{length, drop}
 use borrow.Author.Tests.{not-true, not-false}
-use Rattle.binary.specs.References.{sameReference}
+use Rattle.format.specs.References.{sameReference}
 use Rattle.binary.specs.Binary.{takeList}
 use Rattle.binary_parts.specs.Parts.{referenceIn, isWhole}
 use Rattle.sq_list.specs.Next.{toldReference}
