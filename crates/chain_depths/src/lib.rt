@@ -1,0 +1,125 @@
+// The depth of every program over a list of parents: each takes it from its parent, so that every link is gone along at most twice.
+ghost use mathlib.Core.Path.{_≡_};
+ghost use mathlib.Core.Bool.{true, false};
+ghost use mathlib.Core.List.{map};
+ghost use Prim.Native.Nat.{_≤_, _<_};
+ghost use lib.ListN.{length, getD, take};
+ghost use Rattle.format.specs.Programs.{loopsFrom, depth, hops};
+ghost use Rattle.chains.specs.Parents.{linksOf, areParents};
+ghost use Rattle.chain_depths.specs.Depths.{deep, KnownRight, KnownStay};
+
+// The depth of a program that has none yet.
+pub const UNKNOWN: u32 = 4294967295;
+
+// The parent links from program `i` to its root: up to a root or to a program whose depth is known, at most n.
+fn climb(parents: &[u32], depths: &[u32; 1024], i: usize) -> u32
+    requires { ⌜ areParents (length (now parents)) (now parents) ≡ true ⌝ }
+    requires { ⌜ length (now parents) ≤ 1024 ⌝ }
+    requires { ⌜ i < length (now parents) ⌝ }
+    requires { ⌜ KnownRight (now parents) (now depths) ⌝ }
+    ensures { λ r. ⌜ r ≡ deep (now (parents .entry)) i ⌝ }
+{
+    let mut at: u32 = parents[i];
+    let mut steps: u32 = 0;
+    let mut left: usize = parents.len();
+    while 0 < left {
+        if at == chains::NOBODY {
+            return steps;
+        }
+        let k = at as usize;
+        let known = depths[k];
+        if known != UNKNOWN {
+            if (known as usize) < left {
+                return steps + 1 + known;
+            }
+            return parents.len() as u32;
+        }
+        at = parents[k];
+        steps += 1;
+        left -= 1;
+    }
+    steps
+}
+
+// Notes the depth of each program above `i`, whose own is `d`, up to one that has its depth.
+fn settle(parents: &[u32], depths: &mut [u32; 1024], i: usize, d: u32)
+    requires { ⌜ areParents (length (now parents)) (now parents) ≡ true ⌝ }
+    requires { ⌜ length (now parents) ≤ 1024 ⌝ }
+    requires { ⌜ (i < length (now parents)) × (d ≡ deep (now parents) i) × (d < length (now parents)) ⌝ }
+    requires { ⌜ KnownRight (now parents) (now depths) ⌝ }
+    ensures noted { λ _. ⌜ KnownRight (now (parents .entry)) (now (depths .exit)) ⌝ }
+    ensures kept { λ _. ⌜ KnownStay (now (depths .entry)) (now (depths .exit)) ⌝ }
+    ensures sized { λ _. ⌜ length (now (depths .exit)) ≡ length (now (depths .entry)) ⌝ }
+{
+    let mut at: usize = i;
+    let mut left: u32 = d;
+    while 0 < left {
+        let k = parents[at] as usize;
+        if depths[k] != UNKNOWN {
+            return;
+        }
+        left -= 1;
+        depths[k] = left;
+        at = k;
+    }
+}
+
+// Finds the depth of program `i`, and of those above it: false where there is no end, for a cycle.
+fn learn(parents: &[u32], depths: &mut [u32; 1024], i: usize) -> bool
+    requires { ⌜ areParents (length (now parents)) (now parents) ≡ true ⌝ }
+    requires { ⌜ length (now parents) ≤ 1024 ⌝ }
+    requires { ⌜ i < length (now parents) ⌝ }
+    requires { ⌜ KnownRight (now parents) (now depths) ⌝ }
+    ensures endless { λ r. ⌜ (r ≡ false → deep (now (parents .entry)) i ≡ length (now (parents .entry))) ⌝ }
+    ensures known { λ r. ⌜ (r ≡ true → getD (now (depths .exit)) i 0 ≡ 4294967295 → ⊥) ⌝ }
+    ensures noted { λ _. ⌜ KnownRight (now (parents .entry)) (now (depths .exit)) ⌝ }
+    ensures kept { λ _. ⌜ KnownStay (now (depths .entry)) (now (depths .exit)) ⌝ }
+    ensures sized { λ _. ⌜ length (now (depths .exit)) ≡ length (now (depths .entry)) ⌝ }
+{
+    if depths[i] != UNKNOWN {
+        return true;
+    }
+    let d = climb(parents, depths, i);
+    if d as usize == parents.len() {
+        return false;
+    }
+    depths[i] = d;
+    settle(parents, depths, i, d);
+    true
+}
+
+// The depth of each program in order, their sum, and whether some program comes back to itself: then the rest says nothing.
+pub struct Depths {
+    pub list: [u32; 1024],
+    pub hops: u32,
+    pub cycle: bool,
+}
+
+pub fn find_depths(parents: &[u32]) -> Depths
+    requires { ⌜ areParents (length (now parents)) (now parents) ≡ true ⌝ }
+    requires { ⌜ length (now parents) ≤ 1024 ⌝ }
+    ensures cycle { λ r. ⌜ r .cycle ≡ loopsFrom (linksOf (now (parents .entry))) 0 (linksOf (now (parents .entry))) ⌝ }
+    ensures depths { λ r. ⌜ (r .cycle ≡ false → take (length (now (parents .entry))) (r .list)
+        ≡ map (depth (linksOf (now (parents .entry))) (length (now (parents .entry)))) (linksOf (now (parents .entry)))) ⌝ }
+    ensures hops { λ r. ⌜ (r .cycle ≡ false → r .hops ≡ hops (linksOf (now (parents .entry)))) ⌝ }
+{
+    let mut list: [u32; 1024] = [UNKNOWN; 1024];
+    let mut sum: u32 = 0;
+    let mut i: usize = 0;
+    while i < parents.len() {
+        if !learn(parents, &mut list, i) {
+            return Depths {
+                list,
+                hops: 0,
+                cycle: true,
+            };
+        }
+        sum += list[i];
+        i += 1;
+    }
+    Depths {
+        list,
+        hops: sum,
+        cycle: false,
+    }
+}

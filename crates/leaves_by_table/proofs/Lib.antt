@@ -1,0 +1,4 @@
+pub mod Corners
+pub mod Finding
+pub mod Same
+pub mod Tabled
