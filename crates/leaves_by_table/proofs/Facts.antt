@@ -9,9 +9,9 @@ use lib.ListN.{length, getD, length-map}
 use lib.Dec.{eqb}
 use Rattle.format.specs.Bytes.{same, any}
 use Rattle.format.specs.Lines.{Piece}
-use Rattle.format.specs.Records.{Record}
 use Rattle.format.specs.Programs.{Program, Link, root, dangling, child, programs, ordinalFrom, found, link, links, isDangling, depth, depths, hops, loopsFrom, tangled, leaves}
-use Rattle.format.specs.Calls.{Answer, refused, yes, fresh, leafing}
+use Rattle.format.specs.Adding.{noProgram}
+use Rattle.format.specs.Calls.{yes}
 use Rattle.format.specs.Table.{parentNumber, nodes, leafingTable}
 use Rattle.format.specs.declared.Node.{Node}
 use Rattle.text.proofs.Equal.{same-equal}
@@ -24,12 +24,10 @@ use Rattle.chain_laws.proofs.Bound.{depth-next}
 use Rattle.parents.proofs.Numbers.{links-count, links-named}
 use Rattle.parents.proofs.Opened.{opened}
 use Rattle.parents.proofs.Road.{none-dangles, none-loops}
-use Rattle.parser.proofs.Fresh.{Current, refused-is-no-answer}
 use Rattle.roots_and_leaves.proofs.Bound.{answered, current}
 use Rattle.leaves_by_table.specs.Facts.{programAt, nodeAt, depthSum, ParentOf, TableSays, AllTablesSay}
 use Rattle.leaves_by_table.proofs.Finding.{nodes-length}
 use Rattle.leaves_by_table.proofs.Same.{same-as-first}
-use Rattle.leaves_by_table.proofs.Tabled.{table-refused}
 
 -- ---- the program that a PP names
 
@@ -40,16 +38,16 @@ not-dangling (l ∷ ls) zero d e = false≢true (sym (both-false (isDangling l) 
 not-dangling (l ∷ ls) (suc i) d e = not-dangling ls i (both-false (isDangling l) (any isDangling ls) d .1) e
 
 -- the first program with this ID, counted from `k`
-abbrev Names : List Program → List ℕ → ℕ → ℕ → Type 0
-Names ps id k j = (j < length ps) × (programAt ps j .id ≡ id) × (found (ordinalFrom k id ps) ≡ child (k + j))
+abbrev First : List Program → List ℕ → ℕ → Type 0
+First ps id k = (j : ℕ) × (j < length ps) × (programAt ps j .id ≡ id) × (found (ordinalFrom k id ps) ≡ child (k + j))
 
-names : (k : ℕ) (id : List ℕ) (ps : List Program) → (found (ordinalFrom k id ps) ≡ dangling → ⊥) → (j : ℕ) × Names ps id k j
-unfolding found ordinalFrom programAt
-names k id [] e = absurd (e refl)
-names k id (p ∷ ps) e = go (same id (p .id)) refl e (names (k + 1) id ps)
+first : (k : ℕ) (id : List ℕ) (ps : List Program) → (found (ordinalFrom k id ps) ≡ dangling → ⊥) → First ps id k
+unfolding found ordinalFrom programAt noProgram
+first k id [] e = absurd (e refl)
+first k id (p ∷ ps) e = go (same id (p .id)) refl e (first (k + 1) id ps)
   where
     go : (t : Bool) → same id (p .id) ≡ t → (found (cond t (some k) (ordinalFrom (k + 1) id ps)) ≡ dangling → ⊥)
-        → ((found (ordinalFrom (k + 1) id ps) ≡ dangling → ⊥) → (j : ℕ) × Names ps id (k + 1) j)
+        → ((found (ordinalFrom (k + 1) id ps) ≡ dangling → ⊥) → First ps id (k + 1))
         → (j : ℕ) × (j < suc (length ps)) × (programAt (p ∷ ps) j .id ≡ id) × (found (cond t (some k) (ordinalFrom (k + 1) id ps)) ≡ child (k + j))
     go true q h ih = (0, omega arith, sym (same-equal id (p .id) q), ap child (omega arith))
     go false q h ih = let r = ih h in (suc (r .0), omega (arith, r .1), r .2, r .3 ∙ ap child (omega arith))
@@ -61,8 +59,8 @@ module _ (ps : List Program) where
   ls = links ps
 
   link-is : (i : ℕ) → i < length ps → getD ls i root ≡ link ps (programAt ps i .previous)
-  unfolding links programAt
-  link-is i h = map-at (λ p. link ps (p .previous)) ps i (record { id = []; previous = none }) root h
+  unfolding links programAt noProgram
+  link-is i h = map-at (λ p. link ps (p .previous)) ps i noProgram root h
 
   node-is : (i : ℕ) → i < length ps → nodeAt (nodes ls) i ≡ record { parent = parentNumber (getD ls i root); depth = depth ls (length ls) (getD ls i root) }
   unfolding nodes nodeAt
@@ -83,7 +81,7 @@ module _ (ps : List Program) where
     unfolding link parentNumber
     child-says i h p e =
         let is : getD ls i root ≡ found (ordinalFrom 0 (p .bytes) ps) = link-is i h ∙ ap (link ps) e in
-        let n = names 0 (p .bytes) ps (λ q. not-dangling ls i whole (is ∙ q)) in
+        let n = first 0 (p .bytes) ps (λ q. not-dangling ls i whole (is ∙ q)) in
         let k = n .0 in
         let up : getD ls i root ≡ child k = is ∙ n .3 ∙ ap child (omega arith) in
         let less = depth-less ls acyclic (λ j m. omega (arith, links-count ps, links-named ps few whole j m)) k (omega (arith, links-count ps, n .1)) in
@@ -111,23 +109,9 @@ links-say ps few z = record {
 
 pub all-tables-say : AllTablesSay
 unfolding AllTablesSay
-all-tables-say t c room seats xs h ns e = go (fresh t c) refl
-  where
-    abbrev ps : List Program
-    ps = programs (recordsOf t)
-
-    over : Current t c → ns ≡ nodes (links ps) → leafing t c room ≡ yes (xs, h) → TableSays ps h ns
-    over own is first =
-        let few = opened t c (own .reads) (own .own) .few in
-        subst (TableSays ps h) (sym is)
-        (answered t c own (λ a. TableSays ps (a .1) (nodes (links ps))) room (xs, h) first (links-say ps few))
-
-    go : (x : Answer (List Record)) → fresh t c ≡ x → TableSays ps h ns
-    go (refused n l) q = absurd (refused-is-no-answer n l (xs, h, ns) (sym (table-refused t c room seats n l q) ∙ e))
-    go (yes rs) q =
-        let s = same-as-first t c room seats .answers rs q xs h ns e in
-        let own = current t c room (xs, h) (s .0) in
-        over own (s .1 ∙ ap (λ x. nodes (links (programs x))) (is-records own rs q)) (s .0)
-      where
-        is-records : Current t c → (x : List Record) → fresh t c ≡ yes x → x ≡ recordsOf t
-        is-records own x q = ?
+all-tables-say t c room seats xs h ns e =
+    let s = same-as-first t c room seats .answers xs h ns e in
+    let own = current t c room (xs, h) (s .0) in
+    let ps = programs (recordsOf t) in
+    let few = opened t c (own .reads) (own .own) .few in
+    subst (TableSays ps h) (sym (s .1)) (answered t c own (λ a. TableSays ps (a .1) (nodes (links ps))) room (xs, h) (s .0) (links-say ps few))

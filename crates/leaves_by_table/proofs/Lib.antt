@@ -1,4 +1,5 @@
 pub mod Corners
+pub mod Facts
 pub mod Finding
 pub mod Same
 pub mod Tabled

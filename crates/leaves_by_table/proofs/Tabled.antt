@@ -26,7 +26,7 @@ use Rattle.leaves_by_table.specs.Answers.{withoutTable, nodesIn}
 use Rattle.leaves_by_table.specs.Plans.{DeepGraphOf, stoppedPlanOf, tablePlanOf}
 use Rattle.leaves_by_table.proofs.Finding.{nodes-length}
 
-abbrev Told : Type 0
+abbrev pub Told : Type 0
 Told = List ℕ × ℕ × List Node
 
 -- with a table of a size
@@ -44,7 +44,7 @@ module _ (t c : List ℕ) (room seats : ℕ) where
     abbrev ls : List Link
     ls = links (programs (recordsOf t))
 
-    over : leafingTable t c room seats ≡ then (leafing t c room) (seated seats (nodes ls))
+    pub over : leafingTable t c room seats ≡ then (leafing t c room) (seated seats (nodes ls))
     unfolding leafingTable seated
     over = goes-on t c (λ rs. then (leafing t c room) (seated seats (nodes (links (programs rs))))) own
 

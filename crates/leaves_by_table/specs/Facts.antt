@@ -6,6 +6,7 @@ use mathlib.Core.Option.{none, some}
 use lib.ListN.{length, getD}
 use Rattle.format.specs.Lines.{Piece}
 use Rattle.format.specs.Programs.{Program, programs}
+use Rattle.format.specs.Adding.{noProgram}
 use Rattle.format.specs.Calls.{yes}
 use Rattle.format.specs.Table.{leafingTable}
 use Rattle.format.specs.declared.Node.{Node}
@@ -13,7 +14,8 @@ use Rattle.accepted.specs.Read.{recordsOf}
 
 -- the program at an ordinal, and its record
 unfoldable pub programAt : List Program → ℕ → Program
-programAt ps i = getD ps i (record { id = []; previous = none })
+unfolding noProgram
+programAt ps i = getD ps i noProgram
 
 unfoldable pub nodeAt : List Node → ℕ → Node
 nodeAt ns i = getD ns i (record { parent = 4294967295; depth = 0 })
