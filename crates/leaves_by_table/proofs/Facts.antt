@@ -25,7 +25,7 @@ use Rattle.parents.proofs.Numbers.{links-count, links-named}
 use Rattle.parents.proofs.Opened.{opened}
 use Rattle.parents.proofs.Road.{none-dangles, none-loops}
 use Rattle.roots_and_leaves.proofs.Bound.{answered, current}
-use Rattle.leaves_by_table.specs.Facts.{programAt, nodeAt, depthSum, ParentOf, TableSays, AllTablesSay}
+use Rattle.leaves_by_table.specs.Facts.{programAt, nodeAt, depthSum, HasParent, TableSays, AllTablesSay}
 use Rattle.leaves_by_table.proofs.Finding.{nodes-length}
 use Rattle.leaves_by_table.proofs.Same.{same-as-first}
 
@@ -77,7 +77,7 @@ module _ (ps : List Program) where
       ∙ ap (λ d. record { parent = 4294967295; depth = d }) (depth-root ls (length ls))
 
   module _ (few : length ps ≤ 1024) (whole : any isDangling ls ≡ false) (acyclic : loopsFrom ls 0 ls ≡ false) where
-    child-says : (i : ℕ) → i < length ps → (p : Piece) → programAt ps i .previous ≡ some p → ParentOf ps (nodes ls) p (nodeAt (nodes ls) i)
+    child-says : (i : ℕ) → i < length ps → (p : Piece) → programAt ps i .previous ≡ some p → HasParent ps (nodes ls) p (nodeAt (nodes ls) i)
     unfolding link parentNumber
     child-says i h p e =
         let is : getD ls i root ≡ found (ordinalFrom 0 (p .bytes) ps) = link-is i h ∙ ap (link ps) e in
@@ -89,7 +89,7 @@ module _ (ps : List Program) where
         node-is i h
         ∙ ap (λ l. record { parent = parentNumber l; depth = depth ls (length ls) l }) up
         ∙ ap (λ d. record { parent = k; depth = d }) (depth-next ls (length ls) k less) in
-        subst (ParentOf ps (nodes ls) p) (sym here)
+        subst (HasParent ps (nodes ls) p) (sym here)
         (record { listed = n .1; named = n .2; deeper = ap suc (sym (ap (λ x. x .depth) (node-is k (n .1)))) })
 
 sums : (ls ms : List Link) → depthSum (map (λ l. record { parent = parentNumber l; depth = depth ls (length ls) l }) ms) ≡ depths ls ms

@@ -26,7 +26,7 @@ depthSum [] = 0
 depthSum (n ∷ ns) = n .depth + depthSum ns
 
 -- the parent of a program with this PP: one of the programs, whose ID is the PP, and which is one link nearer to its root
-pub record ParentOf (ps : List Program) (ns : List Node) (previous : Piece) (n : Node) : Type 0 where
+pub record HasParent (ps : List Program) (ns : List Node) (previous : Piece) (n : Node) : Type 0 where
   pub listed : n .parent < length ps
   pub named : programAt ps (n .parent) .id ≡ previous .bytes
   pub deeper : n .depth ≡ suc (nodeAt ns (n .parent) .depth)
@@ -37,7 +37,7 @@ pub record TableSays (ps : List Program) (hops : ℕ) (ns : List Node) : Type 0 
   -- a program without PP has nobody as its parent, and depth 0
   pub roots : (i : ℕ) → i < length ps → programAt ps i .previous ≡ none → nodeAt ns i ≡ record { parent = 4294967295; depth = 0 }
   -- any other has the depth of its parent, and one more
-  pub children : (i : ℕ) → i < length ps → (p : Piece) → programAt ps i .previous ≡ some p → ParentOf ps ns p (nodeAt ns i)
+  pub children : (i : ℕ) → i < length ps → (p : Piece) → programAt ps i .previous ≡ some p → HasParent ps ns p (nodeAt ns i)
   -- the hops are the sum of the depths
   pub summed : hops ≡ depthSum ns
 
