@@ -48,6 +48,7 @@ use Rattle.roots_and_leaves.specs.declared.LeavesAnswer.{LeavesAnswer}
 use Rattle.words.specs.Words.{FewLeaves, leavesWord}
 use Rattle.format.specs.Table.{leafingTable}
 use Rattle.leaves_by_table.specs.Answers.{withoutTable, nodesIn}
+use Rattle.leaves_by_table.proofs.Says.{says3}
 use Rattle.leaves_by_table.proofs.leaves_by_table as find
 use Rattle.leaves_by_table.proofs.leaves_by_table.Symbol as find-def
 use Rattle.leaves_by_table.proofs.leaves_by_table.Symbol.{name as #find}
@@ -64,14 +65,6 @@ use Rattle.exports.proofs.sam_header_leaves_by_table.Code as code
 
 abbrev stayed : Stays (f.ended .signature .params) (f.ended .kept)
 stayed = (stay-none-slice (0 ∷ []) tt (plain (λ _. u8)) yes, (stay-none-slice (1 ∷ []) tt (plain (λ _. u8)) yes, (gave-slice (2 ∷ []) tt (plain (λ _. N.the-row)), (gave-slice (3 ∷ []) tt (plain (λ _. u32)), tt))))
-
--- three facts at once
-says3 : {M : Type 1} (𝓤 : URA M) (Q : SProp 𝓤) {φ χ ψ : Type 0} → φ → χ → ψ → ent 𝓤 Q (sep 𝓤 Q (sep 𝓤 (fact 𝓤 φ) (sep 𝓤 (fact 𝓤 χ) (fact 𝓤 ψ))))
-says3 𝓤 Q {φ} {χ} {ψ} x y z =
-    via 𝓤 (sep 𝓤 (emp 𝓤) Q) (emp∗ 𝓤 Q)
-    (via 𝓤 (sep 𝓤 (sep 𝓤 (fact 𝓤 φ) (sep 𝓤 (fact 𝓤 χ) (fact 𝓤 ψ))) Q)
-    (monoL 𝓤 Q (via 𝓤 (sep 𝓤 (emp 𝓤) (emp 𝓤)) (emp∗ 𝓤 (emp 𝓤)) (mono∗ 𝓤 (factI 𝓤 φ (emp 𝓤) x) (via 𝓤 (sep 𝓤 (emp 𝓤) (emp 𝓤)) (emp∗ 𝓤 (emp 𝓤)) (mono∗ 𝓤 (factI 𝓤 χ (emp 𝓤) y) (factI 𝓤 ψ (emp 𝓤) z))))))
-    (comm∗ 𝓤 (sep 𝓤 (fact 𝓤 φ) (sep 𝓤 (fact 𝓤 χ) (fact 𝓤 ψ))) Q))
 
 module _ {M : Type 1} (𝓤 : URA M) (H : Heap 𝓤) (A₀ : Atoms 𝓤) (mem : Memory → SProp 𝓤) (run : Routine → Fun 𝓤) where
   -- the contracts that the proof cites

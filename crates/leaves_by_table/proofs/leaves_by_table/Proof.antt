@@ -56,6 +56,7 @@ use Rattle.leaves_by_table.specs.Answers.{withoutTable, nodesIn}
 use Rattle.leaves_by_table.specs.declared.TablePlan.{TablePlan}
 use Rattle.leaves_by_table.proofs.TablePlan as P
 use Rattle.leaves_by_table.proofs.TablePlan.Laws as P′
+use Rattle.leaves_by_table.proofs.Says.{says3}
 use Rattle.leaves_by_table.proofs.make_plan as make
 use Rattle.leaves_by_table.proofs.make_plan.Symbol as make-def
 use Rattle.leaves_by_table.proofs.make_plan.Symbol.{name as #make-plan}
@@ -74,14 +75,6 @@ stayed = (stay-none-slice (0 ∷ []) tt (plain (λ _. u8)) yes, (stay-none-slice
 map-same : (xs : List ℕ) → map (λ (m : ℕ). m) xs ≡ xs
 map-same [] = refl
 map-same (x ∷ xs) = ap (λ (l : List ℕ). x ∷ l) (map-same xs)
-
--- three facts at once
-says3 : {M : Type 1} (𝓤 : URA M) (Q : SProp 𝓤) {φ χ ψ : Type 0} → φ → χ → ψ → ent 𝓤 Q (sep 𝓤 Q (sep 𝓤 (fact 𝓤 φ) (sep 𝓤 (fact 𝓤 χ) (fact 𝓤 ψ))))
-says3 𝓤 Q {φ} {χ} {ψ} x y z =
-    via 𝓤 (sep 𝓤 (emp 𝓤) Q) (emp∗ 𝓤 Q)
-    (via 𝓤 (sep 𝓤 (sep 𝓤 (fact 𝓤 φ) (sep 𝓤 (fact 𝓤 χ) (fact 𝓤 ψ))) Q)
-    (monoL 𝓤 Q (via 𝓤 (sep 𝓤 (emp 𝓤) (emp 𝓤)) (emp∗ 𝓤 (emp 𝓤)) (mono∗ 𝓤 (factI 𝓤 φ (emp 𝓤) x) (via 𝓤 (sep 𝓤 (emp 𝓤) (emp 𝓤)) (emp∗ 𝓤 (emp 𝓤)) (mono∗ 𝓤 (factI 𝓤 χ (emp 𝓤) y) (factI 𝓤 ψ (emp 𝓤) z))))))
-    (comm∗ 𝓤 (sep 𝓤 (fact 𝓤 φ) (sep 𝓤 (fact 𝓤 χ) (fact 𝓤 ψ))) Q))
 
 module _ {M : Type 1} (𝓤 : URA M) (H : Heap 𝓤) (A₀ : Atoms 𝓤) (mem : Memory → SProp 𝓤) (run : Routine → Fun 𝓤) where
   -- the contracts that the proof cites
