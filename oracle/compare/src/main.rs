@@ -12,6 +12,8 @@ mod carried;
 mod check;
 mod known;
 mod reduce;
+#[cfg(feature = "table")]
+mod table;
 mod tally;
 
 use std::{collections::BTreeMap, process::ExitCode, time::Instant};
@@ -307,6 +309,7 @@ fn main() -> ExitCode {
     let calls: Vec<&str> = [
         ("lookup", cfg!(feature = "lookup")),
         ("graph", cfg!(feature = "graph")),
+        ("leaves_by_table", cfg!(feature = "table")),
         ("add", cfg!(feature = "add")),
         ("names", cfg!(feature = "names")),
         ("carry_on", cfg!(feature = "carry_on")),
