@@ -1,18 +1,20 @@
 -- Depths in an array: one more is noted, and those of all are the list of depths. Assumes nothing.
-use Prim.Native.Nat.{ℕ, zero, suc, _+_, _≤_, _<_}
+use Prim.Native.Nat.{ℕ, zero, suc, _+_, _-_, _≤_, _<_}
 use mathlib.Core.Path.{_≡_, refl, sym, ap, ap₂, subst, _∙_}
-use mathlib.Core.Bool.{Bool, true, false}
-use mathlib.Core.List.{List, [], _∷_, map}
+use mathlib.Core.Bool.{Bool, true, false, cond}
+use mathlib.Core.List.{List, [], _∷_, _++_, map}
 use native.Mathlib.Omega.{arith}
 use native.Mathlib.Numerals.{add-one}
-use lib.ListN.{length, getD, set, take, drop, replicate, getD-replicate, length-map, drop-of-length-le, List·getD-eq-default}
-use lib.Seq.{getD-set-same, getD-set-other, ext-getD, getD-take, length-take-le, drop-cons}
+use lib.ListN.{length, getD, set, drop, replicate, getD-replicate, length-replicate, length-map, drop-of-length-le, List·getD-eq-default}
+use lib.Seq.{getD-set-same, getD-set-other, getD-append-add, ext-getD, drop-cons}
 use lib.Dec.{eqb, ltb}
 use borrow.Author.Tests.{eqb-true, eqb-false, ltb-true, ltb-false}
-use Rattle.format.specs.Programs.{depth, depths, hops, root}
-use Rattle.chains.specs.Parents.{linkOf, linksOf}
+use Rattle.format.specs.Programs.{Link, root, loopsFrom, depth, depths, hops}
+use Rattle.chains.specs.Parents.{linkOf, linksOf, inArray}
+use Rattle.chains.proofs.Arrays.{array-at, array-length}
 use Rattle.chains.proofs.Walks.{map-at, link-at}
-use Rattle.chain_depths.specs.Depths.{deep, KnownRight, KnownStay}
+use Rattle.chain_depths.specs.declared.Depths.{Depths}
+use Rattle.chain_depths.specs.Depths.{deep, KnownRight, KnownStay, depthsOf}
 use Rattle.chain_depths.proofs.Deep.{links-length}
 
 -- beyond its end an array knows nothing
@@ -58,8 +60,32 @@ kept-known ds es kept k e f = e (sym (kept k e) ∙ f)
 abbrev pub Reached : List ℕ → ℕ → Type 0
 Reached ds i = (k : ℕ) → k < i → getD ds k 0 ≡ 4294967295 → ⊥
 
-pub noted-none : (ps : List ℕ) → length ps ≤ 1024 → KnownRight ps (replicate 1024 4294967295)
-noted-none ps few k h e = absurd (e (getD-replicate 1024 k 4294967295 0 (omega arith)))
+pub unknown-count : (n : ℕ) → length {A = ℕ} (replicate n 4294967295) ≡ n
+unknown-count n = length-replicate {A = ℕ} n 4294967295
+
+pub noted-none : (ps : List ℕ) → KnownRight ps (inArray (replicate (length ps) 4294967295))
+noted-none ps k h e =
+    absurd (e (array-at (replicate (length ps) 4294967295) k (omega (arith, unknown-count (length ps))) ∙ getD-replicate (length ps) k 4294967295 0 h))
+
+-- ---- behind the programs there are zeros
+
+abbrev pub Behind : List ℕ → ℕ → Type 0
+Behind ds n = (k : ℕ) → n ≤ k → getD ds k 0 ≡ 0
+
+zeros : (m k : ℕ) → _≡_ {A = ℕ} (getD (replicate m 0) k 0) 0
+zeros zero k = refl
+zeros (suc m) zero = refl
+zeros (suc m) (suc k) = zeros m k
+
+pub array-behind : (xs : List ℕ) (n : ℕ) → length xs ≡ n → Behind (inArray xs) n
+unfolding inArray
+array-behind xs n e k h =
+    ap (λ i. getD (xs ++ replicate (1024 - length xs) 0) i 0) (omega (arith, e))
+    ∙ getD-append-add xs (replicate (1024 - length xs) 0) (k - length xs) 0
+    ∙ zeros (1024 - length xs) (k - length xs)
+
+pub behind-kept : (ds es : List ℕ) (n : ℕ) → KnownStay ds es → Behind ds n → Behind es n
+behind-kept ds es n kept b k h = kept k (λ q. omega (arith, b k h, q)) ∙ b k h
 
 pub reached-more : (ds : List ℕ) (i : ℕ) → Reached ds i → (getD ds i 0 ≡ 4294967295 → ⊥) → Reached ds (i + 1)
 reached-more ds i r e k h = go (eqb k i) refl
@@ -77,14 +103,27 @@ module _ (ps ds : List ℕ) (sized : length ds ≡ 1024) (few : length ps ≤ 10
   pub all-less : (k : ℕ) → k < length ps → deep ps k < length ps
   all-less k h = noted k h (reached k h) .1
 
-  pub all-depths : take (length ps) ds ≡ map (depth (linksOf ps) (length ps)) (linksOf ps)
+  abbrev ls : List Link
+  ls = linksOf ps
+
+  abbrev all : List ℕ
+  all = map (depth ls (length ls)) ls
+
+  counted : length all ≡ length ps
+  counted = length-map ls (depth ls (length ls)) ∙ links-length ps
+
+  at : (i : ℕ) → i < length ps → getD ds i 0 ≡ getD all i 0
   unfolding deep
-  all-depths =
-      let n : length (take (length ps) ds) ≡ length ps = length-take-le (length ps) ds (omega arith) in
-      ext-getD 0 (take (length ps) ds) (map (depth (linksOf ps) (length ps)) (linksOf ps)) (omega (arith, n, length-map (linksOf ps) (depth (linksOf ps) (length ps)), links-length ps)) (λ i h.
-      let l : i < length ps = omega (arith, n) in
-      getD-take (length ps) ds i 0 l ∙ noted i l (reached i l) .0
-      ∙ sym (map-at (depth (linksOf ps) (length ps)) (linksOf ps) i root 0 (omega (arith, links-length ps)) ∙ ap (depth (linksOf ps) (length ps)) (link-at ps i l)))
+  at i h =
+      noted i h (reached i h) .0
+      ∙ sym (map-at (depth ls (length ls)) ls i root 0 (omega (arith, links-length ps)) ∙ ap₂ (depth ls) (links-length ps) (link-at ps i h))
+
+  pub all-depths : Behind ds (length ps) → ds ≡ inArray all
+  all-depths behind = ext-getD 0 ds (inArray all) (sized ∙ sym (array-length all (omega (arith, counted)))) (λ i h. go i (ltb i (length ps)) refl)
+    where
+      go : (i : ℕ) (t : Bool) → ltb i (length ps) ≡ t → getD ds i 0 ≡ getD (inArray all) i 0
+      go i true q = let l = ltb-true i (length ps) q in at i l ∙ sym (array-at all i (omega (arith, counted, l)))
+      go i false q = let l = ltb-false i (length ps) q in behind i l ∙ sym (array-behind all (length ps) counted i l)
 
 -- ---- their sum
 
@@ -96,3 +135,14 @@ module _ (ps : List ℕ) (i : ℕ) where
   pub sum-spent : length ps ≤ i → depths (linksOf ps) (linksOf (drop i ps)) ≡ 0
   unfolding depths linksOf
   sum-spent h = rw drop-of-length-le refl
+
+-- ---- what is told of a cycle
+
+pub cycle-is : (ls : List Link) (d : Depths) → d ≡ depthsOf ls → d .cycle ≡ loopsFrom ls 0 ls
+unfolding depthsOf
+cycle-is ls d e =
+    ap (λ x. x .cycle) e ∙ go (record { list = inArray []; hops = 0; cycle = true }) (record { list = inArray (map (depth ls (length ls)) ls); hops = hops ls; cycle = false }) (loopsFrom ls 0 ls) refl refl
+  where
+    go : (a b : Depths) (t : Bool) → a .cycle ≡ true → b .cycle ≡ false → cond t a b .cycle ≡ t
+    go a b true p q = p
+    go a b false p q = q

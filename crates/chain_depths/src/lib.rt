@@ -1,12 +1,10 @@
 // The depth of every program over a list of parents: each takes it from its parent, so that every link is gone along at most twice.
 ghost use mathlib.Core.Path.{_≡_};
 ghost use mathlib.Core.Bool.{true, false};
-ghost use mathlib.Core.List.{map};
 ghost use Prim.Native.Nat.{_≤_, _<_};
-ghost use lib.ListN.{length, getD, take};
-ghost use Rattle.format.specs.Programs.{loopsFrom, depth, hops};
-ghost use Rattle.chains.specs.Parents.{linksOf, areParents};
-ghost use Rattle.chain_depths.specs.Depths.{deep, KnownRight, KnownStay};
+ghost use lib.ListN.{length, getD, replicate};
+ghost use Rattle.chains.specs.Parents.{linksOf, areParents, inArray};
+ghost use Rattle.chain_depths.specs.Depths.{deep, KnownRight, KnownStay, depthsOf};
 
 // The depth of a program that has none yet.
 pub const UNKNOWN: u32 = 4294967295;
@@ -88,7 +86,21 @@ fn learn(parents: &[u32], depths: &mut [u32; 1024], i: usize) -> bool
     true
 }
 
-// The depth of each program in order, their sum, and whether some program comes back to itself: then the rest says nothing.
+// `n` depths that are not known yet, and zeros behind them.
+fn unknown(n: usize) -> [u32; 1024]
+    requires { ⌜ n ≤ 1024 ⌝ }
+    ensures { λ r. ⌜ r ≡ inArray (replicate n 4294967295) ⌝ }
+{
+    let mut list: [u32; 1024] = [0; 1024];
+    let mut i: usize = 0;
+    while i < n {
+        list[i] = UNKNOWN;
+        i += 1;
+    }
+    list
+}
+
+// The depth of each program in order, their sum, and whether some program comes back to itself: then the rest is zeros.
 pub struct Depths {
     pub list: [u32; 1024],
     pub hops: u32,
@@ -98,18 +110,16 @@ pub struct Depths {
 pub fn find_depths(parents: &[u32]) -> Depths
     requires { ⌜ areParents (length (now parents)) (now parents) ≡ true ⌝ }
     requires { ⌜ length (now parents) ≤ 1024 ⌝ }
-    ensures cycle { λ r. ⌜ r .cycle ≡ loopsFrom (linksOf (now (parents .entry))) 0 (linksOf (now (parents .entry))) ⌝ }
-    ensures depths { λ r. ⌜ (r .cycle ≡ false → take (length (now (parents .entry))) (r .list)
-        ≡ map (depth (linksOf (now (parents .entry))) (length (now (parents .entry)))) (linksOf (now (parents .entry)))) ⌝ }
-    ensures hops { λ r. ⌜ (r .cycle ≡ false → r .hops ≡ hops (linksOf (now (parents .entry)))) ⌝ }
+    ensures { λ r. ⌜ r ≡ depthsOf (linksOf (now (parents .entry))) ⌝ }
 {
-    let mut list: [u32; 1024] = [UNKNOWN; 1024];
+    let mut list: [u32; 1024] = unknown(parents.len());
     let mut sum: u32 = 0;
     let mut i: usize = 0;
     while i < parents.len() {
         if !learn(parents, &mut list, i) {
+            let none: [u32; 1024] = [0; 1024];
             return Depths {
-                list,
+                list: none,
                 hops: 0,
                 cycle: true,
             };

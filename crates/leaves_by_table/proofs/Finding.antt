@@ -11,7 +11,10 @@ use Rattle.format.specs.Programs.{Program, Link, root, dangling, child, links, 
 use Rattle.chains.specs.declared.Ordinals.{Ordinals}
 use Rattle.chains.specs.Parents.{nobody, linkOf, linksOf, inArray}
 use Rattle.chain_depths.specs.declared.Depths.{Depths}
+use Rattle.chain_depths.specs.Depths.{depthsOf}
 use Rattle.chain_depths.proofs.Deep.{links-length}
+use Rattle.chain_depths.proofs.Noting.{cycle-is}
+use Rattle.chains.proofs.Arrays.{front}
 use Rattle.format.specs.declared.Node.{Node}
 use Rattle.node_table.specs.Nodes.{nodesOf}
 use Rattle.parents.specs.declared.Parents.{Parents}
@@ -36,11 +39,9 @@ unfolding nodesOf linksOf
 by-links f [] = refl
 by-links f (p ∷ qs) = ap₂ (λ n l. record { parent = n; depth = f (linkOf p) } ∷ l) (same-parent p) (by-links f qs)
 
-by-numbers : (qs : List ℕ) → nodesOf qs (map (depth (linksOf qs) (length qs)) (linksOf qs)) ≡ nodes (linksOf qs)
+by-numbers : (qs : List ℕ) → nodesOf qs (map (depth (linksOf qs) (length (linksOf qs))) (linksOf qs)) ≡ nodes (linksOf qs)
 unfolding nodes
-by-numbers qs =
-    by-links (depth (linksOf qs) (length qs)) qs
-    ∙ ap (λ n. map (λ l. record { parent = parentNumber l; depth = depth (linksOf qs) n l }) (linksOf qs)) (sym (links-length qs))
+by-numbers qs = by-links (depth (linksOf qs) (length (linksOf qs))) qs
 
 pub nodes-length : (ls : List Link) → length (nodes ls) ≡ length ls
 unfolding nodes
@@ -76,22 +77,32 @@ module _ (ps : List Program) (few : length ps ≤ 1024) (q : Parents) (is : q �
         found-nothing (links ps) 23
         (graph-refusal (links ps) (record { refusal = 23; parents = q; leaves = ordinalsOf [] }) (road-cycle ps few q is d c (record { refusal = 23; parents = q; leaves = ordinalsOf [] }) refl)) (omega arith)
 
-    module _ (k : Depths) (loops : k .cycle ≡ loopsFrom (linksOf lent) 0 (linksOf lent)) (none : k .cycle ≡ false)
-        (deep : k .cycle ≡ false → take (length lent) (k .list) ≡ map (depth (linksOf lent) (length lent)) (linksOf lent))
-        (sum : k .cycle ≡ false → k .hops ≡ hops (linksOf lent))
-        (xs : Ordinals) (found : (xs .list ≡ inArray (leaves (linksOf lent))) × (xs .count ≡ length (leaves (linksOf lent)))) where
-      abbrev all : DeepGraph
-      all = record { refusal = 0; parents = q .list; depths = k .list; count = q .count; hops = k .hops; leaves = xs }
+    -- the depths that are found where there is no cycle
+    module _ (k : Depths) (told : k ≡ depthsOf (linksOf lent)) (none : k .cycle ≡ false) where
+      acyclic : loopsFrom (linksOf lent) 0 (linksOf lent) ≡ false
+      acyclic = sym (cycle-is (linksOf lent) k told) ∙ none
 
-      pub found-leaves : DeepGraphOf (links ps) all
-      found-leaves =
-          let same : linksOf lent ≡ links ps = lent-links ps few q is d in
-          let counts : q .count ≡ length lent = lent-count ps few q is in
-          record {
-            refusal = graph-refusal (links ps) (record { refusal = 0; parents = q; leaves = xs }) (road-leaves ps few q is d (sym loops ∙ none) xs found);
-            count = λ _. counts ∙ sym (links-length lent) ∙ ap length same;
-            table = λ _. ap (nodesOf lent) (ap (λ n. take n (k .list)) counts ∙ deep none) ∙ by-numbers lent ∙ ap nodes same;
-            hops = λ _. sum none ∙ ap hops same;
-            listed = λ _. found .0 ∙ ap (λ ls. inArray (leaves ls)) same;
-            counted = λ _. found .1 ∙ ap (λ ls. length (leaves ls)) same;
-          }
+      abbrev all : List ℕ
+      all = map (depth (linksOf lent) (length (linksOf lent))) (linksOf lent)
+
+      deep : k ≡ record { list = inArray all; hops = hops (linksOf lent); cycle = false }
+      unfolding depthsOf
+      deep = told ∙ ap (λ t. cond t (record { list = inArray []; hops = 0; cycle = true }) (record { list = inArray all; hops = hops (linksOf lent); cycle = false })) acyclic
+
+      listed : take (q .count) (k .list) ≡ all
+      listed =
+          front all (k .list) (q .count) (ap (λ d. d .list) deep)
+          (lent-count ps few q is ∙ sym (length-map (linksOf lent) (depth (linksOf lent) (length (linksOf lent))) ∙ links-length lent))
+
+      module _ (xs : Ordinals) (found : (xs .list ≡ inArray (leaves (linksOf lent))) × (xs .count ≡ length (leaves (linksOf lent)))) where
+        pub found-leaves : DeepGraphOf (links ps) (record { refusal = 0; parents = q .list; depths = k .list; count = q .count; hops = k .hops; leaves = xs })
+        found-leaves =
+            let same : linksOf lent ≡ links ps = lent-links ps few q is d in
+            record {
+              refusal = graph-refusal (links ps) (record { refusal = 0; parents = q; leaves = xs }) (road-leaves ps few q is d acyclic xs found);
+              count = λ _. lent-count ps few q is ∙ sym (links-length lent) ∙ ap length same;
+              table = λ _. ap (nodesOf lent) listed ∙ by-numbers lent ∙ ap nodes same;
+              hops = λ _. ap (λ x. x .hops) deep ∙ ap hops same;
+              listed = λ _. found .0 ∙ ap (λ ls. inArray (leaves ls)) same;
+              counted = λ _. found .1 ∙ ap (λ ls. length (leaves ls)) same;
+            }

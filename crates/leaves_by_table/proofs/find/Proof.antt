@@ -5,6 +5,7 @@ use mathlib.Core.List.{List}
 use lib.ListN.{length}
 use Rattle.format.specs.Programs.{Program, programs}
 use Rattle.accepted.specs.Read.{recordsOf}
+use Rattle.chain_depths.proofs.Noting.{cycle-is}
 use Rattle.parents.proofs.Own.{few-programs}
 use Rattle.parents.proofs.Road.{lent-count, lent-inside, lent-few, lent-within}
 use Rattle.leaves_by_table.proofs.Finding.{found-dangling, found-cycle, found-leaves}
@@ -54,7 +55,7 @@ returns-2 c =
     let k = c .before .before in
     let e = k .before .before .before in
     let f = e .before in
-    found-cycle (ps f) (few f) (f .find-parents .result) (f .find-parents .ensures) (e .if1 .left) (sym (k .find-depths .ensures .0) ∙ c .before .if2 .taken) (c .nothing2 .result) (c .nothing2 .ensures)
+    found-cycle (ps f) (few f) (f .find-parents .result) (f .find-parents .ensures) (e .if1 .left) (sym (cycle-is _ (k .find-depths .result) (k .find-depths .ensures)) ∙ c .before .if2 .taken) (c .nothing2 .result) (c .nothing2 .ensures)
 
 leaves-requires : tie.Need-leaves-requires
 leaves-requires c κs =
@@ -68,8 +69,8 @@ returns-3 c =
     let k = l .before .before in
     let e = k .before .before .before in
     let f = e .before in
-    found-leaves (ps f) (few f) (f .find-parents .result) (f .find-parents .ensures) (e .if1 .left) (k .find-depths .result) (k .find-depths .ensures .0) (l .before .if2 .left)
-    (k .find-depths .ensures .1 .0) (k .find-depths .ensures .1 .1) (l .leaves .result) (l .leaves .ensures)
+    found-leaves (ps f) (few f) (f .find-parents .result) (f .find-parents .ensures) (e .if1 .left) (k .find-depths .result) (k .find-depths .ensures) (l .before .if2 .left)
+    (l .leaves .result) (l .leaves .ensures)
 
 pub find-spec : {M : Type 1} → statement M
 find-spec =
