@@ -92,10 +92,10 @@ fn unknown(n: usize) -> [u32; 1024]
     ensures { λ r. ⌜ r ≡ inArray (replicate n 4294967295) ⌝ }
 {
     let mut list: [u32; 1024] = [0; 1024];
-    let mut i: usize = 0;
-    while i < n {
-        list[i] = UNKNOWN;
-        i += 1;
+    let mut at: usize = 0;
+    while at < n {
+        list[at] = UNKNOWN;
+        at += 1;
     }
     list
 }

@@ -1,4 +1,4 @@
--- `chain_depths::unknown` meets its contract: after i turns i depths are not known. Assumes nothing.
+-- `chain_depths::unknown` meets its contract: after some turns as many depths are not known. Assumes nothing.
 use Prim.Native.Nat.{ℕ, _+_, _-_, _≤_, _<_}
 use mathlib.Core.Path.{_≡_, refl, sym, ap, _∙_}
 use native.Mathlib.Omega.{arith}
@@ -15,10 +15,10 @@ turn i v h =
     ∙ ap inArray (replicate-append-replicate i 1 v)
 
 abbrev Inv-loop : tie.InvT-loop
-Inv-loop n list₀ i₀ list i = (i ≤ n) × (list ≡ inArray (replicate i 4294967295))
+Inv-loop n list₀ at₀ list at = (at ≤ n) × (list ≡ inArray (replicate at 4294967295))
 
 abbrev μ-loop : tie.MeasureT-loop
-μ-loop n list₀ i₀ list i = n - i
+μ-loop n list₀ at₀ list at = n - at
 
 loop-holds : tie.Need-loop-holds Inv-loop μ-loop
 unfolding inArray
@@ -30,8 +30,8 @@ mul-list c = omega arith
 array-write-list : tie.Need-array-write-list Inv-loop μ-loop
 array-write-list c = omega arith
 
-add-i : tie.Need-add-i Inv-loop μ-loop
-add-i c = omega arith
+add-at : tie.Need-add-at Inv-loop μ-loop
+add-at c = omega arith
 
 loop-less : tie.Need-loop-less Inv-loop μ-loop
 loop-less c = omega arith
@@ -39,13 +39,13 @@ loop-less c = omega arith
 loop-again : tie.Need-loop-again Inv-loop μ-loop
 loop-again c =
     let l = c .before .loop in
-    (omega arith, ap (λ r. set r (l .i) 4294967295) (l .inv .1) ∙ turn (l .i) 4294967295 (omega arith))
+    (omega arith, ap (λ r. set r (l .at) 4294967295) (l .inv .1) ∙ turn (l .at) 4294967295 (omega arith))
 
 returns : tie.Need-returns Inv-loop μ-loop
 returns c =
     let l = c .before .loop in
-    let all : l .i ≡ c .before .before .args .n = omega arith in
+    let all : l .at ≡ c .before .before .args .n = omega arith in
     l .inv .1 ∙ ap (λ n. inArray (replicate n 4294967295)) all
 
 pub unknown-spec : {M : Type 1} → statement M
-unknown-spec = tie.close (tie.spec Inv-loop μ-loop loop-holds mul-list array-write-list add-i loop-less loop-again returns)
+unknown-spec = tie.close (tie.spec Inv-loop μ-loop loop-holds mul-list array-write-list add-at loop-less loop-again returns)
