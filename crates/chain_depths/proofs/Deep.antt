@@ -1,20 +1,19 @@
 -- Depths from parent to child, and cycles: a program comes back to itself exactly if some depth does not end before n. Assumes nothing.
 use Prim.Native.Nat.{ℕ, zero, suc, _+_, _-_, _≤_, _<_}
-use mathlib.Core.Path.{_≡_, refl, sym, ap, ap₂, subst, _∙_}
+use mathlib.Core.Path.{_≡_, refl, sym, ap, ap₂, _∙_}
 use mathlib.Core.Bool.{Bool, true, false, _||_, false≢true}
 use mathlib.Core.List.{List, [], _∷_, map}
 use native.Mathlib.Omega.{arith}
 use native.Mathlib.Nat.{zero-add}
-use lib.ListN.{length, getD, length-map, take, drop, set}
+use lib.ListN.{length, getD, length-map}
 use lib.Dec.{eqb}
-use borrow.Author.Tests.{eqb-true, eqb-false, eq-eqb, ne-eqb}
+use borrow.Author.Tests.{eqb-true}
 use Rattle.format.specs.Programs.{Link, root, dangling, child, reaches, loopsFrom, depth}
 use Rattle.chains.specs.Parents.{linkOf, linksOf, areParents}
-use Rattle.chains.proofs.Bools.{both-false}
-use Rattle.chains.proofs.Walks.{within-at, link-at, link-none, link-some, depth-step, depth-root, depth-le}
+use Rattle.chains.proofs.Walks.{within-at, link-at, link-none, depth-step, depth-root, depth-le}
 use Rattle.chain_laws.proofs.Paths.{depth-less}
 use Rattle.chain_laws.proofs.Bound.{within-below}
-use Rattle.chain_depths.specs.Depths.{deep, KnownRight, KnownStay}
+use Rattle.chain_depths.specs.Depths.{deep}
 
 -- ---- fuel
 

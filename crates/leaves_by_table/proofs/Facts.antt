@@ -3,17 +3,14 @@ use Prim.Native.Nat.{ℕ, zero, suc, _+_, _≤_, _<_}
 use mathlib.Core.Path.{_≡_, refl, sym, ap, subst, _∙_}
 use mathlib.Core.Bool.{Bool, true, false, cond, false≢true}
 use mathlib.Core.List.{List, [], _∷_, map}
-use mathlib.Core.Option.{Option, none, some}
+use mathlib.Core.Option.{none, some}
 use native.Mathlib.Omega.{arith}
-use lib.ListN.{length, getD, length-map}
-use lib.Dec.{eqb}
+use lib.ListN.{length, getD}
 use Rattle.format.specs.Bytes.{same, any}
 use Rattle.format.specs.Lines.{Piece}
-use Rattle.format.specs.Programs.{Program, Link, root, dangling, child, programs, ordinalFrom, found, link, links, isDangling, depth, depths, hops, loopsFrom, tangled, leaves}
+use Rattle.format.specs.Programs.{Program, Link, root, dangling, child, programs, ordinalFrom, found, link, links, isDangling, depth, depths, hops, loopsFrom, tangled}
 use Rattle.format.specs.Adding.{noProgram}
-use Rattle.format.specs.Calls.{yes}
-use Rattle.format.specs.Table.{parentNumber, nodes, leafingTable}
-use Rattle.format.specs.declared.Node.{Node}
+use Rattle.format.specs.Table.{parentNumber, nodes}
 use Rattle.text.proofs.Equal.{same-equal}
 use Rattle.accepted.specs.Read.{recordsOf}
 use Rattle.chains.specs.Listed.{named}

@@ -1,6 +1,6 @@
 -- What is found along the parents is what the links of the programs say.
 use Prim.Native.Nat.{ℕ, _≤_, _<_}
-use mathlib.Core.Path.{_≡_, refl, sym, ap, ap₂, subst, _∙_}
+use mathlib.Core.Path.{_≡_, refl, sym, ap, ap₂, _∙_}
 use mathlib.Core.Bool.{Bool, true, false, cond}
 use mathlib.Core.List.{List, [], _∷_, map}
 use native.Mathlib.Omega.{arith}
@@ -15,7 +15,6 @@ use Rattle.chain_depths.specs.Depths.{depthsOf}
 use Rattle.chain_depths.proofs.Deep.{links-length}
 use Rattle.chain_depths.proofs.Noting.{cycle-is}
 use Rattle.chains.proofs.Arrays.{front}
-use Rattle.format.specs.declared.Node.{Node}
 use Rattle.node_table.specs.Nodes.{nodesOf}
 use Rattle.parents.specs.declared.Parents.{Parents}
 use Rattle.parents.specs.Parents.{parentsOf, ordinalsOf}

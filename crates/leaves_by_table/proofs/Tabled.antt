@@ -1,14 +1,13 @@
 -- What the second engine answers over a catalogue that is the text's own, by the links of its programs.
-use Prim.Native.Nat.{ℕ, zero, suc, _≤_, _<_}
-use mathlib.Core.Path.{_≡_, refl, sym, ap, ap₂, subst, _∙_}
+use Prim.Native.Nat.{ℕ, _≤_, _<_}
+use mathlib.Core.Path.{_≡_, refl, sym, ap, subst, _∙_}
 use mathlib.Core.Bool.{Bool, true, false, cond}
-use mathlib.Core.List.{List, []}
+use mathlib.Core.List.{List}
 use native.Mathlib.Omega.{arith}
-use lib.ListN.{length, take, replicate}
+use lib.ListN.{length, take}
 use lib.Dec.{ltb}
-use borrow.Author.Tests.{lt-ltb, le-ltb, ltb-true, ltb-false}
-use Rattle.format.specs.Records.{Record}
-use Rattle.format.specs.Programs.{Program, Link, programs, links, leaves, hops, tangled}
+use borrow.Author.Tests.{lt-ltb, le-ltb}
+use Rattle.format.specs.Programs.{Link, programs, links, leaves, hops, tangled}
 use Rattle.format.specs.Calls.{Answer, refused, yes, then, fitting, fresh, leafing}
 use Rattle.format.specs.declared.LineNo.{LineNo}
 use Rattle.accepted.specs.Read.{recordsOf}
@@ -16,7 +15,6 @@ use Rattle.format.specs.declared.Node.{Node}
 use Rattle.node_table.specs.Nodes.{nodesOf}
 use Rattle.parser.specs.Answers.{answerOf, outputOf}
 use Rattle.parser.proofs.Fresh.{Current, goes-on, stops}
-use Rattle.roots_and_leaves.specs.declared.LeavesAnswer.{LeavesAnswer}
 use Rattle.roots_and_leaves.specs.Answers.{leavesAnswerOf, listOf}
 use Rattle.roots_and_leaves.proofs.Chained.{leaves-tangled, leaves-own}
 use Rattle.leaves_by_table.specs.declared.DeepGraph.{DeepGraph}

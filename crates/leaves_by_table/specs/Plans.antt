@@ -1,7 +1,7 @@
 -- What is found along the parents, and what is made of it.
 use Prim.Native.Nat.{ℕ}
 use mathlib.Core.Path.{_≡_}
-use mathlib.Core.List.{List, []}
+use mathlib.Core.List.{List}
 use lib.ListN.{length, take, replicate}
 use Rattle.format.specs.Programs.{Link, tangled, leaves, hops}
 use Rattle.format.specs.declared.LineNo.{LineNo}

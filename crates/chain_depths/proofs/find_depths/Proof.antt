@@ -9,7 +9,6 @@ use Rattle.format.specs.Programs.{Link, loopsFrom, depth, depths, hops}
 use Rattle.chains.specs.Parents.{linksOf, inArray}
 use Rattle.chains.proofs.Arrays.{array-length}
 use Rattle.chain_depths.specs.Depths.{deep, KnownRight, depthsOf}
-use Rattle.chain_depths.specs.declared.Depths.{Depths}
 use Rattle.chain_depths.proofs.Deep.{deep-cycle, deep-acyclic}
 use Rattle.chain_depths.proofs.Noting.{Reached, Behind, unknown-count, noted-none, reached-more, reached-kept, array-behind, behind-kept, all-less, all-depths, sum-turn, sum-spent}
 use Rattle.chain_depths.proofs.find_depths.Statement.{statement}

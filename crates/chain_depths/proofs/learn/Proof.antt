@@ -1,11 +1,11 @@
 -- `chain_depths::learn` meets its contract: a depth that is known already stays, and one that is found is noted with those above it.
-use Prim.Native.Nat.{ℕ, _+_, _<_}
-use mathlib.Core.Path.{_≡_, refl, sym, ap, _∙_}
+use Prim.Native.Nat.{ℕ, _<_}
+use mathlib.Core.Path.{_≡_, refl, sym, _∙_}
 use mathlib.Core.Bool.{false≢true}
 use mathlib.Core.List.{List}
 use native.Mathlib.Omega.{arith}
 use lib.ListN.{length, getD, set, length-set}
-use Rattle.chain_depths.specs.Depths.{deep, KnownRight, KnownStay}
+use Rattle.chain_depths.specs.Depths.{deep, KnownRight}
 use Rattle.chain_depths.proofs.Deep.{deep-le}
 use Rattle.chain_depths.proofs.Noting.{noted-set, kept-set, kept-same, kept-known, here-set}
 use Rattle.chain_depths.proofs.learn.Statement.{statement}

@@ -1,10 +1,10 @@
 -- `leaves_by_table::make_plan` meets its contract: reading, 21, 22, 23, 20 for the table or the output, then the leaves, the hops and the table's records.
-use Prim.Native.Nat.{ℕ, _≤_, _<_}
+use Prim.Native.Nat.{ℕ, _≤_}
 use mathlib.Core.Path.{_≡_, sym, ap, _∙_}
 use mathlib.Core.List.{List}
 use native.Mathlib.Omega.{arith}
 use lib.ListN.{length}
-use Rattle.format.specs.Programs.{Program, Link, programs, links, leaves, tangled}
+use Rattle.format.specs.Programs.{Link, programs, links, leaves, tangled}
 use Rattle.format.specs.Calls.{fitting}
 use Rattle.accepted.specs.Read.{recordsOf}
 use Rattle.chains.proofs.Arrays.{front, front-count, front-inside}
@@ -12,10 +12,9 @@ use Rattle.parents.proofs.Numbers.{links-count}
 use Rattle.parents.proofs.Opened.{Opened, opened}
 use Rattle.parser.specs.Answers.{answerOf, outputOf}
 use Rattle.parser.proofs.Fresh.{Current, refused-by, fresh-by}
-use Rattle.leaves_by_table.specs.declared.TablePlan.{TablePlan}
 use Rattle.leaves_by_table.specs.Plans.{tablePlanOf}
 use Rattle.format.specs.Table.{leafingTable}
-use Rattle.leaves_by_table.proofs.Tabled.{Says, stopped-says, planned-says, table-refused, table-tangled, table-short, table-fits}
+use Rattle.leaves_by_table.proofs.Tabled.{stopped-says, planned-says, table-refused, table-tangled, table-short, table-fits}
 use borrow.Author.Needs.{needs}
 use Rattle.leaves_by_table.proofs.make_plan.Statement.{statement}
 use Rattle.leaves_by_table.proofs.make_plan.Tie as tie
