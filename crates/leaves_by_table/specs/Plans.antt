@@ -1,4 +1,4 @@
--- What is found along the parents, and what is made of it.
+-- What is found along the parents, and what goes into the output and the table.
 use Prim.Native.Nat.{ℕ}
 use mathlib.Core.Path.{_≡_}
 use mathlib.Core.List.{List}
@@ -14,8 +14,11 @@ use Rattle.leaves_by_table.specs.declared.DeepGraph.{DeepGraph}
 use Rattle.leaves_by_table.specs.declared.TablePlan.{TablePlan}
 use Rattle.format.specs.Table.{nodes}
 
+-- nothing, because of a refusal
 unfoldable pub noGraphOf : ℕ → DeepGraph
-noGraphOf n = record { refusal = n; parents = replicate 1024 0; depths = replicate 1024 0; count = 0; hops = 0; leaves = record { list = replicate 1024 0; count = 0 } }
+noGraphOf n =
+    let none : List ℕ = replicate 1024 0 in
+    record { refusal = n; parents = none; depths = none; count = 0; hops = 0; leaves = record { list = none; count = 0 } }
 
 -- what links say: 0, 22 or 23, and where it is 0 the programs, the leaves and the hops
 pub record DeepGraphOf (ls : List Link) (f : DeepGraph) : Type 0 where
@@ -26,9 +29,11 @@ pub record DeepGraphOf (ls : List Link) (f : DeepGraph) : Type 0 where
   pub listed : f .refusal ≡ 0 → f .leaves .list ≡ inArray (leaves ls)
   pub counted : f .refusal ≡ 0 → f .leaves .count ≡ length (leaves ls)
 
+-- a plan that changes nothing, because of a refusal
 unfoldable pub stoppedPlanOf : ℕ → LineNo → TablePlan
 stoppedPlanOf n l = record { answer = answer.Refused n l; parents = replicate 1024 0; depths = replicate 1024 0; count = 0 }
 
+-- a plan by what became of the output
 unfoldable pub tablePlanOf : parser.CountAnswer → DeepGraph → TablePlan
 unfolding stoppedPlanOf
 tablePlanOf (Refused n l) f = stoppedPlanOf n l

@@ -88,6 +88,7 @@ pub struct TablePlan {
     pub count: usize,
 }
 
+// A refusal: nothing goes into the table.
 fn stopped(n: u8, line: LineNo) -> TablePlan
     ensures { λ r. ⌜ r ≡ stoppedPlanOf n line ⌝ }
 {
@@ -121,8 +122,8 @@ fn planned(a: CountAnswer, found: DeepGraph) -> TablePlan
     }
 }
 
-// All but the table, which has `seats` records: the leaves are at the front of `out`. A program in Rattle that only compares calls this, since it cannot lend a
-// table without a proof by hand.
+// All but the table, which has `seats` records: the leaves are at the front of `out`. A program in Rattle that only compares calls this, since it
+// cannot lend a table without a proof by hand.
 pub fn make_plan(text: &[u8], catalogue: &[u8], seats: usize, out: &mut [u32]) -> TablePlan
     ensures answer { λ r. ⌜ r .answer ≡ seatedAnswer (now (text .entry)) (now (catalogue .entry)) seats (now (out .entry)) ⌝ }
     ensures wrote { λ _. ⌜ now (out .exit) ≡ seatedLeaves (now (text .entry)) (now (catalogue .entry)) seats (now (out .entry)) ⌝ }
