@@ -14,14 +14,13 @@ use Rattle.chain_depths.specs.declared.Depths.{Depths}
 use Rattle.chain_depths.specs.Depths.{depthsOf}
 use Rattle.chain_depths.proofs.Deep.{links-length}
 use Rattle.chain_depths.proofs.Noting.{cycle-is}
-use Rattle.chains.proofs.Arrays.{front}
-use Rattle.node_table.specs.Nodes.{nodesOf}
+use Rattle.format.specs.declared.Node.{Node}
 use Rattle.parents.specs.declared.Parents.{Parents}
 use Rattle.parents.specs.Parents.{parentsOf, ordinalsOf}
-use Rattle.parents.proofs.Road.{lent-count, lent-links, road-dangling, road-cycle, road-leaves, graph-refusal}
+use Rattle.parents.proofs.Road.{lent-array, lent-count, lent-links, road-dangling, road-cycle, road-leaves, graph-refusal}
 use Rattle.leaves_by_table.specs.declared.DeepGraph.{DeepGraph}
 use Rattle.format.specs.Table.{parentNumber, nodes}
-use Rattle.leaves_by_table.specs.Plans.{noGraphOf, DeepGraphOf}
+use Rattle.leaves_by_table.specs.Plans.{parentsIn, depthsIn, noGraphOf, DeepGraphOf}
 
 -- a number is the parent that its link says
 same-parent : (p : ℕ) → p ≡ parentNumber (linkOf p)
@@ -32,15 +31,27 @@ same-parent p = go (eqb p 4294967295) refl
     go true q = eqb-true p 4294967295 q
     go false q = refl
 
--- records by numbers are records by links
-by-links : (f : Link → ℕ) (qs : List ℕ) → nodesOf qs (map f (linksOf qs)) ≡ map (λ l. record { parent = parentNumber l; depth = f l }) (linksOf qs)
-unfolding nodesOf linksOf
-by-links f [] = refl
-by-links f (p ∷ qs) = ap₂ (λ n l. record { parent = n; depth = f (linkOf p) } ∷ l) (same-parent p) (by-links f qs)
+-- so that the numbers are the parents of the records
+parents-are : (qs : List ℕ) → qs ≡ map parentNumber (linksOf qs)
+unfolding linksOf
+parents-are [] = refl
+parents-are (p ∷ qs) = ap₂ (λ n l. n ∷ l) (same-parent p) (parents-are qs)
 
-by-numbers : (qs : List ℕ) → nodesOf qs (map (depth (linksOf qs) (length (linksOf qs))) (linksOf qs)) ≡ nodes (linksOf qs)
+module _ (f : Link → ℕ) where
+  abbrev made : List Link → List Node
+  made ls = map (λ l. record { parent = parentNumber l; depth = f l }) ls
+
+  made-parents : (ls : List Link) → map (λ n. n .parent) (made ls) ≡ map parentNumber ls
+  made-parents [] = refl
+  made-parents (l ∷ ls) = ap (λ r. parentNumber l ∷ r) (made-parents ls)
+
+  made-depths : (ls : List Link) → map (λ n. n .depth) (made ls) ≡ map f ls
+  made-depths [] = refl
+  made-depths (l ∷ ls) = ap (λ r. f l ∷ r) (made-depths ls)
+
+depths-are : (ls : List Link) → map (λ n. n .depth) (nodes ls) ≡ map (depth ls (length ls)) ls
 unfolding nodes
-by-numbers qs = by-links (depth (linksOf qs) (length (linksOf qs))) qs
+depths-are ls = made-depths (depth ls (length ls)) ls
 
 pub nodes-length : (ls : List Link) → length (nodes ls) ≡ length ls
 unfolding nodes
@@ -55,7 +66,8 @@ found-nothing ls n e z f is =
     record {
       refusal = r ∙ e;
       count = λ q. absurd (no q);
-      table = λ q. absurd (no q);
+      parents = λ q. absurd (no q);
+      depths = λ q. absurd (no q);
       hops = λ q. absurd (no q);
       listed = λ q. absurd (no q);
       counted = λ q. absurd (no q);
@@ -88,19 +100,22 @@ module _ (ps : List Program) (few : length ps ≤ 1024) (q : Parents) (is : q �
       unfolding depthsOf
       deep = told ∙ ap (λ t. cond t (record { list = inArray []; hops = 0; cycle = true }) (record { list = inArray all; hops = hops (linksOf lent); cycle = false })) acyclic
 
-      listed : take (q .count) (k .list) ≡ all
-      listed =
-          front all (k .list) (q .count) (ap (λ d. d .list) deep)
-          (lent-count ps few q is ∙ sym (length-map (linksOf lent) (depth (linksOf lent) (length (linksOf lent))) ∙ links-length lent))
+      -- the parents that are lent are those of the records
+      numbered : linksOf lent ≡ links ps → q .list ≡ inArray (map (λ n. n .parent) (nodes (links ps)))
+      unfolding nodes
+      numbered same =
+          lent-array ps few q is ∙ ap inArray (parents-are lent ∙ ap (map parentNumber) same ∙ sym (made-parents (depth (links ps) (length (links ps))) (links ps)))
 
       module _ (xs : Ordinals) (found : (xs .list ≡ inArray (leaves (linksOf lent))) × (xs .count ≡ length (leaves (linksOf lent)))) where
         pub found-leaves : DeepGraphOf (links ps) (record { refusal = 0; parents = q .list; depths = k .list; count = q .count; hops = k .hops; leaves = xs })
+        unfolding parentsIn depthsIn
         found-leaves =
             let same : linksOf lent ≡ links ps = lent-links ps few q is d in
             record {
               refusal = graph-refusal (links ps) (record { refusal = 0; parents = q; leaves = xs }) (road-leaves ps few q is d acyclic xs found);
               count = λ _. lent-count ps few q is ∙ sym (links-length lent) ∙ ap length same;
-              table = λ _. ap (nodesOf lent) listed ∙ by-numbers lent ∙ ap nodes same;
+              parents = λ _. numbered same;
+              depths = λ _. ap (λ x. x .list) deep ∙ ap (λ ls. inArray (map (depth ls (length ls)) ls)) same ∙ ap inArray (sym (depths-are (links ps)));
               hops = λ _. ap (λ x. x .hops) deep ∙ ap hops same;
               listed = λ _. found .0 ∙ ap (λ ls. inArray (leaves ls)) same;
               counted = λ _. found .1 ∙ ap (λ ls. length (leaves ls)) same;

@@ -1,12 +1,12 @@
 -- The second engine answers as the first one does.
 use Prim.Native.Nat.{ℕ, _≤_, _<_}
-use mathlib.Core.Path.{_≡_, refl, sym, ap, _∙_}
+use mathlib.Core.Path.{_≡_, refl, sym, ap, subst, _∙_}
 use mathlib.Core.Bool.{Bool, true, false, cond}
 use mathlib.Core.List.{List}
 use native.Mathlib.Omega.{arith}
 use lib.ListN.{length}
 use lib.Dec.{ltb}
-use borrow.Author.Tests.{lt-ltb, le-ltb}
+use borrow.Author.Tests.{lt-ltb, le-ltb, ltb-true, ltb-false}
 use Rattle.format.specs.Records.{Record}
 use Rattle.format.specs.Programs.{programs, links}
 use Rattle.format.specs.Calls.{Answer, refused, yes, then, fresh, leafing}
@@ -19,10 +19,12 @@ use Rattle.parents.proofs.Numbers.{links-count}
 use Rattle.parents.proofs.Opened.{opened}
 use Rattle.roots_and_leaves.proofs.Bound.{current}
 use Rattle.roots_and_leaves.proofs.Chained.{leaves-refused}
-use Rattle.leaves_by_table.specs.Answers.{withoutTable}
+use Rattle.leaves_by_table.specs.Answers.{withoutTable, nodesIn}
+use Rattle.leaves_by_table.specs.declared.TablePlan.{TablePlan}
+use Rattle.leaves_by_table.specs.Plans.{planFor}
 use Rattle.leaves_by_table.specs.Same.{SameAsFirst, AllSameAsFirst, AllSeated}
 use Rattle.leaves_by_table.proofs.Finding.{nodes-length}
-use Rattle.leaves_by_table.proofs.Tabled.{Told, seated, table-refused, over}
+use Rattle.leaves_by_table.proofs.Tabled.{Told, seated, table-refused, over, plan-count}
 
 module _ (t c : List ℕ) (room seats : ℕ) where
   -- the catalogue is the text's own, or there is a refusal
@@ -97,6 +99,30 @@ module _ (t c : List ℕ) (room seats : ℕ) where
   seats-all h = by-fresh
       stays-refused
       (λ own. same-as-first .same (omega (arith, opened t c (own .reads) (own .own) .few)))
+
+  -- the records of an answer are no more than the table has, and at most 1,024
+  nodes-fit : (length (nodesIn (leafingTable t c room seats)) ≤ seats) × (length (nodesIn (leafingTable t c room seats)) ≤ 1024)
+  nodes-fit = go (leafingTable t c room seats) refl
+    where
+      go : (a : Answer Told) → leafingTable t c room seats ≡ a → (length (nodesIn a) ≤ seats) × (length (nodesIn a) ≤ 1024)
+      go (refused n l) e = unfold nodesIn in (omega arith, omega arith)
+      go (yes (xs, h, ms)) e = unfold nodesIn in fit (ltb seats (length (programs (recordsOf t)))) refl
+        where
+          told : (leafing t c room ≡ yes (xs, h)) × (ms ≡ ns)
+          told = same-as-first .answers xs h ms e
+
+          many : length ms ≡ length (programs (recordsOf t))
+          many = ap length (told .1) ∙ count
+
+          few : length (programs (recordsOf t)) ≤ 1024
+          few = let own = current t c room (xs, h) (told .0) in opened t c (own .reads) (own .own) .few
+
+          fit : (b : Bool) → ltb seats (length (programs (recordsOf t))) ≡ b → (length ms ≤ seats) × (length ms ≤ 1024)
+          fit true q = absurd (refused-is-no-answer 20 0 (xs, h, ms) (sym (same-as-first .short (ltb-true seats (length (programs (recordsOf t))) q) (xs, h) (told .0)) ∙ e))
+          fit false q = (omega (arith, many, ltb-false seats (length (programs (recordsOf t))) q), omega (arith, many, few))
+
+  pub plan-fits : (p : TablePlan) → p ≡ planFor (leafingTable t c room seats) → (p .count ≤ seats) × (p .count ≤ 1024)
+  plan-fits p e = subst (λ n. (n ≤ seats) × (n ≤ 1024)) (sym (plan-count (leafingTable t c room seats) p e)) nodes-fit
 
 pub all-same-as-first : AllSameAsFirst
 unfolding AllSameAsFirst

@@ -1,10 +1,10 @@
 -- What the second engine answers over a catalogue that is the text's own, by the links of its programs.
 use Prim.Native.Nat.{ℕ, _≤_, _<_}
-use mathlib.Core.Path.{_≡_, refl, sym, ap, subst, _∙_}
+use mathlib.Core.Path.{_≡_, refl, sym, ap, ap₂, subst, _∙_}
 use mathlib.Core.Bool.{Bool, true, false, cond}
-use mathlib.Core.List.{List}
+use mathlib.Core.List.{List, [], _∷_, map}
 use native.Mathlib.Omega.{arith}
-use lib.ListN.{length, take}
+use lib.ListN.{length, length-map, take}
 use lib.Dec.{ltb}
 use borrow.Author.Tests.{lt-ltb, le-ltb}
 use Rattle.format.specs.Programs.{Link, programs, links, leaves, hops, tangled}
@@ -12,16 +12,19 @@ use Rattle.format.specs.Calls.{Answer, refused, yes, then, fitting, fresh, leaf
 use Rattle.format.specs.declared.LineNo.{LineNo}
 use Rattle.accepted.specs.Read.{recordsOf}
 use Rattle.format.specs.declared.Node.{Node}
+use Rattle.chains.specs.Parents.{inArray}
+use Rattle.chains.proofs.Arrays.{front}
 use Rattle.node_table.specs.Nodes.{nodesOf}
 use Rattle.parser.specs.Answers.{answerOf, outputOf}
 use Rattle.parser.proofs.Fresh.{Current, goes-on, stops}
+use Rattle.roots_and_leaves.specs.declared.LeavesAnswer.the-variants.{Counted}
 use Rattle.roots_and_leaves.specs.Answers.{leavesAnswerOf, listOf}
 use Rattle.roots_and_leaves.proofs.Chained.{leaves-tangled, leaves-own}
 use Rattle.leaves_by_table.specs.declared.DeepGraph.{DeepGraph}
 use Rattle.leaves_by_table.specs.declared.TablePlan.{TablePlan}
 use Rattle.format.specs.Table.{nodes, leafingTable}
 use Rattle.leaves_by_table.specs.Answers.{withoutTable, nodesIn}
-use Rattle.leaves_by_table.specs.Plans.{DeepGraphOf, stoppedPlanOf, tablePlanOf}
+use Rattle.leaves_by_table.specs.Plans.{parentsIn, depthsIn, planFor, DeepGraphOf, stoppedPlanOf, tablePlanOf}
 use Rattle.leaves_by_table.proofs.Finding.{nodes-length}
 
 abbrev pub Told : Type 0
@@ -81,33 +84,59 @@ module _ (t c : List ℕ) (room seats : ℕ) where
 
 -- ---- what a plan says of an answer
 
--- the answer, the output at exit, and what goes into a table of `seats`
-pub record Says (a : Answer Told) (seats : ℕ) (out out′ : List ℕ) (p : TablePlan) : Type 0 where
-  pub answer : p .answer ≡ leavesAnswerOf (withoutTable a)
+-- the plan for an answer, and the output at exit
+pub record Says (a : Answer Told) (out out′ : List ℕ) (p : TablePlan) : Type 0 where
+  pub plan : p ≡ planFor a
   pub wrote : out′ ≡ outputOf (listOf (withoutTable a)) out
-  pub nodes : nodesOf (take (p .count) (p .parents)) (take (p .count) (p .depths)) ≡ nodesIn a
-  pub fits : (p .count ≤ seats) × (p .count ≤ 1024)
 
-stop-says : (n : ℕ) (l : LineNo) (seats : ℕ) (out : List ℕ) → Says (refused n (l .0)) seats out out (stoppedPlanOf n l)
-unfolding leavesAnswerOf withoutTable listOf outputOf nodesIn nodesOf stoppedPlanOf
-stop-says n l seats out = record { answer = refl; wrote = refl; nodes = refl; fits = (omega arith, omega arith) }
+stop-says : (n : ℕ) (l : LineNo) (out : List ℕ) → Says (refused n (l .0)) out out (stoppedPlanOf n l)
+unfolding leavesAnswerOf withoutTable listOf outputOf nodesIn planFor parentsIn depthsIn inArray stoppedPlanOf
+stop-says n l out = record { plan = refl; wrote = refl }
 
-pub stopped-says : (a : Answer Told) (n : ℕ) (l : LineNo) (seats : ℕ) (out : List ℕ) → a ≡ refused n (l .0) → (p : TablePlan) → p ≡ stoppedPlanOf n l → Says a seats out out p
-stopped-says a n l seats out e p is = subst (λ b. Says b seats out out p) (sym e) (subst (Says (refused n (l .0)) seats out out) (sym is) (stop-says n l seats out))
+pub stopped-says : (a : Answer Told) (n : ℕ) (l : LineNo) (out : List ℕ) → a ≡ refused n (l .0) → (p : TablePlan) → p ≡ stoppedPlanOf n l → Says a out out p
+stopped-says a n l out e p is = subst (λ b. Says b out out p) (sym e) (subst (Says (refused n (l .0)) out out) (sym is) (stop-says n l out))
 
-module _ (ls : List Link) (seats : ℕ) (f : DeepGraph) (found : DeepGraphOf ls f) (z : f .refusal ≡ 0) (wide : f .count ≤ seats) (few : length ls ≤ 1024) where
-  plan-says : (b : Answer (List ℕ)) (out : List ℕ) → Says (then b (λ xs. yes (xs, hops ls, nodes ls))) seats out (outputOf b out) (tablePlanOf (answerOf b) f)
-  unfolding then leavesAnswerOf withoutTable listOf outputOf nodesIn answerOf tablePlanOf
-  plan-says (refused n l) out = stop-says n (record { 0 = l }) seats out
+module _ (ls : List Link) (f : DeepGraph) (found : DeepGraphOf ls f) (z : f .refusal ≡ 0) where
+  plan-says : (b : Answer (List ℕ)) (out : List ℕ) → Says (then b (λ xs. yes (xs, hops ls, nodes ls))) out (outputOf b out) (tablePlanOf (answerOf b) f)
+  unfolding then leavesAnswerOf withoutTable listOf outputOf nodesIn answerOf tablePlanOf planFor
+  plan-says (refused n l) out = stop-says n (record { 0 = l }) out
   plan-says (yes xs) out =
       record {
-        answer = ap (λ h. leavesAnswerOf (yes (xs, h))) (found .hops z);
+        plan =
+            ap (λ h. record { answer = Counted (length xs) h; parents = f .parents; depths = f .depths; count = f .count }) (found .hops z)
+            ∙ ap₂ (λ qs ds. record { answer = Counted (length xs) (hops ls); parents = qs; depths = ds; count = f .count }) (found .parents z) (found .depths z)
+            ∙ ap (λ n. record { answer = Counted (length xs) (hops ls); parents = parentsIn (nodes ls); depths = depthsIn (nodes ls); count = n }) (found .count z ∙ sym (nodes-length ls));
         wrote = refl;
-        nodes = found .table z;
-        fits = (wide, omega (arith, found .count z));
       }
 
   pub planned-says : (a : Answer Told) (b : Answer (List ℕ)) (out out′ : List ℕ) (p : TablePlan) → a ≡ then b (λ xs. yes (xs, hops ls, nodes ls)) → out′ ≡ outputOf b out → p ≡ tablePlanOf (answerOf b) f
-      → Says a seats out out′ p
+      → Says a out out′ p
   planned-says a b out out′ p e o is =
-      subst (λ x. Says x seats out out′ p) (sym e) (subst (λ x. Says (then b (λ xs. yes (xs, hops ls, nodes ls))) seats out x p) (sym o) (subst (Says (then b (λ xs. yes (xs, hops ls, nodes ls))) seats out (outputOf b out)) (sym is) (plan-says b out)))
+      subst (λ x. Says x out out′ p) (sym e)
+      (subst (λ x. Says (then b (λ xs. yes (xs, hops ls, nodes ls))) out x p) (sym o)
+      (subst (Says (then b (λ xs. yes (xs, hops ls, nodes ls))) out (outputOf b out)) (sym is) (plan-says b out)))
+
+-- ---- what a plan says of the table
+
+-- records from the parents and the depths that they say
+records-back : (ns : List Node) → nodesOf (map (λ n. n .parent) ns) (map (λ n. n .depth) ns) ≡ ns
+unfolding nodesOf
+records-back [] = refl
+records-back (n ∷ ns) = ap (λ r. n ∷ r) (records-back ns)
+
+module _ (a : Answer Told) (p : TablePlan) (is : p ≡ planFor a) where
+  pub plan-answer : p .answer ≡ leavesAnswerOf (withoutTable a)
+  unfolding planFor
+  plan-answer = ap (λ x. x .answer) is
+
+  pub plan-count : p .count ≡ length (nodesIn a)
+  unfolding planFor
+  plan-count = ap (λ x. x .count) is
+
+  pub plan-nodes : nodesOf (take (p .count) (p .parents)) (take (p .count) (p .depths)) ≡ nodesIn a
+  unfolding planFor parentsIn depthsIn
+  plan-nodes =
+      ap₂ nodesOf
+      (front (map (λ n. n .parent) (nodesIn a)) (p .parents) (p .count) (ap (λ x. x .parents) is) (plan-count ∙ sym (length-map (nodesIn a) (λ n. n .parent))))
+      (front (map (λ n. n .depth) (nodesIn a)) (p .depths) (p .count) (ap (λ x. x .depths) is) (plan-count ∙ sym (length-map (nodesIn a) (λ n. n .depth))))
+      ∙ records-back (nodesIn a)

@@ -1,18 +1,35 @@
 -- What is found along the parents, and what goes into the output and the table.
 use Prim.Native.Nat.{ℕ}
 use mathlib.Core.Path.{_≡_}
-use mathlib.Core.List.{List}
-use lib.ListN.{length, take, replicate}
+use mathlib.Core.List.{List, map}
+use lib.ListN.{length, replicate}
 use Rattle.format.specs.Programs.{Link, tangled, leaves, hops}
 use Rattle.format.specs.declared.LineNo.{LineNo}
 use Rattle.chains.specs.Parents.{inArray}
-use Rattle.node_table.specs.Nodes.{nodesOf}
+use Rattle.format.specs.Calls.{Answer}
+use Rattle.format.specs.declared.Node.{Node}
 use Rattle.parser.specs.declared.CountAnswer as parser
 use Rattle.parser.specs.declared.CountAnswer.the-variants.{Refused, Count}
 use Rattle.roots_and_leaves.specs.declared.LeavesAnswer.the-variants as answer
 use Rattle.leaves_by_table.specs.declared.DeepGraph.{DeepGraph}
 use Rattle.leaves_by_table.specs.declared.TablePlan.{TablePlan}
+use Rattle.roots_and_leaves.specs.Answers.{leavesAnswerOf}
 use Rattle.format.specs.Table.{nodes}
+use Rattle.leaves_by_table.specs.Answers.{withoutTable, nodesIn}
+
+-- the parents and the depths that records say, each in an array
+unfoldable pub parentsIn : List Node → List ℕ
+unfolding inArray
+parentsIn ns = inArray (map (λ n. n .parent) ns)
+
+unfoldable pub depthsIn : List Node → List ℕ
+unfolding inArray
+depthsIn ns = inArray (map (λ n. n .depth) ns)
+
+-- the plan for an answer: what is told, and what goes into the table
+unfoldable pub planFor : Answer (List ℕ × ℕ × List Node) → TablePlan
+unfolding leavesAnswerOf withoutTable parentsIn depthsIn nodesIn
+planFor a = record { answer = leavesAnswerOf (withoutTable a); parents = parentsIn (nodesIn a); depths = depthsIn (nodesIn a); count = length (nodesIn a) }
 
 -- nothing, because of a refusal
 unfoldable pub noGraphOf : ℕ → DeepGraph
@@ -24,7 +41,8 @@ noGraphOf n =
 pub record DeepGraphOf (ls : List Link) (f : DeepGraph) : Type 0 where
   pub refusal : f .refusal ≡ tangled ls
   pub count : f .refusal ≡ 0 → f .count ≡ length ls
-  pub table : f .refusal ≡ 0 → nodesOf (take (f .count) (f .parents)) (take (f .count) (f .depths)) ≡ nodes ls
+  pub parents : f .refusal ≡ 0 → f .parents ≡ parentsIn (nodes ls)
+  pub depths : f .refusal ≡ 0 → f .depths ≡ depthsIn (nodes ls)
   pub hops : f .refusal ≡ 0 → f .hops ≡ hops ls
   pub listed : f .refusal ≡ 0 → f .leaves .list ≡ inArray (leaves ls)
   pub counted : f .refusal ≡ 0 → f .leaves .count ≡ length (leaves ls)

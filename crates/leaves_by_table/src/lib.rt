@@ -9,8 +9,7 @@ use programs::Programs;
 use roots_and_leaves::LeavesAnswer;
 ghost use mathlib.Core.Path.{_≡_};
 ghost use mathlib.Core.Bool.{true};
-ghost use Prim.Native.Nat.{_≤_};
-ghost use lib.ListN.{length, take};
+ghost use lib.ListN.{length};
 ghost use Rattle.format.specs.Reading.{readText};
 ghost use Rattle.format.specs.Catalogue.{catalogue};
 ghost use Rattle.format.specs.Programs.{programs, links};
@@ -18,9 +17,8 @@ ghost use Rattle.format.specs.Table.{leafingTable};
 ghost use Rattle.accepted.specs.Read.{isAccepted, recordsOf};
 ghost use Rattle.entries.specs.Entries.{entriesIn};
 ghost use Rattle.programs.specs.Gathered.{notedIn, gatheredOf};
-ghost use Rattle.node_table.specs.Nodes.{nodesOf};
-ghost use Rattle.leaves_by_table.specs.Answers.{nodesIn, seatedAnswer, seatedLeaves, nodesLeft};
-ghost use Rattle.leaves_by_table.specs.Plans.{noGraphOf, DeepGraphOf, stoppedPlanOf, tablePlanOf};
+ghost use Rattle.leaves_by_table.specs.Answers.{seatedAnswer, seatedLeaves, nodesLeft};
+ghost use Rattle.leaves_by_table.specs.Plans.{noGraphOf, DeepGraphOf, stoppedPlanOf, tablePlanOf, planFor};
 
 // What is found along the parents: 0, 22 or 23, with nothing else; the parents and the depths, and how many programs there are; and the leaves.
 struct DeepGraph {
@@ -125,11 +123,8 @@ fn planned(a: CountAnswer, found: DeepGraph) -> TablePlan
 // All but the table, which has `seats` records: the leaves are at the front of `out`. A program in Rattle that only compares calls this, since it
 // cannot lend a table without a proof by hand.
 pub fn make_plan(text: &[u8], catalogue: &[u8], seats: usize, out: &mut [u32]) -> TablePlan
-    ensures answer { λ r. ⌜ r .answer ≡ seatedAnswer (now (text .entry)) (now (catalogue .entry)) seats (now (out .entry)) ⌝ }
+    ensures plan { λ r. ⌜ r ≡ planFor (leafingTable (now (text .entry)) (now (catalogue .entry)) (length (now (out .entry))) seats) ⌝ }
     ensures wrote { λ _. ⌜ now (out .exit) ≡ seatedLeaves (now (text .entry)) (now (catalogue .entry)) seats (now (out .entry)) ⌝ }
-    ensures nodes { λ r. ⌜ nodesOf (take (r .count) (r .parents)) (take (r .count) (r .depths))
-        ≡ nodesIn (leafingTable (now (text .entry)) (now (catalogue .entry)) (length (now (out .entry))) seats) ⌝ }
-    ensures fits { λ r. ⌜ (r .count ≤ seats) × (r .count ≤ 1024) ⌝ }
 {
     match parser::check(text, catalogue) { // 21 comes before 22
         Checked::Refused(n, line) => stopped(n, line),

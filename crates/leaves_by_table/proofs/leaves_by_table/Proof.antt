@@ -56,7 +56,10 @@ use Rattle.leaves_by_table.specs.Answers.{withoutTable, nodesIn}
 use Rattle.leaves_by_table.specs.declared.TablePlan.{TablePlan}
 use Rattle.leaves_by_table.proofs.TablePlan as P
 use Rattle.leaves_by_table.proofs.TablePlan.Laws as P′
+use Rattle.leaves_by_table.specs.Plans.{planFor}
+use Rattle.leaves_by_table.proofs.Same.{plan-fits}
 use Rattle.leaves_by_table.proofs.Says.{says3}
+use Rattle.leaves_by_table.proofs.Tabled.{plan-answer, plan-nodes}
 use Rattle.leaves_by_table.proofs.make_plan as make
 use Rattle.leaves_by_table.proofs.make_plan.Symbol as make-def
 use Rattle.leaves_by_table.proofs.make_plan.Symbol.{name as #make-plan}
@@ -213,11 +216,9 @@ module _ {M : Type 1} (𝓤 : URA M) (H : Heap 𝓤) (A₀ : Atoms 𝓤) (W : Gi
         use1 W (later (some (λ (r : TablePlan). ((‵ (flft κ₁ q₁) ⊛ ‵ (flft κ₂ q₂) ⊛ ‵ (flft κ₄ q₄) ⊛ ‵ ftrue) ⊛ ‵ (P.the-row .own r (v ∷ []))) ⊛ raw (ensured 𝓤 H A₀ make.ended (make.clauses 𝓤 H A₀ mem run) (κ₁, (κ₂, (κ₄, tt))) (x₁, (x₂, (seats, (x₄, tt)))) tt r)))) (id⊢ 𝓤 _) $ await ! tt $ pick ! (λ r.
         split ! $ move ! (1 ∷ []) $
         use1 W (some (λ (ws : Unit {0} × (Unit {0} × (Unit {0} × (List ℕ × Unit {0})))). ‵ (lasts make.ended (κ₁, (κ₂, (κ₄, tt))) (x₁, (x₂, (seats, (x₄, tt)))) ws)
-        ⊛ raw (fact 𝓤 (r .answer ≡ leavesAnswerOf (withoutTable (leafingTable (x₁ .now) (x₂ .now) (length (x₄ .now)) seats))))
-        ⊛ raw (fact 𝓤 (ws .1 .1 .1 .0 ≡ outputOf (listOf (withoutTable (leafingTable (x₁ .now) (x₂ .now) (length (x₄ .now)) seats))) (x₄ .now)))
-        ⊛ raw (fact 𝓤 (nodesOf (take (r .count) (r .parents)) (take (r .count) (r .depths)) ≡ nodesIn (leafingTable (x₁ .now) (x₂ .now) (length (x₄ .now)) seats)))
-        ⊛ raw (fact 𝓤 ((r .count ≤ seats) × (r .count ≤ 1024))))) (id⊢ 𝓤 _) $ pick ! (λ ws.
-        split ! $ move ! (1 ∷ []) $ split ! $ heard ! _ (λ e₁. split ! $ heard ! _ (λ e₂. split ! $ heard ! _ (λ e₃. heard ! _ (λ e₄.
+        ⊛ raw (fact 𝓤 (r ≡ planFor (leafingTable (x₁ .now) (x₂ .now) (length (x₄ .now)) seats)))
+        ⊛ raw (fact 𝓤 (ws .1 .1 .1 .0 ≡ outputOf (listOf (withoutTable (leafingTable (x₁ .now) (x₂ .now) (length (x₄ .now)) seats))) (x₄ .now))))) (id⊢ 𝓤 _) $ pick ! (λ ws.
+        split ! $ move ! (1 ∷ []) $ split ! $ heard ! _ (λ e₁. heard ! _ (λ e₂.
         -- [what is said of the last values; the tokens and the plan; own₂; ..]
         fsplit ! $ move ! (1 ∷ []) $ fsplit ! $ move ! (1 ∷ []) $ fsplit ! $ move ! (1 ∷ []) $ fsplit ! $ fsplit ! $ move ! (1 ∷ []) $ feqL ! (λ lw.
         -- [the last list of out; true four times; the tokens and the plan; own₂; own₁; true; own₃; true; t₃; _11; …]
@@ -229,7 +230,7 @@ module _ {M : Type 1} (𝓤 : URA M) (H : Heap 𝓤) (A₀ : Atoms 𝓤) (W : Gi
         -- [the tokens; the last list of out; own₂; own₁; own₃; t₃; _11; …]
         assigns ! (addr ! (from ! (fld ! refl (hop ! (look-in ! 22 (sub ! 0 refl (whole !))) (stop !))))) (from ! (stop !)) (init ! 8 refl (tt, tt)) $
         assigns ! (agg ! (and-then ! (load ! (from ! (stop !)) (look ! 8 refl)) (and-then ! (load ! (from ! (fld ! refl (stop !))) (look-in ! 22 (sub ! 1 refl (whole !)))) (no-more !)))) (from ! (stop !)) (init ! 6 refl (tt, (tt, (record { fits = room₃ .0 }, tt)))) $
-        move ! (5 ∷ 4 ∷ []) $ use2 W (raw (Put 𝓤 H A₀ mem run .pre (to-put r))) (goes-put r (parts .1 .0) (parts .1 .1 .0) (parts .1 .1 .1 .0 .1) e₄) $
+        move ! (5 ∷ 4 ∷ []) $ use2 W (raw (Put 𝓤 H A₀ mem run .pre (to-put r))) (goes-put r (parts .1 .0) (parts .1 .1 .0) (parts .1 .1 .1 .0 .1) (plan-fits (x₁ .now) (x₂ .now) (length (x₄ .now)) seats r e₁)) $
         calls-at ! fm (Put 𝓤 H A₀ mem run) known-put (to-put r)
         (and-then ! (load ! (from ! (stop !)) (look ! 5 refl)) (and-then ! (load ! (from ! (fld ! refl (stop !))) (look-in ! 15 (sub ! 1 refl (whole !)))) (and-then ! (load ! (from ! (fld ! refl (stop !))) (look-in ! 15 (sub ! 2 refl (whole !)))) (and-then ! (load ! (from ! (fld ! refl (stop !))) (look-in ! 15 (sub ! 3 refl (whole !)))) (no-more !))))) (λ v₂.
         use1 W (later (some (λ (u : Unit {0}). ((‵ (flft κ₃ q₃) ⊛ ‵ ftrue) ⊛ ‵ (unit .own u (v₂ ∷ []))) ⊛ raw (ensured 𝓤 H A₀ put.ended (put.clauses 𝓤 H A₀ mem run) (κ₃, tt) (x₃, (ps r, (ds r, (r .count, tt)))) tt u)))) (id⊢ 𝓤 _) $ await ! tt $ pick ! (λ u.
@@ -243,7 +244,7 @@ module _ {M : Type 1} (𝓤 : URA M) (H : Heap 𝓤) (A₀ : Atoms 𝓤) (W : Gi
         assigns ! (of-opd ! (load ! (from ! (fld ! refl (stop !))) (look-in ! 18 (sub ! 0 refl (whole !))))) (from ! (stop !)) (init ! 30 refl (EE.lawful A.the-type A′.the-laws 𝓤 H A₀ W tt .typed (r .answer) _ (parts .0) .0)) $
         returns ! (look ! 30 refl) $ forget ! 8 refl $ forget ! 10 refl $ forget ! 12 refl $ forget ! 14 refl $ forget ! 16 refl $ forget ! 18 refl $ forget ! 20 refl $ forget ! 22 refl $ forget ! 24 refl $ forget ! 26 refl $ forget ! 28 refl $ forget ! 30 refl $
         move ! (30 ∷ 31 ∷ []) $ free1 ! $ move ! (28 ∷ 29 ∷ []) $ free1 ! $ move ! (26 ∷ 27 ∷ []) $ free1 ! $ move ! (24 ∷ 25 ∷ []) $ free1 ! $ move ! (22 ∷ 23 ∷ []) $ free1 ! $ move ! (20 ∷ 21 ∷ []) $ free1 ! $ move ! (18 ∷ 19 ∷ []) $ free1 ! $ move ! (16 ∷ 17 ∷ []) $ free1 ! $ move ! (14 ∷ 15 ∷ []) $ free1 ! $ move ! (12 ∷ 13 ∷ []) $ free1 ! $ move ! (10 ∷ 11 ∷ []) $ free1 ! $ move ! (8 ∷ 9 ∷ []) $ free1 ! $ free0 ! $
-        keep ! (4 ∷ 1 ∷ 2 ∷ 5 ∷ 7 ∷ 6 ∷ []) $ by ! (exits r (parts .0) (zs .0) (ws .1 .1 .1 .0) lz lw e₁ e₂ (e₅ ∙ ap (λ (ns : List Node). inFront ns (x₃ .now)) (ap₂ (λ (ks ms : List ℕ). nodesOf (take (r .count) ks) (take (r .count) ms)) (map-same (r .parents)) (map-same (r .depths)) ∙ e₃))))))))))))))))))))))))))))))
+        keep ! (4 ∷ 1 ∷ 2 ∷ 5 ∷ 7 ∷ 6 ∷ []) $ by ! (exits r (parts .0) (zs .0) (ws .1 .1 .1 .0) lz lw (plan-answer (leafingTable (x₁ .now) (x₂ .now) (length (x₄ .now)) seats) r e₁) e₂ (e₅ ∙ ap (λ (ns : List Node). inFront ns (x₃ .now)) (ap₂ (λ (ks ms : List ℕ). nodesOf (take (r .count) ks) (take (r .count) ms)) (map-same (r .parents)) (map-same (r .depths)) ∙ plan-nodes (leafingTable (x₁ .now) (x₂ .now) (length (x₄ .now)) seats) r e₁))))))))))))))))))))))))))))
 
 module _ {M : Type 1} (𝓤 : URA M) (H : Heap 𝓤) (A₀ : Atoms 𝓤) (W : Given 𝓤 H A₀) (mem : Memory → SProp 𝓤) (run : Routine → Fun 𝓤) where
   leaves-by-table-walks : (C : Calls 𝓤 H) (Λ : Loops 𝓤 H) → FmC 𝓤 H (W .laws) C → Triple 𝓤 (C #make-plan) (Make 𝓤 H A₀ mem run) → Triple 𝓤 (C #put-nodes) (Put 𝓤 H A₀ mem run)

@@ -74,9 +74,9 @@ returns c =
     let f = c .before .before .before in
     let e = f .before .before in
     let n = f .find .result .refusal in
-    let r = stopped-says (leafingTable (t e) (s e) (room e) (seats e)) n (record { 0 = 0 }) (seats e) (start e .args .out .now)
+    let r = stopped-says (leafingTable (t e) (s e) (room e) (seats e)) n (record { 0 = 0 }) (start e .args .out .now)
     (table-tangled (t e) (s e) (room e) (seats e) (own e) n (f .find .ensures .refusal) (c .before .if1 .taken)) (c .stopped2 .result) (c .stopped2 .ensures) in
-    (r .answer, (r .wrote, (r .nodes, r .fits)))
+    (r .plan, r .wrote)
 
 stopped-requires-3 : tie.Need-stopped-requires-3
 stopped-requires-3 c κs = search needs
@@ -87,9 +87,9 @@ returns-2 c =
     let f = l .before .before in
     let e = f .before .before in
     let z = l .if1 .left in
-    let r = stopped-says (leafingTable (t e) (s e) (room e) (seats e)) 20 (record { 0 = 0 }) (seats e) (start e .args .out .now)
+    let r = stopped-says (leafingTable (t e) (s e) (room e) (seats e)) 20 (record { 0 = 0 }) (start e .args .out .now)
     (table-short (t e) (s e) (room e) (seats e) (own e) (sym (f .find .ensures .refusal) ∙ z) (omega (arith, c .before .if2 .taken, f .find .ensures .count z))) (c .stopped3 .result) (c .stopped3 .ensures) in
-    (r .answer, (r .wrote, (r .nodes, r .fits)))
+    (r .plan, r .wrote)
 
 -- what is found: the leaves in an array, as they are lent
 module _ (w : tie.Else2) where
@@ -133,9 +133,9 @@ returns-3 c =
     let h = k .before .before in
     let a = h .before .before .before .before .args in
     let g = k .n .given in
-    let r = stopped-says (leafingTable (a .text .now) (a .catalogue .now) (length (a .out .now)) (a .seats)) (g .0 .0) (g .0 .1 .0) (a .seats) (a .out .now)
+    let r = stopped-says (leafingTable (a .text .now) (a .catalogue .now) (length (a .out .now)) (a .seats)) (g .0 .0) (g .0 .1 .0) (a .out .now)
     (table-refused (a .text .now) (a .catalogue .now) (length (a .out .now)) (a .seats) (g .0 .0) (g .0 .1 .0 .0) (refused-by (a .text .now) (a .catalogue .now) (h .check .ensures) (g .0 .0) (g .0 .1 .0) (g .1))) (c .stopped .result) (c .stopped .ensures) in
-    (r .answer, (r .wrote, (r .nodes, r .fits)))
+    (r .plan, r .wrote)
 
 same-length : tie.Need-same-length
 same-length c = search needs
@@ -151,11 +151,11 @@ returns-4 c =
     let wide : f .result .count ≤ seats e = w .if2 .left in
     let found = front (xs w) (f .result .leaves .list) (f .result .leaves .count) (f .ensures .listed z) (f .ensures .counted z) in
     let b = fitting (room e) (xs w) in
-    let r = planned-says (ls e) (seats e) (f .result) (f .ensures) z wide (few e) (leafingTable (t e) (s e) (room e) (seats e)) b out (p .put-ordinals .last .0) (c .planned .result)
+    let r = planned-says (ls e) (f .result) (f .ensures) z (leafingTable (t e) (s e) (room e) (seats e)) b out (p .put-ordinals .last .0) (c .planned .result)
     (table-fits (t e) (s e) (room e) (seats e) (own e) (sym (f .ensures .refusal) ∙ z) (omega (arith, wide, f .ensures .count z)))
     (p .put-ordinals .ensures .1 ∙ ap (λ ys. outputOf (fitting (room e) ys) out) found)
     (c .planned .ensures ∙ ap (λ x. tablePlanOf x (f .result)) (p .put-ordinals .ensures .0 ∙ ap (λ ys. answerOf (fitting (room e) ys)) found)) in
-    (r .answer, (r .wrote, (r .nodes, r .fits)))
+    (r .plan, r .wrote)
 
 pub make-plan-spec : {M : Type 1} → statement M
 make-plan-spec =
