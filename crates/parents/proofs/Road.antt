@@ -71,6 +71,9 @@ module _ (ps : List Program) (few : length ps ≤ 1024) (q : Parents) (is : q �
   lent-is : lent ≡ numbers ps
   lent-is = front (numbers ps) (q .list) (q .count) parents-list parents-count
 
+  pub lent-array : q .list ≡ inArray lent
+  lent-array = parents-list ∙ ap inArray (sym lent-is)
+
   pub lent-count : q .count ≡ length lent
   lent-count = front-count (numbers ps) (q .list) (q .count) parents-list parents-count
 
