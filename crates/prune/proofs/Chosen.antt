@@ -9,9 +9,10 @@ use lib.Dec.{eqb}
 use borrow.Author.Tests.{eqb-true, ne-eqb}
 use Rattle.format.specs.Records.{Record, code}
 use Rattle.format.specs.Reading.{ofKind}
-use Rattle.format.specs.Tidy.{inOrder}
+use Rattle.format.specs.Programs.{programs, links}
+use Rattle.format.specs.Tidy.{inOrder, text, tidy}
 use Rattle.roundtrip.proofs.Order.{order-1, order-2, order-3, order-4, order-5}
-use Rattle.format.specs.Prune.{chosen}
+use Rattle.format.specs.Prune.{isNeeded, chosen, pruned}
 use Rattle.tidy_text.specs.Sifted.{sifted}
 
 -- ---- the records of a kind
@@ -53,9 +54,33 @@ chosen-same p q k (x ∷ xs) h =
 
 -- ---- in order
 
+order-of : (rs : List Record) → inOrder rs ≡ ofKind 1 rs ++ ofKind 2 rs ++ ofKind 3 rs ++ ofKind 4 rs ++ ofKind 5 rs
+unfolding inOrder
+order-of rs = refl
+
 -- what is in order stays so
-pub inorder-again : (rs : List Record) → inOrder (inOrder rs) ≡ inOrder rs
-inorder-again rs = order-of (inOrder rs) ∙ rw (order-1 rs, order-2 rs, order-3 rs, order-4 rs, order-5 rs) (sym (order-of rs))
-  where
-    order-of : (qs : List Record) → inOrder qs ≡ ofKind 1 qs ++ ofKind 2 qs ++ ofKind 3 qs ++ ofKind 4 qs ++ ofKind 5 qs
-    order-of qs = unfold inOrder in refl
+order-again : (rs : List Record) → inOrder (inOrder rs) ≡ inOrder rs
+order-again rs = order-of (inOrder rs) ∙ rw (order-1 rs, order-2 rs, order-3 rs, order-4 rs, order-5 rs) (sym (order-of rs))
+
+tidy-order : (rs : List Record) → tidy (inOrder rs) ≡ tidy rs
+unfolding tidy
+tidy-order rs = ap text (order-again rs)
+
+-- of the kinds the programs alone are sifted
+module _ (p : ℕ → Bool) (rs : List Record) where
+  sifted-order : inOrder (sifted p 0 rs) ≡ ofKind 1 rs ++ ofKind 2 rs ++ ofKind 3 rs ++ chosen p 0 (ofKind 4 rs) ++ ofKind 5 rs
+  sifted-order = order-of (sifted p 0 rs) ∙ rw (
+    sift-other p 1 (λ e. omega arith) 0 rs,
+    sift-other p 2 (λ e. omega arith) 0 rs,
+    sift-other p 3 (λ e. omega arith) 0 rs,
+    sift-programs p 0 rs,
+    sift-other p 5 (λ e. omega arith) 0 rs,
+  ) refl
+
+  -- so that what pruning writes is the tidy text of what is sifted by the programs that are needed
+  pub sifted-tidy : (us : List ℕ) → chosen p 0 (ofKind 4 rs) ≡ chosen (isNeeded (links (programs rs)) us) 0 (ofKind 4 rs) → tidy (sifted p 0 rs) ≡ tidy (pruned us rs)
+  unfolding pruned
+  sifted-tidy us e = sym (tidy-order (sifted p 0 rs)) ∙ ap tidy (sifted-order ∙ ap (λ xs. ofKind 1 rs ++ ofKind 2 rs ++ ofKind 3 rs ++ xs ++ ofKind 5 rs) e)
+
+pub pruned-tidy : (us : List ℕ) (rs : List Record) → tidy (pruned us rs) ≡ tidy (sifted (isNeeded (links (programs rs)) us) 0 rs)
+pruned-tidy us rs = sym (sifted-tidy (isNeeded (links (programs rs)) us) rs us refl)

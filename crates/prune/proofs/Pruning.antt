@@ -9,17 +9,17 @@ use lib.Dec.{leb}
 use Rattle.format.specs.Bytes.{any}
 use Rattle.format.specs.Records.{Record}
 use Rattle.format.specs.Reading.{ofKind}
-use Rattle.format.specs.Programs.{Link, programs, programOf, links, isDangling, loopsFrom, tangled}
-use Rattle.format.specs.Tidy.{inOrder, text, tidy, unwritable}
+use Rattle.format.specs.Programs.{Link, programs, programOf, links, tangled}
+use Rattle.format.specs.Tidy.{tidy, unwritable}
 use Rattle.format.specs.Calls.{Answer, refused, then, fresh, untangled, writing}
 use Rattle.accepted.specs.Read.{recordsOf}
 use Rattle.parser.proofs.Fresh.{Current, goes-on, stops}
-use Rattle.format.specs.Prune.{isNeeded, chosen, pruned, pruning}
+use Rattle.format.specs.Prune.{isNeeded, pruned, pruning}
 use Rattle.prune_marks.specs.Marks.{neededMarks}
 use Rattle.prune_marks.proofs.Marked.{marks-at}
 use Rattle.tidy_text.specs.Sifted.{isMarked, sifted}
 use Rattle.tidy.specs.Written.{writingMarked}
-use Rattle.prune.proofs.Chosen.{sift-other, sift-programs, chosen-same, inorder-again}
+use Rattle.prune.proofs.Chosen.{chosen-same, sifted-tidy}
 
 -- ---- the text
 
@@ -28,22 +28,11 @@ module _ (rs : List Record) (us : List ℕ) (few : length (programs rs) ≤ 1024
   unfolding programs
   many = length-map (ofKind 4 rs) programOf
 
-  kept-programs : ofKind 4 (sifted (isMarked marks) 0 rs) ≡ chosen (isNeeded (links (programs rs)) us) 0 (ofKind 4 rs)
+  pub marked-text : tidy (sifted (isMarked marks) 0 rs) ≡ tidy (pruned us rs)
   unfolding isMarked
-  kept-programs =
-      sift-programs (isMarked marks) 0 rs
-      ∙ chosen-same (isMarked marks) (isNeeded (links (programs rs)) us) 0 (ofKind 4 rs)
-      (λ i a b. ap (λ m. isMarked m i) is ∙ marks-at (links (programs rs)) us i true (omega (arith, few, many)))
-
-  pub pruned-is : pruned us rs ≡ inOrder (sifted (isMarked marks) 0 rs)
-  unfolding pruned inOrder
-  pruned-is =
-      let p : ℕ → Bool = isMarked marks in
-      sym (rw (sift-other p 1 (λ e. omega arith) 0 rs, sift-other p 2 (λ e. omega arith) 0 rs, sift-other p 3 (λ e. omega arith) 0 rs, kept-programs, sift-other p 5 (λ e. omega arith) 0 rs) refl)
-
-  pub pruned-text : tidy (sifted (isMarked marks) 0 rs) ≡ tidy (pruned us rs)
-  unfolding tidy
-  pruned-text = ap text (sym (inorder-again (sifted (isMarked marks) 0 rs)) ∙ ap inOrder (sym pruned-is))
+  marked-text =
+      sifted-tidy (isMarked marks) rs us (chosen-same (isMarked marks) (isNeeded (links (programs rs)) us) 0 (ofKind 4 rs)
+      (λ i a b. ap (λ m. isMarked m i) is ∙ marks-at (links (programs rs)) us i true (omega (arith, few, many))))
 
 -- ---- the answer
 
@@ -81,4 +70,4 @@ module _ (t c us : List ℕ) (room : ℕ) (k : Current t c) where
 
     pub prune-on : tangled (links (programs rs)) ≡ 0 → length (programs rs) ≤ 1024 → (marks : List Bool) → marks ≡ neededMarks (links (programs rs)) us → pruning t c us room ≡ writingMarked t marks room
     unfolding then untangled
-    prune-on z few marks is = lowly 0 z ∙ ap (writing room (unwritable 0 rs)) (sym (pruned-text rs us few marks is))
+    prune-on z few marks is = lowly 0 z ∙ ap (writing room (unwritable 0 rs)) (sym (marked-text rs us few marks is))

@@ -13,11 +13,12 @@ use Rattle.format.specs.Bytes.{any}
 use Rattle.format.specs.Programs.{Link, root, dangling, child, isDangling, reaches, loopsFrom, tangled, leaves}
 use Rattle.accepted.proofs.Bools.{never, split, or-split, or-true, or-left, or-right, and-left, and-right}
 use Rattle.chains.specs.Listed.{named}
-use Rattle.chains.proofs.Bools.{both-false}
 use Rattle.chains.proofs.Walks.{map-at, reaches-root}
 use Rattle.chains.proofs.Leaf.{leaves-exactly}
+use Rattle.chain_laws.proofs.Paths.{reaches-fewer, no-return}
+use Rattle.chain_laws.proofs.Some.{named-at}
 use Rattle.format.specs.Prune.{isNeeded, chosen}
-use Rattle.prune_marks.proofs.Steps.{reach-step}
+use Rattle.prune_marks.proofs.Steps.{reach-step, reaches-dangling}
 use Rattle.prune_laws.proofs.Ranks.{rank, chosen-at, chosen-inside, Was, chosen-was, rank-one, chosen-le}
 
 -- ---- lists
@@ -50,49 +51,17 @@ listed-map g (v ∷ us) u l = or-split (eqb u v) (any (eqb u) us) l (λ q. rw (e
 pub inside-at : (ls : List Link) (k j : ℕ) → getD ls k root ≡ child j → k < length ls
 inside-at ls k j e = split (ltb k (length ls)) (λ q. ltb-true k (length ls) q) (λ q. absurd (never (let z : root ≡ child j = sym (List·getD-eq-default ls root (ltb-false k (length ls) q)) ∙ e in cc)))
 
-named-at : (ls : List Link) (k j : ℕ) → getD ls k root ≡ child j → named j ls ≡ true
+parent-named : (ls : List Link) (k j : ℕ) → getD ls k root ≡ child j → named j ls ≡ true
 unfolding named
-named-at [] k j e = absurd (never (cc))
-named-at (root ∷ ls) zero j e = absurd (never (cc))
-named-at (dangling ∷ ls) zero j e = absurd (never (cc))
-named-at (child i ∷ ls) zero j e = let q : i ≡ j = cc in rw (eq-eqb j i (sym q)) refl
-named-at (root ∷ ls) (suc k) j e = named-at ls k j e
-named-at (dangling ∷ ls) (suc k) j e = named-at ls k j e
-named-at (child i ∷ ls) (suc k) j e = rw (named-at ls k j e) (or-true (eqb j i))
-
--- a program that is a parent is the parent of some program
-named-place : (j : ℕ) (ls : List Link) → named j ls ≡ true → (m : ℕ) × (m < length ls) × (getD ls m root ≡ child j)
-unfolding named
-named-place j [] e = absurd (false≢true e)
-named-place j (root ∷ ls) e = let r = named-place j ls e in (suc (r .0), omega (arith, r .1), r .2)
-named-place j (dangling ∷ ls) e = let r = named-place j ls e in (suc (r .0), omega (arith, r .1), r .2)
-named-place j (child i ∷ ls) e = go (eqb j i) refl e (named-place j ls)
-  where
-    go : (t : Bool) → eqb j i ≡ t → t || named j ls ≡ true → (named j ls ≡ true → (m : ℕ) × (m < length ls) × (getD ls m root ≡ child j))
-        → (m : ℕ) × (m < suc (length ls)) × (getD (child i ∷ ls) m root ≡ child j)
-    go true q h f = (0, omega arith, ap child (sym (eqb-true j i q)))
-    go false q h f = let r = f h in (suc (r .0), omega (arith, r .1), r .2)
+parent-named [] k j e = absurd (never (cc))
+parent-named (root ∷ ls) zero j e = absurd (never (cc))
+parent-named (dangling ∷ ls) zero j e = absurd (never (cc))
+parent-named (child i ∷ ls) zero j e = let q : i ≡ j = cc in rw (eq-eqb j i (sym q)) refl
+parent-named (root ∷ ls) (suc k) j e = parent-named ls k j e
+parent-named (dangling ∷ ls) (suc k) j e = parent-named ls k j e
+parent-named (child i ∷ ls) (suc k) j e = rw (parent-named ls k j e) (or-true (eqb j i))
 
 -- ---- cycles
-
-reaches-fewer : (ls : List Link) (i f n : ℕ) (l : Link) → f ≤ n → reaches ls i n l ≡ false → reaches ls i f l ≡ false
-unfolding reaches
-reaches-fewer ls i zero n l h e = refl
-reaches-fewer ls i (suc f) zero l h e = absurd (omega arith)
-reaches-fewer ls i (suc f) (suc n) root h e = refl
-reaches-fewer ls i (suc f) (suc n) dangling h e = refl
-reaches-fewer ls i (suc f) (suc n) (child k) h e =
-    let both = both-false (eqb i k) (reaches ls i n (getD ls k root)) e in
-    rw (both .0) (reaches-fewer ls i f n (getD ls k root) (omega arith) (both .1))
-
-loops-at : (all : List Link) (i : ℕ) (ls : List Link) (j : ℕ) → loopsFrom all i ls ≡ false → reaches all (i + j) (length all) (getD ls j root) ≡ false
-unfolding loopsFrom
-loops-at all i [] j e = reaches-root all (i + j) (length all)
-loops-at all i (l ∷ ls) zero e =
-    ap (λ n. reaches all n (length all) l) (omega arith) ∙ both-false (reaches all i (length all) l) (loopsFrom all (i + 1) ls) e .0
-loops-at all i (l ∷ ls) (suc j) e =
-    ap (λ n. reaches all n (length all) (getD ls j root)) (omega arith)
-    ∙ loops-at all (i + 1) ls j (both-false (reaches all i (length all) l) (loopsFrom all (i + 1) ls) e .1)
 
 loops-none : (all : List Link) (i : ℕ) (ls : List Link) → ((j : ℕ) → j < length ls → reaches all (i + j) (length all) (getD ls j root) ≡ false) → loopsFrom all i ls ≡ false
 unfolding loopsFrom
@@ -116,11 +85,7 @@ last-step ls j (suc f) u r = or-split (eqb j u) (reaches ls j f (getD ls u root)
     go : (l : Link) → getD ls u root ≡ l → reaches ls j f l ≡ true → ((v : ℕ) → reaches ls j f (child v) ≡ true → (j ≡ v) ⊎ ((m : ℕ) × (reaches ls m f (child v) ≡ true) × (getD ls m root ≡ child j)))
         → (j ≡ u) ⊎ ((m : ℕ) × (eqb m u || reaches ls m f (getD ls u root) ≡ true) × (getD ls m root ≡ child j))
     go root q e ih = absurd (false≢true (sym (reaches-root ls j f) ∙ e))
-    go dangling q e ih = absurd (false≢true (sym (stops f) ∙ e))
-      where
-        stops : (f : ℕ) → reaches ls j f dangling ≡ false
-        stops zero = refl
-        stops (suc f) = refl
+    go dangling q e ih = absurd (false≢true (sym (reaches-dangling ls j f) ∙ e))
     go (child v) q e ih = ⊎-elim
         (λ s. inr (u, ap (λ t. t || reaches ls u f (getD ls u root)) (eq-eqb u u refl), q ∙ ap child (sym s)))
         (λ s. inr (s .0, up (s .0) v q (s .1), s .2))
@@ -129,9 +94,6 @@ last-step ls j (suc f) u r = or-split (eqb j u) (reaches ls j f (getD ls u root)
 module _ (ls : List Link) (acyclic : loopsFrom ls 0 ls ≡ false) (below : (k : ℕ) → named k ls ≡ true → k < length ls) where
   abbrev R : ℕ → Link → Bool
   R i l = reaches ls i (length ls) l
-
-  no-return : (k : ℕ) → R k (getD ls k root) ≡ false
-  no-return k = ap (λ n. R n (getD ls k root)) (sym (zero-add k)) ∙ loops-at ls 0 ls k acyclic
 
   -- as many steps as there are programs are enough
   pub enough : (i f k : ℕ) → k < length ls → reaches ls i f (child k) ≡ true → R i (child k) ≡ true
@@ -143,12 +105,8 @@ module _ (ls : List Link) (acyclic : loopsFrom ls 0 ls ≡ false) (below : (k : 
     where
       go : (l : Link) → getD ls k root ≡ l → reaches ls i f l ≡ true → ((k : ℕ) → k < length ls → reaches ls i f (child k) ≡ true → R i (child k) ≡ true) → R i (child k) ≡ true
       go root q e ih = absurd (false≢true (sym (reaches-root ls i f) ∙ e))
-      go dangling q e ih = absurd (false≢true (sym (stops f) ∙ e))
-        where
-          stops : (f : ℕ) → reaches ls i f dangling ≡ false
-          stops zero = refl
-          stops (suc f) = refl
-      go (child v) q e ih = reach-step ls acyclic below k h i ∙ ap (λ t. eqb i k || t) (ap (R i) q ∙ ih v (below v (named-at ls k v q)) e) ∙ or-true (eqb i k)
+      go dangling q e ih = absurd (false≢true (sym (reaches-dangling ls i f) ∙ e))
+      go (child v) q e ih = reach-step ls acyclic below k h i ∙ ap (λ t. eqb i k || t) (ap (R i) q ∙ ih v (below v (parent-named ls k v q)) e) ∙ or-true (eqb i k)
 
   -- one step further
   up-from : (k j f u : ℕ) → u < length ls → getD ls k root ≡ child j → reaches ls k f (child u) ≡ true → R j (child u) ≡ true
@@ -159,16 +117,12 @@ module _ (ls : List Link) (acyclic : loopsFrom ls 0 ls ≡ false) (below : (k : 
       (λ s. go (getD ls u root) refl s (λ v l. up-from k j f v l q))
     where
       here : R j (child j) ≡ true
-      here = reach-step ls acyclic below j (below j (named-at ls k j q)) j ∙ ap (λ t. t || R j (getD ls j root)) (eq-eqb j j refl)
+      here = reach-step ls acyclic below j (below j (parent-named ls k j q)) j ∙ ap (λ t. t || R j (getD ls j root)) (eq-eqb j j refl)
 
       go : (l : Link) → getD ls u root ≡ l → reaches ls k f l ≡ true → ((v : ℕ) → v < length ls → reaches ls k f (child v) ≡ true → R j (child v) ≡ true) → R j (child u) ≡ true
       go root s e ih = absurd (false≢true (sym (reaches-root ls k f) ∙ e))
-      go dangling s e ih = absurd (false≢true (sym (stops f) ∙ e))
-        where
-          stops : (f : ℕ) → reaches ls k f dangling ≡ false
-          stops zero = refl
-          stops (suc f) = refl
-      go (child v) s e ih = reach-step ls acyclic below u h j ∙ ap (λ t. eqb j u || t) (ap (R j) s ∙ ih v (below v (named-at ls u v s)) e) ∙ or-true (eqb j u)
+      go dangling s e ih = absurd (false≢true (sym (reaches-dangling ls k f) ∙ e))
+      go (child v) s e ih = reach-step ls acyclic below u h j ∙ ap (λ t. eqb j u || t) (ap (R j) s ∙ ih v (below v (parent-named ls u v s)) e) ∙ or-true (eqb j u)
 
 -- ---- the programs that are needed
 
@@ -250,7 +204,7 @@ module _ (ls : List Link) (acyclic : loopsFrom ls 0 ls ≡ false) (below : (k : 
       go : (l : Link) → getD ls k root ≡ l → Kept l
       go root q = tt
       go dangling q = tt
-      go (child j) q = (below j (named-at ls k j q), needed-up k j e q)
+      go (child j) q = (below j (parent-named ls k j q), needed-up k j e q)
 
   -- a walk among the new links was one among the old
   record Walked (i f : ℕ) (l : Link) : Type 0 where
@@ -313,7 +267,7 @@ module _ (ls : List Link) (acyclic : loopsFrom ls 0 ls ≡ false) (below : (k : 
       let s = needs k (p-of k (w .passes)) in
       ⊎-elim
       (λ q. (s .one, s .listed, s .inside, ap (rank p 0) (sym q) ∙ w .is))
-      (λ m. absurd (false≢true (sym unnamed ∙ named-at new (rank p 0 (m .0)) i
+      (λ m. absurd (false≢true (sym unnamed ∙ parent-named new (rank p 0 (m .0)) i
       (new-at (m .0) (inside-at ls (m .0) k (m .2)) (needed (m .0) (s .one) (s .listed) (m .1)) ∙ ap (renumber p) (m .2) ∙ ap child (w .is)))))
       (last-step ls k (length ls) (s .one) (s .passes))
 
@@ -322,7 +276,7 @@ module _ (ls : List Link) (acyclic : loopsFrom ls 0 ls ≡ false) (below : (k : 
   -- a parent that is left is one of those that are
   pub new-below : (j : ℕ) → named j new ≡ true → j < length new
   new-below j e =
-      let m = named-place j new e in
+      let m = named-at j new e in
       let w = was (m .0) (m .1) in
       let k = w .place in
       let pk = p-of k (w .passes) in

@@ -14,7 +14,7 @@ use Rattle.format.specs.Records.{Record, header, reference, group, program, com
 use Rattle.format.specs.Reading.{ofKind}
 use Rattle.format.specs.Catalogue.{catalogue}
 use Rattle.format.specs.Programs.{Program, Link, bytesOf, programOf, programs, links, leaves, tangled, isDangling, loopsFrom}
-use Rattle.format.specs.Tidy.{inOrder, text, tidy, unwritable}
+use Rattle.format.specs.Tidy.{tidy, unwritable}
 use Rattle.format.specs.Adding.{noProgram}
 use Rattle.format.specs.Calls.{refused, yes, then, records, current, fresh, untangled, fitting, writing, reading, tidying}
 use Rattle.text.specs.Stands.{Each}
@@ -32,17 +32,20 @@ use Rattle.add_ids.proofs.Apart.{ids-apart}
 use Rattle.roundtrip.specs.Bare.{bare, bares}
 use Rattle.roundtrip.specs.Faithful.{Holds}
 use Rattle.roundtrip.proofs.Faithful.{holds}
+use Rattle.roundtrip.proofs.Gathered.{gathered-writable}
+use Rattle.roundtrip.proofs.Programs.{links-equal, ids-equal, count-equal}
+use Rattle.roundtrip.proofs.Answered.{read-of, reading-yes}
 use Rattle.format.specs.Prune.{isNeeded, chosen, pruned, pruning}
 use Rattle.tidy_text.specs.Sifted.{sifted}
-use Rattle.prune.proofs.Chosen.{sift-other, sift-programs, inorder-again}
-use Rattle.prune_laws.specs.Pruned.{programsOf, programsIn, idAt, Prunes}
+use Rattle.prune.proofs.Chosen.{sift-other, sift-programs, pruned-tidy}
+use Rattle.prune_laws.specs.Pruned.{programsIn, idAt, Prunes}
 use Rattle.prune_laws.specs.Left.{AllLeft}
-use Rattle.prune_laws.proofs.Ranks.{rank, chosen-at, Was, chosen-was, chosen-map, chosen-all, chosen-none}
+use Rattle.prune_laws.proofs.Ranks.{rank, chosen-at, Was, chosen-was, chosen-map, chosen-none}
 use Rattle.prune_laws.proofs.Graph.{pruneLinks, used-needed, needed-up, new-whole, leaf-used, all-needed}
 use Rattle.prune_laws.proofs.Links.{links-pruned}
 use Rattle.prune_laws.proofs.Gathered.{sifted-gathered, sifted-names}
-use Rattle.prune_laws.proofs.Bare.{links-equal, ids-equal, count-equal}
-use Rattle.prune_laws.proofs.Answered.{records-yes, reading-yes, Answered, answered}
+use Rattle.prune_laws.proofs.Beside.{all-tidy, linked, acyclic, below}
+use Rattle.prune_laws.proofs.Answered.{Answered, answered}
 
 -- ---- small laws
 
@@ -88,31 +91,20 @@ module _ (t us out : List ℕ) (rs : List Record) (a : Answered t us out rs) whe
   abbrev qs : List Record
   qs = sifted p 0 rs
 
-  few : length ps ≤ 1024
-  few = subst (λ xs. length (programs xs) ≤ 1024) own (few-programs t (unfold isAccepted in ap isAccepted (a .accepted)))
-    where
-      own : recordsOf t ≡ rs
-      own = unfold recordsOf kept in ap kept (a .accepted)
+  none-dangle : any isDangling ls ≡ false
+  none-dangle = linked t rs (a .accepted) (a .whole)
 
-  linked : any isDangling ls ≡ false
-  linked = none-dangles ls (a .whole)
+  none-loop : loopsFrom ls 0 ls ≡ false
+  none-loop = acyclic t rs (a .accepted) (a .whole)
 
-  acyclic : loopsFrom ls 0 ls ≡ false
-  acyclic = none-loops ls (a .whole)
-
-  below : (k : ℕ) → named k ls ≡ true → k < length ls
-  below k m = omega (arith, links-count ps, links-named ps few linked k m)
-
-  pruned-order : pruned us rs ≡ inOrder qs
-  unfolding pruned inOrder
-  pruned-order = sym (rw (sift-other p 1 (λ e. omega arith) 0 rs, sift-other p 2 (λ e. omega arith) 0 rs, sift-other p 3 (λ e. omega arith) 0 rs, sift-programs p 0 rs, sift-other p 5 (λ e. omega arith) 0 rs) refl)
+  parents-in : (k : ℕ) → named k ls ≡ true → k < length ls
+  parents-in = below t rs (a .accepted) (a .whole)
 
   pruned-text : tidy (pruned us rs) ≡ tidy qs
-  unfolding tidy
-  pruned-text = ap text (ap inOrder pruned-order ∙ inorder-again qs)
+  pruned-text = pruned-tidy us rs
 
   h : Holds qs
-  h = holds t qs (sifted-gathered t rs (a .accepted) p) (omega (arith, a .fits, ap length pruned-text)) (sifted-names p 0 0 0 rs (a .names))
+  h = holds qs (gathered-writable t qs (sifted-gathered t rs (a .accepted) p)) (omega (arith, a .fits, ap length pruned-text)) (sifted-names p 0 0 0 rs (a .names))
 
   abbrev found : List Record
   found = h .found
@@ -136,8 +128,8 @@ module _ (t us out : List ℕ) (rs : List Record) (a : Answered t us out rs) whe
   tidied-out room = ap (λ x. tidying x room) out-is ∙ h .again room ∙ ap (fitting room) (sym out-is)
 
   there : programsIn out ≡ programs found
-  unfolding programsIn programsOf
-  there = ap programsOf (records-yes out found reads)
+  unfolding programsIn recordsOf kept
+  there = ap (λ g. programs (kept g)) (read-of out found reads)
 
   -- ---- the programs that are kept
 
@@ -146,15 +138,15 @@ module _ (t us out : List ℕ) (rs : List Record) (a : Answered t us out rs) whe
   kept-programs = ap (map programOf) (sift-programs p 0 rs) ∙ chosen-map p programOf 0 (ofKind 4 rs)
 
   kept-links : links (programs found) ≡ pruneLinks p ls
-  kept-links = links-equal found qs (h .equal .pg) ∙ ap links kept-programs ∙ links-pruned ps linked p (needed-up ls acyclic below us (a .low))
+  kept-links = links-equal found qs (h .equal .pg) ∙ ap links kept-programs ∙ links-pruned ps none-dangle p (needed-up ls none-loop parents-in us (a .low))
 
   id-found : (k : ℕ) → idAt out k ≡ getD (chosen p 0 ps) k noProgram .id
   unfolding idAt
   id-found k = ap (λ xs. getD xs k noProgram .id) there ∙ ids-equal found qs (h .equal .pg) k ∙ ap (λ xs. getD xs k noProgram .id) kept-programs
 
   id-text : (k : ℕ) → idAt t k ≡ getD ps k noProgram .id
-  unfolding idAt programsIn programsOf
-  id-text k = ap (λ g. getD (programsOf g) k noProgram .id) (a .accepted)
+  unfolding idAt programsIn recordsOf kept
+  id-text k = ap (λ g. getD (programs (kept g)) k noProgram .id) (a .accepted)
 
   id-rank : (k : ℕ) → k < length ps → p k ≡ true → idAt out (rank p 0 k) ≡ idAt t k
   id-rank k l e = id-found (rank p 0 k) ∙ ap (λ x. x .id) (chosen-at p 0 ps k noProgram l (ap p (zero-add k) ∙ e)) ∙ sym (id-text k)
@@ -162,13 +154,13 @@ module _ (t us out : List ℕ) (rs : List Record) (a : Answered t us out rs) whe
   -- ---- the laws
 
   whole-out : tangled (links (programsIn out)) ≡ 0
-  whole-out = ap (λ xs. tangled (links xs)) there ∙ ap tangled kept-links ∙ new-whole ls acyclic below us (a .low) linked
+  whole-out = ap (λ xs. tangled (links xs)) there ∙ ap tangled kept-links ∙ new-whole ls none-loop parents-in us (a .low) none-dangle
 
   in-use : (k : ℕ) → any (eqb k) (leaves (links (programsIn out))) ≡ true → any (same (idAt out k)) (map (idAt t) us) ≡ true
   in-use k e =
-      let u = leaf-used ls acyclic below us (a .low) k (ap (λ xs. any (eqb k) (leaves xs)) (sym (ap links there ∙ kept-links)) ∙ e) in
+      let u = leaf-used ls none-loop parents-in us (a .low) k (ap (λ xs. any (eqb k) (leaves xs)) (sym (ap links there ∙ kept-links)) ∙ e) in
       listed-same (idAt t) (idAt out k) us (u .0) (u .1)
-      (ap (idAt out) (sym (u .3)) ∙ id-rank (u .0) (omega (arith, u .2, links-count ps)) (used-needed ls acyclic below us (a .low) (u .0) (u .1) (u .2)))
+      (ap (idAt out) (sym (u .3)) ∙ id-rank (u .0) (omega (arith, u .2, links-count ps)) (used-needed ls none-loop parents-in us (a .low) (u .0) (u .1) (u .2)))
 
   empty-out : us ≡ [] → programsIn out ≡ []
   empty-out e = there ∙ go
@@ -189,7 +181,7 @@ module _ (t us out : List ℕ) (rs : List Record) (a : Answered t us out rs) whe
   each-used [] l m = tt
   each-used (u ∷ vs) l m =
       let inside : u < length ls = leb-false (length ls) u (or-left (leb (length ls) u) (any (leb (length ls)) vs) l) in (
-        (omega (arith, inside, links-count ps), used-needed ls acyclic below us (a .low) u (m u (rw (eq-eqb u u refl) refl)) inside),
+        (omega (arith, inside, links-count ps), used-needed ls none-loop parents-in us (a .low) u (m u (rw (eq-eqb u u refl) refl)) inside),
         each-used vs (or-right (leb (length ls) u) (any (leb (length ls)) vs) l) (λ w e. m w (rw e (or-true (eqb w u)))),
       )
 
@@ -248,18 +240,13 @@ module _ (t us out : List ℕ) (rs : List Record) (a : Answered t us out rs) whe
     needed-all d l =
         ap (isNeeded (links (programs found)) vs) (zero-add d)
         ∙ ap₂ (λ x y. isNeeded x y d) kept-links (ordinals .0)
-        ∙ all-needed ls acyclic below us (a .low) d (omega (arith, ap length kept-links, links-count (programs found), counted))
+        ∙ all-needed ls none-loop parents-in us (a .low) d (omega (arith, ap length kept-links, links-count (programs found), counted))
       where
         counted : length (programs found) ≡ length (ofKind 4 found)
         counted = unfold programs in length-map (ofKind 4 found) programOf
 
-    pruned-again : pruned vs found ≡ inOrder found
-    unfolding pruned inOrder
-    pruned-again = rw (chosen-all (isNeeded (links (programs found)) vs) 0 (ofKind 4 found) needed-all) refl
-
     text-again : tidy (pruned vs found) ≡ tidy found
-    unfolding tidy
-    text-again = ap text (ap inOrder pruned-again ∙ inorder-again found)
+    text-again = all-tidy vs found needed-all
 
     write-again : writing (length out) (unwritable 0 found) (tidy found) ≡ yes out
     write-again = sym go ∙ tidied-out (length out) ∙ fits

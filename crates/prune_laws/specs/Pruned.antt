@@ -6,21 +6,16 @@ use mathlib.Core.List.{List, [], map}
 use lib.ListN.{length, getD}
 use lib.Dec.{eqb}
 use Rattle.format.specs.Bytes.{any, same}
-use Rattle.format.specs.Reading.{Reading, refusedText, accept, readText}
 use Rattle.format.specs.Programs.{Program, programs, links, leaves, tangled}
 use Rattle.format.specs.Adding.{noProgram}
 use Rattle.format.specs.Calls.{yes, reading}
 use Rattle.format.specs.Prune.{pruning}
+use Rattle.accepted.specs.Read.{recordsOf}
 
 -- the programs of a text; none where it is refused
-unfoldable pub programsOf : Reading → List Program
-unfolding programs
-programsOf (refusedText n l) = []
-programsOf (accept rs) = programs rs
-
 unfoldable pub programsIn : List ℕ → List Program
-unfolding programsOf readText
-programsIn text = programsOf (readText text)
+unfolding programs recordsOf
+programsIn text = programs (recordsOf text)
 
 -- the ID of the program `k` of a text; no bytes where there is none
 unfoldable pub idAt : List ℕ → ℕ → List ℕ

@@ -17,7 +17,7 @@ use Rattle.chains.proofs.Leaf.{counting-length}
 use Rattle.chains.proofs.Walks.{map-at, reaches-root}
 use Rattle.format.specs.Prune.{isNeeded}
 use Rattle.prune_marks.specs.Marks.{neededMarks, Closed, Up}
-use Rattle.prune_marks.proofs.Steps.{reach-step}
+use Rattle.prune_marks.proofs.Steps.{reach-step, reaches-dangling}
 
 -- the walk from `u` has come to `l`
 pub record Walking (ls : List Link) (u : ℕ) (before now : List Bool) (l : Link) : Type 0 where
@@ -48,11 +48,7 @@ module _ (ls : List Link) (u : ℕ) (before : List Bool) where
     where
       go : (l : Link) → getD ls at root ≡ l → reaches ls k f l ≡ true → ((at : ℕ) → getD now at false ≡ true → reaches ls k f (child at) ≡ true → getD now k false ≡ true) → getD now k false ≡ true
       go root q e ih = absurd (false≢true (sym (reaches-root ls k f) ∙ e))
-      go dangling q e ih = absurd (false≢true (sym (stops f) ∙ e))
-        where
-          stops : (f : ℕ) → reaches ls k f dangling ≡ false
-          stops zero = refl
-          stops (suc f) = refl
+      go dangling q e ih = absurd (false≢true (sym (reaches-dangling ls k f) ∙ e))
       go (child j) q e ih = ih j (c at j m q) e
 
   -- at a program that is marked

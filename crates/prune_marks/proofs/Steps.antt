@@ -26,6 +26,12 @@ unfolding reaches
 reach-next ls zero i k h = absurd (omega arith)
 reach-next ls (suc f) i k h = ap (λ t. eqb i k || t) (reach-same ls i f (getD ls k root) (omega arith))
 
+-- nothing is reached from a PP that dangles
+pub reaches-dangling : (ls : List Link) (i f : ℕ) → reaches ls i f dangling ≡ false
+unfolding reaches
+reaches-dangling ls i zero = refl
+reaches-dangling ls i (suc f) = refl
+
 module _ (ls : List Link) (acyclic : loopsFrom ls 0 ls ≡ false) (below : (k : ℕ) → named k ls ≡ true → k < length ls) (k : ℕ) (h : k < length ls) where
   pub reach-step : (i : ℕ) → reaches ls i (length ls) (child k) ≡ (eqb i k || reaches ls i (length ls) (getD ls k root))
   reach-step i = reach-next ls (length ls) i k (depth-less ls acyclic below k h)
