@@ -11,6 +11,8 @@
 mod carried;
 mod check;
 mod known;
+#[cfg(feature = "prune")]
+mod pruned;
 mod reduce;
 mod tally;
 
@@ -308,6 +310,7 @@ fn main() -> ExitCode {
         ("lookup", cfg!(feature = "lookup")),
         ("graph", cfg!(feature = "graph")),
         ("add", cfg!(feature = "add")),
+        ("prune", cfg!(feature = "prune")),
         ("names", cfg!(feature = "names")),
         ("carry_on", cfg!(feature = "carry_on")),
         ("binary", cfg!(feature = "binary")),

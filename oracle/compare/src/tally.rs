@@ -16,13 +16,14 @@ pub enum Call {
     Roots,
     Leaves,
     Add,
+    Prune,
     Names,
     CarryOn,
     BinaryOut,
     BinaryIn,
 }
 
-const CALLS: [Call; 15] = [
+const CALLS: [Call; 16] = [
     Call::Read,
     Call::Check,
     Call::Tidy,
@@ -34,6 +35,7 @@ const CALLS: [Call; 15] = [
     Call::Roots,
     Call::Leaves,
     Call::Add,
+    Call::Prune,
     Call::Names,
     Call::CarryOn,
     Call::BinaryOut,
