@@ -36,10 +36,11 @@ pub fn prune(text: &[u8], catalogue: &[u8], used: &[u32], out: &mut [u8]) -> Cou
         Checked::Refused(n, line) => CountAnswer::Refused(n, line),
         Checked::Fresh => {
             let programs = programs::gather(catalogue);
-            if has_high(used, programs.count) {
+            let high = has_high(used, programs.count);
+            let found = parents::find_parents(text, programs);
+            if high {
                 return CountAnswer::Refused(25, LineNo(0));
             }
-            let found = parents::find_parents(text, programs);
             if found.dangling {
                 return CountAnswer::Refused(22, LineNo(0));
             }

@@ -61,7 +61,7 @@ module _ (t : List ℕ) (rs : List Record) (e : readText t ≡ accept rs) (whole
 -- ---- with all in use
 
 -- what comes after the check
-abbrev after : List ℕ → ℕ → List Record → Answer (List ℕ)
+abbrev pub after : List ℕ → ℕ → List Record → Answer (List ℕ)
 after us room rs = cond (any (leb (length (links (programs rs)))) us) (refused 25 0) (then (untangled rs (tangled (links (programs rs)))) (λ rs. writing room (unwritable 0 rs) (tidy (pruned us rs))))
 
 prune-ends : (us : List ℕ) (room : ℕ) (rs : List Record) → any (leb (length (links (programs rs)))) us ≡ false → tangled (links (programs rs)) ≡ 0

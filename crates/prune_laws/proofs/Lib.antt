@@ -4,5 +4,6 @@ pub mod Links
 pub mod Gathered
 pub mod Answered
 pub mod Beside
+pub mod Refuses
 pub mod Prunes
 pub mod Example

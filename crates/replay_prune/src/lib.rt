@@ -10,9 +10,7 @@ fn ordinal_at(word: &[u8], at: usize) -> u32
 {
     let mut bytes: [u8; 4] = [0; 4];
     stored_cases::decode(&word[at..at + 8], &mut bytes);
-    let high = bytes[0] as u32 * 256 + bytes[1] as u32;
-    let low = bytes[2] as u32 * 256 + bytes[3] as u32;
-    high * 65536 + low
+    little::get_u32(&[bytes[3], bytes[2], bytes[1], bytes[0]], 0)
 }
 
 // Puts the ordinals that a word spells, eight hex digits each, at the front of `list`, as many as fit, and answers how many.

@@ -51,13 +51,13 @@ high c =
 -- ---- the parents
 
 abbrev ps : tie.After-find-parents → List Program
-ps f = programs (recordsOf (f .before .before .before .before .before .before .before .before .before .before .before .args .text .now))
+ps f = programs (recordsOf (f .before .before .before .before .before .before .before .before .before .before .args .text .now))
 
 abbrev ls : tie.After-find-parents → List Link
 ls f = links (ps f)
 
 few : (f : tie.After-find-parents) → length (ps f) ≤ 1024
-few f = opens (f .before .before .before .before) .few
+few f = opens (f .before .before .before) .few
 
 dangles : (f : tie.After-find-parents) → any isDangling (ls f) ≡ f .find-parents .result .dangling
 unfolding parentsOf
@@ -67,13 +67,13 @@ counts : (f : tie.After-find-parents) → f .find-parents .result .count ≡ len
 unfolding parentsOf
 counts f = ap (λ q. q .count) (f .find-parents .ensures)
 
-low : (f : tie.After-find-parents) → any (leb (length (ls f))) (f .before .before .before .before .before .before .before .before .before .before .before .args .used .now) ≡ false
-low f = high (f .before .before) ∙ f .before .if1 .left
+low : (e : tie.Else1) → let f = e .before in any (leb (length (ls f))) (f .before .before .before .before .before .before .before .before .before .before .args .used .now) ≡ false
+low e = high (e .before .before) ∙ e .if1 .left
 
 -- where none dangles
 module _ (e : tie.Else2) where
   abbrev asked : tie.After-find-parents
-  asked = e .before
+  asked = e .before .before
 
   abbrev lent : List ℕ
   lent = take (asked .find-parents .result .count) (asked .find-parents .result .list)
@@ -105,7 +105,7 @@ has-high-requires c κs = search needs
 
 returns : tie.Need-returns
 returns c =
-    let h = c .before in
+    let h = c .before .before in
     let a = h .before .before .before .before .before .before .before .before .before .args in
     let room = length (a .out .now) in
     refused-answer (pruning (a .text .now) (a .catalogue .now) (a .used .now) room) (a .out .now) 25 (record { 0 = 0 })
@@ -113,16 +113,17 @@ returns c =
 
 find-parents-requires : tie.Need-find-parents-requires
 find-parents-requires c κs =
-    let g = c .before .before in
+    let g = c .before in
     (opens (g .before) .accepted, gathers g)
 
 returns-2 : tie.Need-returns-2
 returns-2 c =
-    let f = c .before in
-    let a = f .before .before .before .before .before .before .before .before .before .before .before .args in
+    let e = c .before in
+    let f = e .before in
+    let a = f .before .before .before .before .before .before .before .before .before .before .args in
     let room = length (a .out .now) in
     refused-answer (pruning (a .text .now) (a .catalogue .now) (a .used .now) room) (a .out .now) 22 (record { 0 = 0 })
-    (prune-tangled (a .text .now) (a .catalogue .now) (a .used .now) room (own (f .before .before .before .before)) (low f) 22 (sym (tangled-dangling (ls f) (dangles f ∙ c .if2 .taken))) (λ q. omega arith))
+    (prune-tangled (a .text .now) (a .catalogue .now) (a .used .now) room (own (f .before .before .before)) (low e) 22 (sym (tangled-dangling (ls f) (dangles f ∙ c .if2 .taken))) (λ q. omega arith))
 
 array-share-prefix-list : tie.Need-array-share-prefix-list
 array-share-prefix-list c =
@@ -144,10 +145,10 @@ returns-3 : tie.Need-returns-3
 returns-3 c =
     let e = c .before .before .before .before in
     let f = asked e in
-    let a = f .before .before .before .before .before .before .before .before .before .before .before .args in
+    let a = f .before .before .before .before .before .before .before .before .before .before .args in
     let room = length (a .out .now) in
     refused-answer (pruning (a .text .now) (a .catalogue .now) (a .used .now) room) (a .out .now) 23 (record { 0 = 0 })
-    (prune-tangled (a .text .now) (a .catalogue .now) (a .used .now) room (own (f .before .before .before .before)) (low f) 23
+    (prune-tangled (a .text .now) (a .catalogue .now) (a .used .now) room (own (f .before .before .before)) (low (e .before)) 23
     (sym (tangled-loops (ls f) true (linked e) (sym (loops e) ∙ sym (c .before .has-cycle .ensures) ∙ c .if3 .taken))) (λ q. omega arith))
 
 mark-requires : tie.Need-mark-requires
@@ -159,7 +160,7 @@ mark-requires c κs =
       lent-within (ps f) (few f) q is (e .if2 .left),
       (
         sym (c .before .has-cycle .ensures) ∙ c .if3 .left,
-        (lent-few (ps f) (few f) q is, ap (λ n. any (leb n) (f .before .before .before .before .before .before .before .before .before .before .before .args .used .now)) (sym (lent-count (ps f) (few f) q is) ∙ counts f) ∙ low f),
+        (lent-few (ps f) (few f) q is, ap (λ n. any (leb n) (f .before .before .before .before .before .before .before .before .before .before .args .used .now)) (sym (lent-count (ps f) (few f) q is) ∙ counts f) ∙ low (e .before)),
       ),
     )
 
@@ -191,12 +192,12 @@ returns-5 c =
     let n = m .before in
     let e = n .before .before .before .before in
     let f = asked e in
-    let a = f .before .before .before .before .before .before .before .before .before .before .before .args in
+    let a = f .before .before .before .before .before .before .before .before .before .before .args in
     let room = length (a .out .now) in
     let marks = m .mark .result in
     let whole : tangled (ls f) ≡ 0 = tangled-loops (ls f) false (linked e) (sym (loops e) ∙ sym (n .before .has-cycle .ensures) ∙ n .if3 .left) in
     let on : writingMarked (a .text .now) marks room ≡ pruning (a .text .now) (a .catalogue .now) (a .used .now) room =
-    sym (prune-on (a .text .now) (a .catalogue .now) (a .used .now) room (own (f .before .before .before .before)) (low f) whole (few f) marks (m .mark .ensures ∙ ap (λ l. neededMarks l (a .used .now)) (says e))) in
+    sym (prune-on (a .text .now) (a .catalogue .now) (a .used .now) room (own (f .before .before .before)) (low (e .before)) whole (few f) marks (m .mark .ensures ∙ ap (λ l. neededMarks l (a .used .now)) (says e))) in
     (w .write-marked .ensures .0 ∙ ap answerOf on, w .write-marked .ensures .1 ∙ ap (λ x. outputOf x (a .out .now)) on)
 
 pub prune-spec : {M : Type 1} → statement M
@@ -208,8 +209,8 @@ prune-spec =
     enum-told
     gather-requires
     has-high-requires
-    returns
     find-parents-requires
+    returns
     returns-2
     array-share-prefix-list
     slice-aggregate-links
