@@ -18,7 +18,9 @@ pub fn write_marked(text: &[u8], strict: bool, marks: &[bool], out: &mut [u8]) -
     requires { ⌜ isAccepted (readText (now text)) ≡ true ⌝ }
     requires { ⌜ strict ≡ isStrict (announced (lines (now text))) ⌝ }
     ensures answer { λ r. ⌜ r ≡ answerOf (writingMarked (now (text .entry)) (now (marks .entry)) (length (now (out .entry)))) ⌝ }
-    ensures wrote { λ _. ⌜ now (out .exit) ≡ outputOf (writingMarked (now (text .entry)) (now (marks .entry)) (length (now (out .entry)))) (now (out .entry)) ⌝ }
+    ensures wrote { λ _. ⌜ now (out .exit) ≡ outputOf
+        (writingMarked (now (text .entry)) (now (marks .entry)) (length (now (out .entry))))
+        (now (out .entry)) ⌝ }
 {
     match tidy_text::measure_marked(text, strict, marks) {
         Measured::Unwritable(line) => CountAnswer::Refused(24, line),

@@ -61,21 +61,7 @@ fn stay_of(src: &[u8], marks: &[bool], k: usize) -> Stay
     }
 }
 
-// The sizes with one accepted line more, if its record can be written.
-pub fn with_line(sizes: PerKind, src: &[u8], at: usize, strict: bool) -> Grown
-    requires { ⌜ isRead (line strict (record { at = at; bytes = now src })) ≡ true ⌝ }
-    requires { ⌜ at + length (now src) ≤ 16777216 ⌝ }
-    requires { ⌜ get (lineKind (now src)) sizes + length (tidyLine strict at (now src)) ≤ 18446744073709551615 ⌝ }
-    ensures { λ r. ⌜ r ≡ grownBy (lineKind (now (src .entry))) (line strict (record { at = at; bytes = now (src .entry) })) sizes ⌝ }
-{
-    let size = writer::record_size(src, at, strict);
-    let Size::Is(n) = size else {
-        return Grown::Unwritable;
-    };
-    Grown::Is(sizes.plus(heads::kind_of(src), n))
-}
-
-// The same, if its record stays.
+// The sizes with one accepted line more, if its record stays and can be written.
 fn with_line_if(sizes: PerKind, src: &[u8], at: usize, strict: bool, stays: bool) -> Grown
     requires { ⌜ isRead (line strict (record { at = at; bytes = now src })) ≡ true ⌝ }
     requires { ⌜ at + length (now src) ≤ 16777216 ⌝ }
@@ -85,7 +71,21 @@ fn with_line_if(sizes: PerKind, src: &[u8], at: usize, strict: bool, stays: bool
     if !stays {
         return Grown::Is(sizes);
     }
-    with_line(sizes, src, at, strict)
+    let size = writer::record_size(src, at, strict);
+    let Size::Is(n) = size else {
+        return Grown::Unwritable;
+    };
+    Grown::Is(sizes.plus(heads::kind_of(src), n))
+}
+
+// The same of a line that stays.
+pub fn with_line(sizes: PerKind, src: &[u8], at: usize, strict: bool) -> Grown
+    requires { ⌜ isRead (line strict (record { at = at; bytes = now src })) ≡ true ⌝ }
+    requires { ⌜ at + length (now src) ≤ 16777216 ⌝ }
+    requires { ⌜ get (lineKind (now src)) sizes + length (tidyLine strict at (now src)) ≤ 18446744073709551615 ⌝ }
+    ensures { λ r. ⌜ r ≡ grownBy (lineKind (now (src .entry))) (line strict (record { at = at; bytes = now (src .entry) })) sizes ⌝ }
+{
+    with_line_if(sizes, src, at, strict, true)
 }
 
 // How many bytes the records of each kind that stay have in the tidy text, or the line of the first SQ whose name can't be written, in one
@@ -124,21 +124,7 @@ pub fn measure(text: &[u8], strict: bool) -> Measured
     measure_marked(text, strict, &[])
 }
 
-// Writes the record of an accepted line at its kind's place, and answers the places after it.
-pub fn put_line(out: &mut [u8], places: PerKind, src: &[u8], at: usize, strict: bool) -> PerKind
-    requires { ⌜ isRead (line strict (record { at = at; bytes = now src })) ≡ true ⌝ }
-    requires { ⌜ at + length (now src) ≤ 16777216 ⌝ }
-    requires { ⌜ get (lineKind (now src)) places + length (tidyLine strict at (now src)) ≤ length (now out) ⌝ }
-    ensures next { λ r. ⌜ r ≡ plus (lineKind (now (src .entry))) (length (tidyLine strict at (now (src .entry)))) places ⌝ }
-    ensures wrote { λ _. ⌜ now (out .exit) ≡ over (now (out .entry)) (get (lineKind (now (src .entry))) places) (tidyLine strict at (now (src .entry))) ⌝ }
-{
-    let kind = heads::kind_of(src);
-    let o = places.get(kind);
-    let n = writer::put_record(out, o, src, at, strict);
-    places.plus(kind, n - o)
-}
-
-// The same, if it stays.
+// Writes the record of an accepted line at its kind's place, if it stays, and answers the places after it.
 fn put_line_if(
     out: &mut [u8],
     places: PerKind,
@@ -156,7 +142,21 @@ fn put_line_if(
     if !stays {
         return places;
     }
-    put_line(out, places, src, at, strict)
+    let kind = heads::kind_of(src);
+    let o = places.get(kind);
+    let n = writer::put_record(out, o, src, at, strict);
+    places.plus(kind, n - o)
+}
+
+// The same of a line that stays.
+pub fn put_line(out: &mut [u8], places: PerKind, src: &[u8], at: usize, strict: bool) -> PerKind
+    requires { ⌜ isRead (line strict (record { at = at; bytes = now src })) ≡ true ⌝ }
+    requires { ⌜ at + length (now src) ≤ 16777216 ⌝ }
+    requires { ⌜ get (lineKind (now src)) places + length (tidyLine strict at (now src)) ≤ length (now out) ⌝ }
+    ensures next { λ r. ⌜ r ≡ plus (lineKind (now (src .entry))) (length (tidyLine strict at (now (src .entry)))) places ⌝ }
+    ensures wrote { λ _. ⌜ now (out .exit) ≡ over (now (out .entry)) (get (lineKind (now (src .entry))) places) (tidyLine strict at (now (src .entry))) ⌝ }
+{
+    put_line_if(out, places, src, at, strict, true)
 }
 
 // Writes the records of each kind that stay, in text order, from the kind's place on, in one pass.
@@ -164,7 +164,8 @@ fn put_lines(text: &[u8], strict: bool, marks: &[bool], places: PerKind, out: &m
     requires { ⌜ isAccepted (readText (now text)) ≡ true ⌝ }
     requires { ⌜ strict ≡ isStrict (announced (lines (now text))) ⌝ }
     requires { ⌜ Apart (parts places (sifted (isMarked (now marks)) 0 (recordsOf (now text)))) (length (now out)) ⌝ }
-    ensures { λ _. ⌜ now (out .exit) ≡ withParts (now (out .entry)) (parts places (sifted (isMarked (now (marks .entry))) 0 (recordsOf (now (text .entry))))) ⌝ }
+    ensures { λ _. ⌜ now (out .exit) ≡ withParts (now (out .entry))
+        (parts places (sifted (isMarked (now (marks .entry))) 0 (recordsOf (now (text .entry))))) ⌝ }
 {
     let mut next = places;
     let mut k: usize = 0;
