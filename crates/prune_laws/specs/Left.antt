@@ -1,4 +1,4 @@
--- What stands in the text that pruning answers: all records of the other kinds, and of the programs those that are needed, in the old order.
+-- What is in the text that pruning answers: all records of the other kinds, and of the programs those that are needed, in the old order.
 use Prim.Native.Nat.{ℕ}
 use mathlib.Core.Path.{_≡_}
 use mathlib.Core.List.{List}
@@ -9,7 +9,7 @@ use Rattle.accepted.specs.Read.{recordsOf}
 use Rattle.roundtrip.specs.Bare.{bares}
 use Rattle.format.specs.Prune.{isNeeded, chosen, pruning}
 
--- `out` is the text `t` with the programs `us` and their ancestors alone; where a key or a value stands does not count
+-- `out` is the text `t` with the programs `us` and their ancestors alone; where a key or a value is in the text does not count
 pub record Left (t us out : List ℕ) : Type 0 where
   -- it is accepted
   pub found : List Record
