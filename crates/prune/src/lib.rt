@@ -46,7 +46,8 @@ pub fn prune(text: &[u8], catalogue: &[u8], used: &[u32], out: &mut [u8]) -> Cou
             }
             let list = found.list;
             let links = &list[..found.count];
-            if chain_walks::has_cycle(links) {
+            let depths = chain_depths::find_depths(links);
+            if depths.cycle {
                 return CountAnswer::Refused(23, LineNo(0));
             }
             let marks = prune_marks::mark(links, used);

@@ -1,6 +1,6 @@
 -- `prune::prune` meets its contract: reading, 21, 25, 22, 23, and then the text with the programs that are marked.
 use Prim.Native.Nat.{ℕ, _≤_}
-use mathlib.Core.Path.{_≡_, sym, ap, _∙_}
+use mathlib.Core.Path.{_≡_, refl, sym, ap, _∙_}
 use mathlib.Core.Bool.{true, false}
 use mathlib.Core.List.{List}
 use lib.ListN.{length, take}
@@ -10,6 +10,7 @@ use Rattle.format.specs.Bytes.{any}
 use Rattle.format.specs.Programs.{Program, Link, programs, links, isDangling, loopsFrom, tangled}
 use Rattle.format.specs.Catalogue.{catalogue}
 use Rattle.accepted.specs.Read.{recordsOf}
+use Rattle.accepted.proofs.Bools.{split}
 use Rattle.chains.specs.Parents.{linksOf}
 use Rattle.entries.specs.Entries.{entriesIn}
 use Rattle.programs.specs.Gathered.{notedIn, gatheredOf}
@@ -22,6 +23,8 @@ use Rattle.parser.specs.Answers.{answerOf, outputOf}
 use Rattle.parser.proofs.Told.{refused-answer}
 use Rattle.parser.proofs.Fresh.{Current, refused-by, fresh-by}
 use Rattle.format.specs.Prune.{pruning}
+use Rattle.chain_depths.specs.Depths.{depthsOf}
+use Rattle.chain_depths.specs.declared.Depths.{Depths}
 use Rattle.prune_marks.specs.Marks.{neededMarks}
 use Rattle.tidy.specs.Written.{writingMarked}
 use Rattle.prune.proofs.Pruning.{prune-refused, prune-high, prune-tangled, prune-on}
@@ -88,6 +91,11 @@ module _ (e : tie.Else2) where
   loops : loopsFrom (linksOf lent) 0 (linksOf lent) ≡ loopsFrom (ls asked) 0 (ls asked)
   loops = ap (λ l. loopsFrom l 0 l) says
 
+-- what the depths say of it
+cycle-is : (qs : List Link) (d : Depths) → d ≡ depthsOf qs → d .cycle ≡ loopsFrom qs 0 qs
+unfolding depthsOf
+cycle-is qs d q = ap (λ x. x .cycle) q ∙ split (loopsFrom qs 0 qs) (λ e. rw e refl) (λ e. rw e refl)
+
 check-requires : tie.Need-check-requires
 check-requires c κs = search needs
 
@@ -135,11 +143,13 @@ slice-aggregate-links c =
     let f = asked (c .before .before) in
     lent-count (ps f) (few f) (f .find-parents .result) (f .find-parents .ensures)
 
-has-cycle-requires : tie.Need-has-cycle-requires
-has-cycle-requires c κs =
+find-depths-requires : tie.Need-find-depths-requires
+find-depths-requires c κs =
     let e = c .before .before in
     let f = asked e in
-    lent-within (ps f) (few f) (f .find-parents .result) (f .find-parents .ensures) (e .if2 .left)
+    let q = f .find-parents .result in
+    let is = f .find-parents .ensures in
+    (lent-within (ps f) (few f) q is (e .if2 .left), lent-few (ps f) (few f) q is)
 
 returns-3 : tie.Need-returns-3
 returns-3 c =
@@ -149,7 +159,7 @@ returns-3 c =
     let room = length (a .out .now) in
     refused-answer (pruning (a .text .now) (a .catalogue .now) (a .used .now) room) (a .out .now) 23 (record { 0 = 0 })
     (prune-tangled (a .text .now) (a .catalogue .now) (a .used .now) room (own (f .before .before .before)) (low (e .before)) 23
-    (sym (tangled-loops (ls f) true (linked e) (sym (loops e) ∙ sym (c .before .has-cycle .ensures) ∙ c .if3 .taken))) (λ q. omega arith))
+    (sym (tangled-loops (ls f) true (linked e) (sym (loops e) ∙ sym (cycle-is _ _ (c .before .find-depths .ensures)) ∙ c .if3 .taken))) (λ q. omega arith))
 
 mark-requires : tie.Need-mark-requires
 mark-requires c κs =
@@ -159,7 +169,7 @@ mark-requires c κs =
     let is = f .find-parents .ensures in (
       lent-within (ps f) (few f) q is (e .if2 .left),
       (
-        sym (c .before .has-cycle .ensures) ∙ c .if3 .left,
+        sym (cycle-is _ _ (c .before .find-depths .ensures)) ∙ c .if3 .left,
         (lent-few (ps f) (few f) q is, ap (λ n. any (leb n) (f .before .before .before .before .before .before .before .before .before .before .args .used .now)) (sym (lent-count (ps f) (few f) q is) ∙ counts f) ∙ low (e .before)),
       ),
     )
@@ -195,7 +205,7 @@ returns-5 c =
     let a = f .before .before .before .before .before .before .before .before .before .before .args in
     let room = length (a .out .now) in
     let marks = m .mark .result in
-    let whole : tangled (ls f) ≡ 0 = tangled-loops (ls f) false (linked e) (sym (loops e) ∙ sym (n .before .has-cycle .ensures) ∙ n .if3 .left) in
+    let whole : tangled (ls f) ≡ 0 = tangled-loops (ls f) false (linked e) (sym (loops e) ∙ sym (cycle-is _ _ (n .before .find-depths .ensures)) ∙ n .if3 .left) in
     let on : writingMarked (a .text .now) marks room ≡ pruning (a .text .now) (a .catalogue .now) (a .used .now) room =
     sym (prune-on (a .text .now) (a .catalogue .now) (a .used .now) room (own (f .before .before .before)) (low (e .before)) whole (few f) marks (m .mark .ensures ∙ ap (λ l. neededMarks l (a .used .now)) (says e))) in
     (w .write-marked .ensures .0 ∙ ap answerOf on, w .write-marked .ensures .1 ∙ ap (λ x. outputOf x (a .out .now)) on)
@@ -214,7 +224,7 @@ prune-spec =
     returns-2
     array-share-prefix-list
     slice-aggregate-links
-    has-cycle-requires
+    find-depths-requires
     returns-3
     mark-requires
     is-strict-requires
