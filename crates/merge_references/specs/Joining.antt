@@ -1,0 +1,27 @@
+-- What a list of references has of a name, and what is left to judge of a merged list.
+use mathlib.Core.Path.{_≡_}
+use mathlib.Core.Bool.{Bool, true, false, _&&_, cond}
+use mathlib.Core.List.{List, [], _∷_}
+use lib.Dec.{eqb}
+use Rattle.format.specs.Bytes.{any}
+use Rattle.format.specs.References.{Reference, sameReferences}
+use Rattle.format.specs.Merge.{sameName, agreeing, lacking}
+use Rattle.merge_references.specs.declared.Met.{Met}
+use Rattle.merge_references.specs.declared.Met.the-variants.{Nothing, Same, Other}
+
+-- the first with its name tells
+unfoldable pub metIn : Reference → List Reference → Met
+unfolding sameName
+metIn q [] = Nothing
+metIn q (r ∷ rs) = cond (sameName q r) (cond (eqb (q .size) (r .size)) Same Other) (metIn q rs)
+
+-- no two have one name
+unfoldable pub Apart : List Reference → Type 0
+unfolding any sameName
+Apart [] = Unit
+Apart (r ∷ rs) = (any (sameName r) rs ≡ false) × Apart rs
+
+-- of B `b` is left to judge, and of the merged list `m`, after A's own references
+unfoldable pub leftOf : List Reference → List Reference → List Reference → Bool
+unfolding agreeing sameReferences lacking
+leftOf a b m = agreeing a b && sameReferences m (lacking a b)

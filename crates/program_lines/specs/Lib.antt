@@ -1,0 +1,3 @@
+-- The programs of a text, by its lines:
+--   Found   the PG lines from an offset on, what the next of them tells, and what is noted of each
+pub mod Found
