@@ -7,11 +7,9 @@ use lib.ListN.{length, take, drop}
 use lib.Dec.{eqb}
 use Rattle.format.specs.Fields.{Field, without}
 use Rattle.format.specs.declared.Kind.the-variants.{Program}
-use Rattle.text.specs.Stands.{Each}
 use Rattle.accepted.specs.Sound.{isKey}
 use Rattle.tags.specs.Others.{firsts}
 use Rattle.other_fields.specs.Run.{fieldsTo, fieldsFrom, AtField}
-use Rattle.other_fields.specs.Tables.{HasTag}
 use Rattle.merge_fields.specs.declared.NextField.{NextField}
 
 -- ID or PP
@@ -37,9 +35,3 @@ pub record NextInLine (once : Bool) (at : ℕ) (line : List ℕ) (start : ℕ) (
   pub value : r .from + r .len ≤ length line
   pub here : AtField once at line (r .next)
   pub onward : r .found ≡ true → start < r .next
-
--- an accepted line of fields, at an offset of its text
-pub record FieldsOf (strict : Bool) (at : ℕ) (line : List ℕ) : Type 0 where
-  pub start : AtField strict at line 3
-  pub tags : Each HasTag (fieldsFrom at line 3)
-  pub short : at + length line ≤ 16777216

@@ -5,7 +5,8 @@ ghost use lib.ListN.{length};
 ghost use Rattle.other_fields.specs.Run.{AtField};
 ghost use Rattle.other_fields.specs.Tables.{Walkable};
 ghost use Rattle.format.specs.Merge.{sameField, keepsFields};
-ghost use Rattle.merge_fields.specs.Kept.{isPassed, keptFrom, toldField, toldFields, NextInLine, FieldsOf};
+ghost use Rattle.program_lines.specs.Line.{FieldsOf};
+ghost use Rattle.merge_fields.specs.Kept.{isPassed, keptFrom, toldField, toldFields, NextInLine};
 
 // The next field: its tag, where its value stands in the line, and where the field after it starts; `found` is false where none is left.
 struct NextField {
@@ -81,28 +82,32 @@ fn same_field(a: &[u8], f: NextField, b: &[u8], g: NextField) -> bool
     text::same(&a[from..to], &b[start..end])
 }
 
+// Where a line starts in its text, and whether no tag stands twice in it.
+struct Walked {
+    at: usize,
+    once: bool,
+}
+
 // Whether two lines have the same fields, by a walk over both.
 fn same_walks(
     a: &[u8],
-    at_a: usize,
-    once_a: bool,
+    of_a: Walked,
     tables_a: &[u32],
     b: &[u8],
-    at_b: usize,
-    once_b: bool,
+    of_b: Walked,
     tables_b: &[u32],
 ) -> bool
-    requires { ⌜ Walkable «once_a» «at_a» (now a) (now «tables_a») ⌝ }
-    requires { ⌜ «at_a» + length (now a) ≤ 16777216 ⌝ }
-    requires { ⌜ Walkable «once_b» «at_b» (now b) (now «tables_b») ⌝ }
-    requires { ⌜ «at_b» + length (now b) ≤ 16777216 ⌝ }
-    ensures { λ r. ⌜ r ≡ keepsFields (keptFrom «at_a» (now (a .entry)) 3) (keptFrom «at_b» (now (b .entry)) 3) ⌝ }
+    requires { ⌜ Walkable («of_a» .once) («of_a» .at) (now a) (now «tables_a») ⌝ }
+    requires { ⌜ «of_a» .at + length (now a) ≤ 16777216 ⌝ }
+    requires { ⌜ Walkable («of_b» .once) («of_b» .at) (now b) (now «tables_b») ⌝ }
+    requires { ⌜ «of_b» .at + length (now b) ≤ 16777216 ⌝ }
+    ensures { λ r. ⌜ r ≡ keepsFields (keptFrom («of_a» .at) (now (a .entry)) 3) (keptFrom («of_b» .at) (now (b .entry)) 3) ⌝ }
 {
     let mut i: usize = 3;
     let mut j: usize = 3;
     loop {
-        let f = next_field(a, at_a, i, once_a, tables_a);
-        let g = next_field(b, at_b, j, once_b, tables_b);
+        let f = next_field(a, of_a.at, i, of_a.once, tables_a);
+        let g = next_field(b, of_b.at, j, of_b.once, tables_b);
         if !f.found {
             return !g.found;
         }
@@ -118,26 +123,26 @@ fn same_walks(
 }
 
 // The same, where the second line's tables are still to be made.
-fn same_as_line(
-    a: &[u8],
-    at_a: usize,
-    once: bool,
-    tables: &[u32],
-    b: &[u8],
-    at_b: usize,
-    strict: bool,
-) -> bool
-    requires { ⌜ Walkable once «at_a» (now a) (now tables) ⌝ }
-    requires { ⌜ «at_a» + length (now a) ≤ 16777216 ⌝ }
+fn same_as_line(a: &[u8], of_a: Walked, tables: &[u32], b: &[u8], at_b: usize, strict: bool) -> bool
+    requires { ⌜ Walkable («of_a» .once) («of_a» .at) (now a) (now tables) ⌝ }
+    requires { ⌜ «of_a» .at + length (now a) ≤ 16777216 ⌝ }
     requires { ⌜ FieldsOf strict «at_b» (now b) ⌝ }
-    ensures { λ r. ⌜ r ≡ keepsFields (keptFrom «at_a» (now (a .entry)) 3) (keptFrom «at_b» (now (b .entry)) 3) ⌝ }
+    ensures { λ r. ⌜ r ≡ keepsFields (keptFrom («of_a» .at) (now (a .entry)) 3) (keptFrom «at_b» (now (b .entry)) 3) ⌝ }
 {
     if other_fields::is_once(b, at_b, strict) {
-        return same_walks(a, at_a, once, tables, b, at_b, true, &[]);
+        let of_b = Walked {
+            at: at_b,
+            once: true,
+        };
+        return same_walks(a, of_a, tables, b, of_b, &[]);
     }
     let mut tables_b = [0u32; 6448];
     other_fields::note_tags(b, at_b, &mut tables_b);
-    same_walks(a, at_a, once, tables, b, at_b, false, &tables_b)
+    let of_b = Walked {
+        at: at_b,
+        once: false,
+    };
+    same_walks(a, of_a, tables, b, of_b, &tables_b)
 }
 
 // Whether two accepted PG lines have the same fields in the same order, but for ID and PP. Each starts at an offset of its own text, which says
@@ -155,9 +160,17 @@ pub fn same_fields(
     ensures { λ r. ⌜ r ≡ keepsFields (keptFrom «at_a» (now (a .entry)) 3) (keptFrom «at_b» (now (b .entry)) 3) ⌝ }
 {
     if other_fields::is_once(a, at_a, strict_a) {
-        return same_as_line(a, at_a, true, &[], b, at_b, strict_b);
+        let of_a = Walked {
+            at: at_a,
+            once: true,
+        };
+        return same_as_line(a, of_a, &[], b, at_b, strict_b);
     }
     let mut tables_a = [0u32; 6448];
     other_fields::note_tags(a, at_a, &mut tables_a);
-    same_as_line(a, at_a, false, &tables_a, b, at_b, strict_b)
+    let of_a = Walked {
+        at: at_a,
+        once: false,
+    };
+    same_as_line(a, of_a, &tables_a, b, at_b, strict_b)
 }

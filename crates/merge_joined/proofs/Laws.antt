@@ -8,6 +8,7 @@ use lib.Dec.{eqb}
 use borrow.Author.Tests.{eqb-true, eq-eqb}
 use Rattle.format.specs.Bytes.{same, any}
 use Rattle.text.proofs.Equal.{same-equal, same-self}
+use Rattle.accepted.proofs.Apart.{same-sym}
 use Rattle.accepted.proofs.Bools.{never, split, and-left, and-right}
 use Rattle.format.specs.References.{Reference, sameReference, sameReferences}
 use Rattle.sq_list.specs.Next.{sqFrom}
@@ -80,12 +81,9 @@ module _ (a : List Reference) (strict : Bool) (t : List ℕ) (next after : ℕ) 
 
 -- ---- the next of the merged list has another name, or there is none
 
-same-flip : (s t : List ℕ) → same s t ≡ false → same t s ≡ false
-same-flip s t h = split (same t s) (λ e. absurd (never (let z : true ≡ false = sym (ap (same s) (same-equal t s e) ∙ same-self s) ∙ h in cc))) (λ e. e)
-
 pub gone-other : (ms ms′ k : List Reference) (q n : Reference) → ms ≡ n ∷ ms′ → sameName q n ≡ false → sameReferences ms (q ∷ k) ≡ false
 unfolding sameReference sameName
-gone-other ms ms′ k q n e s = one-turn ms k q n ms′ e ∙ ap (λ t. t && eqb (n .size) (q .size) && sameReferences ms′ k) (same-flip (q .name) (n .name) s)
+gone-other ms ms′ k q n e s = one-turn ms k q n ms′ e ∙ ap (λ t. t && eqb (n .size) (q .size) && sameReferences ms′ k) (same-sym (n .name) (q .name) ∙ s)
 
 pub gone-none : (ms k : List Reference) (q : Reference) → ms ≡ [] → sameReferences ms (q ∷ k) ≡ false
 gone-none ms k q e = one-short ms k q e

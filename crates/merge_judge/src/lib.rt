@@ -2,23 +2,19 @@
 // ordinal in the merged header.
 use format::LineNo;
 use judging::Judged;
-use parents::Parents;
-use programs::Places;
+use merge_programs::Opened;
 ghost use mathlib.Core.Path.{_≡_};
 ghost use mathlib.Core.Bool.{true};
-ghost use Prim.Native.Nat.{_≤_};
-ghost use lib.ListN.{length};
-ghost use lib.Dec.{ltb};
-ghost use Rattle.format.specs.Bytes.{all};
 ghost use Rattle.format.specs.Reading.{readText};
 ghost use Rattle.accepted.specs.Read.{isAccepted, recordsOf};
-ghost use Rattle.format.specs.Merge.{shapes, images, judgedMerge, judgingMerge};
-ghost use Rattle.merge_judge.specs.Judged.{verdictOf, IsOpened, Untangled, untangling, afterFirst, afterSecond};
+ghost use Rattle.format.specs.Merge.{judgedMerge, judgingMerge};
+ghost use Rattle.merge_programs.specs.Opened.{Untangled};
+ghost use Rattle.merge_judge.specs.Judged.{verdictOf, untangling, afterFirst, afterSecond};
 
 // Which of the three texts a refusal is about.
 pub enum Which {
-    First,
-    Second,
+    A,
+    B,
     Merged,
 }
 
@@ -29,85 +25,31 @@ pub enum Verdict {
     Unmerged(u8),
 }
 
-// What an accepted text is judged by: what it says of repeated tags, 0 or 22 or 23, where the lines of its programs stand, and their parents.
-struct Opened {
-    strict: bool,
-    refusal: u8,
-    lines: Places,
-    parents: Parents,
-}
-
-fn open_text(text: &[u8]) -> Opened
-    requires { ⌜ isAccepted (readText (now text)) ≡ true ⌝ }
-    ensures { λ r. ⌜ IsOpened (now (text .entry)) r ⌝ }
-{
-    let strict = repeat_rule::is_strict(text);
-    let gathered = program_lines::gather(text, strict);
-    let programs = gathered.programs;
-    let lines = gathered.lines;
-    let graph = parents::find_leaves(text, programs);
-    let refusal = graph.refusal;
-    let parents = graph.parents;
-    Opened {
-        strict,
-        refusal,
-        lines,
-        parents,
-    }
-}
-
-// Whether the programs of a text have their images in the merged one.
-fn has_images(text: &[u8], o: Opened, m: &[u8], merged: Opened, list: &[u32]) -> bool
-    requires { ⌜ Untangled (now text) o ⌝ }
-    requires { ⌜ Untangled (now m) merged ⌝ }
-    requires { ⌜ length (now list) ≡ o .parents .count ⌝ }
-    requires { ⌜ all (λ k. ltb k (merged .parents .count)) (now list) ≡ true ⌝ }
-    ensures { λ r. ⌜ r ≡ images (now (list .entry)) (shapes (recordsOf (now (text .entry)))) (shapes (recordsOf (now (m .entry)))) ⌝ }
-{
-    let lines = o.lines;
-    let ats = lines.at;
-    let lens = lines.len;
-    let parents = o.parents;
-    let links = parents.list;
-    let n = parents.count;
-    let merged_lines = merged.lines;
-    let merged_ats = merged_lines.at;
-    let merged_lens = merged_lines.len;
-    let merged_parents = merged.parents;
-    let merged_links = merged_parents.list;
-    let k = merged_parents.count;
-    merge_programs::has_images(
-        text,
-        o.strict,
-        &ats[..n],
-        &lens[..n],
-        &links[..n],
-        m,
-        merged.strict,
-        &merged_ats[..k],
-        &merged_lens[..k],
-        &merged_links[..k],
-        list,
-    )
+// What each of the three accepted texts is judged by.
+struct Texts {
+    a: Opened,
+    b: Opened,
+    merged: Opened,
 }
 
 // Three accepted texts in which nothing is tangled: 30, 31 and 32.
 fn judge_untangled(
     a: &[u8],
-    of_a: Opened,
     b: &[u8],
-    of_b: Opened,
     m: &[u8],
-    of_m: Opened,
+    of: Texts,
     list_a: &[u32],
     list_b: &[u32],
 ) -> Verdict
-    requires { ⌜ Untangled (now a) «of_a» ⌝ }
-    requires { ⌜ Untangled (now b) «of_b» ⌝ }
-    requires { ⌜ Untangled (now m) «of_m» ⌝ }
+    requires { ⌜ Untangled (now a) (of .a) ⌝ }
+    requires { ⌜ Untangled (now b) (of .b) ⌝ }
+    requires { ⌜ Untangled (now m) (of .merged) ⌝ }
     ensures { λ r. ⌜ r ≡ verdictOf (judgedMerge (recordsOf (now (a .entry))) (recordsOf (now (b .entry))) (recordsOf (now (m .entry)))
         (now («list_a» .entry)) (now («list_b» .entry))) ⌝ }
 {
+    let of_a = of.a;
+    let of_b = of.b;
+    let of_m = of.merged;
     if !merge_joined::is_joined(a, of_a.strict, b, of_b.strict, m, of_m.strict) {
         return Verdict::Unmerged(30);
     }
@@ -123,10 +65,10 @@ fn judge_untangled(
     ) {
         return Verdict::Unmerged(31);
     }
-    if !has_images(a, of_a, m, of_m, list_a) {
+    if !merge_programs::has_images(a, of_a, m, of_m, list_a) {
         return Verdict::Unmerged(32);
     }
-    if !has_images(b, of_b, m, of_m, list_b) {
+    if !merge_programs::has_images(b, of_b, m, of_m, list_b) {
         return Verdict::Unmerged(32);
     }
     Verdict::Accepted
@@ -140,19 +82,24 @@ fn judge_accepted(a: &[u8], b: &[u8], m: &[u8], list_a: &[u32], list_b: &[u32]) 
     ensures { λ r. ⌜ r ≡ verdictOf (untangling (recordsOf (now (a .entry))) (recordsOf (now (b .entry))) (recordsOf (now (m .entry)))
         (now («list_a» .entry)) (now («list_b» .entry))) ⌝ }
 {
-    let of_a = open_text(a);
+    let of_a = merge_programs::open_text(a);
     if of_a.refusal != 0 {
-        return Verdict::Unfit(Which::First, of_a.refusal, LineNo(0));
+        return Verdict::Unfit(Which::A, of_a.refusal, LineNo(0));
     }
-    let of_b = open_text(b);
+    let of_b = merge_programs::open_text(b);
     if of_b.refusal != 0 {
-        return Verdict::Unfit(Which::Second, of_b.refusal, LineNo(0));
+        return Verdict::Unfit(Which::B, of_b.refusal, LineNo(0));
     }
-    let of_m = open_text(m);
+    let of_m = merge_programs::open_text(m);
     if of_m.refusal != 0 {
         return Verdict::Unfit(Which::Merged, of_m.refusal, LineNo(0));
     }
-    judge_untangled(a, of_a, b, of_b, m, of_m, list_a, list_b)
+    let of = Texts {
+        a: of_a,
+        b: of_b,
+        merged: of_m,
+    };
+    judge_untangled(a, b, m, of, list_a, list_b)
 }
 
 // The merged text is read, after A and B were.
@@ -175,7 +122,7 @@ fn judge_second(a: &[u8], b: &[u8], m: &[u8], list_a: &[u32], list_b: &[u32]) ->
         (now («list_a» .entry)) (now («list_b» .entry))) ⌝ }
 {
     match judging::judge(b) {
-        Judged::Refused(n, line) => Verdict::Unfit(Which::Second, n, line),
+        Judged::Refused(n, line) => Verdict::Unfit(Which::B, n, line),
         Judged::Accepted(_) => judge_merged(a, b, m, list_a, list_b),
     }
 }
@@ -186,7 +133,7 @@ pub fn judge_merge(a: &[u8], b: &[u8], m: &[u8], list_a: &[u32], list_b: &[u32])
         (now («list_a» .entry)) (now («list_b» .entry))) ⌝ }
 {
     match judging::judge(a) {
-        Judged::Refused(n, line) => Verdict::Unfit(Which::First, n, line),
+        Judged::Refused(n, line) => Verdict::Unfit(Which::A, n, line),
         Judged::Accepted(_) => judge_second(a, b, m, list_a, list_b),
     }
 }

@@ -1,3 +1,5 @@
--- What is lent of a text's programs:
---   Told   where their lines stand, and their parents
-pub mod Told
+-- The programs of a text that is judged:
+--   Opened    what is found of an accepted text
+--   Members   one program, by its line and its parent
+pub mod Opened
+pub mod Members

@@ -17,23 +17,18 @@ use Rattle.accepted.specs.Sound.{kind}
 use Rattle.accepted.specs.Spelled as sp
 use Rattle.accepted.specs.Spelled.{AcceptedLine, Spelled, kind₀}
 use Rattle.accepted.proofs.Bools.{never, split}
-use Rattle.accepted.proofs.Sound.{made-kind}
 use Rattle.accepted.proofs.Spelled.{line-accepted}
 use Rattle.accepted.proofs.Text.{text-lines}
 use Rattle.accepted.proofs.Pairs.{pairs-left}
 use Rattle.other_fields.proofs.Start.{accepted-start, accepted-tags}
-use Rattle.merge_fields.specs.Kept.{FieldsOf}
+use Rattle.sq_list.proofs.Next.{second-byte}
+use Rattle.program_lines.specs.Line.{FieldsOf}
 use Rattle.program_lines.specs.Found.{mayBeProgram, programLines, pgFrom}
 
 -- a line is read as a program
 pub record IsProgram (strict : Bool) (p : Piece) (r : Record) : Type 0 where
   pub reads : records.line strict p ≡ read r
   pub kind : eqb (code r) 4 ≡ true
-
-second-byte : (strict : Bool) (at : ℕ) (s : List ℕ) (r : Record) → AcceptedLine strict at s r → getD s 1 0 ≡ kind₀ (kind r)
-unfolding kind₀ kind
-second-byte strict at s r (sp.of-remark t) = refl
-second-byte strict at s r (sp.of-fields a) = ap (λ l. getD l 1 0) (a .spells) ∙ ap kind₀ (sym (made-kind (a .fields) (a .kind) r (a .made)))
 
 by-code : (r : Record) → eqb (kind₀ (kind r)) 80 ≡ eqb (code r) 4
 unfolding kind₀ kind code

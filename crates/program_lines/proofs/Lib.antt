@@ -3,3 +3,4 @@ pub mod Last
 pub mod Accepted
 pub mod Listed
 pub mod Same
+pub mod Lent

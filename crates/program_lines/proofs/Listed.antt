@@ -2,7 +2,7 @@
 use Prim.Native.Nat.{ℕ, suc, _+_, _-_, _≤_, _<_, _^_}
 use mathlib.Core.Path.{_≡_, refl, sym, ap, ap₂, subst, _∙_}
 use mathlib.Core.Bool.{Bool, true, false}
-use mathlib.Core.List.{List, [], _∷_, _++_, map, append-nil}
+use mathlib.Core.List.{List, [], _∷_, _++_, map, map-map, append-nil}
 use native.Mathlib.Omega.{arith}
 use lib.ListN.{length, take, drop, set, replicate, length-append, length-map, length-drop}
 use lib.Seq.{append-snoc, length-take-le}
@@ -20,22 +20,15 @@ use Rattle.entries.specs.declared.Place.{Place}
 use Rattle.other_fields.specs.Next.{lastIn}
 use Rattle.programs.specs.declared.Places.{Places}
 use Rattle.programs.specs.declared.Programs.{Programs}
+use Rattle.programs.proofs.Noting.{map-snoc}
 use Rattle.programs.specs.Gathered.{ProgramPlaces, arraysOf, gatheredOf}
-use Rattle.merge_fields.specs.Kept.{FieldsOf}
+use Rattle.program_lines.specs.Line.{FieldsOf}
 use Rattle.program_lines.specs.Found.{programLines, pgFrom, toldLine, toldLines, placeOf, previousOf, notesOf, linesOf, NextLineInText}
 use Rattle.program_lines.specs.declared.NextLine.{NextLine}
 use Rattle.program_lines.proofs.Next.{told-one, told-none}
 use Rattle.program_lines.proofs.Accepted.{IsProgram, fielded, text-program-lines}
 
 -- ---- arrays
-
-map-snoc : {A B : Type 0} (f : A → B) (xs : List A) (x : A) → map f xs ++ (f x ∷ []) ≡ map f (xs ++ (x ∷ []))
-map-snoc f [] x = refl
-map-snoc f (y ∷ xs) x = ap (λ zs. f y ∷ zs) (map-snoc f xs x)
-
-map-twice : {A B C : Type 0} (f : B → C) (g : A → B) (xs : List A) → map f (map g xs) ≡ map (λ x. f (g x)) xs
-map-twice f g [] = refl
-map-twice f g (x ∷ xs) = ap (λ zs. f (g x) ∷ zs) (map-twice f g xs)
 
 -- one number of each line is in an array
 abbrev Kept : (Piece → ℕ) → List Piece → List ℕ → Type 0
@@ -100,7 +93,7 @@ whole-programs : (ps : List Piece) (ats lens from widths : List ℕ) (count : �
     → _≡_ {A = Programs} (record { id = record { at = ats; len = lens }; previous = record { at = from; len = widths }; count = count }) (gatheredOf (map notesOf ps))
 unfolding gatheredOf arraysOf
 whole-programs ps ats lens from widths count a b d e m =
-    rw (a, b, d, e, ← m, map-twice (λ n. n .id .at) notesOf ps, map-twice (λ n. n .id .len) notesOf ps, map-twice (λ n. n .previous .at) notesOf ps, map-twice (λ n. n .previous .len) notesOf ps, length-map ps notesOf) refl
+    rw (a, b, d, e, ← m, map-map (λ n. n .id .at) notesOf ps, map-map (λ n. n .id .len) notesOf ps, map-map (λ n. n .previous .at) notesOf ps, map-map (λ n. n .previous .len) notesOf ps, length-map ps notesOf) refl
 
 whole-lines : (ps : List Piece) (starts sizes : List ℕ) → Kept (λ p. p .at) ps starts → Kept (λ p. length (p .bytes)) ps sizes → _≡_ {A = Places} (record { at = starts; len = sizes }) (linesOf ps)
 unfolding linesOf

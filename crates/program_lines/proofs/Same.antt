@@ -29,7 +29,7 @@ use Rattle.entries.specs.Entries.{pieceAt, headEntry, fieldEntry, entriesOn, en
 use Rattle.lookup.specs.declared.Found.{Found}
 use Rattle.lookup.specs.Lookup.{foundOf, valueIn}
 use Rattle.lookup.proofs.Kept.{text-entries}
-use Rattle.lookup.proofs.Answers.{value-fields}
+use Rattle.lookup.proofs.Answers.{last-none, later-none, value-fields}
 use Rattle.id_search.specs.Places.{nowhere}
 use Rattle.other_fields.specs.Run.{AtField, fieldsFrom}
 use Rattle.other_fields.specs.Next.{lastIn, orValue}
@@ -43,20 +43,6 @@ use Rattle.program_lines.proofs.Last.{last-after}
 
 abbrev own : ℕ → ℕ → Field → Option Piece
 own a b f = cond (tagged a b f) (some (f .value)) none
-
--- no field has the tag
-last-none : (a b : ℕ) (fs : List Field) → any (tagged a b) fs ≡ false → lastOf a b fs ≡ none
-unfolding any lastOf later
-last-none a b [] h = refl
-last-none a b (f ∷ fs) h =
-    let x = or-left (tagged a b f) (any (tagged a b) fs) h in
-    let y = last-none a b fs (or-right (tagged a b f) (any (tagged a b) fs) h) in
-    ap₂ later (ap (λ t. cond t (some (f .value)) none) x) y
-
-later-none : (o : Option Piece) → later none o ≡ o
-unfolding later
-later-none none = refl
-later-none (some p) = refl
 
 any-tag : (a b : ℕ) (f : Field) (gs : List Field) → tagged a b f ≡ true → any (tagged (f .tag₀) (f .tag₁)) gs ≡ false → any (tagged a b) gs ≡ false
 unfolding tagged

@@ -14,7 +14,7 @@ ghost use Rattle.accepted.specs.Read.{isAccepted};
 ghost use Rattle.other_fields.specs.Next.{lastIn};
 ghost use Rattle.other_fields.specs.Tables.{Walkable};
 ghost use Rattle.programs.specs.Gathered.{gatheredOf};
-ghost use Rattle.merge_fields.specs.Kept.{FieldsOf};
+ghost use Rattle.program_lines.specs.Line.{FieldsOf};
 ghost use Rattle.program_lines.specs.Found.{mayBeProgram, pgFrom, toldLines, NextLineInText, placeOf, previousOf, notesOf, linesOf};
 
 // The next PG line, where it stands, and the offset of the line after it; `found` is false where none is left.

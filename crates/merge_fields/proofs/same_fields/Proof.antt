@@ -1,5 +1,5 @@
 -- `merge_fields::same_fields` meets its contract: the first line is walked by what is lent.
-use Rattle.merge_fields.proofs.Lent.{once, noting, tabled}
+use Rattle.program_lines.proofs.Lent.{once, noting, tabled}
 use borrow.Author.Needs.{needs}
 use Rattle.merge_fields.proofs.same_fields.Statement.{statement}
 use Rattle.merge_fields.proofs.same_fields.Tie as tie

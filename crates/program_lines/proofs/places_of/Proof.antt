@@ -1,5 +1,5 @@
 -- `program_lines::places_of` meets its contract: the line is walked by what is lent.
-use Rattle.merge_fields.proofs.Lent.{once, noting, tabled}
+use Rattle.program_lines.proofs.Lent.{once, noting, tabled}
 use borrow.Author.Needs.{needs}
 use Rattle.program_lines.proofs.places_of.Statement.{statement}
 use Rattle.program_lines.proofs.places_of.Tie as tie

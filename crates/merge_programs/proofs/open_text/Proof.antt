@@ -1,14 +1,14 @@
--- `merge_judge::open_text` meets its contract: what is gathered from the lines is what is gathered from the catalogue.
+-- `merge_programs::open_text` meets its contract: what is gathered from the lines is what is gathered from the catalogue.
 use mathlib.Core.Path.{_≡_, refl, sym, ap, _∙_}
 use Rattle.format.specs.Programs.{programs, links}
 use Rattle.accepted.specs.Read.{recordsOf}
 use Rattle.accepted.proofs.Read.{accepted-reads}
 use Rattle.programs.specs.Gathered.{gatheredOf}
-use Rattle.parents.proofs.Road.{graph-refusal, graph-parents}
+use Rattle.parents.proofs.Road.{linked-refusal, linked-parents}
 use Rattle.program_lines.proofs.Same.{same-gathered}
 use borrow.Author.Needs.{needs}
-use Rattle.merge_judge.proofs.open_text.Statement.{statement}
-use Rattle.merge_judge.proofs.open_text.Tie as tie
+use Rattle.merge_programs.proofs.open_text.Statement.{statement}
+use Rattle.merge_programs.proofs.open_text.Tie as tie
 
 is-strict-requires : tie.Need-is-strict-requires
 is-strict-requires c κs = search needs
@@ -16,8 +16,8 @@ is-strict-requires c κs = search needs
 gather-requires : tie.Need-gather-requires
 gather-requires c κs = search needs
 
-find-leaves-requires : tie.Need-find-leaves-requires
-find-leaves-requires c κs =
+link-programs-requires : tie.Need-link-programs-requires
+link-programs-requires c κs =
     let g = c .before .before in
     let i = g .before in
     let s = i .before .before in
@@ -34,11 +34,11 @@ returns c =
     record {
       accepted = s .pre;
       rule = i .is-strict .ensures;
-      refusal = graph-refusal ls (f .find-leaves .result) (f .find-leaves .ensures);
+      refusal = linked-refusal ls (f .link-programs .result) (f .link-programs .ensures);
       lines-are = g .gather .ensures .1;
-      parents-are = graph-parents ls (f .find-leaves .result) (f .find-leaves .ensures);
+      parents-are = linked-parents ls (f .link-programs .result) (f .link-programs .ensures);
     }
 
 pub open-text-spec : {M : Type 1} → statement M
 open-text-spec =
-    tie.close (tie.spec is-strict-requires gather-requires find-leaves-requires returns)
+    tie.close (tie.spec is-strict-requires gather-requires link-programs-requires returns)

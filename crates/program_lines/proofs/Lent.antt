@@ -10,7 +10,7 @@ use Rattle.other_fields.specs.Run.{AtField, fieldsFrom}
 use Rattle.other_fields.specs.Tables.{HasTag, spread, noted, Walkable}
 use Rattle.other_fields.proofs.Here.{laxly}
 use Rattle.other_fields.proofs.Start.{once-start, once-walkable, blank-tables, noted-walkable}
-use Rattle.merge_fields.specs.Kept.{FieldsOf}
+use Rattle.program_lines.specs.Line.{FieldsOf}
 
 module _ (strict : Bool) (at : ℕ) (s : List ℕ) (h : FieldsOf strict at s) where
   pub once : (t : List ℕ) (b : Bool) → b ≡ strict || spread (replicate 112 false) (fieldsFrom at s 3) → b ≡ true → Walkable true at s t
