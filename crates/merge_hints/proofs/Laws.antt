@@ -1,83 +1,100 @@
--- The laws of hints: the next offset is one, a slot may be set to one, and a reference that a hint leads to is the first with its name.
-use Prim.Native.Nat.{ℕ, _+_, _-_, _≤_, _<_}
+-- The laws of slots: an offset enters, and a slot is marked.
+use Prim.Native.Nat.{ℕ, _+_, _-_, _%_, _≤_, _<_}
 use mathlib.Core.Path.{_≡_, refl, sym, ap, ap₂, subst, _∙_}
-use mathlib.Core.Bool.{Bool, true, false, _||_, cond}
-use mathlib.Core.List.{List, [], _∷_, _++_}
+use mathlib.Core.Bool.{Bool, true, false}
+use mathlib.Core.List.{List, [], _∷_}
 use native.Mathlib.Omega.{arith}
 use lib.ListN.{length, getD, set, replicate, getD-replicate, length-replicate, List·getD-eq-default}
-use lib.Seq.{append-snoc, getD-set-same, getD-set-other, set-out}
+use lib.Seq.{getD-set-same, getD-set-other, set-out}
 use lib.Dec.{eqb, ltb}
 use borrow.Author.Tests.{eqb-true, eqb-false, ltb-true, ltb-false}
-use Rattle.format.specs.Bytes.{same, any}
-use Rattle.text.proofs.Equal.{same-equal, same-self}
-use Rattle.accepted.proofs.Bools.{never, split, or-true, any-append}
-use Rattle.format.specs.References.{Reference}
-use Rattle.sq_list.specs.Next.{sqFrom}
+use Rattle.format.specs.Bytes.{same}
 use Rattle.format.specs.Merge.{sameName}
-use Rattle.merge_references.specs.Joining.{metIn, Apart}
-use Rattle.merge_references.proofs.Names.{met-past, met-same, met-other}
-use Rattle.merge_references.specs.declared.Met.{Met}
-use Rattle.merge_references.specs.declared.Met.the-variants.{Nothing, Same, Other}
-use Rattle.merge_hints.specs.Hints.{From, Hints}
+use Rattle.accepted.proofs.Bools.{split, and-left, and-right}
+use Rattle.format.specs.References.{Reference, sameReference}
+use Rattle.sq_list.specs.Next.{sqFrom}
+use Rattle.merge_references.specs.Joining.{metIn, Apart, From}
+use Rattle.merge_references.proofs.Names.{met-same, same-from}
+use Rattle.merge_references.specs.declared.Met.the-variants.{Same}
+use Rattle.merge_hints.specs.Hints.{slotOffset, Placed, Agreed, Known, Marked}
 
-pub from-start : (strict : Bool) (t : List ℕ) → From strict t 0
-from-start strict t = record { within = omega arith; front = []; joined = refl }
+-- ---- what holds of every slot
 
-pub from-next : (strict : Bool) (t : List ℕ) (at next : ℕ) (r : Reference) → From strict t at → sqFrom strict t at ≡ r ∷ sqFrom strict t next → next ≤ length t → From strict t next
-from-next strict t at next r f e l = record {
-  within = l;
-  front = f .front ++ (r ∷ []);
-  joined = f .joined ∙ ap (λ l. f .front ++ l) e ∙ sym (append-snoc (f .front) r (sqFrom strict t next));
-}
+-- after a store
+each-set : (P : ℕ → Type 0) (slots : List ℕ) (i v : ℕ) → ((p : ℕ) → P (getD slots p 0)) → P v → (p : ℕ) → P (getD (set slots i v) p 0)
+each-set P slots i v h x p =
+    split (eqb p i) (λ e. here (eqb-true p i e)) (λ e. subst P (sym (getD-set-other slots i p v 0 (eqb-false p i e))) (h p))
+  where
+    here : p ≡ i → P (getD (set slots i v) p 0)
+    here e =
+        split (ltb i (length slots))
+        (λ l. subst P (sym (ap (λ n. getD (set slots i v) n 0) e ∙ getD-set-same slots i v 0 (ltb-true i (length slots) l))) x)
+        (λ l. subst (λ s. P (getD s p 0)) (sym (set-out slots i v (ltb-false i (length slots) l))) (h p))
 
 -- nothing but zeros
-pub hints-none : (strict : Bool) (t : List ℕ) (n : ℕ) → Hints strict t (replicate n 0)
-hints-none strict t n = record { each = λ p. subst (From strict t) (sym (zero-at p)) (from-start strict t) }
+zero-at : (n p : ℕ) → _≡_ {A = ℕ} (getD (replicate n 0) p 0) 0
+zero-at n p =
+    split (ltb p n)
+    (λ e. getD-replicate {A = ℕ} n p 0 0 (ltb-true p n e))
+    (λ e. List·getD-eq-default {A = ℕ} (replicate n 0) 0 {n = p} (omega (arith, ltb-false p n e, length-replicate {A = ℕ} n 0)))
+
+pub placed-none : (t : List ℕ) (n : ℕ) → Placed t (replicate n 0)
+unfolding slotOffset
+placed-none t n = record { within = λ p. let z = zero-at n p in omega (arith, z) }
+
+pub marked-none : (strict : Bool) (t : List ℕ) (rs : List Reference) (n : ℕ) → Marked strict t rs (replicate n 0)
+marked-none strict t rs n = record { known = λ p h. absurd (let z = zero-at n p in omega (arith, z, h)) }
+
+-- ---- an offset enters
+
+module _ (t slots : List ℕ) (i at : ℕ) (l : at ≤ length t) (f : length t ≤ 16777216) where
+  pub placed-enter : Placed t slots → Placed t (set slots i (at + 1))
+  unfolding slotOffset
+  placed-enter h = record { within = each-set (λ v. slotOffset v ≤ length t) slots i (at + 1) (h .within) (omega arith) }
+
+  pub marked-enter : (strict : Bool) (rs : List Reference) → Marked strict t rs slots → Marked strict t rs (set slots i (at + 1))
+  marked-enter strict rs h = record { known = each-set (λ v. 2147483648 ≤ v → Known strict t rs (slotOffset v)) slots i (at + 1) (h .known) (λ m. absurd (omega (arith, m))) }
+
+-- ---- a slot is marked
+
+module _ (t slots : List ℕ) (i v : ℕ) (o : 0 < v) (u : v < 2147483648) where
+  offset-kept : slotOffset (v + 2147483648) ≡ v - 1
+  unfolding slotOffset
+  offset-kept = omega arith
+
+  pub placed-mark : v - 1 ≤ length t → Placed t slots → Placed t (set slots i (v + 2147483648))
+  placed-mark l h = record { within = each-set (λ v. slotOffset v ≤ length t) slots i (v + 2147483648) (h .within) (omega (arith, offset-kept)) }
+
+  pub marked-mark : (strict : Bool) (rs : List Reference) → Known strict t rs (v - 1) → Marked strict t rs slots → Marked strict t rs (set slots i (v + 2147483648))
+  marked-mark strict rs k h = record {
+    known = each-set (λ v. 2147483648 ≤ v → Known strict t rs (slotOffset v)) slots i (v + 2147483648) (h .known) (λ m. subst (Known strict t rs) (sym offset-kept) k);
+  }
+
+-- an offset that a slot without a mark tells
+pub offset-plain : (t slots : List ℕ) (p : ℕ) → Placed t slots → getD slots p 0 < 2147483648 → getD slots p 0 - 1 ≤ length t
+unfolding slotOffset
+offset-plain t slots p h u = let z = h .within p in omega (arith, z)
+
+-- the first of a list is one
+first-is : (q r : Reference) (xs ys : List Reference) → q ∷ xs ≡ r ∷ ys → q ≡ r
+first-is q r xs ys e = ap (λ l. getD l 0 q) e
+
+pub known-by : (strict : Bool) (t : List ℕ) (rs : List Reference) (at : ℕ) (q r : Reference) (rest : List Reference) → sqFrom strict t at ≡ q ∷ rest → sameReference q r ≡ true → Agreed r rs → Known strict t rs at
+known-by strict t rs at q r rest e s a p ps d = ap (λ x. metIn x rs) (first-is p q ps rest (sym d ∙ e)) ∙ a q s
+
+-- the slot of a reference is marked
+pub marked-at : (strict : Bool) (t : List ℕ) (rs : List Reference) (slots : List ℕ) (p at : ℕ) → at ≤ 16777216 → getD slots p 0 ≡ at + 1 + 2147483648 → Marked strict t rs slots → Known strict t rs at
+unfolding slotOffset
+marked-at strict t rs slots p at l e h =
+    let z : slotOffset (getD slots p 0) ≡ at = ap slotOffset e ∙ offset in
+    subst (Known strict t rs) z (h .known p (omega (arith, e)))
   where
-    zero-at : (p : ℕ) → getD (replicate n 0) p 0 - 1 ≡ 0
-    zero-at p = split (ltb p n)
-        (λ e. let z = getD-replicate {A = ℕ} n p 0 0 (ltb-true p n e) in omega (arith, z))
-        (λ e. let z = List·getD-eq-default {A = ℕ} (replicate n 0) 0 {n = p} (omega (arith, ltb-false p n e, length-replicate {A = ℕ} n 0)) in omega (arith, z))
+    offset : (at + 1 + 2147483648) % 2147483648 - 1 ≡ at
+    offset = omega (arith, l)
 
-pub hints-set : (strict : Bool) (t slots : List ℕ) (i v : ℕ) → Hints strict t slots → From strict t v → Hints strict t (set slots i (v + 1))
-hints-set strict t slots i v h f = record { each = λ p. split (eqb p i) (λ e. here p (eqb-true p i e)) (λ e. subst (λ x. From strict t (x - 1)) (sym (getD-set-other slots i p (v + 1) 0 (eqb-false p i e))) (h .each p)) }
-  where
-    here : (p : ℕ) → p ≡ i → From strict t (getD (set slots i (v + 1)) p 0 - 1)
-    here p e =
-        split (ltb i (length slots))
-        (λ l. let z : getD (set slots i (v + 1)) p 0 - 1 ≡ v = ap (λ n. getD (set slots i (v + 1)) n 0 - 1) e ∙ ap (λ x. x - 1) (getD-set-same slots i (v + 1) 0 (ltb-true i (length slots) l)) ∙ less in subst (From strict t) (sym z) f)
-        (λ l. subst (λ s. From strict t (getD s p 0 - 1)) (sym (set-out slots i (v + 1) (ltb-false i (length slots) l))) (h .each p))
-      where
-        less : v + 1 - 1 ≡ v
-        less = omega arith
-
--- ---- the reference that a hint leads to
-
--- it has the name: none before it has
-pub named-before : (q f r : Reference) (front rest : List Reference) → any (sameName f) (front ++ r ∷ rest) ≡ false → sameName q r ≡ true → sameName q f ≡ false
-unfolding any sameName
-named-before q f r front rest h n =
-    split (same (q .name) (f .name))
-    (λ e. absurd (never (let z : true ≡ false = sym (any-append (sameName f) front (r ∷ rest) ∙ ap (λ t. any (sameName f) front || (t || any (sameName f) rest)) (one e) ∙ or-true (any (sameName f) front)) ∙ h in cc)))
-    (λ e. e)
-  where
-    one : same (q .name) (f .name) ≡ true → same (f .name) (r .name) ≡ true
-    one e = ap₂ same (sym (same-equal (q .name) (f .name) e)) (sym (same-equal (q .name) (r .name) n)) ∙ same-self (q .name)
-
-pub met-there : (q r : Reference) (front rest : List Reference) → Apart (front ++ r ∷ rest) → sameName q r ≡ true → metIn q (front ++ r ∷ rest) ≡ metIn q (r ∷ rest)
-unfolding Apart
-met-there q r [] rest h n = refl
-met-there q r (f ∷ front) rest h n = met-past q (f ∷ (front ++ r ∷ rest)) f (front ++ r ∷ rest) refl (named-before q f r front rest (h .0) n) ∙ met-there q r front rest (h .1) n
-
-module _ (strict : Bool) (t : List ℕ) (apart : Apart (sqFrom strict t 0)) (at next : ℕ) (f : From strict t at) (q r : Reference) (e : sqFrom strict t at ≡ r ∷ sqFrom strict t next) (n : sameName q r ≡ true) where
-  whole : sqFrom strict t 0 ≡ f .front ++ r ∷ sqFrom strict t next
-  whole = f .joined ∙ ap (λ l. f .front ++ l) e
-
-  leads : metIn q (sqFrom strict t 0) ≡ metIn q (r ∷ sqFrom strict t next)
-  leads = ap (metIn q) whole ∙ met-there q r (f .front) (sqFrom strict t next) (subst Apart whole apart) n
-
-  pub hint-same : q .size ≡ r .size → metIn q (sqFrom strict t 0) ≡ Same
-  hint-same s = leads ∙ met-same q (r ∷ sqFrom strict t next) r (sqFrom strict t next) refl n s
-
-  pub hint-other : (q .size ≡ r .size → ⊥) → metIn q (sqFrom strict t 0) ≡ Other
-  hint-other s = leads ∙ met-other q (r ∷ sqFrom strict t next) r (sqFrom strict t next) refl n s
+-- what has the name and the length of a reference of a text is met among its references
+pub agreed-from : (strict : Bool) (t : List ℕ) (at next : ℕ) (r : Reference) → From strict t at → Apart (sqFrom strict t 0) → sqFrom strict t at ≡ r ∷ sqFrom strict t next → Agreed r (sqFrom strict t 0)
+unfolding sameReference sameName
+agreed-from strict t at next r f h e q s =
+    same-from strict t at f h q
+    (met-same q (sqFrom strict t at) r (sqFrom strict t next) e (and-left (same (q .name) (r .name)) (eqb (q .size) (r .size)) s) (eqb-true (q .size) (r .size) (and-right (same (q .name) (r .name)) (eqb (q .size) (r .size)) s)))

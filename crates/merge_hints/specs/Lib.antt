@@ -1,3 +1,3 @@
--- Hints of where references stand:
---   Hints   an offset from which a text's references go on, and slots that hold such
+-- References in slots:
+--   Hints   which reference a slot tells, and what its mark means
 pub mod Hints

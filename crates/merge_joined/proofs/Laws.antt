@@ -1,8 +1,10 @@
 -- The laws of passing the merged list: a name that is next there is none of A's.
-use Prim.Native.Nat.{ℕ, _≤_}
+use Prim.Native.Nat.{ℕ, _+_, _-_, _≤_, _<_}
 use mathlib.Core.Path.{_≡_, refl, sym, ap, ap₂, subst, _∙_}
-use mathlib.Core.Bool.{Bool, true, false, _&&_, _||_}
+use mathlib.Core.Bool.{Bool, true, false, _&&_, _||_, cond}
 use mathlib.Core.List.{List, [], _∷_, _++_, append-assoc}
+use native.Mathlib.Omega.{arith}
+use lib.ListN.{length}
 use lib.Seq.{append-snoc}
 use lib.Dec.{eqb}
 use borrow.Author.Tests.{eqb-true, eq-eqb}
@@ -13,11 +15,12 @@ use Rattle.accepted.proofs.Bools.{never, split, and-left, and-right}
 use Rattle.format.specs.References.{Reference, sameReference, sameReferences}
 use Rattle.sq_list.specs.Next.{sqFrom}
 use Rattle.format.specs.Merge.{sameName, differ}
-use Rattle.merge_references.specs.Joining.{Apart, leftOf}
-use Rattle.merge_references.proofs.Names.{none-differs}
-use Rattle.merge_references.proofs.Lists.{left-new, one-turn, one-short}
-use Rattle.merge_hints.proofs.Laws.{named-before}
-use Rattle.merge_joined.specs.Behind.{Behind}
+use Rattle.merge_references.specs.Joining.{Apart, metIn, leftOf}
+use Rattle.merge_references.proofs.Names.{none-differs, past-front, met-nothing, met-agrees, met-differs}
+use Rattle.merge_references.proofs.Lists.{left-new, left-known, left-other, one-turn, one-short}
+use Rattle.merge_references.specs.declared.Met.the-variants.{Nothing, Same, Other}
+use Rattle.merge_joined.specs.declared.Left.{Left}
+use Rattle.merge_joined.specs.Passing.{Behind, Reached, Passed}
 
 -- ---- equal lists
 
@@ -65,7 +68,7 @@ module _ (a : List Reference) (strict : Bool) (t : List ℕ) (next after : ℕ) 
   before q [] p s = refl
   before q (f ∷ xs) p s =
       ap₂ (λ t u. t || u)
-      (named-before q f n (xs ++ h .more) (sqFrom strict t after) (ap (any (sameName f)) (append-assoc xs (h .more) (n ∷ sqFrom strict t after)) ∙ p .0) s)
+      (past-front q f (xs ++ h .more) (n ∷ sqFrom strict t after) (ap (any (sameName f)) (append-assoc xs (h .more) (n ∷ sqFrom strict t after)) ∙ p .0) (ap (λ u. u || any (sameName q) (sqFrom strict t after)) s))
       (before q xs (p .1) s)
 
   -- its name is none of A's
@@ -87,3 +90,91 @@ gone-other ms ms′ k q n e s = one-turn ms k q n ms′ e ∙ ap (λ t. t && eqb
 
 pub gone-none : (ms k : List Reference) (q : Reference) → ms ≡ [] → sameReferences ms (q ∷ k) ≡ false
 gone-none ms k q e = one-short ms k q e
+
+-- ---- what a turn leaves
+
+module _ (rs : List Reference) (strict-b : Bool) (b : List ℕ) (strict-m : Bool) (m : List ℕ) where
+  -- nothing is passed yet
+  pub passed-none : (from : Left) → from .good ≡ true → from .more ≡ true → Reached rs b strict-m m from → Passed rs strict-b b strict-m m from from
+  passed-none from g h r = record {
+    leaves = sym (ap (λ t. t && leftOf rs (sqFrom strict-b b (from .at)) (sqFrom strict-m m (from .next))) g);
+    reached = r;
+    well = λ e. g;
+    spent = λ e. absurd (never (let z : true ≡ false = sym h ∙ e in cc));
+    onward = omega arith;
+  }
+
+  -- one turn after another
+  pub passed-then : (from y x : Left) → Passed rs strict-b b strict-m m from y → y .more ≡ true → Passed rs strict-b b strict-m m y x → Passed rs strict-b b strict-m m from x
+  passed-then from y x p h q = record {
+    leaves = p .leaves ∙ ap (λ t. t && leftOf rs (sqFrom strict-b b (y .at)) (sqFrom strict-m m (y .next))) (p .well h) ∙ q .leaves;
+    reached = q .reached;
+    well = q .well;
+    spent = q .spent;
+    onward = omega (arith, p .onward, q .onward);
+  }
+
+  module _ (from : Left) (r : Reached rs b strict-m m from) where
+    -- B has no more
+    pub passed-spent : sqFrom strict-b b (from .at) ≡ [] → Passed rs strict-b b strict-m m from (record { good = true; more = false; at = from .at; next = from .next })
+    passed-spent e = record {
+      leaves = refl;
+      reached = record { within = r .within; merged = r .merged; behind = r .behind };
+      well = λ d. refl;
+      spent = λ d g. e;
+      onward = omega arith;
+    }
+
+    module _ (q : Reference) (after : ℕ) (e : sqFrom strict-b b (from .at) ≡ q ∷ sqFrom strict-b b after) (l : after ≤ length b) (o : from .at < after) where
+      abbrev ms : List Reference
+      ms = sqFrom strict-m m (from .next)
+
+      abbrev rest : List Reference
+      rest = sqFrom strict-b b after
+
+      -- it is the next of the merged list
+      pub passed-new : Apart (sqFrom strict-m m 0) → (n : Reference) (next : ℕ) → ms ≡ n ∷ sqFrom strict-m m next → next ≤ length m → sameName q n ≡ true → (good : Bool) → good ≡ eqb (n .size) (q .size)
+          → Passed rs strict-b b strict-m m from (record { good = good; more = good; at = after; next = next })
+      passed-new p n next d i s good g = record {
+        leaves = ap (λ x. leftOf rs x ms) e ∙ behind-new rs strict-m m (from .next) next n (r .behind) d p q s rest ∙ ap (λ t. t && leftOf rs rest (sqFrom strict-m m next)) (sym g);
+        reached = record { within = l; merged = i; behind = behind-next rs strict-m m (from .next) next n (r .behind) d };
+        well = λ h. h;
+        spent = λ h k. absurd (never (let z : true ≡ false = sym k ∙ h in cc));
+        onward = omega (arith, o);
+      }
+
+      module _ (apart : Apart rs) where
+        -- A has it, with the same length
+        pub passed-known : metIn q rs ≡ Same → Passed rs strict-b b strict-m m from (record { good = true; more = true; at = after; next = from .next })
+        passed-known h = let n = met-agrees q rs apart h in record {
+          leaves = ap (λ x. leftOf rs x ms) e ∙ left-known rs rest ms q (n .0) (n .1);
+          reached = record { within = l; merged = r .merged; behind = r .behind };
+          well = λ d. refl;
+          spent = λ d. absurd (never (let z : true ≡ false = d in cc));
+          onward = omega (arith, o);
+        }
+
+        refuted : leftOf rs (q ∷ rest) ms ≡ false → Passed rs strict-b b strict-m m from (record { good = false; more = false; at = after; next = from .next })
+        refuted h = record {
+          leaves = ap (λ x. leftOf rs x ms) e ∙ h;
+          reached = record { within = l; merged = r .merged; behind = r .behind };
+          well = λ d. d;
+          spent = λ d g. absurd (never (let z : true ≡ false = sym g in cc));
+          onward = omega (arith, o);
+        }
+
+        -- with another
+        pub passed-other : metIn q rs ≡ Other → Passed rs strict-b b strict-m m from (record { good = false; more = false; at = after; next = from .next })
+        passed-other h = refuted (left-other rs rest ms q (met-differs q rs apart h))
+
+        -- A has it not, and it is not the next of the merged list
+        pub passed-lost : ((k : List Reference) → sameReferences ms (q ∷ k) ≡ false) → metIn q rs ≡ Nothing → Passed rs strict-b b strict-m m from (record { good = false; more = false; at = after; next = from .next })
+        passed-lost g h = let n = met-nothing q rs apart h in refuted (left-new rs rest ms q (n .0) (n .1) false ms g)
+
+-- a turn that passes nothing is the last
+pub turn-less : (n : ℕ) (left x : Left) → left .more ≡ true → left .at ≤ x .at → (x .more ≡ true → left .at < x .at) → x .at ≤ n → cond (x .more) 1 0 + (n - x .at) < cond (left .more) 1 0 + (n - left .at)
+turn-less n left x h o a w =
+    subst (λ t. cond (x .more) 1 0 + (n - x .at) < cond t 1 0 + (n - left .at)) (sym h)
+    (split (x .more)
+    (λ e. subst (λ t. cond t 1 0 + (n - x .at) < 1 + (n - left .at)) (sym e) (omega (arith, a e, w)))
+    (λ e. subst (λ t. cond t 1 0 + (n - x .at) < 1 + (n - left .at)) (sym e) (omega (arith, o, w))))

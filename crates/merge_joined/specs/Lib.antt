@@ -1,3 +1,3 @@
--- How far the merged list is passed:
---   Behind   A's references are before
-pub mod Behind
+-- How far B and the merged list are passed:
+--   Passing   what a turn leaves
+pub mod Passing

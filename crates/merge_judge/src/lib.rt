@@ -2,6 +2,7 @@
 // ordinal in the merged header.
 use format::LineNo;
 use judging::Judged;
+use merge_joined::Rules;
 use merge_programs::Opened;
 ghost use mathlib.Core.Path.{_≡_};
 ghost use mathlib.Core.Bool.{true};
@@ -50,7 +51,12 @@ fn judge_untangled(
     let of_a = of.a;
     let of_b = of.b;
     let of_m = of.merged;
-    if !merge_joined::is_joined(a, of_a.strict, b, of_b.strict, m, of_m.strict) {
+    let rules = Rules {
+        a: of_a.strict,
+        b: of_b.strict,
+        merged: of_m.strict,
+    };
+    if !merge_joined::is_joined(a, b, m, rules) {
         return Verdict::Unmerged(30);
     }
     let programs_a = of_a.parents;

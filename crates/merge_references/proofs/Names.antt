@@ -1,8 +1,11 @@
 -- What a list has of a name, where no two have one: the first with that name tells all.
-use Prim.Native.Nat.{ℕ}
+use Prim.Native.Nat.{ℕ, _≤_}
 use mathlib.Core.Path.{_≡_, refl, sym, ap, ap₂, subst, _∙_}
 use mathlib.Core.Bool.{Bool, true, false, not, _&&_, _||_, cond}
-use mathlib.Core.List.{List, [], _∷_}
+use mathlib.Core.List.{List, [], _∷_, _++_}
+use native.Mathlib.Omega.{arith}
+use lib.ListN.{length}
+use lib.Seq.{append-snoc}
 use lib.Dec.{eqb}
 use borrow.Author.Tests.{eq-eqb, ne-eqb}
 use Rattle.format.specs.Bytes.{same, any}
@@ -12,10 +15,11 @@ use Rattle.format.specs.Records.{Record, header, reference, group, program, com
 use Rattle.format.specs.Reading.{clash, sameKeys}
 use Rattle.text.proofs.Equal.{same-equal}
 use Rattle.accepted.specs.Admits.{KeysDiffer}
-use Rattle.accepted.proofs.Bools.{never, split, or-left, or-right, or-false}
+use Rattle.accepted.proofs.Bools.{never, split, or-left, or-right, any-append}
 use Rattle.format.specs.References.{Reference, sqList}
 use Rattle.format.specs.Merge.{sameName, differ}
-use Rattle.merge_references.specs.Joining.{metIn, Apart}
+use Rattle.sq_list.specs.Next.{sqFrom}
+use Rattle.merge_references.specs.Joining.{metIn, Apart, From}
 use Rattle.merge_references.specs.declared.Met.{Met}
 use Rattle.merge_references.specs.declared.Met.the-variants.{Nothing, Same, Other}
 
@@ -96,6 +100,43 @@ module _ (q : Reference) (rs : List Reference) (h : Apart rs) where
   pub met-differs : metIn q rs ≡ Other → any (differ q) rs ≡ true
   unfolding isKnown isOther
   met-differs e = other-is q rs h ∙ ap isOther e
+
+-- ---- the last of them
+
+-- one that is behind has the name: none before has
+pub past-front : (q f : Reference) (front rest : List Reference) → any (sameName f) (front ++ rest) ≡ false → any (sameName q) rest ≡ true → sameName q f ≡ false
+past-front q f front rest h n =
+    split (sameName q f)
+    (λ e. absurd (never (let z : true ≡ false = sym n ∙ any-named q f rest e ∙ or-right (any (sameName f) front) (any (sameName f) rest) (sym (any-append (sameName f) front rest) ∙ h) in cc)))
+    (λ e. e)
+
+met-behind : (q : Reference) (front rest : List Reference) → Apart (front ++ rest) → any (sameName q) rest ≡ true → metIn q (front ++ rest) ≡ metIn q rest
+unfolding Apart
+met-behind q [] rest h n = refl
+met-behind q (f ∷ front) rest h n = met-past q (f ∷ (front ++ rest)) f (front ++ rest) refl (past-front q f front rest (h .0) n) ∙ met-behind q front rest (h .1) n
+
+-- what the last references of a text have of a name, all have
+pub met-from : (strict : Bool) (t : List ℕ) (at : ℕ) → From strict t at → Apart (sqFrom strict t 0) → (q : Reference) → any (sameName q) (sqFrom strict t at) ≡ true → metIn q (sqFrom strict t 0) ≡ metIn q (sqFrom strict t at)
+met-from strict t at f h q n = ap (metIn q) (f .joined) ∙ met-behind q (f .front) (sqFrom strict t at) (subst Apart (f .joined) h) n
+
+module _ (strict : Bool) (t : List ℕ) (at : ℕ) (f : From strict t at) (h : Apart (sqFrom strict t 0)) (q : Reference) where
+  pub same-from : metIn q (sqFrom strict t at) ≡ Same → metIn q (sqFrom strict t 0) ≡ Same
+  unfolding isKnown
+  same-from e = met-from strict t at f h q (known-is q (sqFrom strict t at) ∙ ap isKnown e) ∙ e
+
+  pub other-from : metIn q (sqFrom strict t at) ≡ Other → metIn q (sqFrom strict t 0) ≡ Other
+  unfolding isKnown
+  other-from e = met-from strict t at f h q (known-is q (sqFrom strict t at) ∙ ap isKnown e) ∙ e
+
+pub from-start : (strict : Bool) (t : List ℕ) → From strict t 0
+from-start strict t = record { within = omega arith; front = []; joined = refl }
+
+pub from-next : (strict : Bool) (t : List ℕ) (at next : ℕ) (r : Reference) → From strict t at → sqFrom strict t at ≡ r ∷ sqFrom strict t next → next ≤ length t → From strict t next
+from-next strict t at next r f e l = record {
+  within = l;
+  front = f .front ++ (r ∷ []);
+  joined = f .joined ∙ ap (λ l. f .front ++ l) e ∙ sym (append-snoc (f .front) r (sqFrom strict t next));
+}
 
 -- ---- in an accepted text no two have one name
 

@@ -46,10 +46,14 @@ assigned-all c = sym (assigns (c .before)) ∙ not-false (c .before .is-assigned
 is-joined-requires : tie.Need-is-joined-requires
 is-joined-requires c κs =
     let s = c .before .before .before .before .before .before .before .before in
-    let a = s .args in (
-      (small (a .a .now) (a .of .a) (s .pre .0), list-apart (a .a .now) (a .of .a) (s .pre .0)),
-      (small (a .b .now) (a .of .b) (s .pre .1 .0), (small (a .m .now) (a .of .merged) (s .pre .1 .1), list-apart (a .m .now) (a .of .merged) (s .pre .1 .1))),
-    )
+    let a = s .args in
+    record {
+      small-a = small (a .a .now) (a .of .a) (s .pre .0);
+      small-b = small (a .b .now) (a .of .b) (s .pre .1 .0);
+      small-m = small (a .m .now) (a .of .merged) (s .pre .1 .1);
+      apart-a = list-apart (a .a .now) (a .of .a) (s .pre .0);
+      apart-m = list-apart (a .m .now) (a .of .merged) (s .pre .1 .1);
+    }
 
 returns : tie.Need-returns
 unfolding verdictOf

@@ -7,13 +7,13 @@ use lib.ListN.{length}
 use borrow.Author.Tests.{not-true, not-false}
 use Rattle.sq_list.specs.Next.{sqFrom, toldReference}
 use Rattle.sq_list.proofs.Next.{told-one, told-none}
-use Rattle.merge_references.specs.Joining.{metIn}
-use Rattle.merge_references.proofs.Names.{met-none, met-same, met-other, met-past}
+use Rattle.merge_references.specs.Joining.{metIn, From}
+use Rattle.merge_references.proofs.Names.{met-none, met-same, met-other, met-past, from-next}
 use Rattle.merge_references.proofs.look_from.Statement.{statement}
 use Rattle.merge_references.proofs.look_from.Tie as tie
 
 abbrev Inv-loop : tie.InvT-loop
-Inv-loop a strict start b q at₀ at = (at ≤ length a) × (metIn (toldReference b q) (sqFrom strict a start) ≡ metIn (toldReference b q) (sqFrom strict a at))
+Inv-loop a strict start b q at₀ at = From strict a at × (metIn (toldReference b q) (sqFrom strict a start) ≡ metIn (toldReference b q) (sqFrom strict a at))
 
 abbrev μ-loop : tie.MeasureT-loop
 μ-loop a strict start b q at₀ at = length a - at
@@ -22,7 +22,7 @@ loop-holds : tie.Need-loop-holds Inv-loop μ-loop
 loop-holds c = (c .before .before .pre .1 .0, refl)
 
 next-reference-requires : tie.Need-next-reference-requires Inv-loop μ-loop
-next-reference-requires c κs = (c .before .before .before .pre .0, c .loop .inv .0)
+next-reference-requires c κs = (c .before .before .before .pre .0, c .loop .inv .0 .within)
 
 returns : tie.Need-returns Inv-loop μ-loop
 returns c =
@@ -30,7 +30,7 @@ returns c =
     let l = n .before in
     let a = l .before .before .before .args in
     let r = n .next-reference .result in
-    sym (l .loop .inv .1 ∙ met-none (toldReference (a .b .now) (a .q)) _ (n .next-reference .ensures .0 ∙ told-none (a .strict) (a .a .now) r (not-true (r .found) (c .if1 .taken))))
+    (sym (l .loop .inv .1 ∙ met-none (toldReference (a .b .now) (a .q)) _ (n .next-reference .ensures .0 ∙ told-none (a .strict) (a .a .now) r (not-true (r .found) (c .if1 .taken)))), l .before .before .before .pre .1 .0)
 
 same-name-requires : tie.Need-same-name-requires Inv-loop μ-loop
 same-name-requires c κs = let n = c .before .before in (n .before .before .before .before .pre .1 .1, n .next-reference .ensures .1 .name)
@@ -47,13 +47,21 @@ first c =
     let r = n .next-reference .result in
     n .next-reference .ensures .0 ∙ told-one (a .strict) (a .a .now) r (not-false (r .found) (e .if1 .left))
 
+-- and those behind it are the last of the text
+behind : (c : tie.After-same-name Inv-loop μ-loop) → (let n = c .before .before .before in let l = n .before in let a = l .before .before .before .args in From (a .strict) (a .a .now) (n .next-reference .result .next))
+behind c =
+    let n = c .before .before .before in
+    let l = n .before in
+    let a = l .before .before .before .args in
+    from-next (a .strict) (a .a .now) (l .loop .at) (n .next-reference .result .next) _ (l .loop .inv .0) (first c) (n .next-reference .ensures .1 .within)
+
 returns-2 : tie.Need-returns-2 Inv-loop μ-loop
 unfolding toldReference
 returns-2 c =
     let t = c .before .before .before in
     let l = t .before .before .before .before .before in
     let s = l .before .before .before in
-    sym (l .loop .inv .1 ∙ met-same (toldReference (s .args .b .now) (s .args .q)) _ _ _ (first (t .before)) (sym (t .before .same-name .ensures) ∙ t .if2 .taken) (c .if3 .taken))
+    (sym (l .loop .inv .1 ∙ met-same (toldReference (s .args .b .now) (s .args .q)) _ _ _ (first (t .before)) (sym (t .before .same-name .ensures) ∙ t .if2 .taken) (c .if3 .taken)), behind (t .before))
 
 returns-3 : tie.Need-returns-3 Inv-loop μ-loop
 unfolding toldReference
@@ -61,7 +69,7 @@ returns-3 c =
     let t = c .before .before .before in
     let l = t .before .before .before .before .before in
     let s = l .before .before .before in
-    sym (l .loop .inv .1 ∙ met-other (toldReference (s .args .b .now) (s .args .q)) _ _ _ (first (t .before)) (sym (t .before .same-name .ensures) ∙ t .if2 .taken) (c .if3 .left))
+    (sym (l .loop .inv .1 ∙ met-other (toldReference (s .args .b .now) (s .args .q)) _ _ _ (first (t .before)) (sym (t .before .same-name .ensures) ∙ t .if2 .taken) (c .if3 .left)), behind (t .before))
 
 loop-less : tie.Need-loop-less Inv-loop μ-loop
 loop-less c =
@@ -74,7 +82,7 @@ loop-again c =
     let n = c .before .before .before .before in
     let l = n .before in
     let s = l .before .before .before in
-    (n .next-reference .ensures .1 .within, l .loop .inv .1 ∙ met-past (toldReference (s .args .b .now) (s .args .q)) _ _ _ (first (c .before)) (sym (c .before .same-name .ensures) ∙ c .if2 .left))
+    (behind (c .before), l .loop .inv .1 ∙ met-past (toldReference (s .args .b .now) (s .args .q)) _ _ _ (first (c .before)) (sym (c .before .same-name .ensures) ∙ c .if2 .left))
 
 pub look-from-spec : {M : Type 1} → statement M
 look-from-spec =
