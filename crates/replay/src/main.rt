@@ -34,7 +34,10 @@
 // digits for each number, the catalogue, which the check must then take, and refuse when its last byte is another, the binary header, and the
 // tidy text of a binary header. A line of the oracle has its text first; each such text is read, tidied, and asked for its roots and leaves. Of an
 // output that is lent every element is looked at: what is not the answer must be as it was. Where the field call's answer stands no program
-// can see: its contract says it.
+// can see: its contract says it. Over three texts and two lists:
+//     judge_merge A B MERGED LIST_A LIST_B ok
+// or `refused NUMBER LINE ABOUT` in place of `ok`: ABOUT is `A`, `B` or `M` for the text that it is about, or `-`; each number of a list has eight
+// hex digits.
 //
 // A line that starts with `!` holds a wrong answer, and the program must find it wrong: so it is seen that each comparison can fail. One that
 // starts with `#` is a note.
@@ -52,6 +55,7 @@ use replay_asked::LEAVES;
 use replay_asked::LENGTH;
 use replay_asked::LINE;
 use replay_asked::MARKED;
+use replay_asked::MERGED;
 use replay_asked::NAMES;
 use replay_asked::PROGRAM;
 use replay_asked::READ;
@@ -133,6 +137,9 @@ fn is_sample(line: &[u8], asked: usize, text: &[u8]) -> bool {
 
 // Whether the library's answer is the one that stands in the line.
 fn is_right(line: &[u8], asked: usize) -> bool {
+    if asked == MERGED {
+        return replay_merged::is_merged(line);
+    }
     let mut text = io::large_buffer();
     if asked < PROGRAM {
         let n = stored_cases::decode(stored_cases::word(line, 1), &mut text);
@@ -247,7 +254,7 @@ fn replay(place: usize) {
         os::fail(&name[..n]);
         return;
     }
-    let mut tally: [u32; 22] = [0; 22];
+    let mut tally: [u32; 25] = [0; 25];
     all_blocks(fd, &mut tally);
     libc::close(fd);
     io::write_all(STDOUT_FILENO, &name[..n]);

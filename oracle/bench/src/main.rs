@@ -5,6 +5,7 @@
 //! bench worst [WORD]                   the second table (`worst.rs`), or its rows that have this word in their names
 //! bench names [--rounds N] [FOLDER]    the third table (`names.rs`), where the archive has the call
 //! bench carry_on [--rounds N]          the fourth table (`carried.rs`), where the archive has the call
+//! bench judge_merge [--rounds N]       the fifth table (`merged.rs`), where the archive has the call
 //!
 //! FOLDER has real headers, `*.sam` (default ../shared/headers beside the repository).
 //!
@@ -33,6 +34,8 @@
 mod calls;
 #[cfg(feature = "carry_on")]
 mod carried;
+#[cfg(feature = "judge_merge")]
+mod merged;
 #[cfg(feature = "names")]
 mod names;
 mod texts;
@@ -156,11 +159,14 @@ fn main() -> ExitCode {
     let args: Vec<String> = std::env::args().skip(1).collect();
     let args: Vec<&str> = args.iter().map(String::as_str).collect();
     let (call, args) = match args[..] {
-        [call @ ("names" | "carry_on"), ref rest @ ..] => (call, rest),
+        [call @ ("names" | "carry_on" | "judge_merge"), ref rest @ ..] => (call, rest),
         _ => ("", &args[..]),
     };
     let (rounds, folder) = match *args {
-        _ if call == "names" && !cfg!(feature = "names") || call == "carry_on" && !cfg!(feature = "carry_on") => {
+        _ if call == "names" && !cfg!(feature = "names")
+            || call == "carry_on" && !cfg!(feature = "carry_on")
+            || call == "judge_merge" && !cfg!(feature = "judge_merge") =>
+        {
             eprintln!("the archive has no sam_header_{call}");
             return ExitCode::from(2);
         }
@@ -187,6 +193,11 @@ fn main() -> ExitCode {
     #[cfg(feature = "carry_on")]
     if call == "carry_on" {
         carried::table(rounds);
+        return ExitCode::SUCCESS;
+    }
+    #[cfg(feature = "judge_merge")]
+    if call == "judge_merge" {
+        merged::table(rounds);
         return ExitCode::SUCCESS;
     }
     print!("{:<27}{:>10}", "library/crate", "bytes");

@@ -11,6 +11,8 @@
 mod carried;
 mod check;
 mod known;
+#[cfg(feature = "judge_merge")]
+mod merged;
 mod reduce;
 mod tally;
 
@@ -20,8 +22,9 @@ use check::{Case, Checker, Difference};
 use known::Kind;
 use oracle::inputs::{self, Rng, in_domain};
 
-const PHASES: [&str; 12] =
-    ["corners", "tokens", "fields", "bytes", "graphs", "random", "damaged", "programs", "boundaries", "keys", "names", "skipped"];
+const PHASES: [&str; 13] = [
+    "corners", "tokens", "fields", "bytes", "graphs", "random", "damaged", "programs", "boundaries", "keys", "names", "skipped", "merged",
+];
 
 /// Unlisted differences that are printed; the run ends at the last of them.
 const MOST: usize = 8;
@@ -34,6 +37,8 @@ struct Run {
     known: BTreeMap<Kind, (u64, Case)>,
     unlisted: Vec<(Case, Difference)>,
     unlisted_count: u64,
+    #[cfg(feature = "judge_merge")]
+    merges: merged::Tally,
     trace: bool,
 }
 
@@ -147,6 +152,17 @@ impl Run {
         self.unlisted.push((small, e));
     }
 
+    #[cfg(feature = "judge_merge")]
+    fn merge(&mut self, merge: &merged::Merge) {
+        self.texts += 3;
+        if let Some(what) = self.merges.compare(merge) {
+            self.unlisted_count += 1;
+            if self.unlisted_count <= MOST as u64 {
+                println!("UNLISTED judge_merge: {}", clipped(&what));
+            }
+        }
+    }
+
     fn phase(&mut self, phase: &str, rng: &mut Rng, scale: usize) {
         match phase {
             "corners" => {
@@ -258,6 +274,13 @@ impl Run {
                 }
             }
             "skipped" => {}
+            #[cfg(feature = "judge_merge")]
+            "merged" => {
+                for _ in 0..200_000 * scale {
+                    self.merge(&merged::by_chance(rng));
+                }
+            }
+            "merged" => {}
             _ => unreachable!(),
         }
     }
@@ -311,6 +334,7 @@ fn main() -> ExitCode {
         ("names", cfg!(feature = "names")),
         ("carry_on", cfg!(feature = "carry_on")),
         ("binary", cfg!(feature = "binary")),
+        ("judge_merge", cfg!(feature = "judge_merge")),
     ]
     .iter()
     .filter_map(|&(name, there)| there.then_some(name))
@@ -328,6 +352,8 @@ fn main() -> ExitCode {
         known: BTreeMap::new(),
         unlisted: Vec::new(),
         unlisted_count: 0,
+        #[cfg(feature = "judge_merge")]
+        merges: merged::Tally::default(),
         trace,
     };
     let began = Instant::now();
@@ -342,6 +368,8 @@ fn main() -> ExitCode {
     println!("\n{} texts, {} of them in the domain, {:.0} s.", run.texts, run.inside, began.elapsed().as_secs_f64());
     println!("{} more in the domain but for a tag repeated without a version.", run.repeating);
     print!("{}", run.checker.tally);
+    #[cfg(feature = "judge_merge")]
+    print!("{}", run.merges);
     println!("\nKnown kinds of difference, with the smallest input:");
     for (kind, meaning) in known::ALL {
         if let Some((n, smallest)) = run.known.get(&kind).cloned() {
