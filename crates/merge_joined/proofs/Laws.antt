@@ -13,14 +13,15 @@ use Rattle.text.proofs.Equal.{same-equal, same-self}
 use Rattle.accepted.proofs.Apart.{same-sym}
 use Rattle.accepted.proofs.Bools.{never, split, and-left, and-right}
 use Rattle.format.specs.References.{Reference, sameReference, sameReferences}
-use Rattle.sq_list.specs.Next.{sqFrom}
+use Rattle.sq_list.specs.Next.{sqFrom, toldList}
+use Rattle.sq_list.specs.declared.NextReference.{NextReference}
 use Rattle.format.specs.Merge.{sameName, differ}
 use Rattle.merge_references.specs.Joining.{Apart, metIn, leftOf}
 use Rattle.merge_references.proofs.Names.{none-differs, past-front, met-nothing, met-agrees, met-differs}
 use Rattle.merge_references.proofs.Lists.{left-new, left-known, left-other, one-turn, one-short}
 use Rattle.merge_references.specs.declared.Met.the-variants.{Nothing, Same, Other}
 use Rattle.merge_joined.specs.declared.Left.{Left}
-use Rattle.merge_joined.specs.Passing.{Behind, Reached, Passed}
+use Rattle.merge_joined.specs.Passing.{Ahead, Behind, Reached, Passed}
 
 -- ---- equal lists
 
@@ -46,41 +47,42 @@ same-list (r ∷ rs) (q ∷ qs) h = ap₂ (λ x xs. x ∷ xs) (same-one r q (and
 -- ---- how far the merged list is passed
 
 -- A's own references
-pub behind-front : (a : List Reference) (strict : Bool) (t : List ℕ) (next : ℕ) (good : Bool) → ((l : List Reference) → sameReferences (sqFrom strict t 0) (a ++ l) ≡ good && sameReferences (sqFrom strict t next) l) → good ≡ true → Behind a strict t next
-behind-front a strict t next good h g = record {
+pub behind-front : (rs : List Reference) (strict : Bool) (t : List ℕ) (next : ℕ) (n : NextReference) → sqFrom strict t next ≡ toldList strict t n → (good : Bool)
+    → ((l : List Reference) → sameReferences (sqFrom strict t 0) (rs ++ l) ≡ good && sameReferences (sqFrom strict t next) l) → good ≡ true → Behind rs strict t n
+behind-front rs strict t next n e good h g = record {
   more = [];
-  joined = same-list (sqFrom strict t 0) (a ++ sqFrom strict t next) (h (sqFrom strict t next) ∙ ap₂ _&&_ g (same-all (sqFrom strict t next)));
+  joined = same-list (sqFrom strict t 0) (rs ++ sqFrom strict t next) (h (sqFrom strict t next) ∙ ap₂ _&&_ g (same-all (sqFrom strict t next))) ∙ ap (λ l. rs ++ l) e;
 }
 
-module _ (a : List Reference) (strict : Bool) (t : List ℕ) (next after : ℕ) (n : Reference) (h : Behind a strict t next) (e : sqFrom strict t next ≡ n ∷ sqFrom strict t after) where
+module _ (rs : List Reference) (strict : Bool) (t : List ℕ) (n y : NextReference) (h : Behind rs strict t n) (r : Reference) (e : toldList strict t n ≡ r ∷ toldList strict t y) where
   -- one more
-  pub behind-next : Behind a strict t after
+  pub behind-next : Behind rs strict t y
   behind-next = record {
-    more = h .more ++ (n ∷ []);
-    joined = h .joined ∙ ap (λ l. a ++ (h .more ++ l)) e ∙ ap (λ l. a ++ l) (sym (append-snoc (h .more) n (sqFrom strict t after)));
+    more = h .more ++ (r ∷ []);
+    joined = h .joined ∙ ap (λ l. rs ++ (h .more ++ l)) e ∙ ap (λ l. rs ++ l) (sym (append-snoc (h .more) r (toldList strict t y)));
   }
 
-  whole : sqFrom strict t 0 ≡ a ++ (h .more ++ n ∷ sqFrom strict t after)
-  whole = h .joined ∙ ap (λ l. a ++ (h .more ++ l)) e
+  whole : sqFrom strict t 0 ≡ rs ++ (h .more ++ r ∷ toldList strict t y)
+  whole = h .joined ∙ ap (λ l. rs ++ (h .more ++ l)) e
 
-  before : (q : Reference) (xs : List Reference) → Apart (xs ++ (h .more ++ n ∷ sqFrom strict t after)) → sameName q n ≡ true → any (sameName q) xs ≡ false
+  before : (q : Reference) (xs : List Reference) → Apart (xs ++ (h .more ++ r ∷ toldList strict t y)) → sameName q r ≡ true → any (sameName q) xs ≡ false
   unfolding any Apart
   before q [] p s = refl
   before q (f ∷ xs) p s =
       ap₂ (λ t u. t || u)
-      (past-front q f (xs ++ h .more) (n ∷ sqFrom strict t after) (ap (any (sameName f)) (append-assoc xs (h .more) (n ∷ sqFrom strict t after)) ∙ p .0) (ap (λ u. u || any (sameName q) (sqFrom strict t after)) s))
+      (past-front q f (xs ++ h .more) (r ∷ toldList strict t y) (ap (any (sameName f)) (append-assoc xs (h .more) (r ∷ toldList strict t y)) ∙ p .0) (ap (λ u. u || any (sameName q) (toldList strict t y)) s))
       (before q xs (p .1) s)
 
   -- its name is none of A's
-  pub behind-new : Apart (sqFrom strict t 0) → (q : Reference) → sameName q n ≡ true → (l : List Reference) → leftOf a (q ∷ l) (sqFrom strict t next) ≡ eqb (n .size) (q .size) && leftOf a l (sqFrom strict t after)
+  pub behind-new : Apart (sqFrom strict t 0) → (q : Reference) → sameName q r ≡ true → (l : List Reference) → leftOf rs (q ∷ l) (toldList strict t n) ≡ eqb (r .size) (q .size) && leftOf rs l (toldList strict t y)
   unfolding sameReference sameName
   behind-new p q s l =
-      let x = before q a (subst Apart whole p) s in
-      left-new a l (sqFrom strict t next) q x (none-differs q a x) (eqb (n .size) (q .size)) (sqFrom strict t after)
-      (λ k. one-turn (sqFrom strict t next) k q n (sqFrom strict t after) e ∙ ap (λ u. u && eqb (n .size) (q .size) && sameReferences (sqFrom strict t after) k) (named s))
+      let x = before q rs (subst Apart whole p) s in
+      left-new rs l (toldList strict t n) q x (none-differs q rs x) (eqb (r .size) (q .size)) (toldList strict t y)
+      (λ k. one-turn (toldList strict t n) k q r (toldList strict t y) e ∙ ap (λ u. u && eqb (r .size) (q .size) && sameReferences (toldList strict t y) k) (named s))
     where
-      named : same (q .name) (n .name) ≡ true → same (n .name) (q .name) ≡ true
-      named s = ap (λ x. same (n .name) x) (same-equal (q .name) (n .name) s) ∙ same-self (n .name)
+      named : same (q .name) (r .name) ≡ true → same (r .name) (q .name) ≡ true
+      named s = ap (λ x. same (r .name) x) (same-equal (q .name) (r .name) s) ∙ same-self (r .name)
 
 -- ---- the next of the merged list has another name, or there is none
 
@@ -97,7 +99,7 @@ module _ (rs : List Reference) (strict-b : Bool) (b : List ℕ) (strict-m : Bool
   -- nothing is passed yet
   pub passed-none : (from : Left) → from .good ≡ true → from .more ≡ true → Reached rs b strict-m m from → Passed rs strict-b b strict-m m from from
   passed-none from g h r = record {
-    leaves = sym (ap (λ t. t && leftOf rs (sqFrom strict-b b (from .at)) (sqFrom strict-m m (from .next))) g);
+    leaves = sym (ap (λ t. t && leftOf rs (sqFrom strict-b b (from .at)) (toldList strict-m m (from .ahead))) g);
     reached = r;
     well = λ e. g;
     spent = λ e. absurd (never (let z : true ≡ false = sym h ∙ e in cc));
@@ -107,7 +109,7 @@ module _ (rs : List Reference) (strict-b : Bool) (b : List ℕ) (strict-m : Bool
   -- one turn after another
   pub passed-then : (from y x : Left) → Passed rs strict-b b strict-m m from y → y .more ≡ true → Passed rs strict-b b strict-m m y x → Passed rs strict-b b strict-m m from x
   passed-then from y x p h q = record {
-    leaves = p .leaves ∙ ap (λ t. t && leftOf rs (sqFrom strict-b b (y .at)) (sqFrom strict-m m (y .next))) (p .well h) ∙ q .leaves;
+    leaves = p .leaves ∙ ap (λ t. t && leftOf rs (sqFrom strict-b b (y .at)) (toldList strict-m m (y .ahead))) (p .well h) ∙ q .leaves;
     reached = q .reached;
     well = q .well;
     spent = q .spent;
@@ -116,7 +118,7 @@ module _ (rs : List Reference) (strict-b : Bool) (b : List ℕ) (strict-m : Bool
 
   module _ (from : Left) (r : Reached rs b strict-m m from) where
     -- B has no more
-    pub passed-spent : sqFrom strict-b b (from .at) ≡ [] → Passed rs strict-b b strict-m m from (record { good = true; more = false; at = from .at; next = from .next })
+    pub passed-spent : sqFrom strict-b b (from .at) ≡ [] → Passed rs strict-b b strict-m m from (record { good = true; more = false; at = from .at; ahead = from .ahead })
     passed-spent e = record {
       leaves = refl;
       reached = record { within = r .within; merged = r .merged; behind = r .behind };
@@ -127,17 +129,17 @@ module _ (rs : List Reference) (strict-b : Bool) (b : List ℕ) (strict-m : Bool
 
     module _ (q : Reference) (after : ℕ) (e : sqFrom strict-b b (from .at) ≡ q ∷ sqFrom strict-b b after) (l : after ≤ length b) (o : from .at < after) where
       abbrev ms : List Reference
-      ms = sqFrom strict-m m (from .next)
+      ms = toldList strict-m m (from .ahead)
 
       abbrev rest : List Reference
       rest = sqFrom strict-b b after
 
       -- it is the next of the merged list
-      pub passed-new : Apart (sqFrom strict-m m 0) → (n : Reference) (next : ℕ) → ms ≡ n ∷ sqFrom strict-m m next → next ≤ length m → sameName q n ≡ true → (good : Bool) → good ≡ eqb (n .size) (q .size)
-          → Passed rs strict-b b strict-m m from (record { good = good; more = good; at = after; next = next })
-      passed-new p n next d i s good g = record {
-        leaves = ap (λ x. leftOf rs x ms) e ∙ behind-new rs strict-m m (from .next) next n (r .behind) d p q s rest ∙ ap (λ t. t && leftOf rs rest (sqFrom strict-m m next)) (sym g);
-        reached = record { within = l; merged = i; behind = behind-next rs strict-m m (from .next) next n (r .behind) d };
+      pub passed-new : Apart (sqFrom strict-m m 0) → (n : Reference) (y : NextReference) → ms ≡ n ∷ toldList strict-m m y → Ahead m y → sameName q n ≡ true → (good : Bool) → good ≡ eqb (n .size) (q .size)
+          → Passed rs strict-b b strict-m m from (record { good = good; more = good; at = after; ahead = y })
+      passed-new p n y d i s good g = record {
+        leaves = ap (λ x. leftOf rs x ms) e ∙ behind-new rs strict-m m (from .ahead) y (r .behind) n d p q s rest ∙ ap (λ t. t && leftOf rs rest (toldList strict-m m y)) (sym g);
+        reached = record { within = l; merged = i; behind = behind-next rs strict-m m (from .ahead) y (r .behind) n d };
         well = λ h. h;
         spent = λ h k. absurd (never (let z : true ≡ false = sym k ∙ h in cc));
         onward = omega (arith, o);
@@ -145,7 +147,7 @@ module _ (rs : List Reference) (strict-b : Bool) (b : List ℕ) (strict-m : Bool
 
       module _ (apart : Apart rs) where
         -- A has it, with the same length
-        pub passed-known : metIn q rs ≡ Same → Passed rs strict-b b strict-m m from (record { good = true; more = true; at = after; next = from .next })
+        pub passed-known : metIn q rs ≡ Same → Passed rs strict-b b strict-m m from (record { good = true; more = true; at = after; ahead = from .ahead })
         passed-known h = let n = met-agrees q rs apart h in record {
           leaves = ap (λ x. leftOf rs x ms) e ∙ left-known rs rest ms q (n .0) (n .1);
           reached = record { within = l; merged = r .merged; behind = r .behind };
@@ -154,7 +156,7 @@ module _ (rs : List Reference) (strict-b : Bool) (b : List ℕ) (strict-m : Bool
           onward = omega (arith, o);
         }
 
-        refuted : leftOf rs (q ∷ rest) ms ≡ false → Passed rs strict-b b strict-m m from (record { good = false; more = false; at = after; next = from .next })
+        refuted : leftOf rs (q ∷ rest) ms ≡ false → Passed rs strict-b b strict-m m from (record { good = false; more = false; at = after; ahead = from .ahead })
         refuted h = record {
           leaves = ap (λ x. leftOf rs x ms) e ∙ h;
           reached = record { within = l; merged = r .merged; behind = r .behind };
@@ -164,11 +166,11 @@ module _ (rs : List Reference) (strict-b : Bool) (b : List ℕ) (strict-m : Bool
         }
 
         -- with another
-        pub passed-other : metIn q rs ≡ Other → Passed rs strict-b b strict-m m from (record { good = false; more = false; at = after; next = from .next })
+        pub passed-other : metIn q rs ≡ Other → Passed rs strict-b b strict-m m from (record { good = false; more = false; at = after; ahead = from .ahead })
         passed-other h = refuted (left-other rs rest ms q (met-differs q rs apart h))
 
         -- A has it not, and it is not the next of the merged list
-        pub passed-lost : ((k : List Reference) → sameReferences ms (q ∷ k) ≡ false) → metIn q rs ≡ Nothing → Passed rs strict-b b strict-m m from (record { good = false; more = false; at = after; next = from .next })
+        pub passed-lost : ((k : List Reference) → sameReferences ms (q ∷ k) ≡ false) → metIn q rs ≡ Nothing → Passed rs strict-b b strict-m m from (record { good = false; more = false; at = after; ahead = from .ahead })
         passed-lost g h = let n = met-nothing q rs apart h in refuted (left-new rs rest ms q (n .0) (n .1) false ms g)
 
 -- a turn that passes nothing is the last

@@ -11,7 +11,7 @@ ghost use Rattle.format.specs.Merge.{isJoined};
 ghost use Rattle.sq_list.specs.Next.{sqFrom};
 ghost use Rattle.merge_references.specs.Joining.{Apart, From};
 ghost use Rattle.merge_hints.specs.Hints.{Marked};
-ghost use Rattle.merge_joined.specs.Passing.{Readable, Reached, Passed, IsNext};
+ghost use Rattle.merge_joined.specs.Passing.{Readable, Ahead, Reached, Passed, IsNext};
 
 // What each of the three texts says of repeated tags.
 pub struct Rules {
@@ -20,12 +20,12 @@ pub struct Rules {
     pub merged: bool,
 }
 
-// Where B and the merged list go on, whether all is well so far, and whether B has more.
+// Where B goes on and what the merged list has next, whether all is well so far, and whether B has more.
 struct Left {
     good: bool,
     more: bool,
     at: usize,
-    next: usize,
+    ahead: NextReference,
 }
 
 // What is left after the next reference of B, where that is settled: B has none, or it is the next of the merged list too. Else the reference.
@@ -38,17 +38,18 @@ struct Turn {
 // Passes the next reference of B if it is the next of the merged list.
 fn pass_new(b: &[u8], m: &[u8], of: Rules, left: Left) -> Turn
     requires { ⌜ (length (now b) ≤ 16777216) × (left .at ≤ length (now b)) ⌝ }
-    requires { ⌜ (length (now m) ≤ 16777216) × (left .next ≤ length (now m)) ⌝ }
+    requires { ⌜ (length (now m) ≤ 16777216) × Ahead (now m) (left .ahead) ⌝ }
     requires { ⌜ Apart (sqFrom (of .merged) (now m) 0) ⌝ }
     ensures { λ x. ⌜ IsNext (of .b) (now (b .entry)) (of .merged) (now (m .entry)) left x ⌝ }
 {
     let q = sq_list::next_reference(b, of.b, left.at);
+    let n = left.ahead;
     if !q.found {
         let spent = Left {
             good: true,
             more: false,
             at: left.at,
-            next: left.next,
+            ahead: n,
         };
         return Turn {
             settled: true,
@@ -56,15 +57,15 @@ fn pass_new(b: &[u8], m: &[u8], of: Rules, left: Left) -> Turn
             q,
         };
     }
-    let n = sq_list::next_reference(m, of.merged, left.next);
     if n.found {
         if merge_references::same_name(b, q, m, n) {
+            let ahead = sq_list::next_reference(m, of.merged, n.next);
             let good = n.length == q.length;
             let passed = Left {
                 good,
                 more: good,
                 at: q.next,
-                next: n.next,
+                ahead,
             };
             return Turn {
                 settled: true,
@@ -82,25 +83,27 @@ fn pass_new(b: &[u8], m: &[u8], of: Rules, left: Left) -> Turn
 
 // What is left after a reference of B that A has with the same length.
 fn pass_known(left: Left, q: NextReference) -> Left
-    ensures { λ x. ⌜ x ≡ record { good = true; more = true; at = q .next; next = left .next } ⌝ }
+    ensures { λ x. ⌜ x ≡ record { good = true; more = true; at = q .next; ahead = left .ahead } ⌝ }
 {
+    let ahead = left.ahead;
     Left {
         good: true,
         more: true,
         at: q.next,
-        next: left.next,
+        ahead,
     }
 }
 
 // What is left after one that is neither in the merged list, where it belongs, nor among A's with that length.
 fn pass_bad(left: Left, q: NextReference) -> Left
-    ensures { λ x. ⌜ x ≡ record { good = false; more = false; at = q .next; next = left .next } ⌝ }
+    ensures { λ x. ⌜ x ≡ record { good = false; more = false; at = q .next; ahead = left .ahead } ⌝ }
 {
+    let ahead = left.ahead;
     Left {
         good: false,
         more: false,
         at: q.next,
-        next: left.next,
+        ahead,
     }
 }
 
@@ -245,11 +248,12 @@ pub fn is_joined(a: &[u8], b: &[u8], m: &[u8], of: Rules) -> bool
     if !front.good {
         return false;
     }
+    let ahead = sq_list::next_reference(m, of.merged, front.next);
     let start = Left {
         good: true,
         more: true,
         at: 0,
-        next: front.next,
+        ahead,
     };
     let mut left = pass_ordered(a, b, m, of, start);
     while left.more {
@@ -258,6 +262,6 @@ pub fn is_joined(a: &[u8], b: &[u8], m: &[u8], of: Rules) -> bool
     if !left.good {
         return false;
     }
-    let n = sq_list::next_reference(m, of.merged, left.next);
-    !n.found
+    let end = left.ahead;
+    !end.found
 }

@@ -280,6 +280,7 @@ impl Run {
                     self.merge(&merged::by_chance(rng));
                 }
             }
+            #[cfg(not(feature = "judge_merge"))]
             "merged" => {}
             _ => unreachable!(),
         }
