@@ -10,6 +10,7 @@
 // and one more; their answers were written by hand from these documents. 188 are longer, and answered by a model written from these alone.
 // `names.txt`: questions to `names`, answered by a model written from document 02 alone.
 // `requests.txt`: questions to every call, answered by that model, request by request.
+// `merges.txt`: merges that samtools, picard and sambamba made of small headers, judged by a model written from document 02 alone (`oracle/merges`).
 //
 // Words are parted by one space; byte strings are in hex, `-` for none. A line is a call, its text, its catalogue (`=` for the one that
 // `parser::read` gives), its other arguments, and the answer:

@@ -15,6 +15,7 @@ unsafe extern "C" {
     fn sam_header_length(text: *const u8, text_len: usize, catalogue: *const u8, catalogue_len: usize, ordinal: u32, length: *mut u64) -> u64;
     fn sam_header_field(text: *const u8, text_len: usize, catalogue: *const u8, catalogue_len: usize, kind: u8, ordinal: u32, tag_0: u8, tag_1: u8) -> u64;
     fn sam_header_leaves(text: *const u8, text_len: usize, catalogue: *const u8, catalogue_len: usize, out: *mut u32, out_len: usize) -> u64;
+    fn sam_header_judge_merge(a: *const u8, a_len: usize, b: *const u8, b_len: usize, merged: *const u8, merged_len: usize, list_a: *const u32, list_a_len: usize, list_b: *const u32, list_b_len: usize) -> u64;
 }
 
 /// A refusal: its number (docs/REFUSALS.md) and its line.
@@ -83,6 +84,49 @@ pub fn binary_in(bytes: &[u8]) -> Result<Vec<u8>, Refusal> {
     let n = answer(unsafe { sam_header_binary_in(bytes.as_ptr(), bytes.len(), out.as_mut_ptr(), out.len()) })?;
     out.truncate(n as usize);
     Ok(out)
+}
+
+/// The texts of a merge.
+#[derive(Clone, Copy, Debug, Eq, PartialEq)]
+pub enum Which {
+    A,
+    B,
+    Merged,
+}
+
+/// Why a merge is refused: one of its texts is, or they do not go together (30, 31 or 32).
+#[derive(Clone, Copy, Debug, Eq, PartialEq)]
+pub enum Unmerged {
+    Text(Which, Refusal),
+    Together(u8),
+}
+
+/// Whether another tool's merge of the headers A and B is a good one. The lists have for each program of A and for each of B its ordinal in
+/// the merged header.
+pub fn judge_merge(a: &[u8], b: &[u8], merged: &[u8], list_a: &[u32], list_b: &[u32]) -> Result<(), Unmerged> {
+    let (m, k, n) = (merged, list_a, list_b);
+    let word = unsafe {
+        sam_header_judge_merge(
+            a.as_ptr(),
+            a.len(),
+            b.as_ptr(),
+            b.len(),
+            m.as_ptr(),
+            m.len(),
+            k.as_ptr(),
+            k.len(),
+            n.as_ptr(),
+            n.len(),
+        )
+    };
+    let Err(refusal) = answer(word) else { return Ok(()) };
+    let which = match (word >> 48) as u8 {
+        1 => Which::A,
+        2 => Which::B,
+        3 => Which::Merged,
+        _ => return Err(Unmerged::Together(refusal.number)),
+    };
+    Err(Unmerged::Text(which, refusal))
 }
 
 /// A text that reading accepts, and its catalogue.
@@ -210,6 +254,25 @@ mod tests {
         let other = bytes.iter().map(|&b| if b == b'a' { b'b' } else { b }).collect::<Vec<u8>>();
         assert_eq!(binary_in(&other), Ok(b"@SQ\tSN:b\tLN:8\n".to_vec()));
         assert_eq!(binary_in(&[&bytes[..22], &b"\0\0\0\0"[..]].concat()), Err(Refusal { number: 29, line: 0 }));
+    }
+
+    #[test]
+    fn a_merge_made_elsewhere() {
+        let a = b"@SQ\tSN:chr1\tLN:8\n@PG\tID:bwa\n@PG\tID:sort\tPP:bwa\n";
+        let b = b"@SQ\tSN:chr2\tLN:9\n@PG\tID:bwa\tVN:2\n";
+        let merged = b"@SQ\tSN:chr1\tLN:8\n@SQ\tSN:chr2\tLN:9\n@PG\tID:bwa\n@PG\tID:bwa-2\tVN:2\n@PG\tID:sort\tPP:bwa\n";
+        assert_eq!(judge_merge(a, b, merged, &[0, 2], &[1]), Ok(()));
+        assert_eq!(judge_merge(a, b, merged, &[0, 2], &[0]), Err(Unmerged::Together(31)));
+        assert_eq!(judge_merge(a, b, merged, &[1, 2], &[0]), Err(Unmerged::Together(32)));
+        assert_eq!(judge_merge(b, a, merged, &[1], &[0, 2]), Err(Unmerged::Together(30)));
+        assert_eq!(
+            judge_merge(a, b"@SQ\tSN:chr2\tLN:0\n", merged, &[0, 2], &[1]),
+            Err(Unmerged::Text(Which::B, Refusal { number: 13, line: 0 }))
+        );
+        assert_eq!(
+            judge_merge(a, b, b"@PG\tID:a\tPP:b\n", &[0, 2], &[1]),
+            Err(Unmerged::Text(Which::Merged, Refusal { number: 22, line: 0 }))
+        );
     }
 
     #[test]
