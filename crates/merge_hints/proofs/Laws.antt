@@ -1,5 +1,5 @@
 -- The laws of slots: an offset enters, and a slot is marked.
-use Prim.Native.Nat.{ℕ, _+_, _-_, _%_, _≤_, _<_}
+use Prim.Native.Nat.{ℕ, _+_, _-_, _*_, _%_, _≤_, _<_}
 use mathlib.Core.Path.{_≡_, refl, sym, ap, ap₂, subst, _∙_}
 use mathlib.Core.Bool.{Bool, true, false}
 use mathlib.Core.List.{List, [], _∷_}
@@ -47,33 +47,33 @@ marked-none strict t rs n = record { known = λ p h. absurd (let z = zero-at n p
 
 -- ---- an offset enters
 
-module _ (t slots : List ℕ) (i at : ℕ) (l : at ≤ length t) (f : length t ≤ 16777216) where
-  pub placed-enter : Placed t slots → Placed t (set slots i (at + 1))
-  unfolding slotOffset
-  placed-enter h = record { within = each-set (λ v. slotOffset v ≤ length t) slots i (at + 1) (h .within) (omega arith) }
+pub set-equal : (slots : List ℕ) (i v w : ℕ) → v ≡ w → set slots i v ≡ set slots i w
+set-equal slots i v w e = ap (set slots i) e
 
-  pub marked-enter : (strict : Bool) (rs : List Reference) → Marked strict t rs slots → Marked strict t rs (set slots i (at + 1))
-  marked-enter strict rs h = record { known = each-set (λ v. 2147483648 ≤ v → Known strict t rs (slotOffset v)) slots i (at + 1) (h .known) (λ m. absurd (omega (arith, m))) }
+module _ (t slots : List ℕ) (i at k : ℕ) (l : at ≤ length t) (f : length t ≤ 16777216) (b : k < 64) where
+  pub placed-enter : Placed t slots → Placed t (set slots i (at + 1 + k * 33554432))
+  unfolding slotOffset
+  placed-enter h = record { within = each-set (λ v. slotOffset v ≤ length t) slots i (at + 1 + k * 33554432) (h .within) (omega arith) }
+
+  pub marked-enter : (strict : Bool) (rs : List Reference) → Marked strict t rs slots → Marked strict t rs (set slots i (at + 1 + k * 33554432))
+  marked-enter strict rs h = record {
+    known = each-set (λ v. 2147483648 ≤ v → Known strict t rs (slotOffset v)) slots i (at + 1 + k * 33554432) (h .known) (λ m. absurd (omega (arith, m)));
+  }
 
 -- ---- a slot is marked
 
-module _ (t slots : List ℕ) (i v : ℕ) (o : 0 < v) (u : v < 2147483648) where
-  offset-kept : slotOffset (v + 2147483648) ≡ v - 1
+module _ (t slots : List ℕ) (i v : ℕ) where
+  offset-kept : slotOffset (v + 2147483648) ≡ slotOffset v
   unfolding slotOffset
   offset-kept = omega arith
 
-  pub placed-mark : v - 1 ≤ length t → Placed t slots → Placed t (set slots i (v + 2147483648))
-  placed-mark l h = record { within = each-set (λ v. slotOffset v ≤ length t) slots i (v + 2147483648) (h .within) (omega (arith, offset-kept)) }
+  pub placed-mark : slotOffset v ≤ length t → Placed t slots → Placed t (set slots i (v + 2147483648))
+  placed-mark l h = record { within = each-set (λ v. slotOffset v ≤ length t) slots i (v + 2147483648) (h .within) (omega (arith, offset-kept, l)) }
 
-  pub marked-mark : (strict : Bool) (rs : List Reference) → Known strict t rs (v - 1) → Marked strict t rs slots → Marked strict t rs (set slots i (v + 2147483648))
+  pub marked-mark : (strict : Bool) (rs : List Reference) → Known strict t rs (slotOffset v) → Marked strict t rs slots → Marked strict t rs (set slots i (v + 2147483648))
   marked-mark strict rs k h = record {
     known = each-set (λ v. 2147483648 ≤ v → Known strict t rs (slotOffset v)) slots i (v + 2147483648) (h .known) (λ m. subst (Known strict t rs) (sym offset-kept) k);
   }
-
--- an offset that a slot without a mark tells
-pub offset-plain : (t slots : List ℕ) (p : ℕ) → Placed t slots → getD slots p 0 < 2147483648 → getD slots p 0 - 1 ≤ length t
-unfolding slotOffset
-offset-plain t slots p h u = let z = h .within p in omega (arith, z)
 
 -- the first of a list is one
 first-is : (q r : Reference) (xs ys : List Reference) → q ∷ xs ≡ r ∷ ys → q ≡ r
@@ -83,14 +83,14 @@ pub known-by : (strict : Bool) (t : List ℕ) (rs : List Reference) (at : ℕ) (
 known-by strict t rs at q r rest e s a p ps d = ap (λ x. metIn x rs) (first-is p q ps rest (sym d ∙ e)) ∙ a q s
 
 -- the slot of a reference is marked
-pub marked-at : (strict : Bool) (t : List ℕ) (rs : List Reference) (slots : List ℕ) (p at : ℕ) → at ≤ 16777216 → getD slots p 0 ≡ at + 1 + 2147483648 → Marked strict t rs slots → Known strict t rs at
+pub marked-at : (strict : Bool) (t : List ℕ) (rs : List Reference) (slots : List ℕ) (p at k : ℕ) → at ≤ 16777216 → k < 64 → getD slots p 0 ≡ at + 1 + k * 33554432 + 2147483648 → Marked strict t rs slots → Known strict t rs at
 unfolding slotOffset
-marked-at strict t rs slots p at l e h =
+marked-at strict t rs slots p at k l b e h =
     let z : slotOffset (getD slots p 0) ≡ at = ap slotOffset e ∙ offset in
     subst (Known strict t rs) z (h .known p (omega (arith, e)))
   where
-    offset : (at + 1 + 2147483648) % 2147483648 - 1 ≡ at
-    offset = omega (arith, l)
+    offset : (at + 1 + k * 33554432 + 2147483648) % 33554432 - 1 ≡ at
+    offset = omega (arith, l, b)
 
 -- what has the name and the length of a reference of a text is met among its references
 pub agreed-from : (strict : Bool) (t : List ℕ) (at next : ℕ) (r : Reference) → From strict t at → Apart (sqFrom strict t 0) → sqFrom strict t at ≡ r ∷ sqFrom strict t next → Agreed r (sqFrom strict t 0)

@@ -11,7 +11,7 @@ use Rattle.merge_references.specs.declared.Met.the-variants.{Same}
 
 -- the offset from which a slot's reference is the next: 0 for an empty one
 unfoldable pub slotOffset : ℕ → ℕ
-slotOffset v = v % 2147483648 - 1
+slotOffset v = v % 33554432 - 1
 
 -- each is one of the text
 pub record Placed (t slots : List ℕ) : Type 0 where

@@ -1,16 +1,20 @@
 // Slots for some references of B by their names, and marks at those that A has with the same length. A slot is 0, or tells a reference of B by the offset
-// from which it is the next, plus one; a marked slot has 2,147,483,648 more. Nothing but the marks is believed: no answer rests on which slots are filled.
+// from which it is the next, plus one, with six bits of its name's number above, by which most other names are told apart; a marked slot has its highest bit
+// set. Nothing but the marks is believed: no answer rests on which slots are filled, and with what.
 use sq_list::NextReference;
 ghost use mathlib.Core.Path.{_≡_};
 ghost use mathlib.Core.Bool.{Bool, true};
 ghost use mathlib.Core.List.{List};
-ghost use Prim.Native.Nat.{_≤_, _<_, _+_};
+ghost use Prim.Native.Nat.{ℕ, _≤_, _<_, _+_, _*_};
 ghost use lib.ListN.{length};
 ghost use Rattle.format.specs.References.{Reference};
 ghost use Rattle.sq_list.specs.Next.{sqFrom, toldReference};
 ghost use Rattle.key_hash.specs.Hash.{keyHash};
 ghost use Rattle.merge_references.specs.Joining.{Apart};
 ghost use Rattle.merge_hints.specs.Hints.{Agreed, Known, Placed, Marked};
+
+// How many offsets a slot can tell: the bits of the name's number are above them.
+const OFFSETS: u32 = 33554432;
 
 // What a marked slot has more.
 const MARK: u32 = 2147483648;
@@ -23,6 +27,13 @@ fn number(text: &[u8], r: NextReference) -> usize
     let from = r.name.at;
     let to = from + r.name.len;
     key_hash::hash(2, &text[from..to])
+}
+
+// The bits of a name's number that a slot keeps, at their place.
+fn tag(number: usize) -> u32
+    ensures { λ r. ⌜ ((t : ℕ) × (r ≡ t * 33554432) × (t < 64)) ⌝ }
+{
+    (number / 67108864 % 64) as u32 * OFFSETS
 }
 
 // Enters the references of B from the offset `start` on, as many as three for each four slots.
@@ -41,8 +52,8 @@ pub fn enter_block(b: &[u8], strict: bool, start: usize, area: &mut [u32])
         if !r.found {
             return;
         }
-        let first = number(b, r) % area.len();
-        name_index::enter(area, first, (at + 1) as u32);
+        let h = number(b, r);
+        name_index::enter(area, h % area.len(), (at + 1) as u32 + tag(h));
         at = r.next;
         left -= 1;
     }
@@ -70,15 +81,18 @@ fn mark_one(area: &mut [u32], b: &[u8], strict: bool, a: &[u8], r: NextReference
         → Marked strict (now (b .entry)) rs (now (area .exit))) ⌝ }
 {
     let n = area.len();
-    let mut at = number(a, r) % n;
+    let h = number(a, r);
+    let own = tag(h);
+    let mut at = h % n;
     let mut i: usize = 0;
     while i < n {
         let v = area[at];
-        if v == 0 {
+        let place = v % OFFSETS;
+        if place == 0 {
             return;
         }
-        if v < MARK {
-            let q = sq_list::next_reference(b, strict, (v - 1) as usize);
+        if v - place == own {
+            let q = sq_list::next_reference(b, strict, (place - 1) as usize);
             if q.found {
                 if merge_references::same_reference(b, q, a, r) {
                     area[at] = v + MARK;
@@ -118,9 +132,10 @@ pub fn is_marked(area: &[u32], b: &[u8], at: usize, q: NextReference) -> bool
     requires { ⌜ q .name .at + q .name .len ≤ length (now b) ⌝ }
     ensures { λ r. ⌜ (r ≡ true → (strict : Bool) (rs : List Reference) → Marked strict (now (b .entry)) rs (now (area .entry)) → Known strict (now (b .entry)) rs at) ⌝ }
 {
-    let own = (at + 1) as u32;
     let n = area.len();
-    let mut p = number(b, q) % n;
+    let h = number(b, q);
+    let own = (at + 1) as u32 + tag(h);
+    let mut p = h % n;
     let mut i: usize = 0;
     while i < n {
         let v = area[p];
