@@ -232,7 +232,7 @@ fn pass_block(a: &[u8], b: &[u8], m: &[u8], of: Rules, from: Left) -> Left
     ensures passed { λ x. ⌜ Passed (sqFrom (of .a) (now (a .entry)) 0) (of .b) (now (b .entry)) (of .merged) (now (m .entry)) from x ⌝ }
     ensures ahead { λ x. ⌜ (x .more ≡ true → from .at < x .at) ⌝ }
 {
-    let mut area = [0u32; 32768];
+    let mut area = [0u32; 131072];
     merge_hints::enter_block(b, of.b, from.at, &mut area);
     merge_hints::mark_all(a, of.a, b, of.b, &mut area);
     pass_slots(a, b, m, of, from, &area)
@@ -256,6 +256,10 @@ pub fn is_joined(a: &[u8], b: &[u8], m: &[u8], of: Rules) -> bool
         ahead,
     };
     let mut left = pass_ordered(a, b, m, of, start);
+    // The first block before the loop: called from two places, `pass_block` keeps its slots in a frame of its own, and no text is judged below it.
+    if left.more {
+        left = pass_block(a, b, m, of, left);
+    }
     while left.more {
         left = pass_block(a, b, m, of, left);
     }

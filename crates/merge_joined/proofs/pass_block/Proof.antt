@@ -17,7 +17,7 @@ slice-aggregate-enter-block c = search needs
 enter-block-requires : tie.Need-enter-block-requires
 enter-block-requires c κs =
     let s = c .before .before .before .before in
-    (s .pre .0 .small-b, (s .pre .1 .0 .within, ((omega (arith, length-replicate {A = ℕ} 32768 0), omega (arith, length-replicate {A = ℕ} 32768 0)), placed-none (s .args .b .now) 32768)))
+    (s .pre .0 .small-b, (s .pre .1 .0 .within, ((omega (arith, length-replicate {A = ℕ} 131072 0), omega (arith, length-replicate {A = ℕ} 131072 0)), placed-none (s .args .b .now) 131072)))
 
 slice-aggregate-mark-all : tie.Need-slice-aggregate-mark-all
 slice-aggregate-mark-all c = search needs
@@ -30,7 +30,7 @@ mark-all-requires c κs =
       (s .pre .0 .small-a, s .pre .0 .apart-a),
       (
         s .pre .0 .small-b,
-        (omega (arith, e .enter-block .kept .1 .1 .1 .0, length-replicate {A = ℕ} 32768 0), (e .enter-block .ensures .0, e .enter-block .ensures .1 (sqFrom (a .of .a) (a .a .now) 0) (marked-none (a .of .b) (a .b .now) (sqFrom (a .of .a) (a .a .now) 0) 32768))),
+        (omega (arith, e .enter-block .kept .1 .1 .1 .0, length-replicate {A = ℕ} 131072 0), (e .enter-block .ensures .0, e .enter-block .ensures .1 (sqFrom (a .of .a) (a .a .now) 0) (marked-none (a .of .b) (a .b .now) (sqFrom (a .of .a) (a .a .now) 0) 131072))),
       ),
     )
 
@@ -42,7 +42,7 @@ pass-slots-requires c κs =
     let m = c .before .before in
     let e = c .before .before .before .before .before in
     let s = c .before .before .before .before .before .before .before .before .before .before in
-    (s .pre .0, (s .pre .1 .0, (s .pre .1 .1, (omega (arith, e .enter-block .kept .1 .1 .1 .0, m .mark-all .kept .1 .1 .1 .1 .0, length-replicate {A = ℕ} 32768 0), m .mark-all .ensures))))
+    (s .pre .0, (s .pre .1 .0, (s .pre .1 .1, (omega (arith, e .enter-block .kept .1 .1 .1 .0, m .mark-all .kept .1 .1 .1 .1 .0, length-replicate {A = ℕ} 131072 0), m .mark-all .ensures))))
 
 returns : tie.Need-returns
 returns c = search needs
