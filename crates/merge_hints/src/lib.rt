@@ -43,7 +43,8 @@ pub fn enter_block(b: &[u8], strict: bool, start: usize, area: &mut [u32])
     requires { ⌜ (0 < length (now area)) × (length (now area) ≤ 33554432) ⌝ }
     requires { ⌜ Placed (now b) (now area) ⌝ }
     ensures placed { λ _. ⌜ Placed (now (b .entry)) (now (area .exit)) ⌝ }
-    ensures marked { λ _. ⌜ ((rs : List Reference) → Marked strict (now (b .entry)) rs (now (area .entry)) → Marked strict (now (b .entry)) rs (now (area .exit))) ⌝ }
+    ensures marked { λ _. ⌜ ((rs : List Reference) → Marked strict (now (b .entry)) rs (now (area .entry))
+        → Marked strict (now (b .entry)) rs (now (area .exit))) ⌝ }
 {
     let mut left = area.len() / 4 * 3;
     let mut at = start;
@@ -130,7 +131,8 @@ pub fn is_marked(area: &[u32], b: &[u8], at: usize, q: NextReference) -> bool
     requires { ⌜ 0 < length (now area) ⌝ }
     requires { ⌜ at ≤ 16777216 ⌝ }
     requires { ⌜ q .name .at + q .name .len ≤ length (now b) ⌝ }
-    ensures { λ r. ⌜ (r ≡ true → (strict : Bool) (rs : List Reference) → Marked strict (now (b .entry)) rs (now (area .entry)) → Known strict (now (b .entry)) rs at) ⌝ }
+    ensures { λ r. ⌜ (r ≡ true → (strict : Bool) (rs : List Reference) → Marked strict (now (b .entry)) rs (now (area .entry))
+        → Known strict (now (b .entry)) rs at) ⌝ }
 {
     let n = area.len();
     let h = number(b, q);

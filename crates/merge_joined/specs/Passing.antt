@@ -38,7 +38,8 @@ pub record Reached (rs : List Reference) (b : List ℕ) (strict : Bool) (m : Lis
 
 -- from `from` on all is well exactly if it is up to `x` and from there on
 pub record Passed (rs : List Reference) (strict-b : Bool) (b : List ℕ) (strict-m : Bool) (m : List ℕ) (from x : Left) : Type 0 where
-  pub leaves : leftOf rs (sqFrom strict-b b (from .at)) (toldList strict-m m (from .ahead)) ≡ x .good && leftOf rs (sqFrom strict-b b (x .at)) (toldList strict-m m (x .ahead))
+  pub leaves : leftOf rs (sqFrom strict-b b (from .at)) (toldList strict-m m (from .ahead))
+      ≡ x .good && leftOf rs (sqFrom strict-b b (x .at)) (toldList strict-m m (x .ahead))
   pub reached : Reached rs b strict-m m x
   pub well : x .more ≡ true → x .good ≡ true
   pub spent : x .more ≡ false → x .good ≡ true → sqFrom strict-b b (x .at) ≡ []

@@ -119,7 +119,8 @@ fn pass_near(a: &[u8], b: &[u8], m: &[u8], of: Rules, left: Left, cursor: usize)
     requires { ⌜ Readable of (now a) (now b) (now m) ⌝ }
     requires { ⌜ Reached (sqFrom (of .a) (now a) 0) (now b) (of .merged) (now m) left ⌝ }
     requires { ⌜ From (of .a) (now a) cursor ⌝ }
-    ensures passed { λ x. ⌜ (x .near ≡ true → Passed (sqFrom (of .a) (now (a .entry)) 0) (of .b) (now (b .entry)) (of .merged) (now (m .entry)) left (x .left)) ⌝ }
+    ensures passed { λ x. ⌜ (x .near ≡ true → Passed
+        (sqFrom (of .a) (now (a .entry)) 0) (of .b) (now (b .entry)) (of .merged) (now (m .entry)) left (x .left)) ⌝ }
     ensures ahead { λ x. ⌜ (x .near ≡ true → x .left .more ≡ true → left .at < x .left .at) ⌝ }
     ensures behind { λ x. ⌜ From (of .a) (now (a .entry)) (x .cursor) ⌝ }
 {

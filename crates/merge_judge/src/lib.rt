@@ -59,16 +59,10 @@ fn judge_untangled(
     if !merge_joined::is_joined(a, b, m, rules) {
         return Verdict::Unmerged(30);
     }
-    let programs_a = of_a.parents;
-    let programs_b = of_b.parents;
-    let programs_m = of_m.parents;
-    if !merge_lists::is_assigned(
-        programs_a.count,
-        programs_b.count,
-        programs_m.count,
-        list_a,
-        list_b,
-    ) {
+    let in_a = of_a.parents;
+    let in_b = of_b.parents;
+    let in_m = of_m.parents;
+    if !merge_lists::is_assigned(in_a.count, in_b.count, in_m.count, list_a, list_b) {
         return Verdict::Unmerged(31);
     }
     if !merge_programs::has_images(a, of_a, m, of_m, list_a) {

@@ -91,7 +91,8 @@ pub fn look_from(a: &[u8], strict: bool, start: usize, b: &[u8], q: NextReferenc
 pub fn pass_front(a: &[u8], strict_a: bool, m: &[u8], strict_m: bool) -> Front
     requires { ⌜ length (now a) ≤ 16777216 ⌝ }
     requires { ⌜ length (now m) ≤ 16777216 ⌝ }
-    ensures rest { λ x. ⌜ ((l : List Reference) → sameReferences (sqFrom «strict_m» (now (m .entry)) 0) (sqFrom «strict_a» (now (a .entry)) 0 ++ l) ≡ (x .good && sameReferences (sqFrom «strict_m» (now (m .entry)) (x .next)) l)) ⌝ }
+    ensures rest { λ x. ⌜ ((l : List Reference) → sameReferences (sqFrom «strict_m» (now (m .entry)) 0) (sqFrom «strict_a» (now (a .entry)) 0 ++ l)
+        ≡ (x .good && sameReferences (sqFrom «strict_m» (now (m .entry)) (x .next)) l)) ⌝ }
     ensures within { λ x. ⌜ x .next ≤ length (now (m .entry)) ⌝ }
 {
     let mut at: usize = 0;

@@ -156,8 +156,11 @@ fn made(rng: &mut Rng, mark: &str) -> Made {
 
 /// The text: programs in the given order, PP anywhere in the line, other lines between.
 fn text(rng: &mut Rng, made: &Made, order: &[usize]) -> Vec<u8> {
-    let mut lines: Vec<String> =
-        made.references.iter().map(|(n, l)| if rng.one_in(2) { format!("@SQ\tSN:{n}\tLN:{l}") } else { format!("@SQ\tLN:{l}\tM5:q\tSN:{n}") }).collect();
+    let mut lines: Vec<String> = made
+        .references
+        .iter()
+        .map(|(n, l)| if rng.one_in(2) { format!("@SQ\tSN:{n}\tLN:{l}") } else { format!("@SQ\tLN:{l}\tM5:q\tSN:{n}") })
+        .collect();
     for &i in order {
         let p = &made.programs[i];
         let mut f: Vec<String> = p.fields.iter().map(|(t, v)| format!("{t}:{v}")).collect();
@@ -219,8 +222,7 @@ fn merged(rng: &mut Rng) -> (Merge, [Made; 3]) {
     order.iter().enumerate().for_each(|(at, &k)| ordinal[k] = at as u32);
     let lists = [ordinal[..a.programs.len()].to_vec(), (0..b.programs.len()).map(|k| ordinal[place(k)]).collect()];
     let plain = |n: usize| (0..n).collect::<Vec<_>>();
-    let texts =
-        [text(rng, &a, &plain(a.programs.len())), text(rng, &b, &plain(b.programs.len())), text(rng, &m, &order)];
+    let texts = [text(rng, &a, &plain(a.programs.len())), text(rng, &b, &plain(b.programs.len())), text(rng, &m, &order)];
     (Merge { texts, lists }, [a, b, m])
 }
 
@@ -310,7 +312,8 @@ impl Tally {
     /// What differs, if something does.
     pub fn compare(&mut self, merge: &Merge) -> Option<String> {
         let [a, b, m] = &merge.texts;
-        let got = library::judge_merge(a, b, m, &merge.lists[0], &merge.lists[1]).map_err(|(r, about)| (r.number, r.line, about));
+        let got =
+            library::judge_merge(a, b, m, &merge.lists[0], &merge.lists[1]).map_err(|(r, about)| (r.number, r.line, about));
         let Some(due) = judged(merge) else {
             self.skipped += 1;
             return None;
@@ -326,6 +329,9 @@ impl Tally {
 
 impl fmt::Display for Tally {
     fn fmt(&self, f: &mut fmt::Formatter<'_>) -> fmt::Result {
+        if self.agreed.is_empty() {
+            return Ok(());
+        }
         write!(f, "  judge_merge:")?;
         for ((number, about), n) in &self.agreed {
             match (number, about) {
