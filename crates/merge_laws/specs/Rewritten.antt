@@ -1,0 +1,59 @@
+-- Headers that were written anew from one another: which of them are judged to be merges.
+use Prim.Native.Nat.{ℕ, _<_}
+use mathlib.Core.Path.{_≡_}
+use mathlib.Core.List.{List, _++_}
+use lib.ListN.{length}
+use Rattle.format.specs.Records.{Record}
+use Rattle.format.specs.Programs.{Link, root, dangling, child, programs, numbersFrom}
+use Rattle.format.specs.Calls.{yes, records}
+use Rattle.format.specs.References.{sqList}
+use Rattle.format.specs.Merge.{merged, unmerged, judgingMerge}
+use Rattle.text.specs.Stands.{Each}
+use Rattle.accepted.specs.Read.{recordsOf}
+use Rattle.roundtrip.specs.Bare.{bares}
+use Rattle.merge_laws.specs.Fit.{Fit, parentLinks}
+use Rattle.merge_laws.specs.IsMerge.{Assigns, Images}
+
+-- how many programs a text has
+unfoldable pub programCount : List ℕ → ℕ
+unfolding programs recordsOf
+programCount t = length (programs (recordsOf t))
+
+-- the list by which each program is its own image
+unfoldable pub itself : List ℕ → List ℕ
+unfolding numbersFrom programCount
+itself t = numbersFrom 0 (programCount t)
+
+unfoldable pub sameSq : List ℕ → List ℕ → Type 0
+unfolding sqList recordsOf
+sameSq t u = sqList (recordsOf u) ≡ sqList (recordsOf t)
+
+-- `u` has the programs of `t` and others behind them, each of which is a root or has one of `t` for its parent, as adding writes them
+unfoldable pub FollowsOld : ℕ → Link → Type 0
+FollowsOld n root = Unit
+FollowsOld n dangling = ⊥
+FollowsOld n (child k) = k < n
+
+pub record Longer (t u : List ℕ) : Type 0 where
+  pub accepted : records u ≡ yes (recordsOf u)
+  pub references : sameSq t u
+  pub more : List Record
+  pub moreLinks : List Link
+  pub behind : bares 4 (recordsOf u) ≡ bares 4 (recordsOf t) ++ more
+  pub behindLinks : parentLinks u ≡ parentLinks t ++ moreLinks
+  pub follows : Each (FollowsOld (length (parentLinks t))) moreLinks
+
+pub record Rewritten : Type 0 where
+  -- a header is a merge of itself with itself
+  pub own : (t : List ℕ) → Fit t → judgingMerge t t t (itself t) (itself t) ≡ merged
+  -- and so is a text with equal references and programs, as a tidy text
+  pub equal : (t u : List ℕ) → Fit t → records u ≡ yes (recordsOf u) → sameSq t u → bares 4 (recordsOf u) ≡ bares 4 (recordsOf t)
+      → judgingMerge t t u (itself t) (itself t) ≡ merged
+  -- a header of which all programs have images in another one brings nothing new to it, as a pruned header to the one that it was
+  pub absorbed : (t u list : List ℕ) → Fit t → Fit u → sameSq t u → Assigns (programCount u) (programCount t) list
+      → Images (recordsOf u) (recordsOf t) list → judgingMerge t u t (itself t) list ≡ merged
+  -- no list makes a header with more programs a merge of one header with itself: nobody hits one of them
+  pub unhit : (t u list : List ℕ) → Fit t → Fit u → sameSq t u → programCount t < programCount u → judgingMerge t t u list list ≡ unmerged 31
+  -- a header with programs added is fit, and a merge of itself and the old one; of the old one alone it is none
+  pub grown : (t u : List ℕ) → Fit t → Longer t u → Fit u × (judgingMerge u t u (itself u) (itself t) ≡ merged)
+  pub grownUnhit : (t u list : List ℕ) → Fit t → Longer t u → programCount t < programCount u → judgingMerge t t u list list ≡ unmerged 31
