@@ -2,14 +2,14 @@
 use Prim.Native.Nat.{ℕ, zero, suc, _+_, _≤_, _<_}
 use mathlib.Core.Path.{_≡_, refl, sym, ap, _∙_}
 use mathlib.Core.Bool.{true, false, false≢true}
-use mathlib.Core.List.{List, [], _∷_, map}
+use mathlib.Core.List.{List, _∷_, map}
 use native.Mathlib.Omega.{arith}
 use lib.ListN.{length, getD, length-map}
 use Rattle.format.specs.Bytes.{any}
 use Rattle.format.specs.Records.{Record}
-use Rattle.format.specs.Programs.{Program, Link, root, dangling, child, programs, links, isDangling, loopsFrom, depth}
+use Rattle.format.specs.Programs.{Link, root, dangling, child, programs, links, isDangling, loopsFrom, depth}
 use Rattle.chain_laws.proofs.Paths.{Below, depth-less}
-use Rattle.merge_laws.specs.IsMerge.{imageIn, Assigns, parentAt, ImageOf, Images}
+use Rattle.merge_laws.specs.IsMerge.{imageIn, parentAt, ImageOf, Images}
 use Rattle.merge_laws.specs.Means.{ancestors, depthOf, KeepsChains}
 use Rattle.merge_laws.proofs.Links.{links-length, below, named-below, linked-at}
 
@@ -84,7 +84,7 @@ module _ (a m : List Record) (list : List ℕ) (linked : any isDangling (links (
           let lm : List Link = links (programs m) in
           let far : ℕ = length la + length lm in
           let less-m : depth lm (length lm) (parentAt m (imageIn list k)) < length lm =
-              depth-less lm cm (named-below (programs m)) (imageIn list k) (omega (arith, links-length (programs m), valid k h)) in
+          depth-less lm cm (named-below (programs m)) (imageIn list k) (omega (arith, links-length (programs m), valid k h)) in
           let less-a : depth la (length la) (parentAt a k) < length la = depth-less la ca (named-below (programs a)) k (omega (arith, links-length (programs a))) in
           sym (depth-more lm (length lm) far (parentAt m (imageIn list k)) (omega arith) less-m) ∙ depths far k h
           ∙ depth-more la (length la) far (parentAt a k) (omega arith) less-a

@@ -1,23 +1,23 @@
 -- A merge is accepted exactly if document 02's conditions hold; each number is given exactly where its condition is the first that fails.
-use Prim.Native.Nat.{ℕ, zero, suc}
+use Prim.Native.Nat.{ℕ}
 use mathlib.Core.Path.{_≡_, refl, sym, ap, _∙_}
 use mathlib.Core.Logic.{_↔_}
 use mathlib.Core.Bool.{Bool, true, false, not, _&&_, cond, false≢true}
-use mathlib.Core.List.{List}
+use mathlib.Core.List.{List, [], _∷_}
+use mathlib.Core.Option.{Option, none, some}
 use native.Mathlib.Omega.{arith}
 use lib.ListN.{length}
 use Rattle.format.specs.Records.{Record}
-use Rattle.format.specs.Reading.{accept, readText}
 use Rattle.format.specs.Programs.{programs, links, tangled}
 use Rattle.format.specs.References.{sqList}
 use Rattle.format.specs.Calls.{Answer, refused, yes, records, untangled}
-use Rattle.format.specs.Merge.{Which, textA, textB, textMerged, Verdict, merged, unfit, unmerged, isJoined, assigned, images, shapes, judgedMerge, about, untangledRecords, judgingMerge}
+use Rattle.format.specs.Merge.{Which, Verdict, merged, unfit, unmerged, isJoined, assigned, images, shapes, judgedMerge, about, untangledRecords, judgingMerge}
 use Rattle.accepted.specs.Read.{kept, recordsOf}
 use Rattle.accepted.proofs.Bools.{never, and-left, and-right}
 use Rattle.roundtrip.proofs.Answered.{read-of, untangled-yes}
 use Rattle.merge_laws.specs.Fit.{parentLinks, Fit, Fits}
-use Rattle.merge_laws.specs.IsMerge.{Joins, Lists, Images, IsMerge}
-use Rattle.merge_laws.specs.Exactly.{JoinsTexts, ListsTexts, ImagesTexts, Exactly, AllExactly}
+use Rattle.merge_laws.specs.IsMerge.{IsMerge}
+use Rattle.merge_laws.specs.Exactly.{textChecks, firstRefusal, JoinsTexts, ListsTexts, ImagesTexts, Exactly, AllExactly}
 use Rattle.merge_laws.proofs.Members.{both}
 use Rattle.merge_laws.proofs.Joins.{joins}
 use Rattle.merge_laws.proofs.Lists.{lists-are}
@@ -34,43 +34,76 @@ fit-untangled : (t : List ℕ) → Fit t → untangledRecords (recordsOf t) ≡ 
 unfolding untangledRecords parentLinks untangled
 fit-untangled t f = rw (untangled-is (links (programs (recordsOf t))) .1 (f .linked, f .acyclic)) refl
 
--- a verdict that is about all three texts
-Joint : Verdict → Type 0
-Joint merged = Unit
-Joint (unfit w n l) = ⊥
-Joint (unmerged n) = Unit
-
-about-joint : (w : Which) (x : Answer (List Record)) (f : List Record → Verdict) → Joint (about w x f) → (rs : List Record) × (x ≡ yes rs) × Joint (f rs)
-unfolding about Joint
-about-joint w (refused n l) f j = absurd j
-about-joint w (yes rs) f j = (rs, refl, j)
-
-to-fit : (t : List ℕ) (rs qs : List Record) → records t ≡ yes rs → untangledRecords rs ≡ yes qs → Fit t
+to-fit : (t : List ℕ) (qs : List Record) → records t ≡ yes (recordsOf t) → untangledRecords (recordsOf t) ≡ yes qs → Fit t
 unfolding untangledRecords parentLinks
-to-fit t rs qs e u =
-    let q : recordsOf t ≡ rs = records-of t rs e in
-    let z = untangled-is (links (programs rs)) .0 (untangled-yes rs qs (tangled (links (programs rs))) u .0) in
-    record { accepted = rw q e; linked = rw q (z .0); acyclic = rw q (z .1) }
+to-fit t qs e u =
+    let ls = links (programs (recordsOf t)) in
+    let z = untangled-is ls .0 (untangled-yes (recordsOf t) qs (tangled ls) u .0) in
+    record { accepted = e; linked = z .0; acyclic = z .1 }
+
+-- ---- the first refusal
+
+-- reading accepts, or refuses
+read-or : (t : List ℕ) {C : Type 0} → ((n l : ℕ) → records t ≡ refused n l → C) → (records t ≡ yes (recordsOf t) → C) → C
+read-or t {C} f g = go (records t) refl
+  where
+    go : (x : Answer (List Record)) → records t ≡ x → C
+    go (refused n l) e = f n l e
+    go (yes rs) e = g (e ∙ ap yes (sym (records-of t rs e)))
+
+-- so does the check of the programs
+graph-or : (rs : List Record) {C : Type 0} → ((n l : ℕ) → untangledRecords rs ≡ refused n l → C) → (untangledRecords rs ≡ yes rs → C) → C
+unfolding untangledRecords
+graph-or rs {C} f g = go (untangledRecords rs) refl
+  where
+    go : (x : Answer (List Record)) → untangledRecords rs ≡ x → C
+    go (refused n l) e = f n l e
+    go (yes qs) e = g (e ∙ ap yes (sym (untangled-yes rs qs (tangled (links (programs rs))) e .1)))
+
+-- what is refused is refused for one text
+abbrev Refusal : Option Verdict → Type 0
+Refusal none = Unit
+Refusal (some v) = (w : Which) × (n : ℕ) × (l : ℕ) × (v ≡ unfit w n l)
+
+refused-first : (cs : List (Which × Answer (List Record))) → Refusal (firstRefusal cs)
+unfolding firstRefusal
+refused-first [] = tt
+refused-first ((w, refused n l) ∷ cs) = (w, n, l, refl)
+refused-first ((w, yes rs) ∷ cs) = refused-first cs
+
+otherwise : Option Verdict → Verdict → Verdict
+otherwise none v = v
+otherwise (some w) v = w
 
 module _ (a b m listA listB : List ℕ) where
   abbrev judged : Verdict
   judged = judgedMerge (recordsOf a) (recordsOf b) (recordsOf m) listA listB
 
-  fits-judged : Fits a b m → judgingMerge a b m listA listB ≡ judged
-  unfolding judgingMerge about
-  fits-judged f =
+  first-judged : judgingMerge a b m listA listB ≡ otherwise (firstRefusal (textChecks a b m)) judged
+  unfolding judgingMerge about firstRefusal textChecks otherwise
+  first-judged =
+      read-or a (λ n l e. rw e refl) (λ x.
+      read-or b (λ n l e. rw (x, e) refl) (λ y.
+      read-or m (λ n l e. rw (x, y, e) refl) (λ z.
+      graph-or (recordsOf a) (λ n l e. rw (x, y, z, e) refl) (λ u.
+      graph-or (recordsOf b) (λ n l e. rw (x, y, z, u, e) refl) (λ v.
+      graph-or (recordsOf m) (λ n l e. rw (x, y, z, u, v, e) refl) (λ w. rw (x, y, z, u, v, w) refl))))))
+
+  unrefused : Fits a b m → firstRefusal (textChecks a b m) ≡ none
+  unfolding firstRefusal textChecks
+  unrefused f =
       rw (f .fitA .accepted, f .fitB .accepted, f .fitMerged .accepted, fit-untangled a (f .fitA), fit-untangled b (f .fitB), fit-untangled m (f .fitMerged)) refl
 
-  joint-fits : Joint (judgingMerge a b m listA listB) → Fits a b m
-  unfolding judgingMerge
-  joint-fits j =
-      let x = about-joint textA (records a) _ j in
-      let y = about-joint textB (records b) _ (x .2) in
-      let z = about-joint textMerged (records m) _ (y .2) in
-      let u = about-joint textA (untangledRecords (x .0)) _ (z .2) in
-      let v = about-joint textB (untangledRecords (y .0)) _ (u .2) in
-      let w = about-joint textMerged (untangledRecords (z .0)) _ (v .2) in
-      record { fitA = to-fit a (x .0) (u .0) (x .1) (u .1); fitB = to-fit b (y .0) (v .0) (y .1) (v .1); fitMerged = to-fit m (z .0) (w .0) (z .1) (w .1) }
+  fits : firstRefusal (textChecks a b m) ≡ none → Fits a b m
+  unfolding firstRefusal textChecks
+  fits h =
+      read-or a (λ n l e. absurd (never (cc (rw e at h)))) (λ x.
+      read-or b (λ n l e. absurd (never (cc (rw (x, e) at h)))) (λ y.
+      read-or m (λ n l e. absurd (never (cc (rw (x, y, e) at h)))) (λ z.
+      graph-or (recordsOf a) (λ n l e. absurd (never (cc (rw (x, y, z, e) at h)))) (λ u.
+      graph-or (recordsOf b) (λ n l e. absurd (never (cc (rw (x, y, z, u, e) at h)))) (λ v.
+      graph-or (recordsOf m) (λ n l e. absurd (never (cc (rw (x, y, z, u, v, e) at h))))
+      (λ w. record { fitA = to-fit a (recordsOf a) x u; fitB = to-fit b (recordsOf b) y v; fitMerged = to-fit m (recordsOf m) z w }))))))
 
 -- ---- three tests in a row
 
@@ -82,12 +115,13 @@ number merged = 0
 number (unfit w n l) = 1
 number (unmerged n) = n
 
-verdict-joint : (x y z : Bool) → Joint (verdict x y z)
-unfolding Joint verdict
-verdict-joint true true true = tt
-verdict-joint true true false = tt
-verdict-joint true false z = tt
-verdict-joint false y z = tt
+-- it is about no single text
+verdict-joint : (x y z : Bool) (w : Which) (n l : ℕ) → verdict x y z ≡ unfit w n l → ⊥
+unfolding verdict
+verdict-joint true true true w n l e = never (cc)
+verdict-joint true true false w n l e = never (cc)
+verdict-joint true false z w n l e = never (cc)
+verdict-joint false y z w n l e = never (cc)
 
 -- a verdict by its number
 says-0 : (x y z : Bool) → number (verdict x y z) ≡ 0 → (x ≡ true) × (y ≡ true) × (z ≡ true)
@@ -149,8 +183,8 @@ module _ (a b m listA listB : List ℕ) where
 
   module _ (f : Fits a b m) where
     first : judgingMerge a b m listA listB ≡ verdict sq hits kept-programs
-    unfolding judgedMerge verdict
-    first = fits-judged a b m listA listB f
+    unfolding judgedMerge verdict otherwise
+    first = first-judged a b m listA listB ∙ ap (λ o. otherwise o (judged a b m listA listB)) (unrefused a b m listA listB f)
 
     numbered : (v : Verdict) → judgingMerge a b m listA listB ≡ v → number (verdict sq hits kept-programs) ≡ number v
     numbered v e = ap number (sym first ∙ e)
@@ -176,43 +210,50 @@ module _ (a b m listA listB : List ℕ) where
     unfolding JoinsTexts ListsTexts ImagesTexts verdict
     merge-is i = first ∙ rw (sq-is .1 (i .references), hits-is .1 (i .lists), programs-is (i .lists) .1 (i .imagesA, i .imagesB)) refl
 
-  fit-of : (v : Verdict) → judgingMerge a b m listA listB ≡ v → Joint v → Fits a b m
-  fit-of v e j = joint-fits a b m listA listB (rw e j)
+  -- a verdict that is about all three texts
+  fit-of : (v : Verdict) → judgingMerge a b m listA listB ≡ v → ((w : Which) (n l : ℕ) → v ≡ unfit w n l → ⊥) → Fits a b m
+  unfolding firstRefusal otherwise
+  fit-of v e j = go (firstRefusal (textChecks a b m)) refl (refused-first (textChecks a b m))
+    where
+      go : (o : Option Verdict) → firstRefusal (textChecks a b m) ≡ o → Refusal o → Fits a b m
+      go none q r = fits a b m listA listB q
+      go (some u) q r = absurd (j (r .0) (r .1) (r .2) (sym e ∙ first-judged a b m listA listB ∙ ap (λ o. otherwise o (judged a b m listA listB)) q ∙ r .3))
+
+  unfit-first : (w : Which) (n l : ℕ) → judgingMerge a b m listA listB ≡ unfit w n l → firstRefusal (textChecks a b m) ≡ some (unfit w n l)
+  unfolding otherwise
+  unfit-first w n l e = go (firstRefusal (textChecks a b m)) refl
+    where
+      go : (o : Option Verdict) → firstRefusal (textChecks a b m) ≡ o → firstRefusal (textChecks a b m) ≡ some (unfit w n l)
+      go none q = absurd (verdict-joint sq hits kept-programs w n l (sym (first (fits a b m listA listB q)) ∙ e))
+      go (some u) q = q ∙ ap some (sym (first-judged a b m listA listB ∙ ap (λ o. otherwise o (judged a b m listA listB)) q) ∙ e)
 
   exact : Exactly a b m listA listB (judgingMerge a b m listA listB)
-  unfolding number Joint verdict
+  unfolding number verdict otherwise
   exact =
       record {
-        accepted = (λ e. let f = fit-of merged e tt in (f, is-merge f (numbered f merged e)), λ h. merge-is (h .0) (h .1));
-        unfitted = (λ e f. unfit-never (e .0) (e .1) (e .2) (e .3) f, λ n. unfit-only n (judgingMerge a b m listA listB) refl);
+        accepted = (λ e. let f = fit-of merged e (λ w n l x. never (cc)) in (f, is-merge f (numbered f merged e)), λ h. merge-is (h .0) (h .1));
+        unfitted = λ w n l. (unfit-first w n l, λ e. first-judged a b m listA listB ∙ ap (λ o. otherwise o (judged a b m listA listB)) e);
+        fitted = (fits a b m listA listB, unrefused a b m listA listB);
         number30 = (
-          λ e. let f = fit-of (unmerged 30) e tt in (f, fails sq sq-is (says-30 sq hits kept-programs (numbered f (unmerged 30) e))),
+          λ e. let f = fit-of (unmerged 30) e (λ w n l x. never (cc)) in (f, fails sq sq-is (says-30 sq hits kept-programs (numbered f (unmerged 30) e))),
           λ h. first (h .0) ∙ rw (not-so sq sq-is (h .1)) refl,
         );
         number31 = (
           λ e.
-            let f = fit-of (unmerged 31) e tt in
-            let s = says-31 sq hits kept-programs (numbered f (unmerged 31) e) in
-            (f, sq-is .0 (s .0), fails hits hits-is (s .1)),
+              let f = fit-of (unmerged 31) e (λ w n l x. never (cc)) in
+              let s = says-31 sq hits kept-programs (numbered f (unmerged 31) e) in
+              (f, sq-is .0 (s .0), fails hits hits-is (s .1)),
           λ h. first (h .0) ∙ rw (sq-is .1 (h .1), not-so hits hits-is (h .2)) refl,
         );
         number32 = (
           λ e.
-            let f = fit-of (unmerged 32) e tt in
-            let s = says-32 sq hits kept-programs (numbered f (unmerged 32) e) in
-            let l = hits-is .0 (s .1) in
-            (f, sq-is .0 (s .0), l, fails kept-programs (programs-is f l) (s .2)),
+              let f = fit-of (unmerged 32) e (λ w n l x. never (cc)) in
+              let s = says-32 sq hits kept-programs (numbered f (unmerged 32) e) in
+              let l = hits-is .0 (s .1) in
+              (f, sq-is .0 (s .0), l, fails kept-programs (programs-is f l) (s .2)),
           λ h. first (h .0) ∙ rw (sq-is .1 (h .1), hits-is .1 (h .2), not-so kept-programs (programs-is (h .0) (h .2)) (h .3)) refl,
         );
       }
-    where
-      unfit-never : (w : Which) (n l : ℕ) → judgingMerge a b m listA listB ≡ unfit w n l → Fits a b m → ⊥
-      unfit-never w n l e f = (rw (sym (first f) ∙ e) at (verdict-joint sq hits kept-programs))
-
-      unfit-only : (Fits a b m → ⊥) → (v : Verdict) → judgingMerge a b m listA listB ≡ v → (w : Which) × (n : ℕ) × (l : ℕ) × (judgingMerge a b m listA listB ≡ unfit w n l)
-      unfit-only n merged e = absurd (n (fit-of merged e tt))
-      unfit-only n (unfit w k l) e = (w, k, l, e)
-      unfit-only n (unmerged k) e = absurd (n (fit-of (unmerged k) e tt))
 
 pub all-exactly : AllExactly
 unfolding AllExactly

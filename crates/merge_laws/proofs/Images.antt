@@ -2,7 +2,7 @@
 use Prim.Native.Nat.{ℕ, zero, suc, _<_}
 use mathlib.Core.Path.{_≡_, refl, sym, ap, ap₂, _∙_}
 use mathlib.Core.Logic.{_↔_}
-use mathlib.Core.Bool.{Bool, true, false, _&&_, false≢true}
+use mathlib.Core.Bool.{Bool, true, false, false≢true}
 use mathlib.Core.List.{List, [], _∷_, map, map-map}
 use native.Mathlib.Omega.{arith}
 use lib.ListN.{length, getD, length-map, List·getD-map}
@@ -150,5 +150,5 @@ module _ (a m : List Record) (list : List ℕ) (linked : any isDangling (links (
     λ f. at-alike (isImage list) noShape noShape (shapes a) (map (λ i. getD (shapes m) i noShape) list)
         (omega (arith, shape-count a, length-map list (λ i. getD (shapes m) i noShape)))
         (λ k h. let g : k < length (programs a) = omega (arith, shape-count a) in
-            ap (isImage list (shapeAt a k)) (map-at (λ i. getD (shapes m) i noShape) list k 0 noShape (omega arith)) ∙ image-from k (getD list k 0) refl (f k g)),
+        ap (isImage list (shapeAt a k)) (map-at (λ i. getD (shapes m) i noShape) list k 0 noShape (omega arith)) ∙ image-from k (getD list k 0) refl (f k g)),
   )

@@ -5,3 +5,8 @@ pub mod Links
 pub mod Images
 pub mod Chains
 pub mod Exactly
+pub mod Means
+pub mod Own
+pub mod Grown
+pub mod Rewritten
+pub mod Example

@@ -1,8 +1,8 @@
 -- 31: the condition on the lists.
-use Prim.Native.Nat.{ℕ, zero, suc, _+_, _≤_, _<_}
+use Prim.Native.Nat.{ℕ, zero, suc, _+_, _<_}
 use mathlib.Core.Path.{_≡_, refl, sym, ap, _∙_}
-use mathlib.Core.Logic.{_⊎_, inl, inr, ⊎-elim, _↔_}
-use mathlib.Core.Bool.{Bool, true, false, not, _&&_, _||_, false≢true}
+use mathlib.Core.Logic.{_⊎_, inl, inr, _↔_}
+use mathlib.Core.Bool.{Bool, true, false, not, _||_, false≢true}
 use mathlib.Core.List.{List, [], _∷_}
 use native.Mathlib.Omega.{arith}
 use lib.ListN.{length, getD}
@@ -112,8 +112,8 @@ pub lists-are : (a b m : ℕ) (listA listB : List ℕ) → (assigned a b m listA
 unfolding assigned
 lists-are a b m listA listB = (
   λ e.
-    let h = three (assigns a m listA) (assigns b m listB) (covers m listA listB) e in
-    record { ofA = assigns-is a m listA .0 (h .0); ofB = assigns-is b m listB .0 (h .1); every = covers-every m listA listB (h .2) },
+      let h = three (assigns a m listA) (assigns b m listB) (covers m listA listB) e in
+      record { ofA = assigns-is a m listA .0 (h .0); ofB = assigns-is b m listB .0 (h .1); every = covers-every m listA listB (h .2) },
   λ x. all-three (assigns a m listA) (assigns b m listB) (covers m listA listB) (assigns-is a m listA .1 (x .ofA)) (assigns-is b m listB .1 (x .ofB))
       (every-covers m listA listB (x .every)),
 )
