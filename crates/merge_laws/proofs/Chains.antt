@@ -9,15 +9,9 @@ use Rattle.format.specs.Bytes.{any}
 use Rattle.format.specs.Records.{Record}
 use Rattle.format.specs.Programs.{Link, root, dangling, child, programs, links, isDangling, loopsFrom, depth}
 use Rattle.chain_laws.proofs.Paths.{Below, depth-less}
-use Rattle.merge_laws.specs.IsMerge.{imageIn, parentAt, ImageOf, Images}
+use Rattle.merge_laws.specs.IsMerge.{imageIn, imageLink, parentAt, ImageOf, Images}
 use Rattle.merge_laws.specs.Means.{ancestors, depthOf, KeepsChains}
 use Rattle.merge_laws.proofs.Links.{links-length, below, named-below, linked-at}
-
--- the link of an image
-imageLink : List ℕ → Link → Link
-imageLink list root = root
-imageLink list dangling = dangling
-imageLink list (child k) = child (imageIn list k)
 
 image-link : (a m : List Record) (list : List ℕ) (k : ℕ) → isDangling (parentAt a k) ≡ false → ImageOf a m list k → parentAt m (imageIn list k) ≡ imageLink list (parentAt a k)
 unfolding isDangling imageLink

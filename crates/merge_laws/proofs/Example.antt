@@ -1,21 +1,25 @@
 -- Two headers that share a reference and their IDs, merged with new IDs for the programs of B; three merges that are refused; and a header
--- with a program added.
+-- with a program added, and with one dropped.
 use Prim.Native.Nat.{ℕ}
 use mathlib.Core.Path.{_≡_, refl}
+use mathlib.Core.Bool.{Bool, not}
 use mathlib.Core.List.{List, [], _∷_}
 use native.Mathlib.Omega.{arith}
 use lib.ListN.{drop}
+use lib.Dec.{eqb}
 use Rattle.format.specs.Bytes.{any}
 use Rattle.format.specs.Programs.{child, isDangling, loopsFrom}
 use Rattle.format.specs.Calls.{records}
+use Rattle.format.specs.Prune.{chosen}
 use Rattle.format.specs.Merge.{merged, unmerged, judgingMerge}
 use Rattle.text.specs.Stands.{Each}
 use Rattle.accepted.specs.Read.{recordsOf}
 use Rattle.roundtrip.specs.Bare.{bares}
 use Rattle.roundtrip.proofs.Example.{ascii}
 use Rattle.merge_laws.specs.Fit.{parentLinks, Fit}
+use Rattle.merge_laws.specs.IsMerge.{imageLink}
 use Rattle.merge_laws.specs.Means.{depthOf}
-use Rattle.merge_laws.specs.Rewritten.{sameSq, FollowsOld, Longer}
+use Rattle.merge_laws.specs.Rewritten.{sameSq, FollowsOld, Longer, stayed, Shorter}
 
 unfoldable first : List ℕ
 unfolding ascii
@@ -77,3 +81,25 @@ example-longer =
       behindLinks = refl;
       follows = (omega arith, tt);
     }
+
+-- ---- a program dropped
+
+unfoldable four : List ℕ
+unfolding ascii
+four = ascii "@PG\tID:a\n@PG\tID:d\n@PG\tID:c\tPP:b\n@PG\tID:b\tPP:a\n"
+
+unfoldable three : List ℕ
+unfolding ascii
+three = ascii "@PG\tID:a\n@PG\tID:c\tPP:b\n@PG\tID:b\tPP:a\n"
+
+-- all but the program 1
+stays : ℕ → Bool
+stays k = not (eqb k 1)
+
+example-shorter : Shorter four three stays
+unfolding ascii four three recordsOf parentLinks sameSq bares chosen stayed imageLink stays
+example-shorter = record { references = refl; fewer = refl; fewerLinks = refl }
+
+example-stayed : stayed four stays ≡ 0 ∷ 2 ∷ 3 ∷ []
+unfolding ascii four stayed stays
+example-stayed = refl

@@ -8,5 +8,7 @@ pub mod Exactly
 pub mod Means
 pub mod Own
 pub mod Grown
+pub mod Fields
+pub mod Stayed
 pub mod Rewritten
 pub mod Example

@@ -1,67 +1,31 @@
 -- Headers that were written anew from one another, judged.
-use Prim.Native.Nat.{ℕ, _+_, _≤_, _<_}
-use mathlib.Core.Path.{_≡_, refl, sym, ap, _∙_}
+use Prim.Native.Nat.{ℕ, _≤_, _<_}
+use mathlib.Core.Path.{_≡_, refl, sym, ap, subst, _∙_}
 use mathlib.Core.Logic.{inl}
-use mathlib.Core.Bool.{Bool, true, false, cond}
-use mathlib.Core.List.{List, [], _∷_, _++_, map, map-append}
+use mathlib.Core.Bool.{Bool}
+use mathlib.Core.List.{List, [], map}
 use native.Mathlib.Omega.{arith}
-use lib.ListN.{length, getD, length-append, length-map, List·getD-append}
-use Rattle.format.specs.Fields.{Field, tagged, without}
-use Rattle.format.specs.Records.{Record, header, reference, group, program, comment, others}
-use Rattle.format.specs.Reading.{ofKind}
-use Rattle.format.specs.Programs.{root, programOf, programs, links}
+use lib.ListN.{length, getD, length-append, length-map, List·getD-append, List·getD-map}
+use Rattle.format.specs.Records.{Record, comment}
+use Rattle.format.specs.Programs.{Link, root, programs, links, numbersFrom}
+use Rattle.format.specs.Prune.{chosen}
 use Rattle.format.specs.Calls.{yes, records}
 use Rattle.format.specs.References.{sqList}
 use Rattle.format.specs.Merge.{merged, unmerged, judgingMerge}
 use Rattle.accepted.specs.Read.{recordsOf}
-use Rattle.roundtrip.specs.Bare.{bareBytes, bareField, bare, bares}
+use Rattle.chains.proofs.Leaf.{counting-length}
+use Rattle.roundtrip.specs.Bare.{bareBytes, bares}
 use Rattle.roundtrip.proofs.Programs.{links-equal}
 use Rattle.merge_laws.specs.Fit.{parentLinks, Fit, Fits}
-use Rattle.merge_laws.specs.IsMerge.{Joins, Assigns, parentAt, otherFields, fieldsAt, Images, IsMerge}
+use Rattle.merge_laws.specs.IsMerge.{Joins, imageIn, imageLink, Assigns, parentAt, otherFields, fieldsAt, Images, IsMerge}
 use Rattle.merge_laws.specs.Exactly.{JoinsTexts, ListsTexts, AllExactly}
-use Rattle.merge_laws.specs.Rewritten.{programCount, itself, sameSq, Longer, Rewritten}
+use Rattle.merge_laws.specs.Rewritten.{programCount, itself, sameSq, Longer, stayed, Shorter, Rewritten}
+use Rattle.merge_laws.proofs.Fields.{fields-bare, bares-length, fields-front, fields-one}
 use Rattle.merge_laws.proofs.Links.{links-length, below, named-below}
 use Rattle.merge_laws.proofs.Exactly.{all-exactly}
 use Rattle.merge_laws.proofs.Own.{own-joins, own-assigns, own-hits, own-images, unhit-lists}
+use Rattle.merge_laws.proofs.Stayed.{chosen-length, stays-at, stayed-assigns, link-image}
 use Rattle.merge_laws.proofs.Grown.{grown-linked, grown-acyclic}
-
--- ---- fields without offsets
-
-without-bare : (a b : ℕ) (fs : List Field) → map bareField (without a b (map bareField fs)) ≡ map bareField (without a b fs)
-unfolding without tagged bareField bareBytes
-without-bare a b [] = refl
-without-bare a b (f ∷ fs) = go (tagged a b f) (without-bare a b fs)
-  where
-    go : (t : Bool) → map bareField (without a b (map bareField fs)) ≡ map bareField (without a b fs)
-        → map bareField (cond t (without a b (map bareField fs)) (bareField f ∷ without a b (map bareField fs))) ≡ map bareField (cond t (without a b fs) (f ∷ without a b fs))
-    go true ih = ih
-    go false ih = ap (λ gs. bareField f ∷ gs) ih
-
-other-bare : (r : Record) → otherFields (bare r) ≡ otherFields r
-unfolding otherFields others bare
-other-bare (header v fs) = without-bare 80 80 fs
-other-bare (reference p n fs) = without-bare 80 80 fs
-other-bare (group p fs) = without-bare 80 80 fs
-other-bare (program p fs) = without-bare 80 80 fs
-other-bare (comment p) = refl
-
-others-bare : (rs : List Record) → map otherFields (map bare rs) ≡ map otherFields rs
-others-bare [] = refl
-others-bare (r ∷ rs) = rw (other-bare r) (ap (λ fs. otherFields r ∷ fs) (others-bare rs))
-
-fields-bare : (rs : List Record) (k : ℕ) → fieldsAt rs k ≡ getD (map otherFields (bares 4 rs)) k []
-unfolding fieldsAt bares
-fields-bare rs k = ap (λ fs. getD fs k []) (sym (others-bare (ofKind 4 rs)))
-
-bares-count : (rs : List Record) → length (map otherFields (bares 4 rs)) ≡ length (programs rs)
-unfolding bares programs
-bares-count rs = length-map (map bare (ofKind 4 rs)) otherFields ∙ length-map (ofKind 4 rs) bare ∙ sym (length-map (ofKind 4 rs) programOf)
-
--- more programs behind
-fields-front : (rs qs more : List Record) → bares 4 qs ≡ bares 4 rs ++ more → (k : ℕ) → k < length (programs rs) → fieldsAt qs k ≡ fieldsAt rs k
-fields-front rs qs more e k h =
-    fields-bare qs k ∙ ap (λ bs. getD (map otherFields bs) k []) e ∙ ap (λ fs. getD fs k []) (map-append otherFields (bares 4 rs) more)
-    ∙ List·getD-append (map otherFields (bares 4 rs)) (map otherFields more) [] k (omega (arith, bares-count rs)) ∙ sym (fields-bare rs k)
 
 -- ---- accepted
 
@@ -151,6 +115,49 @@ module _ (t u : List ℕ) (f : Fit t) (l : Longer t u) where
   unfolding sameSq itself
   grown = (grown-fit, absorbed u t (itself t) grown-fit f (sym (l .references)) (own-assigns (programCount t) (programCount u) counts) old-images)
 
+-- ---- programs dropped
+
+module _ (t u : List ℕ) (stays : ℕ → Bool) (f : Fit t) (g : Fit u) (s : Shorter t u stays) where
+  abbrev old : List Record
+  old = recordsOf t
+
+  abbrev new : List Record
+  new = recordsOf u
+
+  stay-count : length (stayed t stays) ≡ programCount u
+  unfolding stayed itself programCount
+  stay-count =
+      chosen-length stays 0 (numbersFrom 0 (programCount t)) (bares 4 old) (counting-length 0 (programCount t) ∙ sym (bares-length old))
+      ∙ ap length (sym (s .fewer)) ∙ bares-length new
+
+  stay-assigns : Assigns (programCount u) (programCount t) (stayed t stays)
+  unfolding stayed itself
+  stay-assigns = subst (λ n. Assigns n (programCount t) (stayed t stays)) stay-count (stayed-assigns stays (programCount t))
+
+  stay-fields : (k : ℕ) → k < programCount u → fieldsAt old (imageIn (stayed t stays) k) ≡ fieldsAt new k
+  unfolding stayed itself programCount imageIn
+  stay-fields k h =
+      let none : Record = comment (bareBytes []) in
+      let bs : List Record = bares 4 old in
+      let at = stays-at stays none bs k (omega (arith, ap length (s .fewer), bares-length new)) in
+      fields-one old (imageIn (stayed t stays) k) (stay-assigns .valid k h)
+      ∙ ap otherFields (ap (λ n. getD bs (getD (chosen stays 0 (numbersFrom 0 n)) k 0) none) (sym (bares-length old)) ∙ sym at ∙ ap (λ l. getD l k none) (sym (s .fewer)))
+      ∙ sym (fields-one new k h)
+
+  stay-parent : (k : ℕ) → k < programCount u → parentAt old (imageIn (stayed t stays) k) ≡ imageLink (stayed t stays) (parentAt new k)
+  unfolding stayed itself programCount imageIn parentAt parentLinks imageLink
+  stay-parent k h =
+      let ls : List Link = links (programs old) in
+      let at = stays-at stays root ls k (omega (arith, ap length (s .fewerLinks), length-map (parentLinks u) (imageLink (stayed t stays)), links-length (programs new))) in
+      ap (λ n. getD ls (getD (chosen stays 0 (numbersFrom 0 n)) k 0) root) (sym (links-length (programs old))) ∙ sym at
+      ∙ ap (λ l. getD l k root) (sym (s .fewerLinks)) ∙ List·getD-map (imageLink (stayed t stays)) (parentLinks u) k root
+
+  pruned : judgingMerge t u t (itself t) (stayed t stays) ≡ merged
+  unfolding Images programCount
+  pruned =
+      absorbed t u (stayed t stays) f g (s .references) stay-assigns
+      (λ k h. link-image new old (stayed t stays) k (stay-fields k h) (stay-parent k h))
+
 pub rewritten : Rewritten
 unfolding sameSq
 rewritten =
@@ -161,4 +168,5 @@ rewritten =
       unhit = unhit;
       grown = grown;
       grownUnhit = λ t u list f l h. unhit t u list f (grown-fit t u f l) (l .references) h;
+      pruned = pruned;
     }

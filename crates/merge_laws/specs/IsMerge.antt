@@ -7,7 +7,7 @@ use lib.ListN.{length, getD}
 use Rattle.format.specs.Fields.{Field, without}
 use Rattle.format.specs.Records.{Record, others}
 use Rattle.format.specs.Reading.{ofKind}
-use Rattle.format.specs.Programs.{Link, root, child, programs, links}
+use Rattle.format.specs.Programs.{Link, root, dangling, child, programs, links}
 use Rattle.format.specs.References.{Reference, sqList}
 use Rattle.format.specs.Merge.{lacking}
 use Rattle.roundtrip.specs.Bare.{bareField}
@@ -60,6 +60,13 @@ otherFields r = map bareField (without 80 80 (others r))
 unfoldable pub fieldsAt : List Record → ℕ → List Field
 unfolding otherFields ofKind
 fieldsAt rs k = getD (map otherFields (ofKind 4 rs)) k []
+
+-- the link of an image: what is named by an original's PP has an image too
+unfoldable pub imageLink : List ℕ → Link → Link
+unfolding imageIn
+imageLink list root = root
+imageLink list dangling = dangling
+imageLink list (child k) = child (imageIn list k)
 
 -- the program `k` of `a` has an image in `m`
 pub record ImageOf (a m : List Record) (list : List ℕ) (k : ℕ) : Type 0 where
