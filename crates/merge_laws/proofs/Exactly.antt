@@ -1,7 +1,7 @@
 -- A merge is accepted exactly if document 02's conditions hold; each number is given exactly where its condition is the first that fails.
 use Prim.Native.Nat.{ℕ}
 use mathlib.Core.Path.{_≡_, refl, sym, ap, _∙_}
-use mathlib.Core.Logic.{_↔_}
+use mathlib.Core.Logic.{_↔_, _⊎_, inl, inr}
 use mathlib.Core.Bool.{Bool, true, false, not, _&&_, cond, false≢true}
 use mathlib.Core.List.{List, [], _∷_}
 use mathlib.Core.Option.{Option, none, some}
@@ -123,6 +123,14 @@ verdict-joint true true false w n l e = never (cc)
 verdict-joint true false z w n l e = never (cc)
 verdict-joint false y z w n l e = never (cc)
 
+-- it has one of three numbers
+verdict-numbers : (x y z : Bool) (n : ℕ) → verdict x y z ≡ unmerged n → (n ≡ 30) ⊎ (n ≡ 31) ⊎ (n ≡ 32)
+unfolding verdict
+verdict-numbers true true true n e = absurd (never (cc))
+verdict-numbers true true false n e = inr (inr (cc))
+verdict-numbers true false z n e = inr (inl (cc))
+verdict-numbers false y z n e = inl (cc)
+
 -- a verdict by its number
 says-0 : (x y z : Bool) → number (verdict x y z) ≡ 0 → (x ≡ true) × (y ≡ true) × (z ≡ true)
 unfolding number verdict
@@ -234,6 +242,7 @@ module _ (a b m listA listB : List ℕ) where
         accepted = (λ e. let f = fit-of merged e (λ w n l x. never (cc)) in (f, is-merge f (numbered f merged e)), λ h. merge-is (h .0) (h .1));
         unfitted = λ w n l. (unfit-first w n l, λ e. first-judged a b m listA listB ∙ ap (λ o. otherwise o (judged a b m listA listB)) e);
         fitted = (fits a b m listA listB, unrefused a b m listA listB);
+        numbers = λ n e. verdict-numbers sq hits kept-programs n (sym (first (fit-of (unmerged n) e (λ w k l x. never (cc)))) ∙ e);
         number30 = (
           λ e. let f = fit-of (unmerged 30) e (λ w n l x. never (cc)) in (f, fails sq sq-is (says-30 sq hits kept-programs (numbered f (unmerged 30) e))),
           λ h. first (h .0) ∙ rw (not-so sq sq-is (h .1)) refl,

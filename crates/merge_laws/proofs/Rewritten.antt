@@ -1,7 +1,7 @@
 -- Headers that were written anew from one another, judged.
 use Prim.Native.Nat.{ℕ, _≤_, _<_}
 use mathlib.Core.Path.{_≡_, refl, sym, ap, subst, _∙_}
-use mathlib.Core.Logic.{inl}
+use mathlib.Core.Logic.{inl, ⊎-elim}
 use mathlib.Core.Bool.{Bool}
 use mathlib.Core.List.{List, [], map}
 use native.Mathlib.Omega.{arith}
@@ -17,7 +17,7 @@ use Rattle.chains.proofs.Leaf.{counting-length}
 use Rattle.roundtrip.specs.Bare.{bareBytes, bares}
 use Rattle.roundtrip.proofs.Programs.{links-equal}
 use Rattle.merge_laws.specs.Fit.{parentLinks, Fit, Fits}
-use Rattle.merge_laws.specs.IsMerge.{Joins, imageIn, imageLink, Assigns, parentAt, otherFields, fieldsAt, Images, IsMerge}
+use Rattle.merge_laws.specs.IsMerge.{Joins, imageIn, Hits, imageLink, Assigns, parentAt, otherFields, fieldsAt, Images, IsMerge}
 use Rattle.merge_laws.specs.Exactly.{JoinsTexts, ListsTexts, AllExactly}
 use Rattle.merge_laws.specs.Rewritten.{programCount, itself, sameSq, Longer, stayed, Shorter, Rewritten}
 use Rattle.merge_laws.proofs.Fields.{fields-bare, bares-length, fields-front, fields-one}
@@ -81,6 +81,11 @@ module _ (t u : List ℕ) (f : Fit t) (e : records u ≡ yes (recordsOf u)) (s :
       })
 
 -- ---- refused
+
+unlisted : (a b m listA listB : List ℕ) (i : ℕ) → Fits a b m → JoinsTexts a b m → i < programCount m
+    → (Hits listA i → ⊥) → (Hits listB i → ⊥) → judgingMerge a b m listA listB ≡ unmerged 31
+unfolding AllExactly ListsTexts programCount
+unlisted a b m listA listB i f j h x y = all-exactly a b m listA listB .number31 .1 (f, j, λ l. ⊎-elim x y (l .every i h))
 
 unhit : (t u list : List ℕ) → Fit t → Fit u → sameSq t u → programCount t < programCount u → judgingMerge t t u list list ≡ unmerged 31
 unfolding AllExactly JoinsTexts ListsTexts programCount sameSq
@@ -165,6 +170,7 @@ rewritten =
       own = λ t f. equal t t f (f .accepted) refl refl;
       equal = equal;
       absorbed = absorbed;
+      unlisted = unlisted;
       unhit = unhit;
       grown = grown;
       grownUnhit = λ t u list f l h. unhit t u list f (grown-fit t u f l) (l .references) h;

@@ -1,7 +1,7 @@
 -- A merge is accepted exactly if document 02's conditions hold, and each number is given exactly where its condition is the first that fails.
 use Prim.Native.Nat.{ℕ}
 use mathlib.Core.Path.{_≡_}
-use mathlib.Core.Logic.{_↔_}
+use mathlib.Core.Logic.{_↔_, _⊎_}
 use mathlib.Core.List.{List, [], _∷_}
 use mathlib.Core.Option.{Option, none, some}
 use lib.ListN.{length}
@@ -50,6 +50,8 @@ pub record Exactly (a b m listA listB : List ℕ) (v : Verdict) : Type 0 where
   pub number31 : (v ≡ unmerged 31) ↔ (Fits a b m × JoinsTexts a b m × (ListsTexts a b m listA listB → ⊥))
   pub number32 : (v ≡ unmerged 32)
       ↔ (Fits a b m × JoinsTexts a b m × ListsTexts a b m listA listB × (ImagesTexts a b m listA listB → ⊥))
+  -- there is no other number
+  pub numbers : (n : ℕ) → v ≡ unmerged n → (n ≡ 30) ⊎ (n ≡ 31) ⊎ (n ≡ 32)
 
 -- of all texts and lists
 unfoldable pub AllExactly : Type 0

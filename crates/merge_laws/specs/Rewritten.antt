@@ -13,8 +13,9 @@ use Rattle.format.specs.Merge.{merged, unmerged, judgingMerge}
 use Rattle.text.specs.Stands.{Each}
 use Rattle.accepted.specs.Read.{recordsOf}
 use Rattle.roundtrip.specs.Bare.{bares}
-use Rattle.merge_laws.specs.Fit.{Fit, parentLinks}
-use Rattle.merge_laws.specs.IsMerge.{imageLink, Assigns, Images}
+use Rattle.merge_laws.specs.Fit.{Fit, Fits, parentLinks}
+use Rattle.merge_laws.specs.IsMerge.{Hits, imageLink, Assigns, Images}
+use Rattle.merge_laws.specs.Exactly.{JoinsTexts}
 
 -- how many programs a text has
 unfoldable pub programCount : List ℕ → ℕ
@@ -26,16 +27,18 @@ unfoldable pub itself : List ℕ → List ℕ
 unfolding numbersFrom programCount
 itself t = numbersFrom 0 (programCount t)
 
+-- the same references, by name and length
 unfoldable pub sameSq : List ℕ → List ℕ → Type 0
 unfolding sqList recordsOf
 sameSq t u = sqList (recordsOf u) ≡ sqList (recordsOf t)
 
--- `u` has the programs of `t` and others behind them, each of which is a root or has one of `t` for its parent, as adding writes them
+-- a root, or a child of one of the first `n` programs
 unfoldable pub FollowsOld : ℕ → Link → Type 0
 FollowsOld n root = Unit
 FollowsOld n dangling = ⊥
 FollowsOld n (child k) = k < n
 
+-- `u` has the programs of `t`, and others behind them that follow those, as adding writes them
 pub record Longer (t u : List ℕ) : Type 0 where
   pub accepted : records u ≡ yes (recordsOf u)
   pub references : sameSq t u
@@ -65,9 +68,12 @@ pub record Rewritten : Type 0 where
   -- a header of which all programs have images in another one brings nothing new to it
   pub absorbed : (t u list : List ℕ) → Fit t → Fit u → sameSq t u → Assigns (programCount u) (programCount t) list
       → Images (recordsOf u) (recordsOf t) list → judgingMerge t u t (itself t) list ≡ merged
+  -- a merged program that no list hits is refused, as the merging tool's own
+  pub unlisted : (a b m listA listB : List ℕ) (i : ℕ) → Fits a b m → JoinsTexts a b m → i < programCount m
+      → (Hits listA i → ⊥) → (Hits listB i → ⊥) → judgingMerge a b m listA listB ≡ unmerged 31
   -- no list makes a header with more programs a merge of one header with itself: nobody hits one of them
   pub unhit : (t u list : List ℕ) → Fit t → Fit u → sameSq t u → programCount t < programCount u → judgingMerge t t u list list ≡ unmerged 31
-  -- a header with programs added is fit, and a merge of itself and the old one; of the old one alone it is none
+  -- a header with programs added is fit, and a merge of itself and the old one; of the old one with itself it is none
   pub grown : (t u : List ℕ) → Fit t → Longer t u → Fit u × (judgingMerge u t u (itself u) (itself t) ≡ merged)
   pub grownUnhit : (t u list : List ℕ) → Fit t → Longer t u → programCount t < programCount u → judgingMerge t t u list list ≡ unmerged 31
   -- a header with programs dropped brings nothing new to the one that it was
