@@ -7,6 +7,8 @@ pub mod Chains
 pub mod Exactly
 pub mod Means
 pub mod Own
+pub mod Short
+pub mod Nothing
 pub mod Grown
 pub mod Fields
 pub mod Stayed

@@ -1,14 +1,11 @@
--- A header and itself: its references agree, and by the list of all ordinals each program is its own image. And the list that hits every
--- program is no shorter than there are programs.
-use Prim.Native.Nat.{ℕ, zero, suc, _+_, _≤_, _<_}
-use mathlib.Core.Path.{_≡_, refl, sym, ap, _∙_}
+-- A header and itself: its references agree, and by the list of all ordinals each program is its own image.
+use Prim.Native.Nat.{ℕ, _+_, _≤_, _<_}
+use mathlib.Core.Path.{_≡_, sym, ap, _∙_}
 use mathlib.Core.Logic.{_⊎_, inl, inr}
 use mathlib.Core.Bool.{true, false, false≢true}
 use mathlib.Core.List.{List, [], _∷_, _++_, append-nil, List·Memᴰ, List·Memᴰ·not-nil, List·Memᴰ·cases-cons}
 use native.Mathlib.Omega.{arith}
 use lib.ListN.{length}
-use lib.Dec.{eqb}
-use borrow.Author.Tests.{eqb-true, eqb-false}
 use Rattle.format.specs.Bytes.{any, same}
 use Rattle.format.specs.Lines.{Piece}
 use Rattle.format.specs.Fields.{Field}
@@ -20,13 +17,12 @@ use Rattle.format.specs.Calls.{yes, records}
 use Rattle.text.proofs.Equal.{same-self}
 use Rattle.accepted.specs.Admits.{KeysDiffer}
 use Rattle.accepted.specs.Read.{recordsOf}
-use Rattle.accepted.proofs.Bools.{split, or-left, or-right, never}
+use Rattle.accepted.proofs.Bools.{or-left, or-right, never}
 use Rattle.accepted.proofs.Text.{text-apart}
 use Rattle.chains.proofs.Leaf.{counting-length}
-use Rattle.chains.proofs.Times.{hit, times, hit-same, hit-other}
-use Rattle.chain_laws.proofs.Paths.{Below, at-most}
+use Rattle.chain_laws.proofs.Paths.{Below}
 use Rattle.roundtrip.proofs.Answered.{read-of}
-use Rattle.merge_laws.specs.IsMerge.{Joins, imageIn, Hits, Assigns, Lists, parentAt, fieldsAt, Images}
+use Rattle.merge_laws.specs.IsMerge.{Joins, imageIn, Hits, Assigns, parentAt, fieldsAt, Images}
 use Rattle.merge_laws.proofs.Joins.{lacking-own}
 use Rattle.merge_laws.proofs.Lists.{number-at}
 use Rattle.merge_laws.proofs.Links.{links-length, below}
@@ -115,60 +111,3 @@ module _ (a m : List Record) (fields : (k : ℕ) → k < length (programs a) →
         sameRoot = (λ e. same-parent ∙ e, λ e. sym same-parent ∙ e);
         parent = λ p e. same-parent ∙ e ∙ ap child (sym (own-image n p (own-parent k p e)));
       }
-
--- ---- a list that hits every program
-
-last-one : (m : ℕ) → m < suc m
-last-one m = omega arith
-
-earlier : (i m : ℕ) → i < m → i < suc m
-earlier i m h = omega arith
-
-module _ (list : List ℕ) where
-  -- where the images are
-  places : (m : ℕ) → ((i : ℕ) → i < m → Hits list i) → List ℕ
-  unfolding Hits
-  places zero f = []
-  places (suc m) f = f m (last-one m) .0 ∷ places m (λ i h. f i (earlier i m h))
-
-  places-count : (m : ℕ) (f : (i : ℕ) → i < m → Hits list i) → length (places m f) ≡ m
-  unfolding places
-  places-count zero f = refl
-  places-count (suc m) f = ap suc (places-count m (λ i h. f i (earlier i m h)))
-
-  places-inside : (m : ℕ) (f : (i : ℕ) → i < m → Hits list i) (x : ℕ) → length list ≤ x → times x (places m f) ≡ 0
-  unfolding places times Hits
-  places-inside zero f x h = refl
-  places-inside (suc m) f x h =
-      let r = f m (last-one m) in omega (arith, hit-other x (r .0) (λ e. omega (arith, r .1)), places-inside m (λ i h. f i (earlier i m h)) x h)
-
-  -- no place of a higher number is among them
-  places-gone : (m : ℕ) (f : (i : ℕ) → i < m → Hits list i) (x : ℕ) → m ≤ imageIn list x → times x (places m f) ≡ 0
-  unfolding places times Hits
-  places-gone zero f x h = refl
-  places-gone (suc m) f x h =
-      let r = f m (last-one m) in
-      omega (arith, hit-other x (r .0) (λ e. omega (arith, ap (imageIn list) e, r .2)), places-gone m (λ i h. f i (earlier i m h)) x (omega arith))
-
-  places-once : (m : ℕ) (f : (i : ℕ) → i < m → Hits list i) (x : ℕ) → times x (places m f) ≤ 1
-  unfolding places times Hits
-  places-once zero f x = omega arith
-  places-once (suc m) f x =
-      let r = f m (last-one m) in
-      let g : (i : ℕ) → i < m → Hits list i = λ i h. f i (earlier i m h) in
-      split (eqb x (r .0))
-      (λ e.
-      let q : x ≡ r .0 = eqb-true x (r .0) e in
-      omega (arith, ap (λ y. hit y (r .0)) q, hit-same (r .0), places-gone m g x (omega (arith, ap (imageIn list) q, r .2))))
-      (λ e. omega (arith, hit-other x (r .0) (eqb-false x (r .0) e), places-once m g x))
-
-  pub long-enough : (m : ℕ) → ((i : ℕ) → i < m → Hits list i) → m ≤ length list
-  long-enough m f = omega (arith, at-most (length list) (places m f) (places-inside m f) (places-once m f), places-count m f)
-
--- one list for two times the same programs hits too few
-pub unhit-lists : (n m : ℕ) (list : List ℕ) → n < m → Lists n n m list list → ⊥
-unhit-lists n m list h l = omega (arith, l .ofA .count, long-enough list m (λ i h. go i (l .every i h)))
-  where
-    go : (i : ℕ) → Hits list i ⊎ Hits list i → Hits list i
-    go i (inl x) = x
-    go i (inr x) = x

@@ -1,7 +1,7 @@
 -- Headers that were written anew from one another, judged.
 use Prim.Native.Nat.{ℕ, _≤_, _<_}
 use mathlib.Core.Path.{_≡_, refl, sym, ap, subst, _∙_}
-use mathlib.Core.Logic.{inl, ⊎-elim}
+use mathlib.Core.Logic.{inl, inr, ⊎-elim}
 use mathlib.Core.Bool.{Bool}
 use mathlib.Core.List.{List, [], map}
 use native.Mathlib.Omega.{arith}
@@ -23,7 +23,9 @@ use Rattle.merge_laws.specs.Rewritten.{programCount, itself, sameSq, Lon
 use Rattle.merge_laws.proofs.Fields.{fields-bare, bares-length, fields-front, fields-one}
 use Rattle.merge_laws.proofs.Links.{links-length, below, named-below}
 use Rattle.merge_laws.proofs.Exactly.{all-exactly}
-use Rattle.merge_laws.proofs.Own.{own-joins, own-assigns, own-hits, own-images, unhit-lists}
+use Rattle.merge_laws.proofs.Own.{own-joins, own-assigns, own-hits, own-images}
+use Rattle.merge_laws.proofs.Short.{unhit-lists, unhit-alone}
+use Rattle.merge_laws.proofs.Nothing.{nothing-fit, nothing-images, nothing-assigns, joins-nothing, nothing-joins}
 use Rattle.merge_laws.proofs.Stayed.{chosen-length, stays-at, stayed-assigns, link-image}
 use Rattle.merge_laws.proofs.Grown.{grown-linked, grown-acyclic}
 
@@ -48,6 +50,35 @@ absorbed t u list f g s x i =
       imagesA = own-images (recordsOf t) (recordsOf t) (λ k h. refl) (λ k h. refl);
       imagesB = i;
     })
+
+-- with nothing
+module _ (t : List ℕ) (f : Fit t) where
+  abbrev n : ℕ
+  n = programCount t
+
+  own-places : Images (recordsOf t) (recordsOf t) (itself t)
+  unfolding itself programCount
+  own-places = own-images (recordsOf t) (recordsOf t) (λ k h. refl) (λ k h. refl)
+
+  with-nothing : judgingMerge t [] t (itself t) [] ≡ merged
+  unfolding itself programCount
+  with-nothing =
+      accepted t [] t (itself t) [] (record { fitA = f; fitB = nothing-fit; fitMerged = f }) (record {
+        references = joins-nothing (sqList (recordsOf t));
+        lists = record { ofA = own-assigns n n (omega arith); ofB = nothing-assigns n; every = λ i h. inl (own-hits n i h) };
+        imagesA = own-places;
+        imagesB = nothing-images (recordsOf t);
+      })
+
+  nothing-with : judgingMerge [] t t [] (itself t) ≡ merged
+  unfolding itself programCount
+  nothing-with =
+      accepted [] t t [] (itself t) (record { fitA = nothing-fit; fitB = f; fitMerged = f }) (record {
+        references = nothing-joins (sqList (recordsOf t));
+        lists = record { ofA = nothing-assigns n; ofB = own-assigns n n (omega arith); every = λ i h. inr (own-hits n i h) };
+        imagesA = nothing-images (recordsOf t);
+        imagesB = own-places;
+      })
 
 module _ (t u : List ℕ) (f : Fit t) (e : records u ≡ yes (recordsOf u)) (s : sameSq t u) (b : bares 4 (recordsOf u) ≡ bares 4 (recordsOf t)) where
   same-links : links (programs (recordsOf u)) ≡ links (programs (recordsOf t))
@@ -91,6 +122,11 @@ unhit : (t u list : List ℕ) → Fit t → Fit u → sameSq t u → programCoun
 unfolding AllExactly JoinsTexts ListsTexts programCount sameSq
 unhit t u list f g s h =
     all-exactly t t u list list .number31 .1 (record { fitA = f; fitB = f; fitMerged = g }, joined t t t u (f .accepted) refl refl s, unhit-lists (programCount t) (programCount u) list h)
+
+unhit-nothing : (t u list : List ℕ) → Fit t → Fit u → sameSq t u → programCount t < programCount u → judgingMerge t [] u list [] ≡ unmerged 31
+unfolding AllExactly JoinsTexts ListsTexts programCount sameSq
+unhit-nothing t u list f g s h =
+    all-exactly t [] u list [] .number31 .1 (record { fitA = f; fitB = nothing-fit; fitMerged = g }, rw s (joins-nothing (sqList (recordsOf t))), unhit-alone (programCount t) (programCount u) list h)
 
 -- ---- programs added
 
@@ -168,10 +204,12 @@ unfolding sameSq
 rewritten =
     record {
       own = λ t f. equal t t f (f .accepted) refl refl;
+      withNothing = λ t f. (with-nothing t f, nothing-with t f);
       equal = equal;
       absorbed = absorbed;
       unlisted = unlisted;
       unhit = unhit;
+      unhitAlone = unhit-nothing;
       grown = grown;
       grownUnhit = λ t u list f l h. unhit t u list f (grown-fit t u f l) (l .references) h;
       pruned = pruned;

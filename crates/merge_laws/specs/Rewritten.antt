@@ -2,7 +2,7 @@
 use Prim.Native.Nat.{ℕ, _<_}
 use mathlib.Core.Path.{_≡_}
 use mathlib.Core.Bool.{Bool}
-use mathlib.Core.List.{List, _++_, map}
+use mathlib.Core.List.{List, [], _++_, map}
 use lib.ListN.{length}
 use Rattle.format.specs.Records.{Record}
 use Rattle.format.specs.Programs.{Link, root, dangling, child, programs, numbersFrom}
@@ -62,7 +62,9 @@ pub record Shorter (t u : List ℕ) (stays : ℕ → Bool) : Type 0 where
 pub record Rewritten : Type 0 where
   -- a header is a merge of itself with itself
   pub own : (t : List ℕ) → Fit t → judgingMerge t t t (itself t) (itself t) ≡ merged
-  -- and so is a text with equal references and programs, as a tidy text
+  -- and with the text of no bytes, on either side
+  pub withNothing : (t : List ℕ) → Fit t → (judgingMerge t [] t (itself t) [] ≡ merged) × (judgingMerge [] t t [] (itself t) ≡ merged)
+  -- a text with equal references and programs, as the tidy text, is a merge of a header with itself too
   pub equal : (t u : List ℕ) → Fit t → records u ≡ yes (recordsOf u) → sameSq t u → bares 4 (recordsOf u) ≡ bares 4 (recordsOf t)
       → judgingMerge t t u (itself t) (itself t) ≡ merged
   -- a header of which all programs have images in another one brings nothing new to it
@@ -73,6 +75,8 @@ pub record Rewritten : Type 0 where
       → (Hits listA i → ⊥) → (Hits listB i → ⊥) → judgingMerge a b m listA listB ≡ unmerged 31
   -- no list makes a header with more programs a merge of one header with itself: nobody hits one of them
   pub unhit : (t u list : List ℕ) → Fit t → Fit u → sameSq t u → programCount t < programCount u → judgingMerge t t u list list ≡ unmerged 31
+  -- nor of it with nothing
+  pub unhitAlone : (t u list : List ℕ) → Fit t → Fit u → sameSq t u → programCount t < programCount u → judgingMerge t [] u list [] ≡ unmerged 31
   -- a header with programs added is fit, and a merge of itself and the old one; of the old one with itself it is none
   pub grown : (t u : List ℕ) → Fit t → Longer t u → Fit u × (judgingMerge u t u (itself u) (itself t) ≡ merged)
   pub grownUnhit : (t u list : List ℕ) → Fit t → Longer t u → programCount t < programCount u → judgingMerge t t u list list ≡ unmerged 31
