@@ -24,6 +24,9 @@ extern "C" {
 #define SAM_HEADER_NUMBER(answer) ((unsigned)((uint64_t)(answer) >> 32 & 255))
 #define SAM_HEADER_LINE(answer) ((uint32_t)((uint64_t)(answer) & UINT32_MAX))
 
+/* Of judge_merge: which text a refusal is about, 1 for A, 2 for B, 3 for the merged one; 0 for 30, 31 and 32. */
+#define SAM_HEADER_ABOUT(answer) ((unsigned)((uint64_t)(answer) >> 48 & 255))
+
 /* The parts of an answer that is no refusal: of key and field, of leaves and leaves_by_table, and of carry_on. */
 #define SAM_HEADER_OFFSET(answer) ((uint32_t)((uint64_t)(answer) >> 32))
 #define SAM_HEADER_LENGTH(answer) ((uint32_t)((uint64_t)(answer) & UINT32_MAX))
@@ -62,7 +65,10 @@ enum {
     SAM_HEADER_BAD_GIVEN = 26,     /* add: prefix or fields */
     SAM_HEADER_LONG_LENGTH = 27,   /* LN of SQ: above 2,147,483,647, in 64 bits */
     SAM_HEADER_BAD_BINARY = 28,    /* binary_in: not the form of a binary header */
-    SAM_HEADER_OTHER_LIST = 29     /* binary_in: the reference list is not the text's SQ list */
+    SAM_HEADER_OTHER_LIST = 29,    /* binary_in: the reference list is not the text's SQ list */
+    SAM_HEADER_MERGED_SQ = 30,     /* judge_merge: the merged SQ list, or shared names with other lengths */
+    SAM_HEADER_MERGED_LISTS = 31,  /* judge_merge: the lists of ordinals */
+    SAM_HEADER_MERGED_IMAGE = 32   /* judge_merge: an image has other fields, or another parent */
 };
 
 /* Field's answer where the caller's stand-in takes the value's place: all ones. It has no number and no line. */
@@ -161,6 +167,19 @@ uint64_t sam_header_add(const uint8_t *text, size_t text_len, const uint8_t *cat
  * names no program and 23 for a cycle, also among programs that would go; then as tidy, 24 with the line of `text`. */
 uint64_t sam_header_prune(const uint8_t *text, size_t text_len, const uint8_t *catalogue, size_t catalogue_len, const uint32_t *used,
                           size_t used_len, uint8_t *out, size_t out_len);
+
+/* ---- over three texts */
+
+/* Judges a merge that another tool made: the headers A and B, the merged header, and two lists, which have for each program of A and for each of B the
+ * ordinal of its image, the program in the merged header that it became. 0 where the merge is accepted: all three texts are, with no PP that names no
+ * program and no cycle; the merged SQ list, by name and length, is A's followed by those of B whose name A lacks, and shared names have equal lengths;
+ * each list has one ordinal for each program, none of them too high and none twice; every merged program is in one of the lists; and an image has the same
+ * fields in the same order, but for ID and PP, and a PP exactly if its original has one, which then names the image of the original's parent. IDs, HD, RG
+ * and CO are not judged.
+ * Reading's refusals for A, B and the merged text, then 22 and 23 for A, for B and for the merged text, then 30, 31, 32: SAM_HEADER_ABOUT says which text
+ * it is. 22, 23, 30, 31 and 32 have line 0. list_a_len and list_b_len count numbers. */
+uint64_t sam_header_judge_merge(const uint8_t *a, size_t a_len, const uint8_t *b, size_t b_len, const uint8_t *merged, size_t merged_len,
+                                const uint32_t *list_a, size_t list_a_len, const uint32_t *list_b, size_t list_b_len);
 
 #ifdef __cplusplus
 }

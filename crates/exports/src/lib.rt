@@ -14,9 +14,11 @@ ghost use Rattle.parser.specs.Answers.{answerOf, outputOf, checkedOf};
 ghost use Rattle.calls.specs.Answers.{countOf, keyAnswerOf, lengthAnswerOf, lineAnswerOf, valuePlaceOf};
 ghost use Rattle.roots_and_leaves.specs.Answers.{leavesAnswerOf, listOf};
 ghost use Rattle.leaves_by_table.specs.Answers.{seatedAnswer, seatedLeaves, nodesLeft};
+ghost use Rattle.format.specs.Merge.{judgingMerge};
+ghost use Rattle.merge_judge.specs.Judged.{verdictOf};
 ghost use Rattle.binary.specs.Binary.{binaryOut, binaryIn};
 ghost use Rattle.words.specs.Words.{answerWord, checkedWord, carriedWord, leavesWord, keyWord, fieldWord, lengthWord, lineWord, lengthLeft};
-ghost use Rattle.words.specs.Words.{namesWord, namesLeft};
+ghost use Rattle.words.specs.Words.{namesWord, namesLeft, verdictWord};
 
 #[no_mangle]
 pub extern "C" fn sam_header_read(text: &[u8], catalogue: &mut [u8]) -> u64
@@ -213,4 +215,18 @@ pub extern "C" fn sam_header_names(
             n as u64
         }
     }
+}
+
+#[no_mangle]
+pub extern "C" fn sam_header_judge_merge(
+    a: &[u8],
+    b: &[u8],
+    merged: &[u8],
+    list_a: &[u32],
+    list_b: &[u32],
+) -> u64
+    ensures { λ r. ⌜ r ≡ verdictWord (verdictOf (judgingMerge (now (a .entry)) (now (b .entry)) (now (merged .entry))
+        (now («list_a» .entry)) (now («list_b» .entry)))) ⌝ }
+{
+    words::verdict_word(merge_judge::judge_merge(a, b, merged, list_a, list_b))
 }

@@ -224,12 +224,12 @@ no-value a b l (group p fs ∷ rs) = refl
 no-value a b l (program p fs ∷ rs) = refl
 no-value a b l (comment p ∷ rs) = refl
 
-last-none : (a b : ℕ) (fs : List Field) → any (tagged a b) fs ≡ false → lastOf a b fs ≡ none
+pub last-none : (a b : ℕ) (fs : List Field) → any (tagged a b) fs ≡ false → lastOf a b fs ≡ none
 unfolding any lastOf later
 last-none a b [] h = refl
 last-none a b (f ∷ fs) h = rw (or-left (tagged a b f) (any (tagged a b) fs) h, last-none a b fs (or-right (tagged a b f) (any (tagged a b) fs) h)) refl
 
-later-none : (o : Option Piece) → later none o ≡ o
+pub later-none : (o : Option Piece) → later none o ≡ o
 unfolding later
 later-none none = refl
 later-none (some p) = refl

@@ -14,6 +14,7 @@ use Rattle.entries.specs.declared.Place.{Place}
 use Rattle.id_search.specs.Places.{InsideText, bytesAt}
 use Rattle.id_search.specs.Search.{idOrdinalFrom}
 use Rattle.parents.specs.declared.Parents.{Parents}
+use Rattle.parents.specs.declared.Linked.{Linked}
 use Rattle.parents.specs.declared.Graph.{Graph}
 
 -- ---- parents
@@ -47,6 +48,11 @@ Somewhere n p = (p .at ≡ 4294967295 → ⊥) → InsideText n p
 unfoldable pub parentsOf : List Link → Parents
 unfolding inArray linkNumber any isDangling
 parentsOf ls = record { list = inArray (map linkNumber ls); count = length ls; dangling = any isDangling ls }
+
+-- 0, 22 or 23; and the parents
+unfoldable pub linkedOf : List Link → Linked
+unfolding tangled parentsOf
+linkedOf ls = record { refusal = tangled ls; parents = parentsOf ls }
 
 -- ---- leaves
 

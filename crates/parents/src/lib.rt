@@ -14,7 +14,7 @@ ghost use Rattle.accepted.specs.Read.{isAccepted, recordsOf};
 ghost use Rattle.entries.specs.Entries.{entriesIn};
 ghost use Rattle.programs.specs.Gathered.{notedIn, gatheredOf};
 ghost use Rattle.id_search.specs.Places.{idsAt, PlacesInText};
-ghost use Rattle.parents.specs.Parents.{Somewhere, parentOf, parentsOf, ordinalsOf, graphOf};
+ghost use Rattle.parents.specs.Parents.{Somewhere, parentOf, parentsOf, linkedOf, ordinalsOf, graphOf};
 
 // The parent of a program whose PP equals no ID: no ordinal, and not nobody.
 pub const STRANGER: u32 = 4294967294;
@@ -78,6 +78,38 @@ pub fn find_parents(text: &[u8], p: Programs) -> Parents
     }
 }
 
+// The parents, and 0, or 22 where a PP dangles, or 23 where there is a cycle.
+pub struct Linked {
+    pub refusal: u8,
+    pub parents: Parents,
+}
+
+// The parents of an accepted text's programs, and whether they are tangled.
+pub fn link_programs(text: &[u8], p: Programs) -> Linked
+    requires { ⌜ isAccepted (readText (now text)) ≡ true ⌝ }
+    requires { ⌜ p ≡ gatheredOf (notedIn (entriesIn (catalogue (recordsOf (now text))))) ⌝ }
+    ensures { λ r. ⌜ r ≡ linkedOf (links (programs (recordsOf (now (text .entry))))) ⌝ }
+{
+    let parents = find_parents(text, p);
+    if parents.dangling {
+        return Linked {
+            refusal: 22,
+            parents,
+        };
+    }
+    let list = parents.list;
+    if chain_walks::has_cycle(&list[..parents.count]) {
+        return Linked {
+            refusal: 23,
+            parents,
+        };
+    }
+    Linked {
+        refusal: 0,
+        parents,
+    }
+}
+
 // The road to the leaves: 0, or 22 or 23 with no leaves; the parents; and the leaves.
 pub struct Graph {
     pub refusal: u8,
@@ -104,16 +136,14 @@ pub fn find_leaves(text: &[u8], p: Programs) -> Graph
     requires { ⌜ p ≡ gatheredOf (notedIn (entriesIn (catalogue (recordsOf (now text))))) ⌝ }
     ensures { λ r. ⌜ r ≡ graphOf (links (programs (recordsOf (now (text .entry))))) ⌝ }
 {
-    let parents = find_parents(text, p);
-    if parents.dangling {
-        return refused(22, parents);
+    let linked = link_programs(text, p);
+    let refusal = linked.refusal;
+    let parents = linked.parents;
+    if refusal != 0 {
+        return refused(refusal, parents);
     }
     let list = parents.list;
-    let links = &list[..parents.count];
-    if chain_walks::has_cycle(links) {
-        return refused(23, parents);
-    }
-    let leaves = chains::leaves(links);
+    let leaves = chains::leaves(&list[..parents.count]);
     Graph {
         refusal: 0,
         parents,

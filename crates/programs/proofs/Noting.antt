@@ -43,7 +43,7 @@ program-first p l es = (refl, refl)
 abbrev pub Kept : (ProgramPlaces → ℕ) → List ProgramPlaces → List ℕ → Type 0
 Kept f ns xs = xs ≡ inArray (map f ns)
 
-map-snoc : {A B : Type 0} (f : A → B) (xs : List A) (x : A) → map f xs ++ (f x ∷ []) ≡ map f (xs ++ (x ∷ []))
+pub map-snoc : {A B : Type 0} (f : A → B) (xs : List A) (x : A) → map f xs ++ (f x ∷ []) ≡ map f (xs ++ (x ∷ []))
 map-snoc f [] x = refl
 map-snoc f (y ∷ xs) x = ap (λ zs. f y ∷ zs) (map-snoc f xs x)
 

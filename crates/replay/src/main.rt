@@ -10,6 +10,7 @@
 // and one more; their answers were written by hand from these documents. 188 are longer, and answered by a model written from these alone.
 // `names.txt`: questions to `names`, answered by a model written from document 02 alone.
 // `requests.txt`: questions to every call, answered by that model, request by request.
+// `merges.txt`: merges that samtools, picard and sambamba made of small headers, judged by a model written from document 02 alone (`oracle/merges`).
 //
 // Words are parted by one space; byte strings are in hex, `-` for none. A line is a call, its text, its catalogue (`=` for the one that
 // `parser::read` gives), its other arguments, and the answer:
@@ -37,7 +38,10 @@
 // digits for each number, the catalogue, which the check must then take, and refuse when its last byte is another, the binary header, and the
 // tidy text of a binary header. A line of the oracle has its text first; each such text is read, tidied, and asked for its roots and leaves. Of an
 // output that is lent every element is looked at: what is not the answer must be as it was. Where the field call's answer stands no program
-// can see: its contract says it.
+// can see: its contract says it. Over three texts and two lists:
+//     judge_merge A B MERGED LIST_A LIST_B ok
+// or `refused NUMBER LINE ABOUT` in place of `ok`: ABOUT is `A`, `B` or `M` for the text that it is about, or `-`; each number of a list has eight
+// hex digits.
 //
 // A line that starts with `!` holds a wrong answer, and the program must find it wrong: so it is seen that each comparison can fail. One that
 // starts with `#` is a note.
@@ -56,6 +60,7 @@ use replay_asked::LEAVES;
 use replay_asked::LENGTH;
 use replay_asked::LINE;
 use replay_asked::MARKED;
+use replay_asked::MERGED;
 use replay_asked::NAMES;
 use replay_asked::PROGRAM;
 use replay_asked::PRUNED;
@@ -143,6 +148,9 @@ fn is_sample(line: &[u8], asked: usize, text: &[u8]) -> bool {
 
 // Whether the library's answer is the one that stands in the line.
 fn is_right(line: &[u8], asked: usize) -> bool {
+    if asked == MERGED {
+        return replay_merged::is_merged(line);
+    }
     let mut text = io::large_buffer();
     if asked < PROGRAM {
         let n = stored_cases::decode(stored_cases::word(line, 1), &mut text);
@@ -257,7 +265,7 @@ fn replay(place: usize) {
         os::fail(&name[..n]);
         return;
     }
-    let mut tally: [u32; 24] = [0; 24];
+    let mut tally: [u32; 25] = [0; 25];
     all_blocks(fd, &mut tally);
     libc::close(fd);
     io::write_all(STDOUT_FILENO, &name[..n]);

@@ -52,6 +52,8 @@ pub const MARKED: usize = 22;
 
 pub const FOUND: usize = 23;
 
+pub const MERGED: usize = 24;
+
 // What a line asks: its first word is a call, or its second what the crate makes of the text.
 pub fn asked_by(line: &[u8]) -> usize {
     let call = stored_cases::word(line, 0);
@@ -87,6 +89,9 @@ pub fn asked_by(line: &[u8]) -> usize {
     }
     if text::same(call, b"prune") {
         return PRUNED;
+    }
+    if text::same(call, b"judge_merge") {
+        return MERGED;
     }
     written_by(line)
 }
@@ -155,7 +160,7 @@ fn print_count(name: &[u8], n: u32) {
 
 // Writes how many lines ask for something written.
 fn print_written(tally: &[u32])
-    requires { ⌜ length (now tally) ≡ 24 ⌝ }
+    requires { ⌜ length (now tally) ≡ 25 ⌝ }
 {
     print_count(b" add ", tally[ADDED]);
     print_count(b" names ", tally[NAMES]);
@@ -166,11 +171,12 @@ fn print_written(tally: &[u32])
     print_count(b" read ", tally[READ]);
     print_count(b" binary_out ", tally[BINARY_OUT]);
     print_count(b" binary_in ", tally[BINARY_IN]);
+    print_count(b" judge_merge ", tally[MERGED]);
 }
 
 // Writes how many lines ask each call.
 pub fn print_asked(tally: &[u32])
-    requires { ⌜ length (now tally) ≡ 24 ⌝ }
+    requires { ⌜ length (now tally) ≡ 25 ⌝ }
 {
     print_count(b" count ", tally[COUNT]);
     print_count(b" key ", tally[KEY]);
@@ -185,7 +191,7 @@ pub fn print_asked(tally: &[u32])
 
 // Writes how many texts the crate judged in each way, and how many lines ask nothing.
 pub fn print_judged(tally: &[u32])
-    requires { ⌜ length (now tally) ≡ 24 ⌝ }
+    requires { ⌜ length (now tally) ≡ 25 ⌝ }
 {
     print_count(b" refused ", tally[REFUSED]);
     print_count(b" accepted ", tally[ACCEPTED]);
@@ -195,7 +201,7 @@ pub fn print_judged(tally: &[u32])
 
 // Writes how many answers were wrong, and how many of the marked lines were found.
 pub fn print_found(tally: &[u32])
-    requires { ⌜ length (now tally) ≡ 24 ⌝ }
+    requires { ⌜ length (now tally) ≡ 25 ⌝ }
 {
     print_number(b" wrong ", tally[WRONG]);
     print_number(b", known wrong found ", tally[FOUND]);

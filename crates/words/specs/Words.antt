@@ -18,6 +18,10 @@ use Rattle.carry_on.specs.declared.Carried.{Carried}
 use Rattle.carry_on.specs.declared.Carried.the-variants as carried
 use Rattle.names.specs.declared.NamesAnswer.{NamesAnswer}
 use Rattle.names.specs.declared.NamesAnswer.the-variants as names
+use Rattle.merge_judge.specs.declared.Which.{Which}
+use Rattle.merge_judge.specs.declared.Which.the-variants as which
+use Rattle.merge_judge.specs.declared.Verdict.{Verdict}
+use Rattle.merge_judge.specs.declared.Verdict.the-variants as verdict
 
 unfoldable pub refusalWord : ℕ → ℕ → ℕ
 refusalWord n l = 2 ^ 63 + n * 2 ^ 32 + l
@@ -93,3 +97,21 @@ namesWord (names.Counted n looks) = n
 unfoldable pub namesLeft : NamesAnswer → ℕ → ℕ
 namesLeft (names.Refused n l) old = old
 namesLeft (names.Counted n looks) old = looks
+
+-- which of the three texts of a merge a refusal is about
+unfoldable pub aboutNumber : Which → ℕ
+aboutNumber which.A = 1
+aboutNumber which.B = 2
+aboutNumber which.Merged = 3
+
+-- a refusal of one of them: which it is about is shifted left by 48
+unfoldable pub unfitWord : Which → ℕ → ℕ → ℕ
+unfolding refusalWord aboutNumber
+unfitWord w n l = refusalWord n l + aboutNumber w * 2 ^ 48
+
+-- 0 for a merge that is accepted
+unfoldable pub verdictWord : Verdict → ℕ
+unfolding refusalWord unfitWord
+verdictWord verdict.Accepted = 0
+verdictWord (verdict.Unfit w n l) = unfitWord w n (l .0)
+verdictWord (verdict.Unmerged n) = refusalWord n 0

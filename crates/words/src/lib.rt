@@ -3,11 +3,14 @@ use calls::KeyAnswer;
 use calls::LineAnswer;
 use calls::ValuePlace;
 use format::LineNo;
+use merge_judge::Verdict;
+use merge_judge::Which;
 use parser::Checked;
 use parser::CountAnswer;
 use roots_and_leaves::LeavesAnswer;
 ghost use mathlib.Core.Path.{_≡_};
 ghost use Rattle.words.specs.Words.{refusalWord, answerWord, checkedWord, pairWord, keyWord, lineWord, fieldWord, FewLeaves, leavesWord};
+ghost use Rattle.words.specs.Words.{aboutNumber, unfitWord, verdictWord};
 
 // A refusal: bit 63, its number and its line.
 pub fn refusal_word(n: u8, line: LineNo) -> u64
@@ -81,5 +84,34 @@ pub fn field_word(place: ValuePlace) -> u64
     match place {
         ValuePlace::StandIn => 18446744073709551615, // all ones
         ValuePlace::At(at, len) => pair_word(at, len),
+    }
+}
+
+// Which of the three texts of a merge a refusal is about.
+pub fn about_number(which: Which) -> u64
+    ensures { λ r. ⌜ r ≡ aboutNumber which ⌝ }
+{
+    match which {
+        Which::A => 1,
+        Which::B => 2,
+        Which::Merged => 3,
+    }
+}
+
+// A refusal of one of the three texts of a merge: which it is about stands in bits 48 to 55.
+pub fn unfit_word(which: Which, n: u8, line: LineNo) -> u64
+    ensures { λ r. ⌜ r ≡ unfitWord which n (line .0) ⌝ }
+{
+    refusal_word(n, line) + about_number(which) * 281474976710656
+}
+
+// 0 for a merge that is accepted.
+pub fn verdict_word(verdict: Verdict) -> u64
+    ensures { λ r. ⌜ r ≡ verdictWord verdict ⌝ }
+{
+    match verdict {
+        Verdict::Accepted => 0,
+        Verdict::Unfit(which, n, line) => unfit_word(which, n, line),
+        Verdict::Unmerged(n) => refusal_word(n, LineNo(0)),
     }
 }

@@ -19,6 +19,7 @@ unsafe extern "C" {
     fn sam_header_leaves_by_table(
         text: *const u8, text_len: usize, catalogue: *const u8, catalogue_len: usize, table: *mut Node, table_len: usize, out: *mut u32, out_len: usize,
     ) -> u64;
+    fn sam_header_judge_merge(a: *const u8, a_len: usize, b: *const u8, b_len: usize, merged: *const u8, merged_len: usize, list_a: *const u32, list_a_len: usize, list_b: *const u32, list_b_len: usize) -> u64;
 }
 
 /// A refusal: its number (docs/REFUSALS.md) and its line.
@@ -95,6 +96,49 @@ pub fn binary_in(bytes: &[u8]) -> Result<Vec<u8>, Refusal> {
     let n = answer(unsafe { sam_header_binary_in(bytes.as_ptr(), bytes.len(), out.as_mut_ptr(), out.len()) })?;
     out.truncate(n as usize);
     Ok(out)
+}
+
+/// The texts of a merge.
+#[derive(Clone, Copy, Debug, Eq, PartialEq)]
+pub enum Which {
+    A,
+    B,
+    Merged,
+}
+
+/// Why a merge is refused: one of its texts is, or they do not go together (30, 31 or 32).
+#[derive(Clone, Copy, Debug, Eq, PartialEq)]
+pub enum Unmerged {
+    Text(Which, Refusal),
+    Together(u8),
+}
+
+/// Whether another tool's merge of the headers A and B is a good one. The lists have for each program of A and for each of B its ordinal in
+/// the merged header.
+pub fn judge_merge(a: &[u8], b: &[u8], merged: &[u8], list_a: &[u32], list_b: &[u32]) -> Result<(), Unmerged> {
+    let (m, k, n) = (merged, list_a, list_b);
+    let word = unsafe {
+        sam_header_judge_merge(
+            a.as_ptr(),
+            a.len(),
+            b.as_ptr(),
+            b.len(),
+            m.as_ptr(),
+            m.len(),
+            k.as_ptr(),
+            k.len(),
+            n.as_ptr(),
+            n.len(),
+        )
+    };
+    let Err(refusal) = answer(word) else { return Ok(()) };
+    let which = match (word >> 48) as u8 {
+        1 => Which::A,
+        2 => Which::B,
+        3 => Which::Merged,
+        _ => return Err(Unmerged::Together(refusal.number)),
+    };
+    Err(Unmerged::Text(which, refusal))
 }
 
 /// A text that reading accepts, and its catalogue.
@@ -259,6 +303,25 @@ mod tests {
         assert_eq!(header.prune(&[0, 2]), Err(Refusal { number: 25, line: 0 }));
         let dangling = Header::read(b"@PG\tID:a\tPP:nobody\n@PG\tID:b\n").unwrap();
         assert_eq!(dangling.prune(&[1]), Err(Refusal { number: 22, line: 0 }));
+    }
+
+    #[test]
+    fn a_merge_made_elsewhere() {
+        let a = b"@SQ\tSN:chr1\tLN:8\n@PG\tID:bwa\n@PG\tID:sort\tPP:bwa\n";
+        let b = b"@SQ\tSN:chr2\tLN:9\n@PG\tID:bwa\tVN:2\n";
+        let merged = b"@SQ\tSN:chr1\tLN:8\n@SQ\tSN:chr2\tLN:9\n@PG\tID:bwa\n@PG\tID:bwa-2\tVN:2\n@PG\tID:sort\tPP:bwa\n";
+        assert_eq!(judge_merge(a, b, merged, &[0, 2], &[1]), Ok(()));
+        assert_eq!(judge_merge(a, b, merged, &[0, 2], &[0]), Err(Unmerged::Together(31)));
+        assert_eq!(judge_merge(a, b, merged, &[1, 2], &[0]), Err(Unmerged::Together(32)));
+        assert_eq!(judge_merge(b, a, merged, &[1], &[0, 2]), Err(Unmerged::Together(30)));
+        assert_eq!(
+            judge_merge(a, b"@SQ\tSN:chr2\tLN:0\n", merged, &[0, 2], &[1]),
+            Err(Unmerged::Text(Which::B, Refusal { number: 13, line: 0 }))
+        );
+        assert_eq!(
+            judge_merge(a, b, b"@PG\tID:a\tPP:b\n", &[0, 2], &[1]),
+            Err(Unmerged::Text(Which::Merged, Refusal { number: 22, line: 0 }))
+        );
     }
 
     #[test]

@@ -7,6 +7,7 @@
 //! bench carry_on [--rounds N]          the fourth table (`carried.rs`), where the archive has the call
 //! bench leaves_by_table [--rounds N]   the fifth table (`table.rs`), where the archive has the call
 //! bench prune [--rounds N]             the sixth table (`pruned.rs`), where the archive has the call
+//! bench judge_merge [--rounds N]       the seventh table (`merged.rs`), where the archive has the call
 //!
 //! FOLDER has real headers, `*.sam` (default ../shared/headers beside the repository).
 //!
@@ -35,6 +36,8 @@
 mod calls;
 #[cfg(feature = "carry_on")]
 mod carried;
+#[cfg(feature = "judge_merge")]
+mod merged;
 #[cfg(feature = "names")]
 mod names;
 #[cfg(feature = "prune")]
@@ -162,14 +165,15 @@ fn main() -> ExitCode {
     let args: Vec<String> = std::env::args().skip(1).collect();
     let args: Vec<&str> = args.iter().map(String::as_str).collect();
     let (call, args) = match args[..] {
-        [call @ ("names" | "carry_on" | "leaves_by_table" | "prune"), ref rest @ ..] => (call, rest),
+        [call @ ("names" | "carry_on" | "leaves_by_table" | "prune" | "judge_merge"), ref rest @ ..] => (call, rest),
         _ => ("", &args[..]),
     };
     let (rounds, folder) = match *args {
         _ if call == "names" && !cfg!(feature = "names")
             || call == "carry_on" && !cfg!(feature = "carry_on")
             || call == "leaves_by_table" && !cfg!(feature = "table")
-            || call == "prune" && !cfg!(feature = "prune") =>
+            || call == "prune" && !cfg!(feature = "prune")
+            || call == "judge_merge" && !cfg!(feature = "judge_merge") =>
         {
             eprintln!("the archive has no sam_header_{call}");
             return ExitCode::from(2);
@@ -207,6 +211,11 @@ fn main() -> ExitCode {
     #[cfg(feature = "prune")]
     if call == "prune" {
         pruned::table(rounds);
+        return ExitCode::SUCCESS;
+    }
+    #[cfg(feature = "judge_merge")]
+    if call == "judge_merge" {
+        merged::table(rounds);
         return ExitCode::SUCCESS;
     }
     print!("{:<27}{:>10}", "library/crate", "bytes");

@@ -13,6 +13,8 @@ mod check;
 #[cfg(feature = "add")]
 mod grown;
 mod known;
+#[cfg(feature = "judge_merge")]
+mod merged;
 #[cfg(feature = "prune")]
 mod pruned;
 mod reduce;
@@ -26,8 +28,9 @@ use check::{Case, Checker, Difference};
 use known::Kind;
 use oracle::inputs::{self, Rng, in_domain};
 
-const PHASES: [&str; 12] =
-    ["corners", "tokens", "fields", "bytes", "graphs", "random", "damaged", "programs", "boundaries", "keys", "names", "skipped"];
+const PHASES: [&str; 13] = [
+    "corners", "tokens", "fields", "bytes", "graphs", "random", "damaged", "programs", "boundaries", "keys", "names", "skipped", "merged",
+];
 
 /// Unlisted differences that are printed; the run ends at the last of them.
 const MOST: usize = 8;
@@ -40,6 +43,8 @@ struct Run {
     known: BTreeMap<Kind, (u64, Case)>,
     unlisted: Vec<(Case, Difference)>,
     unlisted_count: u64,
+    #[cfg(feature = "judge_merge")]
+    merges: merged::Tally,
     trace: bool,
 }
 
@@ -153,6 +158,17 @@ impl Run {
         self.unlisted.push((small, e));
     }
 
+    #[cfg(feature = "judge_merge")]
+    fn merge(&mut self, merge: &merged::Merge) {
+        self.texts += 3;
+        if let Some(what) = self.merges.compare(merge) {
+            self.unlisted_count += 1;
+            if self.unlisted_count <= MOST as u64 {
+                println!("UNLISTED judge_merge: {}", clipped(&what));
+            }
+        }
+    }
+
     fn phase(&mut self, phase: &str, rng: &mut Rng, scale: usize) {
         match phase {
             "corners" => {
@@ -264,6 +280,14 @@ impl Run {
                 }
             }
             "skipped" => {}
+            #[cfg(feature = "judge_merge")]
+            "merged" => {
+                for _ in 0..200_000 * scale {
+                    self.merge(&merged::by_chance(rng));
+                }
+            }
+            #[cfg(not(feature = "judge_merge"))]
+            "merged" => {}
             _ => unreachable!(),
         }
     }
@@ -319,6 +343,7 @@ fn main() -> ExitCode {
         ("names", cfg!(feature = "names")),
         ("carry_on", cfg!(feature = "carry_on")),
         ("binary", cfg!(feature = "binary")),
+        ("judge_merge", cfg!(feature = "judge_merge")),
     ]
     .iter()
     .filter_map(|&(name, there)| there.then_some(name))
@@ -336,6 +361,8 @@ fn main() -> ExitCode {
         known: BTreeMap::new(),
         unlisted: Vec::new(),
         unlisted_count: 0,
+        #[cfg(feature = "judge_merge")]
+        merges: merged::Tally::default(),
         trace,
     };
     let began = Instant::now();
@@ -350,6 +377,8 @@ fn main() -> ExitCode {
     println!("\n{} texts, {} of them in the domain, {:.0} s.", run.texts, run.inside, began.elapsed().as_secs_f64());
     println!("{} more in the domain but for a tag repeated without a version.", run.repeating);
     print!("{}", run.checker.tally);
+    #[cfg(feature = "judge_merge")]
+    print!("{}", run.merges);
     println!("\nKnown kinds of difference, with the smallest input:");
     for (kind, meaning) in known::ALL {
         if let Some((n, smallest)) = run.known.get(&kind).cloned() {

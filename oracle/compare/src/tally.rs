@@ -24,7 +24,7 @@ pub enum Call {
     BinaryIn,
 }
 
-const CALLS: [Call; 16] = [
+const CALLS: [Call; 17] = [
     Call::Read,
     Call::Check,
     Call::Tidy,

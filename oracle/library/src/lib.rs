@@ -147,6 +147,22 @@ unsafe extern "C" {
     fn sam_header_binary_in(bytes: *const u8, bytes_len: usize, out: *mut u8, out_len: usize) -> u64;
 }
 
+#[cfg(feature = "judge_merge")]
+unsafe extern "C" {
+    fn sam_header_judge_merge(
+        a: *const u8,
+        a_len: usize,
+        b: *const u8,
+        b_len: usize,
+        merged: *const u8,
+        merged_len: usize,
+        list_a: *const u32,
+        list_a_len: usize,
+        list_b: *const u32,
+        list_b_len: usize,
+    ) -> u64;
+}
+
 /// A refusal: its number and its line.
 #[derive(Clone, Copy, Debug, Eq, PartialEq)]
 pub struct Refusal {
@@ -310,6 +326,33 @@ pub fn binary_out(text: &[u8], out: &mut [u8]) -> Answer {
 #[cfg(feature = "binary")]
 pub fn binary_in(bytes: &[u8], out: &mut [u8]) -> Answer {
     answer(unsafe { sam_header_binary_in(bytes.as_ptr(), bytes.len(), out.as_mut_ptr(), out.len()) })
+}
+
+/// A refusal comes with which text it is about: 1 for A, 2 for B, 3 for the merged one, 0 for none.
+#[cfg(feature = "judge_merge")]
+pub fn judge_merge(a: &[u8], b: &[u8], merged: &[u8], list_a: &[u32], list_b: &[u32]) -> Result<(), (Refusal, u32)> {
+    let word = unsafe {
+        sam_header_judge_merge(
+            a.as_ptr(),
+            a.len(),
+            b.as_ptr(),
+            b.len(),
+            merged.as_ptr(),
+            merged.len(),
+            list_a.as_ptr(),
+            list_a.len(),
+            list_b.as_ptr(),
+            list_b.len(),
+        )
+    };
+    let about = (word >> 48) as u32 & 0x7fff;
+    match answer(word & !(0xff << 48)) {
+        Ok(n) => {
+            assert_eq!(n, 0, "an accepted merge is 0");
+            Ok(())
+        }
+        Err(refusal) => Err((refusal, about)),
+    }
 }
 
 /// What an output may hold.

@@ -1,0 +1,3 @@
+-- The fields of a PG line that an image keeps:
+--   Kept   from a place of the line on, and what the next of them tells
+pub mod Kept

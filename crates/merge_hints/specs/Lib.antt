@@ -1,0 +1,3 @@
+-- References in slots:
+--   Hints   which reference a slot tells, and what its mark means
+pub mod Hints

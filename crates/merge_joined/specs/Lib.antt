@@ -1,0 +1,3 @@
+-- How far B and the merged list are passed:
+--   Passing   what a turn leaves
+pub mod Passing

@@ -1,0 +1,272 @@
+// The SQ lists of a merge compared: A's is the front of the merged list, and each reference of B is the next of the merged list or one of A's. Merging
+// tools keep the order, so that a reference of B that A has is looked for behind the one that was found before it. From the first that is not found there
+// on, B goes in blocks: the references of a block are in slots, and a walk over A marks those that A has.
+use merge_references::Met;
+use sq_list::NextReference;
+ghost use mathlib.Core.Path.{_≡_};
+ghost use mathlib.Core.Bool.{true, false};
+ghost use Prim.Native.Nat.{_≤_, _<_};
+ghost use lib.ListN.{length};
+ghost use Rattle.format.specs.Merge.{isJoined};
+ghost use Rattle.sq_list.specs.Next.{sqFrom};
+ghost use Rattle.merge_references.specs.Joining.{Apart, From};
+ghost use Rattle.merge_hints.specs.Hints.{Marked};
+ghost use Rattle.merge_joined.specs.Passing.{Readable, Ahead, Reached, Passed, IsNext};
+
+// What each of the three texts says of repeated tags.
+pub struct Rules {
+    pub a: bool,
+    pub b: bool,
+    pub merged: bool,
+}
+
+// Where B goes on and what the merged list has next, whether all is well so far, and whether B has more.
+struct Left {
+    good: bool,
+    more: bool,
+    at: usize,
+    ahead: NextReference,
+}
+
+// What is left after the next reference of B, where that is settled: B has none, or it is the next of the merged list too. Else the reference.
+struct Turn {
+    settled: bool,
+    left: Left,
+    q: NextReference,
+}
+
+// Passes the next reference of B if it is the next of the merged list.
+fn pass_new(b: &[u8], m: &[u8], of: Rules, left: Left) -> Turn
+    requires { ⌜ (length (now b) ≤ 16777216) × (left .at ≤ length (now b)) ⌝ }
+    requires { ⌜ (length (now m) ≤ 16777216) × Ahead (now m) (left .ahead) ⌝ }
+    requires { ⌜ Apart (sqFrom (of .merged) (now m) 0) ⌝ }
+    ensures { λ x. ⌜ IsNext (of .b) (now (b .entry)) (of .merged) (now (m .entry)) left x ⌝ }
+{
+    let q = sq_list::next_reference(b, of.b, left.at);
+    let n = left.ahead;
+    if !q.found {
+        let spent = Left {
+            good: true,
+            more: false,
+            at: left.at,
+            ahead: n,
+        };
+        return Turn {
+            settled: true,
+            left: spent,
+            q,
+        };
+    }
+    if n.found {
+        if merge_references::same_name(b, q, m, n) {
+            let ahead = sq_list::next_reference(m, of.merged, n.next);
+            let good = n.length == q.length;
+            let passed = Left {
+                good,
+                more: good,
+                at: q.next,
+                ahead,
+            };
+            return Turn {
+                settled: true,
+                left: passed,
+                q,
+            };
+        }
+    }
+    Turn {
+        settled: false,
+        left,
+        q,
+    }
+}
+
+// What is left after a reference of B that A has with the same length.
+fn pass_known(left: Left, q: NextReference) -> Left
+    ensures { λ x. ⌜ x ≡ record { good = true; more = true; at = q .next; ahead = left .ahead } ⌝ }
+{
+    let ahead = left.ahead;
+    Left {
+        good: true,
+        more: true,
+        at: q.next,
+        ahead,
+    }
+}
+
+// What is left after one that is neither in the merged list, where it belongs, nor among A's with that length.
+fn pass_bad(left: Left, q: NextReference) -> Left
+    ensures { λ x. ⌜ x ≡ record { good = false; more = false; at = q .next; ahead = left .ahead } ⌝ }
+{
+    let ahead = left.ahead;
+    Left {
+        good: false,
+        more: false,
+        at: q.next,
+        ahead,
+    }
+}
+
+// What is left after the next reference of B, and where A goes on behind the one that it is; `near` is false where A has it not from the cursor on.
+struct Near {
+    near: bool,
+    left: Left,
+    cursor: usize,
+}
+
+// Passes the next reference of B if it is the next of the merged list, or one of A's from the cursor on.
+fn pass_near(a: &[u8], b: &[u8], m: &[u8], of: Rules, left: Left, cursor: usize) -> Near
+    requires { ⌜ Readable of (now a) (now b) (now m) ⌝ }
+    requires { ⌜ Reached (sqFrom (of .a) (now a) 0) (now b) (of .merged) (now m) left ⌝ }
+    requires { ⌜ From (of .a) (now a) cursor ⌝ }
+    ensures passed { λ x. ⌜ (x .near ≡ true → Passed
+        (sqFrom (of .a) (now (a .entry)) 0) (of .b) (now (b .entry)) (of .merged) (now (m .entry)) left (x .left)) ⌝ }
+    ensures ahead { λ x. ⌜ (x .near ≡ true → x .left .more ≡ true → left .at < x .left .at) ⌝ }
+    ensures behind { λ x. ⌜ From (of .a) (now (a .entry)) (x .cursor) ⌝ }
+{
+    let turn = pass_new(b, m, of, left);
+    let passed = turn.left;
+    if turn.settled {
+        return Near {
+            near: true,
+            left: passed,
+            cursor,
+        };
+    }
+    let q = turn.q;
+    let look = merge_references::look_from(a, of.a, cursor, b, q);
+    let met = look.met;
+    let known = pass_known(left, q);
+    let bad = pass_bad(left, q);
+    match met {
+        Met::Nothing => Near {
+            near: false,
+            left,
+            cursor,
+        },
+        Met::Same => Near {
+            near: true,
+            left: known,
+            cursor: look.next,
+        },
+        Met::Other => Near {
+            near: true,
+            left: bad,
+            cursor,
+        },
+    }
+}
+
+// Passes the references of B, as long as each is the next of the merged list or comes in A behind those that were found before.
+fn pass_ordered(a: &[u8], b: &[u8], m: &[u8], of: Rules, from: Left) -> Left
+    requires { ⌜ Readable of (now a) (now b) (now m) ⌝ }
+    requires { ⌜ Reached (sqFrom (of .a) (now a) 0) (now b) (of .merged) (now m) from ⌝ }
+    requires { ⌜ (from .good ≡ true) × (from .more ≡ true) ⌝ }
+    ensures { λ x. ⌜ Passed (sqFrom (of .a) (now (a .entry)) 0) (of .b) (now (b .entry)) (of .merged) (now (m .entry)) from x ⌝ }
+{
+    let mut left = from;
+    let mut cursor: usize = 0;
+    while left.more {
+        let turn = pass_near(a, b, m, of, left, cursor);
+        if !turn.near {
+            return left;
+        }
+        let passed = turn.left;
+        left = passed;
+        cursor = turn.cursor;
+    }
+    left
+}
+
+// Passes the next reference of B if it is the next of the merged list, or one of A's: a mark tells, or a look at all of A.
+fn pass_marked(a: &[u8], b: &[u8], m: &[u8], of: Rules, left: Left, area: &[u32]) -> Left
+    requires { ⌜ Readable of (now a) (now b) (now m) ⌝ }
+    requires { ⌜ Reached (sqFrom (of .a) (now a) 0) (now b) (of .merged) (now m) left ⌝ }
+    requires { ⌜ (0 < length (now area)) × Marked (of .b) (now b) (sqFrom (of .a) (now a) 0) (now area) ⌝ }
+    ensures passed { λ x. ⌜ Passed (sqFrom (of .a) (now (a .entry)) 0) (of .b) (now (b .entry)) (of .merged) (now (m .entry)) left x ⌝ }
+    ensures ahead { λ x. ⌜ (x .more ≡ true → left .at < x .at) ⌝ }
+{
+    let turn = pass_new(b, m, of, left);
+    let passed = turn.left;
+    if turn.settled {
+        return passed;
+    }
+    let q = turn.q;
+    if merge_hints::is_marked(area, b, left.at, q) {
+        return pass_known(left, q);
+    }
+    let look = merge_references::look_from(a, of.a, 0, b, q);
+    let met = look.met;
+    match met {
+        Met::Nothing => pass_bad(left, q),
+        Met::Same => pass_known(left, q),
+        Met::Other => pass_bad(left, q),
+    }
+}
+
+// Passes as many references of B as the slots were filled with, three for each four.
+fn pass_slots(a: &[u8], b: &[u8], m: &[u8], of: Rules, from: Left, area: &[u32]) -> Left
+    requires { ⌜ Readable of (now a) (now b) (now m) ⌝ }
+    requires { ⌜ Reached (sqFrom (of .a) (now a) 0) (now b) (of .merged) (now m) from ⌝ }
+    requires { ⌜ (from .good ≡ true) × (from .more ≡ true) ⌝ }
+    requires { ⌜ (4 ≤ length (now area)) × Marked (of .b) (now b) (sqFrom (of .a) (now a) 0) (now area) ⌝ }
+    ensures passed { λ x. ⌜ Passed (sqFrom (of .a) (now (a .entry)) 0) (of .b) (now (b .entry)) (of .merged) (now (m .entry)) from x ⌝ }
+    ensures ahead { λ x. ⌜ (x .more ≡ true → from .at < x .at) ⌝ }
+{
+    let mut left = from;
+    let mut room = area.len() / 4 * 3;
+    while left.more {
+        if room == 0 {
+            return left;
+        }
+        left = pass_marked(a, b, m, of, left, area);
+        room -= 1;
+    }
+    left
+}
+
+// Passes a block of B's references.
+fn pass_block(a: &[u8], b: &[u8], m: &[u8], of: Rules, from: Left) -> Left
+    requires { ⌜ Readable of (now a) (now b) (now m) ⌝ }
+    requires { ⌜ Reached (sqFrom (of .a) (now a) 0) (now b) (of .merged) (now m) from ⌝ }
+    requires { ⌜ (from .good ≡ true) × (from .more ≡ true) ⌝ }
+    ensures passed { λ x. ⌜ Passed (sqFrom (of .a) (now (a .entry)) 0) (of .b) (now (b .entry)) (of .merged) (now (m .entry)) from x ⌝ }
+    ensures ahead { λ x. ⌜ (x .more ≡ true → from .at < x .at) ⌝ }
+{
+    let mut area = [0u32; 131072];
+    merge_hints::enter_block(b, of.b, from.at, &mut area);
+    merge_hints::mark_all(a, of.a, b, of.b, &mut area);
+    pass_slots(a, b, m, of, from, &area)
+}
+
+// Whether the merged SQ list is A's, followed by those of B whose name A lacks, and shared names have equal lengths. No name stands twice
+// among A's, and none among the merged ones.
+pub fn is_joined(a: &[u8], b: &[u8], m: &[u8], of: Rules) -> bool
+    requires { ⌜ Readable of (now a) (now b) (now m) ⌝ }
+    ensures { λ x. ⌜ x ≡ isJoined (sqFrom (of .a) (now (a .entry)) 0) (sqFrom (of .b) (now (b .entry)) 0) (sqFrom (of .merged) (now (m .entry)) 0) ⌝ }
+{
+    let front = merge_references::pass_front(a, of.a, m, of.merged);
+    if !front.good {
+        return false;
+    }
+    let ahead = sq_list::next_reference(m, of.merged, front.next);
+    let start = Left {
+        good: true,
+        more: true,
+        at: 0,
+        ahead,
+    };
+    let mut left = pass_ordered(a, b, m, of, start);
+    // The first block before the loop: called from two places, `pass_block` keeps its slots in a frame of its own, and no text is judged below it.
+    if left.more {
+        left = pass_block(a, b, m, of, left);
+    }
+    while left.more {
+        left = pass_block(a, b, m, of, left);
+    }
+    if !left.good {
+        return false;
+    }
+    let end = left.ahead;
+    !end.found
+}

@@ -1,0 +1,3 @@
+-- The call that judges a merge:
+--   Judged   its answer as the code gives it, and the definition's steps
+pub mod Judged

@@ -1,0 +1,16 @@
+pub mod Members
+pub mod Joins
+pub mod Lists
+pub mod Links
+pub mod Images
+pub mod Chains
+pub mod Exactly
+pub mod Means
+pub mod Own
+pub mod Short
+pub mod Nothing
+pub mod Grown
+pub mod Fields
+pub mod Stayed
+pub mod Rewritten
+pub mod Example

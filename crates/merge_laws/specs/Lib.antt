@@ -1,0 +1,5 @@
+pub mod Fit
+pub mod IsMerge
+pub mod Exactly
+pub mod Means
+pub mod Rewritten

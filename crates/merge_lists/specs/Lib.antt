@@ -1,0 +1,3 @@
+-- The ordinals of a list, marked:
+--   Marks   which are met, and whether one comes again
+pub mod Marks

@@ -1,0 +1,65 @@
+-- The PG lines of a text from an offset on, what the next of them tells, and what is noted of each.
+use Prim.Native.Nat.{ℕ, _+_, _≤_, _<_}
+use mathlib.Core.Path.{_≡_}
+use mathlib.Core.Bool.{Bool, true, cond}
+use mathlib.Core.List.{List, [], _∷_, map}
+use lib.ListN.{length, take, drop, getD}
+use lib.Dec.{eqb}
+use Rattle.format.specs.Lines.{Piece, linesFrom}
+use Rattle.chains.specs.Parents.{inArray}
+use Rattle.entries.specs.declared.Place.{Place}
+use Rattle.id_search.specs.Places.{nowhere}
+use Rattle.other_fields.specs.declared.Value.{Value}
+use Rattle.other_fields.specs.Next.{lastIn}
+use Rattle.programs.specs.declared.Places.{Places}
+use Rattle.programs.specs.Gathered.{ProgramPlaces}
+use Rattle.program_lines.specs.declared.NextLine.{NextLine}
+
+-- is the second byte of a line `P`?
+unfoldable pub mayBeProgram : List ℕ → Bool
+mayBeProgram s = eqb (getD s 1 0) 80
+
+-- those of some lines
+unfoldable pub programLines : List Piece → List Piece
+unfolding mayBeProgram
+programLines [] = []
+programLines (p ∷ ps) = cond (mayBeProgram (p .bytes)) (p ∷ programLines ps) (programLines ps)
+
+-- those of the lines from the offset `at` of the text `t` on
+abbrev pub pgFrom : List ℕ → ℕ → List Piece
+pgFrom t at = programLines (linesFrom at (drop at t))
+
+-- the line that an answer tells
+unfoldable pub toldLine : List ℕ → NextLine → Piece
+toldLine t r = record { at = r .at; bytes = take (r .len) (drop (r .at) t) }
+
+-- the lines that an answer tells: its own and those behind it, or that none is left
+unfoldable pub toldLines : List ℕ → NextLine → List Piece
+unfolding toldLine programLines
+toldLines t r = cond (r .found) (toldLine t r ∷ pgFrom t (r .next)) []
+
+-- where an answer's line and the next stand in the text
+pub record NextLineInText (t : List ℕ) (start : ℕ) (r : NextLine) : Type 0 where
+  pub line : r .at + r .len ≤ length t
+  pub onward : r .found ≡ true → start < r .next
+  pub within : r .next ≤ length t
+
+-- ---- what is noted
+
+unfoldable pub placeOf : Value → Place
+placeOf v = record { at = v .at; len = v .len }
+
+-- no value stands at the offset 0
+unfoldable pub previousOf : Value → Place
+unfolding nowhere placeOf
+previousOf v = cond (eqb (v .at) 0) nowhere (placeOf v)
+
+-- of a line: its ID and its PP
+unfoldable pub notesOf : Piece → ProgramPlaces
+unfolding placeOf previousOf lastIn
+notesOf p = record { id = placeOf (lastIn (p .at) (p .bytes) 73 68); previous = previousOf (lastIn (p .at) (p .bytes) 80 80) }
+
+-- where the lines stand, in arrays
+unfoldable pub linesOf : List Piece → Places
+unfolding inArray
+linesOf ps = record { at = inArray (map (λ p. p .at) ps); len = inArray (map (λ p. length (p .bytes)) ps) }

@@ -1,0 +1,5 @@
+-- The programs of a text, by its lines:
+--   Found   the PG lines from an offset on, what the next of them tells, and what is noted of each
+--   Line    an accepted line of fields
+pub mod Found
+pub mod Line
