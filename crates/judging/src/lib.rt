@@ -14,6 +14,11 @@ ghost use Rattle.key_index.specs.Told.{start};
 ghost use Rattle.judging.specs.Blocks.{clashOf, turned, emptied};
 ghost use Rattle.judging.specs.Judged.{judgedOf};
 
+// Texts of at most so many bytes are judged with a small area, and with one of 24 KiB.
+pub const SHORT: usize = 8192;
+
+pub const MIDDLE: usize = 262144;
+
 // The first refusal and its line, or how many bytes the catalogue has.
 pub enum Judged {
     Refused(u8, LineNo),
@@ -141,22 +146,27 @@ fn judge_short(text: &[u8], strict: bool) -> Judged
     judge_indexed(text, strict, &mut area)
 }
 
-// A text of some thousand lines, in blocks of 6,144.
+// A text of some thousand lines, in blocks of 4,608.
 fn judge_middle(text: &[u8], strict: bool) -> Judged
     requires { ⌜ length (now text) ≤ 16777216 ⌝ }
     ensures { λ r. ⌜ r ≡ judgedOf (readFrom strict 0 [] (lines (now (text .entry)))) ⌝ }
 {
-    let mut area = [0u32; 8192];
+    let mut area = [0u32; 6144];
     judge_indexed(text, strict, &mut area)
 }
 
-// Any text, in blocks of 147,456 lines.
-fn judge_long(text: &[u8], strict: bool) -> Judged
+// Any text, in blocks of 147,456 lines, and `more` times again. Nobody asks for more than once: a function that calls itself is compiled by
+// itself, so that its 768 KiB are on the stack only while it runs, and not in the frames of its callers, which serve short texts too.
+fn judge_long(text: &[u8], strict: bool, more: usize) -> Judged
     requires { ⌜ length (now text) ≤ 16777216 ⌝ }
     ensures { λ r. ⌜ r ≡ judgedOf (readFrom strict 0 [] (lines (now (text .entry)))) ⌝ }
 {
     let mut area = [0u32; 196608];
-    judge_indexed(text, strict, &mut area)
+    let judged = judge_indexed(text, strict, &mut area);
+    if 0 < more {
+        return judge_long(text, strict, more - 1);
+    }
+    judged
 }
 
 // The lines of a text: the first refusal, or the size of the text's catalogue.
@@ -164,13 +174,13 @@ fn judge_lines(text: &[u8], strict: bool) -> Judged
     requires { ⌜ length (now text) ≤ 16777216 ⌝ }
     ensures { λ r. ⌜ r ≡ judgedOf (readFrom strict 0 [] (lines (now (text .entry)))) ⌝ }
 {
-    if text.len() <= 8192 {
+    if text.len() <= SHORT {
         return judge_short(text, strict);
     }
-    if text.len() <= 262144 {
+    if text.len() <= MIDDLE {
         return judge_middle(text, strict);
     }
-    judge_long(text, strict)
+    judge_long(text, strict, text.len() / (format::LONGEST + 1))
 }
 
 // What any bytes are: 1 where they are too many, the first refusal of their lines, or the size of their catalogue.
