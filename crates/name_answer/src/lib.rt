@@ -75,5 +75,13 @@ pub fn answer(
         let mut notes = [0u32; 4096];
         return answer_noting(text, kept, m, list, slots, out, &mut notes);
     }
-    answer_long(text, kept, m, list, slots, out, text.len() / (format::LONGEST + 1))
+    answer_long(
+        text,
+        kept,
+        m,
+        list,
+        slots,
+        out,
+        text.len() / (format::LONGEST + 1),
+    )
 }
