@@ -20,10 +20,12 @@
 //     field TEXT KEPT KIND ORDINAL TAG STAND-IN BYTES
 //     roots TEXT KEPT ROOM ok ORDINALS
 //     leaves TEXT KEPT ROOM ok ORDINALS HOPS
+//     leaves_by_table TEXT KEPT ROOM SEATS ok ORDINALS HOPS ROWS
 //     add TEXT KEPT ROOM PREFIX FIELDS ok BYTES
 //     names TEXT KEPT LIST WORK ROOM ok ORDINALS INDEX LOOKS
 // or `refused NUMBER LINE` in place of `ok ..`. ORDINALS have four hex digits each; those of names have eight, and so have the slots of
-// INDEX; LOOKS is `-` where it is not stored. Over a text alone:
+// INDEX and the parent and the depth of each program in ROWS; SEATS is how many records the table has; LOOKS is `-` where it is not stored.
+// Over a text alone:
 //     program TEXT BYTES
 //     tidy TEXT ROOM ok BYTES
 //     carry_on TEXT ROOM TABLE ok BYTES ROWS
@@ -43,6 +45,7 @@ use replay_asked::ACCEPTED;
 use replay_asked::ADDED;
 use replay_asked::BINARY_IN;
 use replay_asked::BINARY_OUT;
+use replay_asked::BY_TABLE;
 use replay_asked::CARRIED;
 use replay_asked::COUNT;
 use replay_asked::FIELD;
@@ -74,6 +77,7 @@ fn is_call(line: &[u8], asked: usize, text: &[u8], kept: &[u8], out: &mut [u32])
         FIELD => replay_calls::is_field(line, text, kept),
         ROOTS => replay_graphs::is_roots(line, text, kept, out),
         LEAVES => replay_graphs::is_leaves(line, text, kept, out),
+        BY_TABLE => replay_table::is_leaves_by_table(line, text, kept, out),
         _ => false,
     }
 }
@@ -247,7 +251,7 @@ fn replay(place: usize) {
         os::fail(&name[..n]);
         return;
     }
-    let mut tally: [u32; 22] = [0; 22];
+    let mut tally: [u32; 23] = [0; 23];
     all_blocks(fd, &mut tally);
     libc::close(fd);
     io::write_all(STDOUT_FILENO, &name[..n]);

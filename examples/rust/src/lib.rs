@@ -15,6 +15,9 @@ unsafe extern "C" {
     fn sam_header_length(text: *const u8, text_len: usize, catalogue: *const u8, catalogue_len: usize, ordinal: u32, length: *mut u64) -> u64;
     fn sam_header_field(text: *const u8, text_len: usize, catalogue: *const u8, catalogue_len: usize, kind: u8, ordinal: u32, tag_0: u8, tag_1: u8) -> u64;
     fn sam_header_leaves(text: *const u8, text_len: usize, catalogue: *const u8, catalogue_len: usize, out: *mut u32, out_len: usize) -> u64;
+    fn sam_header_leaves_by_table(
+        text: *const u8, text_len: usize, catalogue: *const u8, catalogue_len: usize, table: *mut Node, table_len: usize, out: *mut u32, out_len: usize,
+    ) -> u64;
 }
 
 /// A refusal: its number (docs/REFUSALS.md) and its line.
@@ -40,6 +43,14 @@ pub enum Kind {
     ReadGroup = 3,
     Program = 4,
     Comment = 5,
+}
+
+/// A program in a table: its parent's ordinal, `u32::MAX` for a program without PP, and the parent links from it to its root.
+#[derive(Clone, Copy, Debug, Default, Eq, PartialEq)]
+#[repr(C)]
+pub struct Node {
+    pub parent: u32,
+    pub depth: u32,
 }
 
 fn answer(word: u64) -> Result<u64, Refusal> {
@@ -155,6 +166,19 @@ impl<'a> Header<'a> {
         out.truncate(word as u32 as usize);
         Ok(out)
     }
+
+    /// The same programs, and each program's record, in order: faster on long chains.
+    pub fn leaves_by_table(&self) -> Result<(Vec<u32>, Vec<Node>), Refusal> {
+        let (t, c) = (self.text, &self.catalogue);
+        let mut out = vec![0; 1024];
+        let mut table = vec![Node::default(); self.count(Kind::Program)?];
+        let word = answer(unsafe {
+            let (rows, list) = (table.as_mut_ptr(), out.as_mut_ptr());
+            sam_header_leaves_by_table(t.as_ptr(), t.len(), c.as_ptr(), c.len(), rows, table.len(), list, out.len())
+        })?;
+        out.truncate(word as u32 as usize);
+        Ok((out, table))
+    }
 }
 
 #[cfg(test)]
@@ -174,6 +198,8 @@ mod tests {
         assert_eq!(header.field(Kind::ReadGroup, 0, *b"SM"), Some(&b"NA12878"[..]));
         assert_eq!(header.field(Kind::ReadGroup, 0, *b"DS"), None);
         assert_eq!(header.leaves(), Ok(vec![1]));
+        let table = vec![Node { parent: u32::MAX, depth: 0 }, Node { parent: 0, depth: 1 }];
+        assert_eq!(header.leaves_by_table(), Ok((vec![1], table)));
         assert_eq!(header.key(Kind::Program, 2), Err(Refusal { number: 25, line: 0 }));
     }
 

@@ -12,6 +12,8 @@ use oracle::{
 use crate::carried;
 #[cfg(feature = "add")]
 use crate::grown::{self, Grown};
+#[cfg(feature = "table")]
+use crate::table::{self, Tabled};
 use crate::{
     known::{self, Kind},
     tally::{Call, Tally},
@@ -344,6 +346,8 @@ pub struct Checker {
     words: Lent<u32>,
     #[cfg(feature = "names")]
     work: Lent<u32>,
+    #[cfg(feature = "table")]
+    lender: table::Lender,
     found: Vec<Difference>,
     pub tally: Tally,
 }
@@ -512,6 +516,11 @@ impl Checker {
                 self.held(Call::Roots, said);
                 let said = outputs(&mut self.words, Err(r), |o| library::leaves(text, catalogue, o));
                 self.held(Call::Leaves, said);
+                #[cfg(feature = "table")]
+                {
+                    let said = self.lender.ask(&Err(r), |t, o| library::leaves_by_table(text, catalogue, t, o));
+                    self.held(Call::LeavesByTable, said);
+                }
             }
             #[cfg(feature = "add")]
             {
@@ -752,12 +761,24 @@ impl Checker {
             self.differ(Call::Leaves, Some(kind), format!("refused {number}"));
         }
         self.said(Call::Leaves, number, said);
+        #[cfg(feature = "table")]
+        {
+            let nodes = if number == 0 { table::nodes(&parents) } else { Vec::new() };
+            let want = want.map(|(leaves, answer)| Tabled { leaves, answer, nodes: &nodes });
+            let said = self.lender.ask(&want, |t, o| library::leaves_by_table(text, catalogue, t, o));
+            self.said(Call::LeavesByTable, number, said);
+        }
 
         let c = rng.of(damaged);
         let said = outputs(&mut self.words, Err(STALE), |o| library::roots(text, c, o));
         self.said(Call::Roots, 21, said);
         let said = outputs(&mut self.words, Err(STALE), |o| library::leaves(text, c, o));
         self.said(Call::Leaves, 21, said);
+        #[cfg(feature = "table")]
+        {
+            let said = self.lender.ask(&Err(STALE), |t, o| library::leaves_by_table(text, c, t, o));
+            self.said(Call::LeavesByTable, 21, said);
+        }
     }
 
     #[cfg(feature = "add")]

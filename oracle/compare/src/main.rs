@@ -14,6 +14,8 @@ mod check;
 mod grown;
 mod known;
 mod reduce;
+#[cfg(feature = "table")]
+mod table;
 mod tally;
 
 use std::{collections::BTreeMap, process::ExitCode, time::Instant};
@@ -309,6 +311,7 @@ fn main() -> ExitCode {
     let calls: Vec<&str> = [
         ("lookup", cfg!(feature = "lookup")),
         ("graph", cfg!(feature = "graph")),
+        ("leaves_by_table", cfg!(feature = "table")),
         ("add", cfg!(feature = "add")),
         ("names", cfg!(feature = "names")),
         ("carry_on", cfg!(feature = "carry_on")),

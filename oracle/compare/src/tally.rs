@@ -15,6 +15,7 @@ pub enum Call {
     Field,
     Roots,
     Leaves,
+    LeavesByTable,
     Add,
     Names,
     CarryOn,
@@ -22,7 +23,7 @@ pub enum Call {
     BinaryIn,
 }
 
-const CALLS: [Call; 15] = [
+const CALLS: [Call; 16] = [
     Call::Read,
     Call::Check,
     Call::Tidy,
@@ -33,6 +34,7 @@ const CALLS: [Call; 15] = [
     Call::Field,
     Call::Roots,
     Call::Leaves,
+    Call::LeavesByTable,
     Call::Add,
     Call::Names,
     Call::CarryOn,
