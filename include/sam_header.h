@@ -4,7 +4,7 @@
  * PTRDIFF_MAX; and no slice that a call writes overlaps another slice of that call. Calls keep no state and lend nothing on: they may run side by side.
  * A call takes less than 1 MiB of stack.
  *
- * Room that always suffices: for read 3 * text_len + 1 bytes; for tidy, carry_on and binary_in as many as the text has and one more, and two numbers for each line in carry_on's table; for binary_out twice text_len and 14; for roots, leaves and leaves_by_table 1,024 ordinals, and 1,024 records in leaves_by_table's table; for names as many ordinals as the
+ * Room that always suffices: for read 3 * text_len + 1 bytes; for tidy, prune, carry_on and binary_in as many as the text has and one more, and two numbers for each line in carry_on's table; for binary_out twice text_len and 14; for roots, leaves and leaves_by_table 1,024 ordinals, and 1,024 records in leaves_by_table's table; for names as many ordinals as the
  * list has names, and the slots that are said there; for add what tidy needs and for each new program, one after each leaf, prefix_len + fields_len, twice
  * the leaf's ID and 13 bytes more. An output that is too short is refusal 20.
  *
@@ -155,6 +155,12 @@ uint64_t sam_header_leaves_by_table(const uint8_t *text, size_t text_len, const 
  * too, 23 for a cycle, 18 for an ID that is used already, 19 for more than 1,024 programs; then as tidy. */
 uint64_t sam_header_add(const uint8_t *text, size_t text_len, const uint8_t *catalogue, size_t catalogue_len, const uint8_t *prefix,
                         size_t prefix_len, const uint8_t *fields, size_t fields_len, uint8_t *out, size_t out_len);
+
+/* Writes the tidy text of the header with only the programs in use, by their ordinals, and all their ancestors, in the old order; every other record stays.
+ * `used` may hold an ordinal more than once, and used_len counts ordinals; with none no program is left. 25 for an ordinal that no program has, 22 for a PP that
+ * names no program and 23 for a cycle, also among programs that would go; then as tidy, 24 with the line of `text`. */
+uint64_t sam_header_prune(const uint8_t *text, size_t text_len, const uint8_t *catalogue, size_t catalogue_len, const uint32_t *used,
+                          size_t used_len, uint8_t *out, size_t out_len);
 
 #ifdef __cplusplus
 }

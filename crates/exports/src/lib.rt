@@ -6,6 +6,7 @@ use names::NamesAnswer;
 ghost use mathlib.Core.Path.{_≡_};
 ghost use lib.ListN.{length};
 ghost use Rattle.format.specs.Calls.{reading, fresh, tidying, counting, keying, sizing, locating, valuing, rooting, leafing, adding};
+ghost use Rattle.format.specs.Prune.{pruning};
 ghost use Rattle.carry_on.specs.Answers.{carriedAnswer, textLeft, tableLeft};
 ghost use Rattle.names.specs.Batch.{batching};
 ghost use Rattle.names.specs.Answers.{namesOf, resultsOf, slotsOf};
@@ -167,6 +168,21 @@ pub extern "C" fn sam_header_add(
         (adding (now (text .entry)) (now (catalogue .entry)) (now (prefix .entry)) (now (fields .entry)) (length (now (out .entry)))) (now (out .entry)) ⌝ }
 {
     words::answer_word(add::add(text, catalogue, prefix, fields, out))
+}
+
+#[no_mangle]
+pub extern "C" fn sam_header_prune(
+    text: &[u8],
+    catalogue: &[u8],
+    used: &[u32],
+    out: &mut [u8],
+) -> u64
+    ensures answer { λ r. ⌜ r ≡ answerWord
+        (answerOf (pruning (now (text .entry)) (now (catalogue .entry)) (now (used .entry)) (length (now (out .entry))))) ⌝ }
+    ensures wrote { λ _. ⌜ now (out .exit) ≡ outputOf
+        (pruning (now (text .entry)) (now (catalogue .entry)) (now (used .entry)) (length (now (out .entry)))) (now (out .entry)) ⌝ }
+{
+    words::answer_word(prune::prune(text, catalogue, used, out))
 }
 
 #[no_mangle]

@@ -24,31 +24,33 @@ pub const ADDED: usize = 8;
 
 pub const NAMES: usize = 9;
 
-pub const PROGRAM: usize = 10;
+pub const PRUNED: usize = 10;
 
-pub const TIDIED: usize = 11;
+pub const PROGRAM: usize = 11;
 
-pub const CARRIED: usize = 12;
+pub const TIDIED: usize = 12;
 
-pub const READ: usize = 13;
+pub const CARRIED: usize = 13;
 
-pub const BINARY_OUT: usize = 14;
+pub const READ: usize = 14;
 
-pub const BINARY_IN: usize = 15;
+pub const BINARY_OUT: usize = 15;
 
-pub const REFUSED: usize = 16;
+pub const BINARY_IN: usize = 16;
 
-pub const ACCEPTED: usize = 17;
+pub const REFUSED: usize = 17;
 
-pub const UNWRITABLE: usize = 18;
+pub const ACCEPTED: usize = 18;
 
-pub const UNKNOWN: usize = 19;
+pub const UNWRITABLE: usize = 19;
 
-pub const WRONG: usize = 20;
+pub const UNKNOWN: usize = 20;
 
-pub const MARKED: usize = 21;
+pub const WRONG: usize = 21;
 
-pub const FOUND: usize = 22;
+pub const MARKED: usize = 22;
+
+pub const FOUND: usize = 23;
 
 // What a line asks: its first word is a call, or its second what the crate makes of the text.
 pub fn asked_by(line: &[u8]) -> usize {
@@ -82,6 +84,9 @@ pub fn asked_by(line: &[u8]) -> usize {
     }
     if text::same(call, b"names") {
         return NAMES;
+    }
+    if text::same(call, b"prune") {
+        return PRUNED;
     }
     written_by(line)
 }
@@ -150,10 +155,11 @@ fn print_count(name: &[u8], n: u32) {
 
 // Writes how many lines ask for something written.
 fn print_written(tally: &[u32])
-    requires { ⌜ length (now tally) ≡ 23 ⌝ }
+    requires { ⌜ length (now tally) ≡ 24 ⌝ }
 {
     print_count(b" add ", tally[ADDED]);
     print_count(b" names ", tally[NAMES]);
+    print_count(b" prune ", tally[PRUNED]);
     print_count(b" program ", tally[PROGRAM]);
     print_count(b" tidy ", tally[TIDIED]);
     print_count(b" carry_on ", tally[CARRIED]);
@@ -164,7 +170,7 @@ fn print_written(tally: &[u32])
 
 // Writes how many lines ask each call.
 pub fn print_asked(tally: &[u32])
-    requires { ⌜ length (now tally) ≡ 23 ⌝ }
+    requires { ⌜ length (now tally) ≡ 24 ⌝ }
 {
     print_count(b" count ", tally[COUNT]);
     print_count(b" key ", tally[KEY]);
@@ -179,7 +185,7 @@ pub fn print_asked(tally: &[u32])
 
 // Writes how many texts the crate judged in each way, and how many lines ask nothing.
 pub fn print_judged(tally: &[u32])
-    requires { ⌜ length (now tally) ≡ 23 ⌝ }
+    requires { ⌜ length (now tally) ≡ 24 ⌝ }
 {
     print_count(b" refused ", tally[REFUSED]);
     print_count(b" accepted ", tally[ACCEPTED]);
@@ -189,7 +195,7 @@ pub fn print_judged(tally: &[u32])
 
 // Writes how many answers were wrong, and how many of the marked lines were found.
 pub fn print_found(tally: &[u32])
-    requires { ⌜ length (now tally) ≡ 23 ⌝ }
+    requires { ⌜ length (now tally) ≡ 24 ⌝ }
 {
     print_number(b" wrong ", tally[WRONG]);
     print_number(b", known wrong found ", tally[FOUND]);

@@ -14,6 +14,8 @@ use crate::carried;
 use crate::grown::{self, Grown};
 #[cfg(feature = "table")]
 use crate::table::{self, Tabled};
+#[cfg(feature = "prune")]
+use crate::pruned;
 use crate::{
     known::{self, Kind},
     tally::{Call, Tally},
@@ -44,7 +46,7 @@ pub struct Difference {
 
 const SHORT: Refusal = Refusal { number: 20, line: 0 };
 const STALE: Refusal = Refusal { number: 21, line: 0 };
-#[cfg(feature = "lookup")]
+#[cfg(any(feature = "lookup", feature = "prune"))]
 const ABSENT: Refusal = Refusal { number: 25, line: 0 };
 
 fn refusal(number: u32) -> Refusal {
@@ -528,6 +530,11 @@ impl Checker {
                 let said = outputs(&mut self.bytes, Err(r), |o| library::add(text, catalogue, p, f, o));
                 self.held(Call::Add, said);
             }
+            #[cfg(feature = "prune")]
+            for used in [&[][..], &[0, 7, 0]] {
+                let said = outputs(&mut self.bytes, Err(r), |o| library::prune(text, catalogue, used, o));
+                self.held(Call::Prune, said);
+            }
         }
     }
 
@@ -573,6 +580,8 @@ impl Checker {
         self.graph(text, catalogue, &damaged, header, &mut rng);
         #[cfg(feature = "add")]
         self.add(case, catalogue, &damaged, header, &mut rng);
+        #[cfg(feature = "prune")]
+        self.prune(text, catalogue, &damaged, header, &mut rng);
     }
 
     // Texts that are nearly this one: with other names its catalogue is fresh, with other places it is not. The catalogue of the
@@ -852,6 +861,41 @@ impl Checker {
     }
 }
 
+#[cfg(feature = "prune")]
+impl Checker {
+    // Programs in use: what is left is the crate's table without the others, written by the crate. An ordinal that is too high comes
+    // before what is wrong with the graph, and all programs are judged, also those that would go.
+    fn prune(&mut self, text: &[u8], catalogue: &[u8], damaged: &[Vec<u8>], header: &Header, rng: &mut Rng) {
+        let parents = oracle::parents(header);
+        let (graph, _) = chained(&parents, &oracle::leaves(header));
+        let lists = pruned::lists(parents.len(), rng);
+        for used in &lists {
+            let mut out = Vec::new();
+            let want = if used.iter().any(|&u| u as usize >= parents.len()) {
+                Err(ABSENT)
+            } else if graph != 0 {
+                Err(refusal(graph))
+            } else {
+                match oracle::tidy(&pruned::pruned(header, &parents, used)) {
+                    Err(_) => Err(Self::unwritable(text, header)),
+                    Ok(t) if t.len() > oracle::LONGEST => Err(refusal(1)),
+                    Ok(t) => {
+                        out = t;
+                        Ok(())
+                    }
+                }
+            };
+            let want = want.map(|()| (&out[..], out.len() as u64));
+            let said = outputs(&mut self.bytes, want, |o| library::prune(text, catalogue, used, o));
+            let number = want.err().map_or(0, |r| r.number);
+            self.said(Call::Prune, number, said.map(|what| format!("in use {used:?}: {what}")));
+        }
+        let (c, used) = (rng.of(damaged), rng.of(&lists));
+        let said = outputs(&mut self.bytes, Err(STALE), |o| library::prune(text, c, used, o));
+        self.said(Call::Prune, 21, said);
+    }
+}
+
 #[cfg(feature = "names")]
 impl Checker {
     // The names of a list: the answers are the crate's, and the index and what is looked at are the rule's.
@@ -1115,7 +1159,7 @@ fn seeded(text: &[u8]) -> Rng {
 }
 
 /// The refusal that is due where leaves are looked for, 0 for none, and the kind of difference if the crate has no such answer.
-#[cfg(any(feature = "graph", feature = "add"))]
+#[cfg(any(feature = "graph", feature = "add", feature = "prune"))]
 fn chained(parents: &[oracle::Parent], leaves: &oracle::Leaves) -> (u32, Option<Kind>) {
     use oracle::Leaves;
     match (parents.contains(&oracle::Parent::Nobody), leaves) {

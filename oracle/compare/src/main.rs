@@ -13,6 +13,8 @@ mod check;
 #[cfg(feature = "add")]
 mod grown;
 mod known;
+#[cfg(feature = "prune")]
+mod pruned;
 mod reduce;
 #[cfg(feature = "table")]
 mod table;
@@ -313,6 +315,7 @@ fn main() -> ExitCode {
         ("graph", cfg!(feature = "graph")),
         ("leaves_by_table", cfg!(feature = "table")),
         ("add", cfg!(feature = "add")),
+        ("prune", cfg!(feature = "prune")),
         ("names", cfg!(feature = "names")),
         ("carry_on", cfg!(feature = "carry_on")),
         ("binary", cfg!(feature = "binary")),

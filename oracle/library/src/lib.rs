@@ -98,6 +98,20 @@ unsafe extern "C" {
     ) -> u64;
 }
 
+#[cfg(feature = "prune")]
+unsafe extern "C" {
+    fn sam_header_prune(
+        text: *const u8,
+        text_len: usize,
+        catalogue: *const u8,
+        catalogue_len: usize,
+        used: *const u32,
+        used_len: usize,
+        out: *mut u8,
+        out_len: usize,
+    ) -> u64;
+}
+
 #[cfg(feature = "names")]
 unsafe extern "C" {
     fn sam_header_names(
@@ -238,6 +252,22 @@ pub fn add(text: &[u8], catalogue: &[u8], prefix: &[u8], fields: &[u8], out: &mu
             prefix.len(),
             fields.as_ptr(),
             fields.len(),
+            out.as_mut_ptr(),
+            out.len(),
+        )
+    })
+}
+
+#[cfg(feature = "prune")]
+pub fn prune(text: &[u8], catalogue: &[u8], used: &[u32], out: &mut [u8]) -> Answer {
+    answer(unsafe {
+        sam_header_prune(
+            text.as_ptr(),
+            text.len(),
+            catalogue.as_ptr(),
+            catalogue.len(),
+            used.as_ptr(),
+            used.len(),
             out.as_mut_ptr(),
             out.len(),
         )
