@@ -4,7 +4,7 @@
  * PTRDIFF_MAX; and no slice that a call writes overlaps another slice of that call. Calls keep no state and lend nothing on: they may run side by side.
  * A call takes less than 1 MiB of stack.
  *
- * Room that always suffices: for read 3 * text_len + 1 bytes; for tidy, carry_on and binary_in as many as the text has and one more, and two numbers for each line in carry_on's table; for binary_out twice text_len and 14; for roots and leaves 1,024 ordinals; for names as many ordinals as the
+ * Room that always suffices: for read 3 * text_len + 1 bytes; for tidy, prune, carry_on and binary_in as many as the text has and one more, and two numbers for each line in carry_on's table; for binary_out twice text_len and 14; for roots, leaves and leaves_by_table 1,024 ordinals, and 1,024 records in leaves_by_table's table; for names as many ordinals as the
  * list has names, and the slots that are said there; for add what tidy needs and for each new program, one after each leaf, prefix_len + fields_len, twice
  * the leaf's ID and 13 bytes more. An output that is too short is refusal 20.
  *
@@ -24,7 +24,7 @@ extern "C" {
 #define SAM_HEADER_NUMBER(answer) ((unsigned)((uint64_t)(answer) >> 32 & 255))
 #define SAM_HEADER_LINE(answer) ((uint32_t)((uint64_t)(answer) & UINT32_MAX))
 
-/* The parts of an answer that is no refusal: of key and field, of leaves, and of carry_on. */
+/* The parts of an answer that is no refusal: of key and field, of leaves and leaves_by_table, and of carry_on. */
 #define SAM_HEADER_OFFSET(answer) ((uint32_t)((uint64_t)(answer) >> 32))
 #define SAM_HEADER_LENGTH(answer) ((uint32_t)((uint64_t)(answer) & UINT32_MAX))
 #define SAM_HEADER_HOPS(answer) ((uint32_t)((uint64_t)(answer) >> 32))
@@ -139,11 +139,28 @@ uint64_t sam_header_roots(const uint8_t *text, size_t text_len, const uint8_t *c
 uint64_t sam_header_leaves(const uint8_t *text, size_t text_len, const uint8_t *catalogue, size_t catalogue_len, uint32_t *out,
                            size_t out_len);
 
+/* A program in a table: its parent's ordinal, UINT32_MAX for a program without PP, and its depth, the parent links from it to its root. */
+struct sam_header_node {
+    uint32_t parent, depth;
+};
+
+/* As leaves, and faster on long chains: the same ordinals in `out`, the same answer and the same refusals. The record of each program, in order, in
+ * `table`, of table_len records, at its front: a program without PP has the depth 0, any other one more than its parent, and the hops are the sum of the
+ * depths. What is behind the last program's record stays. 20 also for a table with fewer records than there are programs, after 23. */
+uint64_t sam_header_leaves_by_table(const uint8_t *text, size_t text_len, const uint8_t *catalogue, size_t catalogue_len,
+                                    struct sam_header_node *table, size_t table_len, uint32_t *out, size_t out_len);
+
 /* Writes the tidy text of the header with new programs after the old ones: one after each leaf, its ID made from `prefix`, with `fields`, which are
  * a PG line's from the first tab on, or none, and PP. 26 for a prefix or fields that are not in form, 22 for a PP that names no program, a given one
  * too, 23 for a cycle, 18 for an ID that is used already, 19 for more than 1,024 programs; then as tidy. */
 uint64_t sam_header_add(const uint8_t *text, size_t text_len, const uint8_t *catalogue, size_t catalogue_len, const uint8_t *prefix,
                         size_t prefix_len, const uint8_t *fields, size_t fields_len, uint8_t *out, size_t out_len);
+
+/* Writes the tidy text of the header with only the programs in use, by their ordinals, and all their ancestors, in the old order; every other record stays.
+ * `used` may hold an ordinal more than once, and used_len counts ordinals; with none no program is left. 25 for an ordinal that no program has, 22 for a PP that
+ * names no program and 23 for a cycle, also among programs that would go; then as tidy, 24 with the line of `text`. */
+uint64_t sam_header_prune(const uint8_t *text, size_t text_len, const uint8_t *catalogue, size_t catalogue_len, const uint32_t *used,
+                          size_t used_len, uint8_t *out, size_t out_len);
 
 #ifdef __cplusplus
 }

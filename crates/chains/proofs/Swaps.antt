@@ -98,7 +98,7 @@ front-length [] = omega arith
 front-length (a ∷ []) = omega arith
 front-length (a ∷ b ∷ l) = omega (arith, front-length (b ∷ l))
 
-last-at : (l : List ℕ) → 0 < length l → getD l (length l - 1) 0 ≡ lastOr 0 l
+pub last-at : (l : List ℕ) → 0 < length l → getD l (length l - 1) 0 ≡ lastOr 0 l
 last-at l h =
     ap (λ r. getD r (length l - 1) 0) (sym (front-last l h))
     ∙ ap (λ n. getD (butLast l ++ lastOr 0 l ∷ []) n 0) (sym (front-length l))

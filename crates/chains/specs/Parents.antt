@@ -1,8 +1,9 @@
 -- The parent of each program as a number, and what the graph's functions answer.
-use Prim.Native.Nat.{ℕ, suc, _-_}
+use Prim.Native.Nat.{ℕ, suc, _-_, _<_}
+use mathlib.Core.Path.{_≡_}
 use mathlib.Core.Bool.{Bool, _||_, cond}
 use mathlib.Core.List.{List, [], _∷_, _++_, map}
-use lib.ListN.{length, replicate}
+use lib.ListN.{length, getD, replicate}
 use lib.Dec.{eqb, ltb}
 use Rattle.format.specs.Bytes.{all}
 use Rattle.format.specs.Programs.{Link, root, child}
@@ -33,3 +34,7 @@ inArray xs = xs ++ replicate (1024 - length xs) 0
 unfoldable pub indexIn : ℕ → List ℕ → ℕ
 indexIn x [] = 0
 indexIn x (y ∷ ys) = cond (eqb x y) 0 (suc (indexIn x ys))
+
+-- `places` has the place of each number of a list, all of which are below 1,024
+abbrev pub HasPlaces : List ℕ → List ℕ → Type 0
+HasPlaces places xs = (j : ℕ) → j < length xs → (getD xs j 0 < 1024) × (getD places (getD xs j 0) 0 ≡ j)

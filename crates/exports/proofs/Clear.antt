@@ -6,10 +6,14 @@ use native.Mathlib.Omega.{arith}
 use lib.ListN.{length}
 use Rattle.format.specs.Lines.{Piece}
 use Rattle.format.specs.Calls.{yes, keying, valuing, leafing}
+use Rattle.format.specs.Table.{leafingTable}
+use Rattle.format.specs.declared.Node.{Node}
 use Rattle.calls.specs.Answers.{keyAnswerOf, valuePlaceOf}
 use Rattle.calls.proofs.Told.{key-short, value-short}
 use Rattle.roots_and_leaves.specs.Answers.{leavesAnswerOf}
 use Rattle.roots_and_leaves.proofs.Bound.{hops-few, leaves-few}
+use Rattle.leaves_by_table.specs.Answers.{withoutTable}
+use Rattle.leaves_by_table.proofs.Same.{same-as-first}
 use Rattle.carried.specs.Carrying.{carrying}
 use Rattle.carried.proofs.Bound.{carried-few}
 use Rattle.carry_on.specs.Answers.{carriedOf}
@@ -27,11 +31,19 @@ carried-clear t room table xs ys is =
     subst (λ a. carriedWord (carriedOf a) < 2 ^ 63) (sym is) z
 
 module _ (t c : List ℕ) where
+  -- the hops and the number of leaves, whichever engine answers
+  told-clear : (room : ℕ) (xs : List ℕ) (h : ℕ) → leafing t c room ≡ yes (xs, h) → h * 2 ^ 32 + length xs < 2 ^ 63
+  told-clear room xs h is = omega (arith, hops-few t c room xs h is, leaves-few t c room xs h is)
+
   pub leaves-clear : (room : ℕ) (xs : List ℕ) (h : ℕ) → leafing t c room ≡ yes (xs, h) → leavesWord (leavesAnswerOf (leafing t c room)) < 2 ^ 63
   unfolding leavesWord leavesAnswerOf pairWord
-  leaves-clear room xs h is =
-      let z : h * 2 ^ 32 + length xs < 2 ^ 63 = omega (arith, hops-few t c room xs h is, leaves-few t c room xs h is) in
-      subst (λ a. leavesWord (leavesAnswerOf a) < 2 ^ 63) (sym is) z
+  leaves-clear room xs h is = subst (λ a. leavesWord (leavesAnswerOf a) < 2 ^ 63) (sym is) (told-clear room xs h is)
+
+  pub seated-clear : (room seats : ℕ) (xs : List ℕ) (h : ℕ) (ns : List Node) → leafingTable t c room seats ≡ yes (xs, h, ns)
+      → leavesWord (leavesAnswerOf (withoutTable (leafingTable t c room seats))) < 2 ^ 63
+  unfolding leavesWord leavesAnswerOf withoutTable pairWord
+  seated-clear room seats xs h ns is =
+      subst (λ a. leavesWord (leavesAnswerOf (withoutTable a)) < 2 ^ 63) (sym is) (told-clear room xs h (same-as-first t c room seats .answers xs h ns is .0))
 
   pub key-clear : (k i : ℕ) (p : Piece) → keying t c k i ≡ yes p → keyWord (keyAnswerOf (keying t c k i)) < 2 ^ 63
   unfolding keyWord keyAnswerOf

@@ -1,17 +1,19 @@
 // The calls for programs in C and Rust: each answer is one number (include/sam_header.h).
 use calls::LengthAnswer;
 use carry_on::Carried;
+use format::Node;
 use names::NamesAnswer;
-use roots_and_leaves::LeavesAnswer;
 ghost use mathlib.Core.Path.{_≡_};
 ghost use lib.ListN.{length};
 ghost use Rattle.format.specs.Calls.{reading, fresh, tidying, counting, keying, sizing, locating, valuing, rooting, leafing, adding};
+ghost use Rattle.format.specs.Prune.{pruning};
 ghost use Rattle.carry_on.specs.Answers.{carriedAnswer, textLeft, tableLeft};
 ghost use Rattle.names.specs.Batch.{batching};
 ghost use Rattle.names.specs.Answers.{namesOf, resultsOf, slotsOf};
 ghost use Rattle.parser.specs.Answers.{answerOf, outputOf, checkedOf};
 ghost use Rattle.calls.specs.Answers.{countOf, keyAnswerOf, lengthAnswerOf, lineAnswerOf, valuePlaceOf};
 ghost use Rattle.roots_and_leaves.specs.Answers.{leavesAnswerOf, listOf};
+ghost use Rattle.leaves_by_table.specs.Answers.{seatedAnswer, seatedLeaves, nodesLeft};
 ghost use Rattle.binary.specs.Binary.{binaryOut, binaryIn};
 ghost use Rattle.words.specs.Words.{answerWord, checkedWord, carriedWord, leavesWord, keyWord, fieldWord, lengthWord, lineWord, lengthLeft};
 ghost use Rattle.words.specs.Words.{namesWord, namesLeft};
@@ -88,10 +90,21 @@ pub extern "C" fn sam_header_leaves(text: &[u8], catalogue: &[u8], out: &mut [u3
     ensures wrote { λ _. ⌜ now (out .exit) ≡ outputOf (listOf (leafing (now (text .entry)) (now (catalogue .entry)) (length (now (out .entry)))))
         (now (out .entry)) ⌝ }
 {
-    match roots_and_leaves::leaves(text, catalogue, out) {
-        LeavesAnswer::Refused(n, line) => words::refusal_word(n, line),
-        LeavesAnswer::Counted(n, hops) => words::pair_word(hops, n as u32),
-    }
+    words::leaves_word(roots_and_leaves::leaves(text, catalogue, out))
+}
+
+#[no_mangle]
+pub extern "C" fn sam_header_leaves_by_table(
+    text: &[u8],
+    catalogue: &[u8],
+    table: &mut [Node],
+    out: &mut [u32],
+) -> u64
+    ensures answer { λ r. ⌜ r ≡ leavesWord (seatedAnswer (now (text .entry)) (now (catalogue .entry)) (length (now (table .entry))) (now (out .entry))) ⌝ }
+    ensures wrote { λ _. ⌜ now (out .exit) ≡ seatedLeaves (now (text .entry)) (now (catalogue .entry)) (length (now (table .entry))) (now (out .entry)) ⌝ }
+    ensures tabled { λ _. ⌜ now (table .exit) ≡ nodesLeft (now (text .entry)) (now (catalogue .entry)) (now (table .entry)) (now (out .entry)) ⌝ }
+{
+    words::leaves_word(leaves_by_table::leaves_by_table(text, catalogue, table, out))
 }
 
 #[no_mangle]
@@ -155,6 +168,21 @@ pub extern "C" fn sam_header_add(
         (adding (now (text .entry)) (now (catalogue .entry)) (now (prefix .entry)) (now (fields .entry)) (length (now (out .entry)))) (now (out .entry)) ⌝ }
 {
     words::answer_word(add::add(text, catalogue, prefix, fields, out))
+}
+
+#[no_mangle]
+pub extern "C" fn sam_header_prune(
+    text: &[u8],
+    catalogue: &[u8],
+    used: &[u32],
+    out: &mut [u8],
+) -> u64
+    ensures answer { λ r. ⌜ r ≡ answerWord
+        (answerOf (pruning (now (text .entry)) (now (catalogue .entry)) (now (used .entry)) (length (now (out .entry))))) ⌝ }
+    ensures wrote { λ _. ⌜ now (out .exit) ≡ outputOf
+        (pruning (now (text .entry)) (now (catalogue .entry)) (now (used .entry)) (length (now (out .entry)))) (now (out .entry)) ⌝ }
+{
+    words::answer_word(prune::prune(text, catalogue, used, out))
 }
 
 #[no_mangle]

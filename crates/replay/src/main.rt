@@ -20,10 +20,13 @@
 //     field TEXT KEPT KIND ORDINAL TAG STAND-IN BYTES
 //     roots TEXT KEPT ROOM ok ORDINALS
 //     leaves TEXT KEPT ROOM ok ORDINALS HOPS
+//     leaves_by_table TEXT KEPT ROOM SEATS ok ORDINALS HOPS ROWS
 //     add TEXT KEPT ROOM PREFIX FIELDS ok BYTES
 //     names TEXT KEPT LIST WORK ROOM ok ORDINALS INDEX LOOKS
-// or `refused NUMBER LINE` in place of `ok ..`. ORDINALS have four hex digits each; those of names have eight, and so have the slots of
-// INDEX; LOOKS is `-` where it is not stored. Over a text alone:
+//     prune TEXT KEPT ROOM USED ok BYTES
+// or `refused NUMBER LINE` in place of `ok ..`. ORDINALS have four hex digits each; those of names and of USED have eight, and so have the
+// slots of INDEX and the parent and the depth of each program in ROWS; SEATS is how many records the table has; LOOKS is `-` where it is not
+// stored. Over a text alone:
 //     program TEXT BYTES
 //     tidy TEXT ROOM ok BYTES
 //     carry_on TEXT ROOM TABLE ok BYTES ROWS
@@ -43,6 +46,7 @@ use replay_asked::ACCEPTED;
 use replay_asked::ADDED;
 use replay_asked::BINARY_IN;
 use replay_asked::BINARY_OUT;
+use replay_asked::BY_TABLE;
 use replay_asked::CARRIED;
 use replay_asked::COUNT;
 use replay_asked::FIELD;
@@ -54,6 +58,7 @@ use replay_asked::LINE;
 use replay_asked::MARKED;
 use replay_asked::NAMES;
 use replay_asked::PROGRAM;
+use replay_asked::PRUNED;
 use replay_asked::READ;
 use replay_asked::REFUSED;
 use replay_asked::ROOTS;
@@ -74,6 +79,7 @@ fn is_call(line: &[u8], asked: usize, text: &[u8], kept: &[u8], out: &mut [u32])
         FIELD => replay_calls::is_field(line, text, kept),
         ROOTS => replay_graphs::is_roots(line, text, kept, out),
         LEAVES => replay_graphs::is_leaves(line, text, kept, out),
+        BY_TABLE => replay_table::is_leaves_by_table(line, text, kept, out),
         _ => false,
     }
 }
@@ -85,6 +91,10 @@ fn is_answer(line: &[u8], asked: usize, text: &[u8]) -> bool {
     if asked == ADDED {
         let mut out = stored_answers::bytes();
         return replay_texts::is_added(line, text, &kept[..n], &mut out);
+    }
+    if asked == PRUNED {
+        let mut out = stored_answers::bytes();
+        return replay_prune::is_pruned(line, text, &kept[..n], &mut out);
     }
     let mut out = stored_answers::ordinals();
     if asked == NAMES {
@@ -247,7 +257,7 @@ fn replay(place: usize) {
         os::fail(&name[..n]);
         return;
     }
-    let mut tally: [u32; 22] = [0; 22];
+    let mut tally: [u32; 24] = [0; 24];
     all_blocks(fd, &mut tally);
     libc::close(fd);
     io::write_all(STDOUT_FILENO, &name[..n]);

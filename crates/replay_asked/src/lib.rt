@@ -18,35 +18,39 @@ pub const ROOTS: usize = 5;
 
 pub const LEAVES: usize = 6;
 
-pub const ADDED: usize = 7;
+pub const BY_TABLE: usize = 7;
 
-pub const NAMES: usize = 8;
+pub const ADDED: usize = 8;
 
-pub const PROGRAM: usize = 9;
+pub const NAMES: usize = 9;
 
-pub const TIDIED: usize = 10;
+pub const PRUNED: usize = 10;
 
-pub const CARRIED: usize = 11;
+pub const PROGRAM: usize = 11;
 
-pub const READ: usize = 12;
+pub const TIDIED: usize = 12;
 
-pub const BINARY_OUT: usize = 13;
+pub const CARRIED: usize = 13;
 
-pub const BINARY_IN: usize = 14;
+pub const READ: usize = 14;
 
-pub const REFUSED: usize = 15;
+pub const BINARY_OUT: usize = 15;
 
-pub const ACCEPTED: usize = 16;
+pub const BINARY_IN: usize = 16;
 
-pub const UNWRITABLE: usize = 17;
+pub const REFUSED: usize = 17;
 
-pub const UNKNOWN: usize = 18;
+pub const ACCEPTED: usize = 18;
 
-pub const WRONG: usize = 19;
+pub const UNWRITABLE: usize = 19;
 
-pub const MARKED: usize = 20;
+pub const UNKNOWN: usize = 20;
 
-pub const FOUND: usize = 21;
+pub const WRONG: usize = 21;
+
+pub const MARKED: usize = 22;
+
+pub const FOUND: usize = 23;
 
 // What a line asks: its first word is a call, or its second what the crate makes of the text.
 pub fn asked_by(line: &[u8]) -> usize {
@@ -72,11 +76,17 @@ pub fn asked_by(line: &[u8]) -> usize {
     if text::same(call, b"leaves") {
         return LEAVES;
     }
+    if text::same(call, b"leaves_by_table") {
+        return BY_TABLE;
+    }
     if text::same(call, b"add") {
         return ADDED;
     }
     if text::same(call, b"names") {
         return NAMES;
+    }
+    if text::same(call, b"prune") {
+        return PRUNED;
     }
     written_by(line)
 }
@@ -145,10 +155,11 @@ fn print_count(name: &[u8], n: u32) {
 
 // Writes how many lines ask for something written.
 fn print_written(tally: &[u32])
-    requires { ⌜ length (now tally) ≡ 22 ⌝ }
+    requires { ⌜ length (now tally) ≡ 24 ⌝ }
 {
     print_count(b" add ", tally[ADDED]);
     print_count(b" names ", tally[NAMES]);
+    print_count(b" prune ", tally[PRUNED]);
     print_count(b" program ", tally[PROGRAM]);
     print_count(b" tidy ", tally[TIDIED]);
     print_count(b" carry_on ", tally[CARRIED]);
@@ -159,7 +170,7 @@ fn print_written(tally: &[u32])
 
 // Writes how many lines ask each call.
 pub fn print_asked(tally: &[u32])
-    requires { ⌜ length (now tally) ≡ 22 ⌝ }
+    requires { ⌜ length (now tally) ≡ 24 ⌝ }
 {
     print_count(b" count ", tally[COUNT]);
     print_count(b" key ", tally[KEY]);
@@ -168,12 +179,13 @@ pub fn print_asked(tally: &[u32])
     print_count(b" field ", tally[FIELD]);
     print_count(b" roots ", tally[ROOTS]);
     print_count(b" leaves ", tally[LEAVES]);
+    print_count(b" leaves_by_table ", tally[BY_TABLE]);
     print_written(tally);
 }
 
 // Writes how many texts the crate judged in each way, and how many lines ask nothing.
 pub fn print_judged(tally: &[u32])
-    requires { ⌜ length (now tally) ≡ 22 ⌝ }
+    requires { ⌜ length (now tally) ≡ 24 ⌝ }
 {
     print_count(b" refused ", tally[REFUSED]);
     print_count(b" accepted ", tally[ACCEPTED]);
@@ -183,7 +195,7 @@ pub fn print_judged(tally: &[u32])
 
 // Writes how many answers were wrong, and how many of the marked lines were found.
 pub fn print_found(tally: &[u32])
-    requires { ⌜ length (now tally) ≡ 22 ⌝ }
+    requires { ⌜ length (now tally) ≡ 24 ⌝ }
 {
     print_number(b" wrong ", tally[WRONG]);
     print_number(b", known wrong found ", tally[FOUND]);

@@ -32,7 +32,7 @@ module _ (t c : List ℕ) (own : Current t c) where
   ls = links (programs (recordsOf t))
 
   -- what is answered is what the links give, where nothing is tangled
-  answered : (P : List ℕ × ℕ → Type 0) (room : ℕ) (a : List ℕ × ℕ) → leafing t c room ≡ yes a → (tangled ls ≡ 0 → P (leaves ls, hops ls)) → P a
+  pub answered : (P : List ℕ × ℕ → Type 0) (room : ℕ) (a : List ℕ × ℕ) → leafing t c room ≡ yes a → (tangled ls ≡ 0 → P (leaves ls, hops ls)) → P a
   answered P room a is given =
       split (eqb (tangled ls) 0)
       (λ q. untangled (eqb-true (tangled ls) 0 q))
@@ -61,7 +61,7 @@ module _ (t c : List ℕ) (own : Current t c) where
       (hops-bound ls (none-loops ls z) (λ k m. omega (arith, links-count ps, links-named ps (opened t c (own .reads) (own .own) .few) d k m)))
 
 -- leaves that are answered are of the text's own catalogue
-current : (t c : List ℕ) (room : ℕ) (a : List ℕ × ℕ) → leafing t c room ≡ yes a → Current t c
+pub current : (t c : List ℕ) (room : ℕ) (a : List ℕ × ℕ) → leafing t c room ≡ yes a → Current t c
 unfolding leafing
 current t c room a is = passed t c _ a is
 

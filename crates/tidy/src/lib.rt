@@ -11,16 +11,18 @@ ghost use Rattle.format.specs.Reading.{announced, isStrict, readText};
 ghost use Rattle.format.specs.Calls.{tidying};
 ghost use Rattle.accepted.specs.Read.{isAccepted};
 ghost use Rattle.parser.specs.Answers.{answerOf, outputOf};
-ghost use Rattle.tidy.specs.Written.{writingTidy};
+ghost use Rattle.tidy.specs.Written.{writingTidy, writingMarked};
 
-// Writes the tidy text of an accepted text: 24, then 1, then 20.
-pub fn write_accepted(text: &[u8], strict: bool, out: &mut [u8]) -> CountAnswer
+// Writes the tidy text of an accepted text without the programs whose mark is false: 24, then 1, then 20.
+pub fn write_marked(text: &[u8], strict: bool, marks: &[bool], out: &mut [u8]) -> CountAnswer
     requires { ⌜ isAccepted (readText (now text)) ≡ true ⌝ }
     requires { ⌜ strict ≡ isStrict (announced (lines (now text))) ⌝ }
-    ensures answer { λ r. ⌜ r ≡ answerOf (writingTidy (now (text .entry)) (length (now (out .entry)))) ⌝ }
-    ensures wrote { λ _. ⌜ now (out .exit) ≡ outputOf (writingTidy (now (text .entry)) (length (now (out .entry)))) (now (out .entry)) ⌝ }
+    ensures answer { λ r. ⌜ r ≡ answerOf (writingMarked (now (text .entry)) (now (marks .entry)) (length (now (out .entry)))) ⌝ }
+    ensures wrote { λ _. ⌜ now (out .exit) ≡ outputOf
+        (writingMarked (now (text .entry)) (now (marks .entry)) (length (now (out .entry))))
+        (now (out .entry)) ⌝ }
 {
-    match tidy_text::measure(text, strict) {
+    match tidy_text::measure_marked(text, strict, marks) {
         Measured::Unwritable(line) => CountAnswer::Refused(24, line),
         Measured::Is(sizes) => {
             let n = sizes.total();
@@ -30,10 +32,20 @@ pub fn write_accepted(text: &[u8], strict: bool, out: &mut [u8]) -> CountAnswer
             if out.len() < n {
                 return CountAnswer::Refused(20, LineNo(0));
             }
-            let n = tidy_text::put_tidy(text, strict, sizes, out);
+            let n = tidy_text::put_marked(text, strict, marks, sizes, out);
             CountAnswer::Count(n)
         }
     }
+}
+
+// Writes the tidy text of an accepted text: 24, then 1, then 20.
+pub fn write_accepted(text: &[u8], strict: bool, out: &mut [u8]) -> CountAnswer
+    requires { ⌜ isAccepted (readText (now text)) ≡ true ⌝ }
+    requires { ⌜ strict ≡ isStrict (announced (lines (now text))) ⌝ }
+    ensures answer { λ r. ⌜ r ≡ answerOf (writingTidy (now (text .entry)) (length (now (out .entry)))) ⌝ }
+    ensures wrote { λ _. ⌜ now (out .exit) ≡ outputOf (writingTidy (now (text .entry)) (length (now (out .entry)))) (now (out .entry)) ⌝ }
+{
+    write_marked(text, strict, &[], out)
 }
 
 // Tidies `text` into the front of `out`, or answers the first refusal, which changes nothing.

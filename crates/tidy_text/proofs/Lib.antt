@@ -6,3 +6,4 @@ pub mod Sizes
 pub mod Placed
 pub mod Parts
 pub mod Refused
+pub mod Sifting

@@ -2,3 +2,4 @@ pub mod Accepted
 pub mod Kinds
 pub mod Sizes
 pub mod Placed
+pub mod Sifted

@@ -1,11 +1,12 @@
 // The tidy text of an accepted text: HD, then all SQ, RG, PG, CO, each kind in text order. One pass measures each kind, and one
-// puts each record at its kind's own place.
+// puts each record at its kind's own place. Marks can be given, one for each program in text order: a program whose mark is false is left
+// out, and a program past the last mark stays, so that no marks leave all in.
 use format::LineNo;
 use per_kind::PerKind;
 use writer::Size;
 ghost use mathlib.Core.Path.{_≡_};
 ghost use mathlib.Core.Bool.{true};
-ghost use Prim.Native.Nat.{_≤_, _+_};
+ghost use Prim.Native.Nat.{_≤_, _<_, _+_};
 ghost use lib.ListN.{length};
 ghost use Rattle.format.specs.Lines.{lines};
 ghost use Rattle.format.specs.Records.{line};
@@ -18,6 +19,7 @@ ghost use Rattle.tidy_text.specs.Kinds.{lineKind, tidyLine};
 ghost use Rattle.per_kind.specs.Numbers.{get, plus};
 ghost use Rattle.tidy_text.specs.Sizes.{grownBy, sizesOf};
 ghost use Rattle.tidy_text.specs.Placed.{withParts, parts, Apart, withGap};
+ghost use Rattle.tidy_text.specs.Sifted.{isMarked, sifted, stayBy, isProgramLine, grownIf, placesIf, writtenIf};
 
 // How many bytes each kind has in the tidy text, or the line of the first SQ whose name can't be written.
 pub enum Measured {
@@ -31,13 +33,44 @@ pub enum Grown {
     Is(PerKind),
 }
 
-// The sizes with one accepted line more, if its record can be written.
-pub fn with_line(sizes: PerKind, src: &[u8], at: usize, strict: bool) -> Grown
+// Whether a line's record stays, and the ordinal of the next program.
+struct Stay {
+    stays: bool,
+    next: usize,
+}
+
+// Whether the record of an accepted line stays, where the next program is the one with the ordinal `k`.
+fn stay_of(src: &[u8], marks: &[bool], k: usize) -> Stay
+    requires { ⌜ 3 ≤ length (now src) ⌝ }
+    requires { ⌜ k < 18446744073709551615 ⌝ }
+    ensures { λ r. ⌜ r ≡ stayBy (isProgramLine (now (src .entry))) (now (marks .entry)) k ⌝ }
+{
+    if src[1] != b'P' {
+        return Stay {
+            stays: true,
+            next: k,
+        };
+    }
+    if k < marks.len() {
+        let stays = marks[k];
+        return Stay { stays, next: k + 1 };
+    }
+    Stay {
+        stays: true,
+        next: k + 1,
+    }
+}
+
+// The sizes with one accepted line more, if its record stays and can be written.
+fn with_line_if(sizes: PerKind, src: &[u8], at: usize, strict: bool, stays: bool) -> Grown
     requires { ⌜ isRead (line strict (record { at = at; bytes = now src })) ≡ true ⌝ }
     requires { ⌜ at + length (now src) ≤ 16777216 ⌝ }
-    requires { ⌜ get (lineKind (now src)) sizes + length (tidyLine strict at (now src)) ≤ 18446744073709551615 ⌝ }
-    ensures { λ r. ⌜ r ≡ grownBy (lineKind (now (src .entry))) (line strict (record { at = at; bytes = now (src .entry) })) sizes ⌝ }
+    requires { ⌜ (stays ≡ true → get (lineKind (now src)) sizes + length (tidyLine strict at (now src)) ≤ 18446744073709551615) ⌝ }
+    ensures { λ r. ⌜ r ≡ grownIf stays (lineKind (now (src .entry))) (line strict (record { at = at; bytes = now (src .entry) })) sizes ⌝ }
 {
+    if !stays {
+        return Grown::Is(sizes);
+    }
     let size = writer::record_size(src, at, strict);
     let Size::Is(n) = size else {
         return Grown::Unwritable;
@@ -45,30 +78,77 @@ pub fn with_line(sizes: PerKind, src: &[u8], at: usize, strict: bool) -> Grown
     Grown::Is(sizes.plus(heads::kind_of(src), n))
 }
 
-// How many bytes the records of each kind have in the tidy text, or the line of the first SQ whose name can't be written, in one
+// The same of a line that stays.
+pub fn with_line(sizes: PerKind, src: &[u8], at: usize, strict: bool) -> Grown
+    requires { ⌜ isRead (line strict (record { at = at; bytes = now src })) ≡ true ⌝ }
+    requires { ⌜ at + length (now src) ≤ 16777216 ⌝ }
+    requires { ⌜ get (lineKind (now src)) sizes + length (tidyLine strict at (now src)) ≤ 18446744073709551615 ⌝ }
+    ensures { λ r. ⌜ r ≡ grownBy (lineKind (now (src .entry))) (line strict (record { at = at; bytes = now (src .entry) })) sizes ⌝ }
+{
+    with_line_if(sizes, src, at, strict, true)
+}
+
+// How many bytes the records of each kind that stay have in the tidy text, or the line of the first SQ whose name can't be written, in one
 // pass over an accepted text. `strict` is what the text says of repeated tags.
-pub fn measure(text: &[u8], strict: bool) -> Measured
+pub fn measure_marked(text: &[u8], strict: bool, marks: &[bool]) -> Measured
     requires { ⌜ isAccepted (readText (now text)) ≡ true ⌝ }
     requires { ⌜ strict ≡ isStrict (announced (lines (now text))) ⌝ }
-    ensures { λ r. ⌜ r ≡ measuredOf (unwritable 0 (recordsOf (now (text .entry)))) (sizesOf (recordsOf (now (text .entry)))) ⌝ }
+    ensures { λ r. ⌜ r ≡ measuredOf (unwritable 0 (recordsOf (now (text .entry))))
+        (sizesOf (sifted (isMarked (now (marks .entry))) 0 (recordsOf (now (text .entry))))) ⌝ }
 {
     let mut l: u32 = 0;
+    let mut k: usize = 0;
     let mut sizes = PerKind::new();
     let mut at: usize = 0;
     while at < text.len() {
         let cut = text::first_line(&text[at..]);
-        let grown = with_line(sizes, &text[at..at + cut.len], at, strict);
+        let s = stay_of(&text[at..at + cut.len], marks, k);
+        let grown = with_line_if(sizes, &text[at..at + cut.len], at, strict, s.stays);
         let Grown::Is(next) = grown else {
             return Measured::Unwritable(LineNo(l));
         };
         l += 1;
+        k = s.next;
         sizes = next;
         at += cut.next;
     }
     Measured::Is(sizes)
 }
 
-// Writes the record of an accepted line at its kind's place, and answers the places after it.
+// How many bytes the records of each kind have in the tidy text, or the line of the first SQ whose name can't be written.
+pub fn measure(text: &[u8], strict: bool) -> Measured
+    requires { ⌜ isAccepted (readText (now text)) ≡ true ⌝ }
+    requires { ⌜ strict ≡ isStrict (announced (lines (now text))) ⌝ }
+    ensures { λ r. ⌜ r ≡ measuredOf (unwritable 0 (recordsOf (now (text .entry)))) (sizesOf (recordsOf (now (text .entry)))) ⌝ }
+{
+    measure_marked(text, strict, &[])
+}
+
+// Writes the record of an accepted line at its kind's place, if it stays, and answers the places after it.
+fn put_line_if(
+    out: &mut [u8],
+    places: PerKind,
+    src: &[u8],
+    at: usize,
+    strict: bool,
+    stays: bool,
+) -> PerKind
+    requires { ⌜ isRead (line strict (record { at = at; bytes = now src })) ≡ true ⌝ }
+    requires { ⌜ at + length (now src) ≤ 16777216 ⌝ }
+    requires { ⌜ (stays ≡ true → get (lineKind (now src)) places + length (tidyLine strict at (now src)) ≤ length (now out)) ⌝ }
+    ensures next { λ r. ⌜ r ≡ placesIf stays (lineKind (now (src .entry))) (tidyLine strict at (now (src .entry))) places ⌝ }
+    ensures wrote { λ _. ⌜ now (out .exit) ≡ writtenIf stays (lineKind (now (src .entry))) (tidyLine strict at (now (src .entry))) places (now (out .entry)) ⌝ }
+{
+    if !stays {
+        return places;
+    }
+    let kind = heads::kind_of(src);
+    let o = places.get(kind);
+    let n = writer::put_record(out, o, src, at, strict);
+    places.plus(kind, n - o)
+}
+
+// The same of a line that stays.
 pub fn put_line(out: &mut [u8], places: PerKind, src: &[u8], at: usize, strict: bool) -> PerKind
     requires { ⌜ isRead (line strict (record { at = at; bytes = now src })) ≡ true ⌝ }
     requires { ⌜ at + length (now src) ≤ 16777216 ⌝ }
@@ -76,24 +156,25 @@ pub fn put_line(out: &mut [u8], places: PerKind, src: &[u8], at: usize, strict: 
     ensures next { λ r. ⌜ r ≡ plus (lineKind (now (src .entry))) (length (tidyLine strict at (now (src .entry)))) places ⌝ }
     ensures wrote { λ _. ⌜ now (out .exit) ≡ over (now (out .entry)) (get (lineKind (now (src .entry))) places) (tidyLine strict at (now (src .entry))) ⌝ }
 {
-    let kind = heads::kind_of(src);
-    let o = places.get(kind);
-    let n = writer::put_record(out, o, src, at, strict);
-    places.plus(kind, n - o)
+    put_line_if(out, places, src, at, strict, true)
 }
 
-// Writes the records of each kind, in text order, from the kind's place on, in one pass.
-fn put_lines(text: &[u8], strict: bool, places: PerKind, out: &mut [u8])
+// Writes the records of each kind that stay, in text order, from the kind's place on, in one pass.
+fn put_lines(text: &[u8], strict: bool, marks: &[bool], places: PerKind, out: &mut [u8])
     requires { ⌜ isAccepted (readText (now text)) ≡ true ⌝ }
     requires { ⌜ strict ≡ isStrict (announced (lines (now text))) ⌝ }
-    requires { ⌜ Apart (parts places (recordsOf (now text))) (length (now out)) ⌝ }
-    ensures { λ _. ⌜ now (out .exit) ≡ withParts (now (out .entry)) (parts places (recordsOf (now (text .entry)))) ⌝ }
+    requires { ⌜ Apart (parts places (sifted (isMarked (now marks)) 0 (recordsOf (now text)))) (length (now out)) ⌝ }
+    ensures { λ _. ⌜ now (out .exit) ≡ withParts (now (out .entry))
+        (parts places (sifted (isMarked (now (marks .entry))) 0 (recordsOf (now (text .entry))))) ⌝ }
 {
     let mut next = places;
+    let mut k: usize = 0;
     let mut at: usize = 0; // from the first line on
     while at < text.len() {
         let cut = text::first_line(&text[at..]);
-        next = put_line(out, next, &text[at..at + cut.len], at, strict);
+        let s = stay_of(&text[at..at + cut.len], marks, k);
+        next = put_line_if(out, next, &text[at..at + cut.len], at, strict, s.stays);
+        k = s.next;
         at += cut.next;
     }
 }
@@ -108,7 +189,26 @@ pub fn put_around(text: &[u8], strict: bool, sizes: PerKind, gap: usize, out: &m
     requires { ⌜ length (tidy (recordsOf (now text))) + gap ≤ length (now out) ⌝ }
     ensures { λ _. ⌜ now (out .exit) ≡ withGap (now (out .entry)) gap (recordsOf (now (text .entry))) ⌝ }
 {
-    put_lines(text, strict, sizes.starts(gap), out);
+    put_lines(text, strict, &[], sizes.starts(gap), out);
+}
+
+// Writes the tidy text of the records that stay, and answers its length. `sizes` are those that measuring by the same marks gives.
+pub fn put_marked(
+    text: &[u8],
+    strict: bool,
+    marks: &[bool],
+    sizes: PerKind,
+    out: &mut [u8],
+) -> usize
+    requires { ⌜ isAccepted (readText (now text)) ≡ true ⌝ }
+    requires { ⌜ strict ≡ isStrict (announced (lines (now text))) ⌝ }
+    requires { ⌜ sizes ≡ sizesOf (sifted (isMarked (now marks)) 0 (recordsOf (now text))) ⌝ }
+    requires { ⌜ length (tidy (sifted (isMarked (now marks)) 0 (recordsOf (now text)))) ≤ length (now out) ⌝ }
+    ensures next { λ r. ⌜ r ≡ length (tidy (sifted (isMarked (now (marks .entry))) 0 (recordsOf (now (text .entry))))) ⌝ }
+    ensures wrote { λ _. ⌜ now (out .exit) ≡ over (now (out .entry)) 0 (tidy (sifted (isMarked (now (marks .entry))) 0 (recordsOf (now (text .entry))))) ⌝ }
+{
+    put_lines(text, strict, marks, sizes.starts(0), out);
+    sizes.total()
 }
 
 // Writes the tidy text of an accepted text, and answers its length. `sizes` are those that measuring gives.
@@ -120,6 +220,5 @@ pub fn put_tidy(text: &[u8], strict: bool, sizes: PerKind, out: &mut [u8]) -> us
     ensures next { λ r. ⌜ r ≡ length (tidy (recordsOf (now (text .entry)))) ⌝ }
     ensures wrote { λ _. ⌜ now (out .exit) ≡ over (now (out .entry)) 0 (tidy (recordsOf (now (text .entry)))) ⌝ }
 {
-    put_around(text, strict, sizes, 0, out);
-    sizes.total()
+    put_marked(text, strict, &[], sizes, out)
 }

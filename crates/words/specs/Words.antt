@@ -1,5 +1,5 @@
 -- Answers as one number: what is counted; or bit 63, the refusal number shifted left by 32, and the line.
-use Prim.Native.Nat.{ℕ, _+_, _*_, _^_}
+use Prim.Native.Nat.{ℕ, _+_, _*_, _^_, _≤_}
 use Rattle.parser.specs.declared.CountAnswer.{CountAnswer}
 use Rattle.parser.specs.declared.CountAnswer.the-variants.{Refused, Count}
 use Rattle.parser.specs.declared.Checked.{Checked}
@@ -42,6 +42,11 @@ unfoldable pub leavesWord : LeavesAnswer → ℕ
 unfolding refusalWord pairWord
 leavesWord (leaves.Refused n l) = refusalWord n (l .0)
 leavesWord (leaves.Counted n h) = pairWord h n
+
+-- so few leaves that their number does not reach the hops
+unfoldable pub FewLeaves : LeavesAnswer → Type 0
+FewLeaves (leaves.Refused n l) = Unit
+FewLeaves (leaves.Counted n h) = n ≤ 1024
 
 -- the lines skipped, and the bytes written
 unfoldable pub carriedWord : Carried → ℕ

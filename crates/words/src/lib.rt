@@ -5,8 +5,9 @@ use calls::ValuePlace;
 use format::LineNo;
 use parser::Checked;
 use parser::CountAnswer;
+use roots_and_leaves::LeavesAnswer;
 ghost use mathlib.Core.Path.{_≡_};
-ghost use Rattle.words.specs.Words.{refusalWord, answerWord, checkedWord, pairWord, keyWord, lineWord, fieldWord};
+ghost use Rattle.words.specs.Words.{refusalWord, answerWord, checkedWord, pairWord, keyWord, lineWord, fieldWord, FewLeaves, leavesWord};
 
 // A refusal: bit 63, its number and its line.
 pub fn refusal_word(n: u8, line: LineNo) -> u64
@@ -40,6 +41,17 @@ pub fn pair_word(high: u32, low: u32) -> u64
     ensures { λ r. ⌜ r ≡ pairWord high low ⌝ }
 {
     (high as u64) * 4294967296 + (low as u64)
+}
+
+// The hops and the number of leaves, of which there are few.
+pub fn leaves_word(answer: LeavesAnswer) -> u64
+    requires { ⌜ FewLeaves answer ⌝ }
+    ensures { λ r. ⌜ r ≡ leavesWord answer ⌝ }
+{
+    match answer {
+        LeavesAnswer::Refused(n, line) => refusal_word(n, line),
+        LeavesAnswer::Counted(n, hops) => pair_word(hops, n as u32),
+    }
 }
 
 // Where a key stands.

@@ -5,6 +5,8 @@
 //! bench worst [WORD]                   the second table (`worst.rs`), or its rows that have this word in their names
 //! bench names [--rounds N] [FOLDER]    the third table (`names.rs`), where the archive has the call
 //! bench carry_on [--rounds N]          the fourth table (`carried.rs`), where the archive has the call
+//! bench leaves_by_table [--rounds N]   the fifth table (`table.rs`), where the archive has the call
+//! bench prune [--rounds N]             the sixth table (`pruned.rs`), where the archive has the call
 //!
 //! FOLDER has real headers, `*.sam` (default ../shared/headers beside the repository).
 //!
@@ -35,6 +37,10 @@ mod calls;
 mod carried;
 #[cfg(feature = "names")]
 mod names;
+#[cfg(feature = "prune")]
+mod pruned;
+#[cfg(feature = "table")]
+mod table;
 mod texts;
 mod worst;
 
@@ -156,11 +162,15 @@ fn main() -> ExitCode {
     let args: Vec<String> = std::env::args().skip(1).collect();
     let args: Vec<&str> = args.iter().map(String::as_str).collect();
     let (call, args) = match args[..] {
-        [call @ ("names" | "carry_on"), ref rest @ ..] => (call, rest),
+        [call @ ("names" | "carry_on" | "leaves_by_table" | "prune"), ref rest @ ..] => (call, rest),
         _ => ("", &args[..]),
     };
     let (rounds, folder) = match *args {
-        _ if call == "names" && !cfg!(feature = "names") || call == "carry_on" && !cfg!(feature = "carry_on") => {
+        _ if call == "names" && !cfg!(feature = "names")
+            || call == "carry_on" && !cfg!(feature = "carry_on")
+            || call == "leaves_by_table" && !cfg!(feature = "table")
+            || call == "prune" && !cfg!(feature = "prune") =>
+        {
             eprintln!("the archive has no sam_header_{call}");
             return ExitCode::from(2);
         }
@@ -187,6 +197,16 @@ fn main() -> ExitCode {
     #[cfg(feature = "carry_on")]
     if call == "carry_on" {
         carried::table(rounds);
+        return ExitCode::SUCCESS;
+    }
+    #[cfg(feature = "table")]
+    if call == "leaves_by_table" {
+        table::table(rounds);
+        return ExitCode::SUCCESS;
+    }
+    #[cfg(feature = "prune")]
+    if call == "prune" {
+        pruned::table(rounds);
         return ExitCode::SUCCESS;
     }
     print!("{:<27}{:>10}", "library/crate", "bytes");

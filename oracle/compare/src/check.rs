@@ -12,6 +12,10 @@ use oracle::{
 use crate::carried;
 #[cfg(feature = "add")]
 use crate::grown::{self, Grown};
+#[cfg(feature = "table")]
+use crate::table::{self, Tabled};
+#[cfg(feature = "prune")]
+use crate::pruned;
 use crate::{
     known::{self, Kind},
     tally::{Call, Tally},
@@ -42,7 +46,7 @@ pub struct Difference {
 
 const SHORT: Refusal = Refusal { number: 20, line: 0 };
 const STALE: Refusal = Refusal { number: 21, line: 0 };
-#[cfg(feature = "lookup")]
+#[cfg(any(feature = "lookup", feature = "prune"))]
 const ABSENT: Refusal = Refusal { number: 25, line: 0 };
 
 fn refusal(number: u32) -> Refusal {
@@ -344,6 +348,8 @@ pub struct Checker {
     words: Lent<u32>,
     #[cfg(feature = "names")]
     work: Lent<u32>,
+    #[cfg(feature = "table")]
+    lender: table::Lender,
     found: Vec<Difference>,
     pub tally: Tally,
 }
@@ -512,12 +518,22 @@ impl Checker {
                 self.held(Call::Roots, said);
                 let said = outputs(&mut self.words, Err(r), |o| library::leaves(text, catalogue, o));
                 self.held(Call::Leaves, said);
+                #[cfg(feature = "table")]
+                {
+                    let said = self.lender.ask(&Err(r), |t, o| library::leaves_by_table(text, catalogue, t, o));
+                    self.held(Call::LeavesByTable, said);
+                }
             }
             #[cfg(feature = "add")]
             {
                 let (p, f) = case.add.as_ref().map_or((&b"x"[..], &b""[..]), |(p, f)| (p, f));
                 let said = outputs(&mut self.bytes, Err(r), |o| library::add(text, catalogue, p, f, o));
                 self.held(Call::Add, said);
+            }
+            #[cfg(feature = "prune")]
+            for used in [&[][..], &[0, 7, 0]] {
+                let said = outputs(&mut self.bytes, Err(r), |o| library::prune(text, catalogue, used, o));
+                self.held(Call::Prune, said);
             }
         }
     }
@@ -564,6 +580,8 @@ impl Checker {
         self.graph(text, catalogue, &damaged, header, &mut rng);
         #[cfg(feature = "add")]
         self.add(case, catalogue, &damaged, header, &mut rng);
+        #[cfg(feature = "prune")]
+        self.prune(text, catalogue, &damaged, header, &mut rng);
     }
 
     // Texts that are nearly this one: with other names its catalogue is fresh, with other places it is not. The catalogue of the
@@ -752,12 +770,24 @@ impl Checker {
             self.differ(Call::Leaves, Some(kind), format!("refused {number}"));
         }
         self.said(Call::Leaves, number, said);
+        #[cfg(feature = "table")]
+        {
+            let nodes = if number == 0 { table::nodes(&parents) } else { Vec::new() };
+            let want = want.map(|(leaves, answer)| Tabled { leaves, answer, nodes: &nodes });
+            let said = self.lender.ask(&want, |t, o| library::leaves_by_table(text, catalogue, t, o));
+            self.said(Call::LeavesByTable, number, said);
+        }
 
         let c = rng.of(damaged);
         let said = outputs(&mut self.words, Err(STALE), |o| library::roots(text, c, o));
         self.said(Call::Roots, 21, said);
         let said = outputs(&mut self.words, Err(STALE), |o| library::leaves(text, c, o));
         self.said(Call::Leaves, 21, said);
+        #[cfg(feature = "table")]
+        {
+            let said = self.lender.ask(&Err(STALE), |t, o| library::leaves_by_table(text, c, t, o));
+            self.said(Call::LeavesByTable, 21, said);
+        }
     }
 
     #[cfg(feature = "add")]
@@ -828,6 +858,41 @@ impl Checker {
         let c = rng.of(damaged);
         let said = outputs(&mut self.bytes, Err(STALE), |o| library::add(text, c, prefix, fields, o));
         self.said(Call::Add, 21, said);
+    }
+}
+
+#[cfg(feature = "prune")]
+impl Checker {
+    // Programs in use: what is left is the crate's table without the others, written by the crate. An ordinal that is too high comes
+    // before what is wrong with the graph, and all programs are judged, also those that would go.
+    fn prune(&mut self, text: &[u8], catalogue: &[u8], damaged: &[Vec<u8>], header: &Header, rng: &mut Rng) {
+        let parents = oracle::parents(header);
+        let (graph, _) = chained(&parents, &oracle::leaves(header));
+        let lists = pruned::lists(parents.len(), rng);
+        for used in &lists {
+            let mut out = Vec::new();
+            let want = if used.iter().any(|&u| u as usize >= parents.len()) {
+                Err(ABSENT)
+            } else if graph != 0 {
+                Err(refusal(graph))
+            } else {
+                match oracle::tidy(&pruned::pruned(header, &parents, used)) {
+                    Err(_) => Err(Self::unwritable(text, header)),
+                    Ok(t) if t.len() > oracle::LONGEST => Err(refusal(1)),
+                    Ok(t) => {
+                        out = t;
+                        Ok(())
+                    }
+                }
+            };
+            let want = want.map(|()| (&out[..], out.len() as u64));
+            let said = outputs(&mut self.bytes, want, |o| library::prune(text, catalogue, used, o));
+            let number = want.err().map_or(0, |r| r.number);
+            self.said(Call::Prune, number, said.map(|what| format!("in use {used:?}: {what}")));
+        }
+        let (c, used) = (rng.of(damaged), rng.of(&lists));
+        let said = outputs(&mut self.bytes, Err(STALE), |o| library::prune(text, c, used, o));
+        self.said(Call::Prune, 21, said);
     }
 }
 
@@ -1094,7 +1159,7 @@ fn seeded(text: &[u8]) -> Rng {
 }
 
 /// The refusal that is due where leaves are looked for, 0 for none, and the kind of difference if the crate has no such answer.
-#[cfg(any(feature = "graph", feature = "add"))]
+#[cfg(any(feature = "graph", feature = "add", feature = "prune"))]
 fn chained(parents: &[oracle::Parent], leaves: &oracle::Leaves) -> (u32, Option<Kind>) {
     use oracle::Leaves;
     match (parents.contains(&oracle::Parent::Nobody), leaves) {

@@ -13,7 +13,11 @@ mod check;
 #[cfg(feature = "add")]
 mod grown;
 mod known;
+#[cfg(feature = "prune")]
+mod pruned;
 mod reduce;
+#[cfg(feature = "table")]
+mod table;
 mod tally;
 
 use std::{collections::BTreeMap, process::ExitCode, time::Instant};
@@ -309,7 +313,9 @@ fn main() -> ExitCode {
     let calls: Vec<&str> = [
         ("lookup", cfg!(feature = "lookup")),
         ("graph", cfg!(feature = "graph")),
+        ("leaves_by_table", cfg!(feature = "table")),
         ("add", cfg!(feature = "add")),
+        ("prune", cfg!(feature = "prune")),
         ("names", cfg!(feature = "names")),
         ("carry_on", cfg!(feature = "carry_on")),
         ("binary", cfg!(feature = "binary")),

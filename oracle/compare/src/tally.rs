@@ -15,14 +15,16 @@ pub enum Call {
     Field,
     Roots,
     Leaves,
+    LeavesByTable,
     Add,
+    Prune,
     Names,
     CarryOn,
     BinaryOut,
     BinaryIn,
 }
 
-const CALLS: [Call; 15] = [
+const CALLS: [Call; 16] = [
     Call::Read,
     Call::Check,
     Call::Tidy,
@@ -33,7 +35,9 @@ const CALLS: [Call; 15] = [
     Call::Field,
     Call::Roots,
     Call::Leaves,
+    Call::LeavesByTable,
     Call::Add,
+    Call::Prune,
     Call::Names,
     Call::CarryOn,
     Call::BinaryOut,

@@ -68,6 +68,20 @@ unsafe extern "C" {
     ) -> u64;
 }
 
+#[cfg(feature = "table")]
+unsafe extern "C" {
+    fn sam_header_leaves_by_table(
+        text: *const u8,
+        text_len: usize,
+        catalogue: *const u8,
+        catalogue_len: usize,
+        table: *mut Node,
+        table_len: usize,
+        out: *mut u32,
+        out_len: usize,
+    ) -> u64;
+}
+
 #[cfg(feature = "add")]
 unsafe extern "C" {
     fn sam_header_add(
@@ -79,6 +93,20 @@ unsafe extern "C" {
         prefix_len: usize,
         fields: *const u8,
         fields_len: usize,
+        out: *mut u8,
+        out_len: usize,
+    ) -> u64;
+}
+
+#[cfg(feature = "prune")]
+unsafe extern "C" {
+    fn sam_header_prune(
+        text: *const u8,
+        text_len: usize,
+        catalogue: *const u8,
+        catalogue_len: usize,
+        used: *const u32,
+        used_len: usize,
         out: *mut u8,
         out_len: usize,
     ) -> u64;
@@ -187,6 +215,31 @@ pub fn leaves(text: &[u8], catalogue: &[u8], out: &mut [u32]) -> Answer {
     })
 }
 
+/// A program in a table: its parent's ordinal, and the parent links from it to its root.
+#[derive(Clone, Copy, Debug, Default, Eq, PartialEq)]
+#[repr(C)]
+pub struct Node {
+    pub parent: u32,
+    pub depth: u32,
+}
+
+/// Each program's record is left in `table`.
+#[cfg(feature = "table")]
+pub fn leaves_by_table(text: &[u8], catalogue: &[u8], table: &mut [Node], out: &mut [u32]) -> Answer {
+    answer(unsafe {
+        sam_header_leaves_by_table(
+            text.as_ptr(),
+            text.len(),
+            catalogue.as_ptr(),
+            catalogue.len(),
+            table.as_mut_ptr(),
+            table.len(),
+            out.as_mut_ptr(),
+            out.len(),
+        )
+    })
+}
+
 #[cfg(feature = "add")]
 pub fn add(text: &[u8], catalogue: &[u8], prefix: &[u8], fields: &[u8], out: &mut [u8]) -> Answer {
     answer(unsafe {
@@ -199,6 +252,22 @@ pub fn add(text: &[u8], catalogue: &[u8], prefix: &[u8], fields: &[u8], out: &mu
             prefix.len(),
             fields.as_ptr(),
             fields.len(),
+            out.as_mut_ptr(),
+            out.len(),
+        )
+    })
+}
+
+#[cfg(feature = "prune")]
+pub fn prune(text: &[u8], catalogue: &[u8], used: &[u32], out: &mut [u8]) -> Answer {
+    answer(unsafe {
+        sam_header_prune(
+            text.as_ptr(),
+            text.len(),
+            catalogue.as_ptr(),
+            catalogue.len(),
+            used.as_ptr(),
+            used.len(),
             out.as_mut_ptr(),
             out.len(),
         )
@@ -265,6 +334,16 @@ impl Element for u8 {
 impl Element for u32 {
     fn pattern(i: usize) -> Self {
         (i as u32).wrapping_mul(0x9e37_79b9) ^ 0xdead_beef
+    }
+
+    fn show(all: &[Self]) -> String {
+        format!("{all:?}")
+    }
+}
+
+impl Element for Node {
+    fn pattern(i: usize) -> Self {
+        Self { parent: u32::pattern(2 * i), depth: u32::pattern(2 * i + 1) }
     }
 
     fn show(all: &[Self]) -> String {

@@ -1,79 +1,54 @@
--- `chains::place` meets its contract: what was passed, and what is still to pass, add up. Assumes nothing.
-use Prim.Native.Nat.{ℕ, suc, _+_, _-_, _≤_, _<_}
-use mathlib.Core.Path.{_≡_, refl}
-use mathlib.Core.List.{List}
+-- `chains::place` meets its contract: what is listed at the place that is noted is `x`, or `x` is not listed. Assumes nothing.
+use mathlib.Core.Path.{_≡_, sym, ap, _∙_}
 use native.Mathlib.Omega.{arith}
-use native.Mathlib.Numerals.{add-one}
-use lib.ListN.{length, getD, drop, drop-of-length-le}
-use lib.Seq.{drop-cons}
-use borrow.Author.Tests.{eq-eqb, ne-eqb}
-use Rattle.chains.specs.Parents.{indexIn}
+use lib.ListN.{getD}
+use Rattle.chains.proofs.Places.{found-place, other-there, none-there}
+use borrow.Author.Needs.{needs}
 use Rattle.chains.proofs.place.Statement.{statement}
 use Rattle.chains.proofs.place.Tie as tie
 
-module _ (x : ℕ) (l : List ℕ) (i : ℕ) where
-  here : i < length l → x ≡ getD l i 0 → indexIn x (drop i l) ≡ 0
-  unfolding indexIn
-  here h e = rw (drop-cons l i 0 h, eq-eqb _ _ e) refl
+mul-size : tie.Need-mul-size
+mul-size c = search needs
 
-  next : i < length l → (x ≡ getD l i 0 → ⊥) → indexIn x (drop i l) ≡ suc (indexIn x (drop (i + 1) l))
-  unfolding indexIn
-  next h e = rw (drop-cons l i 0 h, ne-eqb _ _ e, add-one i) refl
+element-copy-out-size : tie.Need-element-copy-out-size
+element-copy-out-size c = search needs
 
-  spent : length l ≤ i → indexIn x (drop i l) ≡ 0
-  unfolding indexIn
-  spent h = rw drop-of-length-le refl
+size-requires : tie.Need-size-requires
+size-requires c κs = search needs
 
-abbrev Inv-loop : tie.InvT-loop
-Inv-loop list x i₀ i = (i ≤ length list) × (indexIn x list ≡ i + indexIn x (drop i list))
+mul-if2 : tie.Need-mul-if2
+mul-if2 c = search needs
 
-abbrev μ-loop : tie.MeasureT-loop
-μ-loop list x i₀ i = length list - i
+shared-slice-read-if2 : tie.Need-shared-slice-read-if2
+shared-slice-read-if2 c = search needs
 
-loop-holds : tie.Need-loop-holds Inv-loop μ-loop
-loop-holds c = omega arith
-
-mul-if1 : tie.Need-mul-if1 Inv-loop μ-loop
-mul-if1 c = omega arith
-
-shared-slice-read-if1 : tie.Need-shared-slice-read-if1 Inv-loop μ-loop
-shared-slice-read-if1 c = omega arith
-
-returns : tie.Need-returns Inv-loop μ-loop
+returns : tie.Need-returns
 returns c =
-    let a = c .before .before .before .before .args in
-    let l = c .before .before .before .loop in
-    omega (arith, l .inv .1, here (a .x) (a .list .now) (l .i) (omega arith) (c .if1 .taken))
+    let a = c .before .before .before .before .before .before in
+    let z : c .before .before .before .size .result ≡ getD (a .args .places .now) (a .args .x) 0 = c .before .before .before .size .ensures in
+    z ∙ found-place (a .args .x) (a .args .list .now) (a .args .places .now) (a .pre .0) (omega (arith, z, c .before .before .if1 .taken)) (c .if2 .taken ∙ ap (λ j. getD (a .args .list .now) j 0) z)
 
-add-i : tie.Need-add-i Inv-loop μ-loop
-add-i c = omega arith
-
-loop-less : tie.Need-loop-less Inv-loop μ-loop
-loop-less c = omega arith
-
-loop-again : tie.Need-loop-again Inv-loop μ-loop
-loop-again c =
-    let a = c .before .before .before .before .args in
-    let l = c .before .before .before .loop in
-    (omega arith, omega (arith, l .inv .1, next (a .x) (a .list .now) (l .i) (omega arith) (c .if1 .left)))
-
-returns-2 : tie.Need-returns-2 Inv-loop μ-loop
+returns-2 : tie.Need-returns-2
 returns-2 c =
-    let a = c .before .before .args in
-    let l = c .before .loop in
-    omega (arith, l .inv .1, spent (a .x) (a .list .now) (l .i) (c .loop-test .left))
+    let a = c .before .before .before .before .before .before in
+    let z : c .before .before .before .size .result ≡ getD (a .args .places .now) (a .args .x) 0 = c .before .before .before .size .ensures in
+    other-there (a .args .x) (a .args .list .now) (a .args .places .now) (a .pre .0) (λ e. c .if2 .left (e ∙ ap (λ j. getD (a .args .list .now) j 0) (sym z)))
+
+returns-3 : tie.Need-returns-3
+returns-3 c =
+    let a = c .before .before .before .before in
+    let z : c .before .size .result ≡ getD (a .args .places .now) (a .args .x) 0 = c .before .size .ensures in
+    none-there (a .args .x) (a .args .list .now) (a .args .places .now) (a .pre .0) (omega (arith, z, c .if1 .left))
 
 pub place-spec : {M : Type 1} → statement M
 place-spec =
     tie.close
     (tie.spec
-    Inv-loop
-    μ-loop
-    loop-holds
-    mul-if1
-    shared-slice-read-if1
+    mul-size
+    element-copy-out-size
+    size-requires
+    mul-if2
+    shared-slice-read-if2
     returns
-    add-i
-    loop-less
-    loop-again
-    returns-2)
+    returns-2
+    returns-3)

@@ -1,79 +1,97 @@
 -- `tidy_text::put_lines` meets its contract: what is written, and what the lines still to come will write, is all.
-use Prim.Native.Nat.{_+_, _-_, _≤_}
+use Prim.Native.Nat.{ℕ, _+_, _-_, _≤_}
 use mathlib.Core.Path.{_≡_, refl, sym, ap, ap₂, subst, _∙_}
-use mathlib.Core.Bool.{true}
-use mathlib.Core.List.{[]}
+use mathlib.Core.Bool.{Bool, true}
+use mathlib.Core.List.{List}
 use native.Mathlib.Omega.{arith}
 use lib.ListN.{length, drop, getD}
 use Rattle.format.specs.Lines.{linesFrom}
-use Rattle.format.specs.Records.{line}
-use Rattle.format.specs.Reading.{readText}
+use Rattle.format.specs.Records.{Record, Line, line}
+use Rattle.format.specs.declared.Kind.{Kind}
 use Rattle.accepted.specs.Read.{recordsOf}
 use Rattle.accepted.proofs.Ahead.{lent}
 use Rattle.writer.specs.Line.{lineText}
 use Rattle.tidy_text.specs.Accepted.{withRecord, allRead, recordsFrom}
-use Rattle.per_kind.specs.Numbers.{get, plus}
-use Rattle.heads.specs.Found.{kindBy}
+use Rattle.tidy_text.specs.Kinds.{kindText}
 use Rattle.tidy_text.specs.Placed.{withParts, parts, Apart}
+use Rattle.heads.specs.Found.{kindBy}
 use Rattle.tidy_text.proofs.Lines.{Opened, opened, Turn, turn, ended}
-use Rattle.tidy_text.proofs.OfKind.{line-kind}
-use Rattle.tidy_text.proofs.Placed.{Split}
-use Rattle.tidy_text.proofs.Parts.{split-turn, placed-none}
+use Rattle.tidy_text.proofs.OfKind.{only, three, line-kind}
+use Rattle.tidy_text.proofs.Total.{size}
+use Rattle.tidy_text.proofs.Parts.{placed-none}
+use Rattle.tidy_text.specs.Sifted.{isMarked, sifted, stayBy}
+use Rattle.tidy_text.proofs.Sifting.{is-pg, line-pg, sifted-none, next-le, stay-room, stay-apart, stay-same}
 use borrow.Author.Needs.{needs}
 use Rattle.tidy_text.proofs.put_lines.Statement.{statement}
 use Rattle.tidy_text.proofs.put_lines.Tie as tie
 
 abbrev Inv-loop : tie.InvT-loop
-Inv-loop t strict out₀ next₀ at₀ out next at =
+Inv-loop t strict marks out₀ next₀ k₀ at₀ out next k at =
     (at ≤ length t)
+    × (k ≤ at)
     × (allRead strict (linesFrom at (drop at t)) ≡ true)
-    × Apart (parts next (recordsFrom strict t at)) (length out)
-    × (withParts out (parts next (recordsFrom strict t at)) ≡ withParts out₀ (parts next₀ (recordsOf t)))
+    × Apart (parts next (sifted (isMarked marks) k (recordsFrom strict t at))) (length out)
+    × (withParts out (parts next (sifted (isMarked marks) k (recordsFrom strict t at))) ≡ withParts out₀ (parts next₀ (sifted (isMarked marks) 0 (recordsOf t))))
     × (length out ≡ length out₀)
 
 abbrev μ-loop : tie.MeasureT-loop
-μ-loop t strict out₀ next₀ at₀ out next at = length t - at
+μ-loop t strict marks out₀ next₀ k₀ at₀ out next k at = length t - at
 
 begun : (s : tie.Start Inv-loop μ-loop) → Opened (s .args .strict) (s .args .text .now)
 begun s = opened (s .args .strict) (s .args .text .now) (s .pre .0) (s .pre .1 .0)
 
 -- the line of a turn
-turned : (c : tie.After-first-line Inv-loop μ-loop) → (let l = c .before .before .before in let a = l .before .before .before .args in Turn (a .strict) (a .text .now) (l .loop .at) (c .first-line .result))
+turned : (c : tie.After-first-line Inv-loop μ-loop) → (let l = c .before .before .before in let a = l .before .before .before .before .args in Turn (a .strict) (a .text .now) (l .loop .at) (c .first-line .result))
 turned c =
     let l = c .before .before .before in
-    let a = l .before .before .before .args in
-    turn (a .strict) (a .text .now) (l .loop .at) (omega arith) (l .loop .inv .1) (c .first-line .result) (c .first-line .ensures)
+    let a = l .before .before .before .before .args in
+    turn (a .strict) (a .text .now) (l .loop .at) (omega arith) (l .loop .inv .2) (c .first-line .result) (c .first-line .ensures)
 
--- its record goes to the place of its kind
-splits : (c : tie.After-first-line Inv-loop μ-loop)
-    → (let l = c .before .before .before in let a = l .before .before .before .args in
-    let s = lent (a .text .now) (l .loop .at) (c .first-line .result .len) in
-    let j = kindBy (getD s 1 0) in
-    let xs = lineText (line (a .strict) (record { at = l .loop .at; bytes = s })) in
-    Split (l .loop .out) (length (l .loop .out)) (get j (l .loop .next)) xs (parts (l .loop .next) (recordsFrom (a .strict) (a .text .now) (l .loop .at)))
-    (parts (plus j (length xs) (l .loop .next)) (recordsFrom (a .strict) (a .text .now) (l .loop .at + c .first-line .result .next))))
-splits c =
-    let l = c .before .before .before in
-    let a = l .before .before .before .args in
-    let s = lent (a .text .now) (l .loop .at) (c .first-line .result .len) in
-    let j = kindBy (getD s 1 0) in
-    let p = line (a .strict) (record { at = l .loop .at; bytes = s }) in
-    let rs = recordsFrom (a .strict) (a .text .now) (l .loop .at + c .first-line .result .next) in
-    let t = turned c in
-    subst (λ qs. Split (l .loop .out) (length (l .loop .out)) (get j (l .loop .next)) (lineText p) (parts (l .loop .next) qs) (parts (plus j (length (lineText p)) (l .loop .next)) rs))
-    (sym (t .records))
-    (split-turn j (l .loop .out) (length (l .loop .out)) (l .loop .next) p rs (line-kind (a .strict) (l .loop .at) s (t .read)) (omega arith)
-    (subst (λ qs. Apart (parts (l .loop .next) qs) (length (l .loop .out))) (t .records) (l .loop .inv .2)))
+-- its bytes, the line, and its kind
+abbrev bytes-of : (c : tie.After-first-line Inv-loop μ-loop) → List ℕ
+bytes-of c = let l = c .before .before .before in lent (l .before .before .before .before .args .text .now) (l .loop .at) (c .first-line .result .len)
+
+abbrev line-of : (c : tie.After-first-line Inv-loop μ-loop) → Line
+line-of c = let l = c .before .before .before in line (l .before .before .before .before .args .strict) (record { at = l .loop .at; bytes = bytes-of c })
+
+abbrev kind-at : (c : tie.After-first-line Inv-loop μ-loop) → Kind
+kind-at c = kindBy (getD (bytes-of c) 1 0)
+
+-- the records after it
+abbrev rest-of : (c : tie.After-first-line Inv-loop μ-loop) → List Record
+rest-of c = let l = c .before .before .before in let a = l .before .before .before .before .args in recordsFrom (a .strict) (a .text .now) (l .loop .at + c .first-line .result .next)
+
+-- the programs with a mark
+abbrev p-of : (c : tie.After-first-line Inv-loop μ-loop) → ℕ → Bool
+p-of c = isMarked (c .before .before .before .before .before .before .before .args .marks .now)
+
+-- to which kind its text goes
+goes : (c : tie.After-first-line Inv-loop μ-loop) (k : Kind) → kindText k (line-of c) ≡ only (kind-at c) (lineText (line-of c)) k
+goes c = let l = c .before .before .before in line-kind (l .before .before .before .before .args .strict) (l .loop .at) (bytes-of c) (turned c .read)
+
+-- whether it stays
+steps : (c : tie.After-stay-of Inv-loop μ-loop) → (let f = c .before .before .before in let l = f .before .before .before in c .stay-of .result ≡ stayBy (is-pg (line-of f)) (l .before .before .before .before .args .marks .now) (l .loop .k))
+steps c =
+    let f = c .before .before .before in
+    let l = f .before .before .before in
+    let a = l .before .before .before .before .args in
+    c .stay-of .ensures ∙ ap (λ b. stayBy b (a .marks .now) (l .loop .k)) (sym (line-pg (a .strict) (l .loop .at) (bytes-of f) (turned f .read)))
+
+-- what is still to be written stands apart, seen from this line
+apart : (f : tie.After-first-line Inv-loop μ-loop) → (let l = f .before .before .before in Apart (parts (l .loop .next) (sifted (p-of f) (l .loop .k) (withRecord (line-of f) (rest-of f)))) (length (l .loop .out)))
+apart f = let l = f .before .before .before in subst (λ rs. Apart (parts (l .loop .next) (sifted (p-of f) (l .loop .k) rs)) (length (l .loop .out))) (turned f .records) (l .loop .inv .3)
 
 loop-holds : tie.Need-loop-holds Inv-loop μ-loop
 loop-holds c =
-    let s = c .before .before in
+    let s = c .before .before .before in
     let a = s .args in
-    let o = begun s in (
+    let o = begun s in
+    let p = isMarked (a .marks .now) in (
+      omega arith,
       omega arith,
       o .lines,
-      subst (λ rs. Apart (parts (a .places) rs) (length (a .out .now))) (sym (o .records)) (s .pre .1 .1),
-      ap (λ rs. withParts (a .out .now) (parts (a .places) rs)) (o .records),
+      subst (λ rs. Apart (parts (a .places) (sifted p 0 rs)) (length (a .out .now))) (sym (o .records)) (s .pre .1 .1),
+      ap (λ rs. withParts (a .out .now) (parts (a .places) (sifted p 0 rs))) (o .records),
       refl,
     )
 
@@ -89,56 +107,89 @@ part-first-line-end c = omega arith
 first-line-requires : tie.Need-first-line-requires Inv-loop μ-loop
 first-line-requires c κs = search needs
 
-add-put-line : tie.Need-add-put-line Inv-loop μ-loop
-add-put-line c = omega (arith, turned (c .before .before))
+add-stay-of : tie.Need-add-stay-of Inv-loop μ-loop
+add-stay-of c = omega (arith, turned (c .before))
 
-sub-put-line : tie.Need-sub-put-line Inv-loop μ-loop
-sub-put-line c = omega arith
+sub-stay-of : tie.Need-sub-stay-of Inv-loop μ-loop
+sub-stay-of c = omega arith
 
-part-put-line-start : tie.Need-part-put-line-start Inv-loop μ-loop
-part-put-line-start c = omega arith
+part-stay-of-start : tie.Need-part-stay-of-start Inv-loop μ-loop
+part-stay-of-start c = omega arith
 
-part-put-line-end : tie.Need-part-put-line-end Inv-loop μ-loop
-part-put-line-end c = omega (arith, turned (c .before .before))
+part-stay-of-end : tie.Need-part-stay-of-end Inv-loop μ-loop
+part-stay-of-end c = omega (arith, turned (c .before))
 
-put-line-requires : tie.Need-put-line-requires Inv-loop μ-loop
-put-line-requires c κs =
-    let f = c .before .before .before in
-    let t = turned f in
-    (t .read, (omega (arith, t .size, t .inside, begun (f .before .before .before .before .before .before) .fits), splits f .room))
+stay-of-requires : tie.Need-stay-of-requires Inv-loop μ-loop
+stay-of-requires c κs =
+    let f = c .before .before in
+    let l = f .before .before .before in
+    let s = l .before .before .before .before in
+    (three (s .args .strict) (l .loop .at) (bytes-of f) (turned f .read), omega (arith, l .loop .inv .1, l .loop .inv .0, begun s .fits))
+
+add-put-line-if : tie.Need-add-put-line-if Inv-loop μ-loop
+add-put-line-if c = omega (arith, turned (c .before .before .before .before .before))
+
+sub-put-line-if : tie.Need-sub-put-line-if Inv-loop μ-loop
+sub-put-line-if c = omega arith
+
+part-put-line-if-start : tie.Need-part-put-line-if-start Inv-loop μ-loop
+part-put-line-if-start c = omega arith
+
+part-put-line-if-end : tie.Need-part-put-line-if-end Inv-loop μ-loop
+part-put-line-if-end c = omega (arith, turned (c .before .before .before .before .before))
+
+put-line-if-requires : tie.Need-put-line-if-requires Inv-loop μ-loop
+put-line-if-requires c κs =
+    let st = c .before .before .before in
+    let f = st .before .before .before in
+    let l = f .before .before .before in
+    let a = l .before .before .before .before .args in
+    let t = turned f in (
+      t .read,
+      (
+        omega (arith, t .size, t .inside, begun (l .before .before .before .before) .fits),
+        stay-room (a .marks .now) (l .loop .k) (kind-at f) (line-of f) (rest-of f) (t .read) (goes f) (st .stay-of .result) (steps st) (l .loop .out) (length (l .loop .out)) (l .loop .next) (omega arith) (apart f),
+      ),
+    )
 
 add-at : tie.Need-add-at Inv-loop μ-loop
-add-at c = omega (arith, turned (c .before .before .before .before .before .before .before))
+add-at c = omega (arith, turned (c .before .before .before .before .before .before .before .before .before .before) .within, begun (c .before .before .before .before .before .before .before .before .before .before .before .before .before .before .before .before .before) .fits)
 
 loop-less : tie.Need-loop-less Inv-loop μ-loop
-loop-less c = omega (arith, turned (c .before .before .before .before .before .before .before))
+loop-less c = omega (arith, turned (c .before .before .before .before .before .before .before .before .before .before))
 
 loop-again : tie.Need-loop-again Inv-loop μ-loop
 loop-again c =
     let w = c .before .before .before in
-    let f = w .before .before .before .before in
+    let st = w .before .before .before .before in
+    let f = st .before .before .before in
     let l = f .before .before .before in
-    let a = l .before .before .before .args in
+    let a = l .before .before .before .before .args in
     let t = turned f in
-    let s = splits f in
-    let rs = recordsFrom (a .strict) (a .text .now) (l .loop .at + f .first-line .result .next) in (
+    let rs = sifted (p-of f) (st .stay-of .result .next) (rest-of f) in (
       t .within,
+      omega (arith, l .loop .inv .1, t .onward, next-le (a .marks .now) (l .loop .k) _ (st .stay-of .result) (st .stay-of .ensures)),
       t .rest,
-      subst (λ p. Apart (parts p rs) (length (w .put-line .last .0))) (sym (w .put-line .ensures .0)) (subst (Apart _) (sym (w .put-line .kept .0)) (s .apart)),
-      ap₂ (λ o p. withParts o (parts p rs)) (w .put-line .ensures .1) (w .put-line .ensures .0) ∙ sym (s .same) ∙ l .loop .inv .3,
-      w .put-line .kept .0 ∙ l .loop .inv .4,
+      subst (λ p. Apart (parts p rs) (length (w .put-line-if .last .0))) (sym (w .put-line-if .ensures .0)) (subst (Apart _) (sym (w .put-line-if .kept .0))
+          (stay-apart (a .marks .now) (l .loop .k) (kind-at f) (line-of f) (rest-of f) (t .read) (goes f) (st .stay-of .result) (steps st) (l .loop .out) (length (l .loop .out)) (l .loop .next) (omega arith) (apart f))),
+      ap₂ (λ o p. withParts o (parts p rs)) (w .put-line-if .ensures .1) (w .put-line-if .ensures .0)
+          ∙ stay-same (a .marks .now) (l .loop .k) (kind-at f) (line-of f) (rest-of f) (t .read) (goes f) (st .stay-of .result) (steps st) (l .loop .out) (length (l .loop .out)) (l .loop .next) (omega arith) (apart f)
+          ∙ ap (λ rs. withParts (l .loop .out) (parts (l .loop .next) (sifted (p-of f) (l .loop .k) rs))) (sym (t .records))
+          ∙ l .loop .inv .4,
+      w .put-line-if .kept .0 ∙ l .loop .inv .5,
     )
 
 same-length : tie.Need-same-length Inv-loop μ-loop
-same-length c = c .before .loop .inv .4
+same-length c = c .before .loop .inv .5
 
 returns : tie.Need-returns Inv-loop μ-loop
 returns c =
     let l = c .before in
-    let a = l .before .before .before .args in
+    let a = l .before .before .before .before .args in
+    let p = isMarked (a .marks .now) in
     sym (placed-none (l .loop .out) (l .loop .next))
-    ∙ ap (λ rs. withParts (l .loop .out) (parts (l .loop .next) rs)) (sym (ended (a .strict) (a .text .now) (l .loop .at) (c .loop-test .left)))
-    ∙ l .loop .inv .3
+    ∙ ap (λ rs. withParts (l .loop .out) (parts (l .loop .next) rs)) (sym (ap (sifted p (l .loop .k)) (ended (a .strict) (a .text .now) (l .loop .at) (c .loop-test .left)) ∙ sifted-none p (l .loop .k)))
+    ∙ l .loop .inv .4
 
 pub put-lines-spec : {M : Type 1} → statement M
 put-lines-spec =
@@ -151,11 +202,16 @@ put-lines-spec =
     part-first-line-start
     part-first-line-end
     first-line-requires
-    add-put-line
-    sub-put-line
-    part-put-line-start
-    part-put-line-end
-    put-line-requires
+    add-stay-of
+    sub-stay-of
+    part-stay-of-start
+    part-stay-of-end
+    stay-of-requires
+    add-put-line-if
+    sub-put-line-if
+    part-put-line-if-start
+    part-put-line-if-end
+    put-line-if-requires
     add-at
     loop-less
     loop-again

@@ -1,0 +1,12 @@
+-- `leaves_by_table::stopped` meets its contract.
+use mathlib.Core.Path.{refl}
+use Rattle.leaves_by_table.specs.Plans.{stoppedPlanOf}
+use Rattle.leaves_by_table.proofs.stopped.Statement.{statement}
+use Rattle.leaves_by_table.proofs.stopped.Tie as tie
+
+returns : tie.Need-returns
+unfolding stoppedPlanOf
+returns c = refl
+
+pub stopped-spec : {M : Type 1} → statement M
+stopped-spec = tie.close (tie.spec returns)

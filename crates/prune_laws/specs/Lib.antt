@@ -1,0 +1,4 @@
+pub mod Pruned
+pub mod Left
+pub mod Beside
+pub mod Refuses
