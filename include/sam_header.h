@@ -77,12 +77,25 @@ enum {
  *     6 a field      of the record before it: its tag, 2 bytes; offset and length, 4 bytes each   11 */
 uint64_t sam_header_read(const uint8_t *text, size_t text_len, uint8_t *catalogue, size_t catalogue_len);
 
+/* The same answer with a lent work area of any length and content; work_len counts numbers. It is all zeros afterwards, on every answer, refusals too. With
+ * it a text of any length takes little stack. Twice as many slots as the text has lines are enough to be fast; with fewer, a text of more than 256 KiB is
+ * looked through several times. */
+uint64_t sam_header_read_with(const uint8_t *text, size_t text_len, uint8_t *catalogue, size_t catalogue_len, uint32_t *work,
+                              size_t work_len);
+
 /* 0 if the catalogue is the one that reading this text gives, and 21 if not: every offset, length, VN and LN in it is then this text's. It holds no bytes of
  * names, so that two texts which differ in names of equal length alone have one catalogue. A text that reading refuses gets reading's refusal. */
 uint64_t sam_header_check(const uint8_t *text, size_t text_len, const uint8_t *catalogue, size_t catalogue_len);
 
+/* The same answer with a lent work area, as in sam_header_read_with. */
+uint64_t sam_header_check_with(const uint8_t *text, size_t text_len, const uint8_t *catalogue, size_t catalogue_len, uint32_t *work,
+                               size_t work_len);
+
 /* Writes the tidy text of a header. */
 uint64_t sam_header_tidy(const uint8_t *text, size_t text_len, uint8_t *out, size_t out_len);
+
+/* The same answer with a lent work area, as in sam_header_read_with. */
+uint64_t sam_header_tidy_with(const uint8_t *text, size_t text_len, uint8_t *out, size_t out_len, uint32_t *work, size_t work_len);
 
 /* Goes on after lines that are refused: skips them and writes the tidy text of the others. In `table`, at its front, two numbers for each skipped
  * line, in order: the line and the refusal's number; table_len counts numbers. The answer is the skipped lines shifted left by 32, and the bytes written.

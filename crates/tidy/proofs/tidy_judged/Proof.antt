@@ -1,4 +1,4 @@
--- `tidy::tidy` meets its contract: the text is judged, then its tidy text written.
+-- `tidy::tidy_judged` meets its contract: the text has been judged, then its tidy text is written.
 use Prim.Native.Nat.{ℕ, _≤_, _<_}
 use mathlib.Core.Path.{_≡_, refl, sym, ap, _∙_}
 use native.Mathlib.Omega.{arith}
@@ -12,11 +12,10 @@ use Rattle.judging.proofs.Whole.{text-refused, text-accepted}
 use Rattle.parser.proofs.Told.{refused-answer}
 use Rattle.tidy.proofs.Writing.{tidy-refused, tidy-accepted}
 use borrow.Author.Needs.{needs}
-use Rattle.tidy.proofs.tidy.Statement.{statement}
-use Rattle.tidy.proofs.tidy.Tie as tie
-use Rattle.tidy.proofs.tidy.Reads as reads
-use Rattle.tidy.proofs.tidy.Lts as lts
-use Rattle.judging.proofs.judge.Reads as judge-reads
+use Rattle.tidy.proofs.tidy_judged.Statement.{statement}
+use Rattle.tidy.proofs.tidy_judged.Tie as tie
+use Rattle.tidy.proofs.tidy_judged.Reads as reads
+use Rattle.tidy.proofs.tidy_judged.Lts as lts
 use Rattle.repeat_rule.proofs.is_strict.Reads as is-strict-reads
 use Rattle.tidy.proofs.write_accepted.Reads as write-accepted-reads
 
@@ -62,6 +61,6 @@ returns-2 c =
     let e = sym (tidy-accepted (a .text .now) (length (a .out .now)) (accepted z)) in
     (w .write-accepted .ensures .0 ∙ ap answerOf e, w .write-accepted .ensures .1 ∙ ap (λ x. outputOf x (a .out .now)) e)
 
-pub tidy-spec : {M : Type 1} → statement M
-tidy-spec =
+pub tidy-judged-spec : {M : Type 1} → statement M
+tidy-judged-spec =
     tie.close (tie.spec judge-requires enum-known-n enum-told is-strict-requires write-accepted-requires returns same-length returns-2)
