@@ -22,7 +22,7 @@ pub const SHORT: usize = 8192;
 pub const MIDDLE: usize = 262144;
 
 // How many slots that one has.
-const OWN_SLOTS: usize = 6144;
+pub const OWN_SLOTS: usize = 6144;
 
 // The first refusal and its line, or how many bytes the catalogue has.
 pub enum Judged {
@@ -207,7 +207,7 @@ pub fn judge(text: &[u8]) -> Judged
 }
 
 // The smaller of two numbers.
-fn least(a: usize, b: usize) -> usize
+pub fn least(a: usize, b: usize) -> usize
     ensures { λ r. ⌜ r ≡ cond (ltb a b) a b ⌝ }
 {
     if a < b { a } else { b }

@@ -1,15 +1,11 @@
 -- `judging::judge_lent` meets its contract: an area that has been emptied holds no key.
-use Prim.Native.Nat.{ℕ, _≤_}
 use mathlib.Core.Path.{_≡_, sym, ap, _∙_}
-use mathlib.Core.Bool.{cond}
 use native.Mathlib.Omega.{arith}
 use borrow.Author.Needs.{needs}
 use lib.ListN.{length, take, replicate, length-take, length-replicate}
-use lib.Dec.{ltb}
-use borrow.Author.Tests.{ltb-false}
 use Rattle.format.proofs.Slots.{held-none}
-use Rattle.accepted.proofs.Bools.{split}
 use Rattle.key_index.specs.Told.{start}
+use Rattle.judging.proofs.Smaller.{least-left}
 use Rattle.judging.proofs.judge_lent.Statement.{statement}
 use Rattle.judging.proofs.judge_lent.Tie as tie
 use Rattle.judging.proofs.judge_lent.Reads as reads
@@ -18,10 +14,6 @@ use Rattle.judging.proofs.judge_indexed.Reads as judge-indexed-reads
 use Rattle.judging.proofs.judge_small.Reads as judge-small-reads
 use Rattle.judging.proofs.least.Reads as least-reads
 use Rattle.key_index.proofs.clear.Reads as clear-reads
-
--- the smaller of two is at most the first
-least-left : (a b : ℕ) → cond (ltb a b) a b ≤ a
-least-left a b = split {C = cond (ltb a b) a b ≤ a} (ltb a b) (λ e. rw e (omega arith)) (λ e. rw e (omega (arith, ltb-false a b e)))
 
 judge-small-requires : tie.Need-judge-small-requires
 judge-small-requires c κs = search needs
