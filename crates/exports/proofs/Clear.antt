@@ -1,11 +1,11 @@
 -- An answer of carrying on, leaves, key or field that is no refusal and not the stand-in keeps bit 63 clear.
 use Prim.Native.Nat.{ℕ, _+_, _*_, _/_, _^_, _≤_, _<_}
-use mathlib.Core.Path.{_≡_, sym, ap, subst}
+use mathlib.Core.Path.{_≡_, refl, sym, ap, subst}
 use mathlib.Core.List.{List}
 use native.Mathlib.Omega.{arith}
 use lib.ListN.{length}
 use Rattle.format.specs.Lines.{Piece}
-use Rattle.format.specs.Calls.{yes, keying, valuing, leafing}
+use Rattle.format.specs.Calls.{Answer, refused, yes, keying, valuing, leafing}
 use Rattle.calls.specs.Answers.{keyAnswerOf, valuePlaceOf}
 use Rattle.calls.proofs.Told.{key-short, value-short}
 use Rattle.roots_and_leaves.specs.Answers.{leavesAnswerOf}
@@ -13,7 +13,7 @@ use Rattle.roots_and_leaves.proofs.Bound.{hops-few, leaves-few}
 use Rattle.carried.specs.Carrying.{carrying}
 use Rattle.carried.proofs.Bound.{carried-few}
 use Rattle.carry_on.specs.Answers.{carriedOf}
-use Rattle.words.specs.Words.{carriedWord, leavesWord, pairWord, keyWord, fieldWord}
+use Rattle.words.specs.Words.{carriedWord, FitsHalves, leavesWord, pairWord, keyWord, fieldWord}
 
 place-clear : (p : Piece) → p .at + length (p .bytes) ≤ 16777216 → pairWord (p .at) (length (p .bytes)) < 2 ^ 63
 unfolding pairWord
@@ -25,6 +25,15 @@ carried-clear t room table xs ys is =
     let f = carried-few t room table xs ys is in
     let z : length ys / 2 * 2 ^ 32 + length xs < 2 ^ 63 = omega (arith, f) in
     subst (λ a. carriedWord (carriedOf a) < 2 ^ 63) (sym is) z
+
+-- both counts of carrying on fit 32 bits
+pub carried-halves : (t : List ℕ) (room table : ℕ) → FitsHalves (carriedOf (carrying t room table))
+unfolding FitsHalves carriedOf
+carried-halves t room table = go (carrying t room table) refl
+  where
+    go : (a : Answer (List ℕ × List ℕ)) → carrying t room table ≡ a → FitsHalves (carriedOf a)
+    go (refused n l) is = tt
+    go (yes (xs, ys)) is = let f = carried-few t room table xs ys is in (omega (arith, f .0), omega (arith, f .1))
 
 module _ (t c : List ℕ) where
   pub leaves-clear : (room : ℕ) (xs : List ℕ) (h : ℕ) → leafing t c room ≡ yes (xs, h) → leavesWord (leavesAnswerOf (leafing t c room)) < 2 ^ 63

@@ -1,11 +1,11 @@
 // The calls for programs in C and Rust: each answer is one number (include/sam_header.h).
 use calls::LengthAnswer;
-use carry_on::Carried;
 use names::NamesAnswer;
 use roots_and_leaves::LeavesAnswer;
 ghost use mathlib.Core.Path.{_≡_};
 ghost use lib.ListN.{length};
 ghost use Rattle.format.specs.Calls.{reading, fresh, tidying, counting, keying, sizing, locating, valuing, rooting, leafing, adding};
+ghost use Rattle.format.specs.Work.{allZeros};
 ghost use Rattle.carry_on.specs.Answers.{carriedAnswer, textLeft, tableLeft};
 ghost use Rattle.names.specs.Batch.{batching};
 ghost use Rattle.names.specs.Answers.{namesOf, resultsOf, slotsOf};
@@ -45,10 +45,22 @@ pub extern "C" fn sam_header_carry_on(text: &[u8], out: &mut [u8], table: &mut [
     ensures wrote { λ _. ⌜ now (out .exit) ≡ textLeft (now (text .entry)) (now (out .entry)) (now (table .entry)) ⌝ }
     ensures listed { λ _. ⌜ now (table .exit) ≡ tableLeft (now (text .entry)) (now (out .entry)) (now (table .entry)) ⌝ }
 {
-    match carry_on::carry_on(text, out, table) {
-        Carried::Refused(n, line) => words::refusal_word(n, line),
-        Carried::Written(n, lines) => words::pair_word(lines as u32, n as u32),
-    }
+    words::carried_word(carry_on::carry_on(text, out, table))
+}
+
+#[no_mangle]
+pub extern "C" fn sam_header_carry_on_with(
+    text: &[u8],
+    out: &mut [u8],
+    table: &mut [u32],
+    work: &mut [u32],
+) -> u64
+    ensures answer { λ r. ⌜ r ≡ carriedWord (carriedAnswer (now (text .entry)) (now (out .entry)) (now (table .entry))) ⌝ }
+    ensures wrote { λ _. ⌜ now (out .exit) ≡ textLeft (now (text .entry)) (now (out .entry)) (now (table .entry)) ⌝ }
+    ensures listed { λ _. ⌜ now (table .exit) ≡ tableLeft (now (text .entry)) (now (out .entry)) (now (table .entry)) ⌝ }
+    ensures zeros { λ _. ⌜ now (work .exit) ≡ allZeros (now (work .entry)) ⌝ }
+{
+    words::carried_word(carry_on::carry_on_with(text, out, table, work))
 }
 
 #[no_mangle]

@@ -2,11 +2,12 @@
 use calls::KeyAnswer;
 use calls::LineAnswer;
 use calls::ValuePlace;
+use carry_on::Carried;
 use format::LineNo;
 use parser::Checked;
 use parser::CountAnswer;
 ghost use mathlib.Core.Path.{_≡_};
-ghost use Rattle.words.specs.Words.{refusalWord, answerWord, checkedWord, pairWord, keyWord, lineWord, fieldWord};
+ghost use Rattle.words.specs.Words.{refusalWord, answerWord, checkedWord, pairWord, FitsHalves, carriedWord, keyWord, lineWord, fieldWord};
 
 // A refusal: bit 63, its number and its line.
 pub fn refusal_word(n: u8, line: LineNo) -> u64
@@ -40,6 +41,17 @@ pub fn pair_word(high: u32, low: u32) -> u64
     ensures { λ r. ⌜ r ≡ pairWord high low ⌝ }
 {
     (high as u64) * 4294967296 + (low as u64)
+}
+
+// How many lines are skipped and how many bytes are written.
+pub fn carried_word(carried: Carried) -> u64
+    requires { ⌜ FitsHalves carried ⌝ }
+    ensures { λ r. ⌜ r ≡ carriedWord carried ⌝ }
+{
+    match carried {
+        Carried::Refused(n, line) => refusal_word(n, line),
+        Carried::Written(n, lines) => pair_word(lines as u32, n as u32),
+    }
 }
 
 // Where a key stands.
