@@ -91,6 +91,11 @@ uint64_t sam_header_tidy(const uint8_t *text, size_t text_len, uint8_t *out, siz
  * short table; then neither of them changes. */
 uint64_t sam_header_carry_on(const uint8_t *text, size_t text_len, uint8_t *out, size_t out_len, uint32_t *table, size_t table_len);
 
+/* The same, with a lent work area of any length and with any content. It is all zeros afterwards, on every answer, refusals too; the answer, `out` and `table`
+ * are those of carry_on. work_len counts numbers: one for each eight bytes of the text is as much as is used. An area of 6,144 numbers or fewer is only
+ * cleared, and a text of more than 256 KiB is then carried on over in many small blocks, which is slow. At most 64 KiB of stack for any text. */
+uint64_t sam_header_carry_on_with(const uint8_t *text, size_t text_len, uint8_t *out, size_t out_len, uint32_t *table, size_t table_len, uint32_t *work, size_t work_len);
+
 /* Writes the uncompressed binary header of a header: the bytes BAM and 1, the length of the tidy text and the tidy text, how many SQ there are, and for each,
  * in the text's order, the length of its name with a closing zero byte, the name, that byte, and its LN; numbers have 4 bytes, the lowest first. Refused as
  * tidy is; an `out` that takes the tidy text alone is too short. */

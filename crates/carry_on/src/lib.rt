@@ -128,23 +128,28 @@ fn carry_small(text: &[u8], out: &mut [u8], table: &mut [u32]) -> Carried
 }
 
 // Any text, in blocks of 147,456 lines; it is measured `more` times again before it is written. Nobody asks for more than once: a function that
-// calls itself is compiled by itself, so that its 768 KiB are on the stack only while it runs, and not in the frames of its callers.
-fn carry_long(text: &[u8], out: &mut [u8], table: &mut [u32], more: usize) -> Carried
+// calls itself is compiled by itself, so that its 768 KiB are on the stack only while it runs, and not in the frames of its callers. The call of
+// itself is not its last step: such a call would be compiled as a loop.
+fn carry_long(text: &[u8], b: Begin, out: &mut [u8], table: &mut [u32], more: usize) -> Carried
     requires { ⌜ length (now text) ≤ 16777216 ⌝ }
+    requires { ⌜ First (now text) b ⌝ }
     ensures answer { λ r. ⌜ r ≡ carriedAnswer (now (text .entry)) (now (out .entry)) (now (table .entry)) ⌝ }
     ensures wrote { λ _. ⌜ now (out .exit) ≡ textLeft (now (text .entry)) (now (out .entry)) (now (table .entry)) ⌝ }
     ensures listed { λ _. ⌜ now (table .exit) ≡ tableLeft (now (text .entry)) (now (out .entry)) (now (table .entry)) ⌝ }
 {
     let mut area = [0u32; 196608];
-    let b = early_lines::find_first(text);
     let measured = kept_sizes::measure(text, b, &mut area);
     if 0 < more {
-        return carry_long(text, out, table, more - 1);
+        return match carry_long(text, b, out, table, more - 1) {
+            Carried::Refused(n, line) => Carried::Refused(n, line),
+            Carried::Written(size, lines) => Carried::Written(size, lines),
+        };
     }
     write_measured(text, b, &mut area, measured, out, table)
 }
 
-// A text that is not too long, by its length.
+// A text that is not too long, by its length. No text has as many lines as are needed for one time more; the compiler can't know that, and it
+// would put `carry_long` in its caller's place if it could.
 fn carry_lines(text: &[u8], out: &mut [u8], table: &mut [u32]) -> Carried
     requires { ⌜ length (now text) ≤ 16777216 ⌝ }
     ensures answer { λ r. ⌜ r ≡ carriedAnswer (now (text .entry)) (now (out .entry)) (now (table .entry)) ⌝ }
@@ -154,7 +159,8 @@ fn carry_lines(text: &[u8], out: &mut [u8], table: &mut [u32]) -> Carried
     if text.len() <= judging::MIDDLE {
         return carry_small(text, out, table);
     }
-    carry_long(text, out, table, text.len() / (format::LONGEST + 1))
+    let b = early_lines::find_first(text);
+    carry_long(text, b, out, table, b.line as usize / (format::LONGEST + 1))
 }
 
 // Writes the tidy text of the lines of `text` that are not refused to the front of `out`, and for each line that is, its number and why, to

@@ -111,6 +111,16 @@ unsafe extern "C" {
         table: *mut u32,
         table_len: usize,
     ) -> u64;
+    fn sam_header_carry_on_with(
+        text: *const u8,
+        text_len: usize,
+        out: *mut u8,
+        out_len: usize,
+        table: *mut u32,
+        table_len: usize,
+        work: *mut u32,
+        work_len: usize,
+    ) -> u64;
 }
 
 #[cfg(feature = "binary")]
@@ -230,6 +240,23 @@ pub fn names(text: &[u8], catalogue: &[u8], list: &[u8], work: &mut [u32], out: 
 pub fn carry_on(text: &[u8], out: &mut [u8], table: &mut [u32]) -> Answer {
     answer(unsafe {
         sam_header_carry_on(text.as_ptr(), text.len(), out.as_mut_ptr(), out.len(), table.as_mut_ptr(), table.len())
+    })
+}
+
+/// The same by a lent area, which is all zeros afterwards.
+#[cfg(feature = "carry_on")]
+pub fn carry_on_with(text: &[u8], out: &mut [u8], table: &mut [u32], work: &mut [u32]) -> Answer {
+    answer(unsafe {
+        sam_header_carry_on_with(
+            text.as_ptr(),
+            text.len(),
+            out.as_mut_ptr(),
+            out.len(),
+            table.as_mut_ptr(),
+            table.len(),
+            work.as_mut_ptr(),
+            work.len(),
+        )
     })
 }
 
