@@ -2,7 +2,9 @@
  *
  * Any bytes may be lent. Of the pointers is asked what C asks of a slice: not NULL, also where the length is 0; aligned to their type; lengths below
  * PTRDIFF_MAX; and no slice that a call writes overlaps another slice of that call. Calls keep no state and lend nothing on: they may run side by side.
- * A call takes less than 1 MiB of stack.
+ * Stack: for a text of at most 256 KiB read, check, count, key, line, length, field, tidy, carry_on, binary_out, binary_in and names take at most 64 KiB, roots,
+ * leaves, add and prune 112, leaves_by_table 136 and judge_merge 640; for a longer text any call takes at most 900 KiB. The calls with a work area
+ * take at most 64 KiB for any text. examples/stack.c measures it.
  *
  * Room that always suffices: for read 3 * text_len + 1 bytes; for tidy, prune, carry_on and binary_in as many as the text has and one more, and two numbers for each line in carry_on's table; for binary_out twice text_len and 14; for roots, leaves and leaves_by_table 1,024 ordinals, and 1,024 records in leaves_by_table's table; for names as many ordinals as the
  * list has names, and the slots that are said there; for add what tidy needs and for each new program, one after each leaf, prefix_len + fields_len, twice
@@ -83,12 +85,25 @@ enum {
  *     6 a field      of the record before it: its tag, 2 bytes; offset and length, 4 bytes each   11 */
 uint64_t sam_header_read(const uint8_t *text, size_t text_len, uint8_t *catalogue, size_t catalogue_len);
 
+/* The same answer with a lent work area of any length and content; work_len counts numbers. It is all zeros afterwards, on every answer, refusals too. With
+ * it a text of any length takes little stack. Twice as many slots as the text has lines are enough to be fast; with fewer, a text of more than 256 KiB is
+ * looked through several times. */
+uint64_t sam_header_read_with(const uint8_t *text, size_t text_len, uint8_t *catalogue, size_t catalogue_len, uint32_t *work,
+                              size_t work_len);
+
 /* 0 if the catalogue is the one that reading this text gives, and 21 if not: every offset, length, VN and LN in it is then this text's. It holds no bytes of
  * names, so that two texts which differ in names of equal length alone have one catalogue. A text that reading refuses gets reading's refusal. */
 uint64_t sam_header_check(const uint8_t *text, size_t text_len, const uint8_t *catalogue, size_t catalogue_len);
 
+/* The same answer with a lent work area, as in sam_header_read_with. */
+uint64_t sam_header_check_with(const uint8_t *text, size_t text_len, const uint8_t *catalogue, size_t catalogue_len, uint32_t *work,
+                               size_t work_len);
+
 /* Writes the tidy text of a header. */
 uint64_t sam_header_tidy(const uint8_t *text, size_t text_len, uint8_t *out, size_t out_len);
+
+/* The same answer with a lent work area, as in sam_header_read_with. */
+uint64_t sam_header_tidy_with(const uint8_t *text, size_t text_len, uint8_t *out, size_t out_len, uint32_t *work, size_t work_len);
 
 /* Goes on after lines that are refused: skips them and writes the tidy text of the others. In `table`, at its front, two numbers for each skipped
  * line, in order: the line and the refusal's number; table_len counts numbers. The answer is the skipped lines shifted left by 32, and the bytes written.
@@ -96,6 +111,11 @@ uint64_t sam_header_tidy(const uint8_t *text, size_t text_len, uint8_t *out, siz
  * and an HD may still be kept; a key of a skipped line is free. 1 for the text, then 24, 1 for the text to be written, 20 for a short output or a
  * short table; then neither of them changes. */
 uint64_t sam_header_carry_on(const uint8_t *text, size_t text_len, uint8_t *out, size_t out_len, uint32_t *table, size_t table_len);
+
+/* The same, with a lent work area of any length and with any content. It is all zeros afterwards, on every answer, refusals too; the answer, `out` and `table`
+ * are those of carry_on. work_len counts numbers: one for each eight bytes of the text is as much as is used. An area of 6,144 numbers or fewer is only
+ * cleared, and a text of more than 256 KiB is then carried on over in many small blocks, which is slow. At most 64 KiB of stack for any text. */
+uint64_t sam_header_carry_on_with(const uint8_t *text, size_t text_len, uint8_t *out, size_t out_len, uint32_t *table, size_t table_len, uint32_t *work, size_t work_len);
 
 /* Writes the uncompressed binary header of a header: the bytes BAM and 1, the length of the tidy text and the tidy text, how many SQ there are, and for each,
  * in the text's order, the length of its name with a closing zero byte, the name, that byte, and its LN; numbers have 4 bytes, the lowest first. Refused as

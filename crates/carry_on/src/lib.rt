@@ -7,10 +7,12 @@ ghost use mathlib.Core.Path.{_≡_};
 ghost use mathlib.Core.Option.{none};
 ghost use Prim.Native.Nat.{_≤_};
 ghost use lib.ListN.{length};
+ghost use Rattle.format.specs.Work.{allZeros};
 ghost use Rattle.tidy_text.specs.Sizes.{sizesOf};
 ghost use Rattle.carried.specs.Carrying.{carriedLines, unwritableLine};
 ghost use Rattle.early_lines.specs.First.{First};
 ghost use Rattle.kept_from.specs.From.{keptFrom, skippedFrom};
+ghost use Rattle.kept_sizes.specs.Measured.{measuredFrom};
 ghost use Rattle.carry_on.specs.Answers.{carriedAnswer, textLeft, tableLeft};
 
 // A refusal and its line, or how many bytes are written and how many lines are skipped.
@@ -54,6 +56,29 @@ fn write_kept(
     Carried::Written(n, lines)
 }
 
+// Once the lines from the first that is kept on have been measured: 24, or as `write_kept`.
+fn write_measured(
+    text: &[u8],
+    b: Begin,
+    area: &mut [u32],
+    measured: KeptSizes,
+    out: &mut [u8],
+    table: &mut [u32],
+) -> Carried
+    requires { ⌜ length (now text) ≤ 16777216 ⌝ }
+    requires { ⌜ First (now text) b ⌝ }
+    requires { ⌜ 4 ≤ length (now area) ⌝ }
+    requires { ⌜ measured ≡ measuredFrom (now text) b ⌝ }
+    ensures answer { λ r. ⌜ r ≡ carriedAnswer (now (text .entry)) (now (out .entry)) (now (table .entry)) ⌝ }
+    ensures wrote { λ _. ⌜ now (out .exit) ≡ textLeft (now (text .entry)) (now (out .entry)) (now (table .entry)) ⌝ }
+    ensures listed { λ _. ⌜ now (table .exit) ≡ tableLeft (now (text .entry)) (now (out .entry)) (now (table .entry)) ⌝ }
+{
+    match measured {
+        KeptSizes::Unwritable(line) => Carried::Refused(24, line),
+        KeptSizes::Is(sizes, skipped) => write_kept(text, b, area, sizes, skipped, out, table),
+    }
+}
+
 // Carries on over a text that is not too long, with slots lent for the keys of a block of lines.
 fn carry_indexed(text: &[u8], area: &mut [u32], out: &mut [u8], table: &mut [u32]) -> Carried
     requires { ⌜ length (now text) ≤ 16777216 ⌝ }
@@ -63,10 +88,8 @@ fn carry_indexed(text: &[u8], area: &mut [u32], out: &mut [u8], table: &mut [u32
     ensures listed { λ _. ⌜ now (table .exit) ≡ tableLeft (now (text .entry)) (now (out .entry)) (now (table .entry)) ⌝ }
 {
     let b = early_lines::find_first(text);
-    match kept_sizes::measure(text, b, area) {
-        KeptSizes::Unwritable(line) => Carried::Refused(24, line),
-        KeptSizes::Is(sizes, skipped) => write_kept(text, b, area, sizes, skipped, out, table),
-    }
+    let measured = kept_sizes::measure(text, b, area);
+    write_measured(text, b, area, measured, out, table)
 }
 
 // A short text, in blocks of 384 lines with a key: little is cleared for it.
@@ -80,26 +103,64 @@ fn carry_short(text: &[u8], out: &mut [u8], table: &mut [u32]) -> Carried
     carry_indexed(text, &mut area, out, table)
 }
 
-// A text of some thousand lines, in blocks of 6,144.
+// A text of some thousand lines, in blocks of 4,608.
 fn carry_middle(text: &[u8], out: &mut [u8], table: &mut [u32]) -> Carried
     requires { ⌜ length (now text) ≤ 16777216 ⌝ }
     ensures answer { λ r. ⌜ r ≡ carriedAnswer (now (text .entry)) (now (out .entry)) (now (table .entry)) ⌝ }
     ensures wrote { λ _. ⌜ now (out .exit) ≡ textLeft (now (text .entry)) (now (out .entry)) (now (table .entry)) ⌝ }
     ensures listed { λ _. ⌜ now (table .exit) ≡ tableLeft (now (text .entry)) (now (out .entry)) (now (table .entry)) ⌝ }
 {
-    let mut area = [0u32; 8192];
+    let mut area = [0u32; judging::OWN_SLOTS];
     carry_indexed(text, &mut area, out, table)
 }
 
-// Any text, in blocks of 147,456 lines.
-fn carry_long(text: &[u8], out: &mut [u8], table: &mut [u32]) -> Carried
+// A text with an area of this function's own, of 24 KiB at most. It is slow where the text has many more lines than a block takes.
+fn carry_small(text: &[u8], out: &mut [u8], table: &mut [u32]) -> Carried
     requires { ⌜ length (now text) ≤ 16777216 ⌝ }
     ensures answer { λ r. ⌜ r ≡ carriedAnswer (now (text .entry)) (now (out .entry)) (now (table .entry)) ⌝ }
     ensures wrote { λ _. ⌜ now (out .exit) ≡ textLeft (now (text .entry)) (now (out .entry)) (now (table .entry)) ⌝ }
     ensures listed { λ _. ⌜ now (table .exit) ≡ tableLeft (now (text .entry)) (now (out .entry)) (now (table .entry)) ⌝ }
 {
+    if text.len() <= judging::SHORT {
+        return carry_short(text, out, table);
+    }
+    carry_middle(text, out, table)
+}
+
+// Any text, in blocks of 147,456 lines; it is measured `more` times again before it is written. Nobody asks for more than once: a function that
+// calls itself is compiled by itself, so that its 768 KiB are on the stack only while it runs, and not in the frames of its callers. The call of
+// itself is not its last step: such a call would be compiled as a loop.
+fn carry_long(text: &[u8], b: Begin, out: &mut [u8], table: &mut [u32], more: usize) -> Carried
+    requires { ⌜ length (now text) ≤ 16777216 ⌝ }
+    requires { ⌜ First (now text) b ⌝ }
+    ensures answer { λ r. ⌜ r ≡ carriedAnswer (now (text .entry)) (now (out .entry)) (now (table .entry)) ⌝ }
+    ensures wrote { λ _. ⌜ now (out .exit) ≡ textLeft (now (text .entry)) (now (out .entry)) (now (table .entry)) ⌝ }
+    ensures listed { λ _. ⌜ now (table .exit) ≡ tableLeft (now (text .entry)) (now (out .entry)) (now (table .entry)) ⌝ }
+{
     let mut area = [0u32; 196608];
-    carry_indexed(text, &mut area, out, table)
+    let measured = kept_sizes::measure(text, b, &mut area);
+    if 0 < more {
+        return match carry_long(text, b, out, table, more - 1) {
+            Carried::Refused(n, line) => Carried::Refused(n, line),
+            Carried::Written(size, lines) => Carried::Written(size, lines),
+        };
+    }
+    write_measured(text, b, &mut area, measured, out, table)
+}
+
+// A text that is not too long, by its length. No text has as many lines as are needed for one time more; the compiler can't know that, and it
+// would put `carry_long` in its caller's place if it could.
+fn carry_lines(text: &[u8], out: &mut [u8], table: &mut [u32]) -> Carried
+    requires { ⌜ length (now text) ≤ 16777216 ⌝ }
+    ensures answer { λ r. ⌜ r ≡ carriedAnswer (now (text .entry)) (now (out .entry)) (now (table .entry)) ⌝ }
+    ensures wrote { λ _. ⌜ now (out .exit) ≡ textLeft (now (text .entry)) (now (out .entry)) (now (table .entry)) ⌝ }
+    ensures listed { λ _. ⌜ now (table .exit) ≡ tableLeft (now (text .entry)) (now (out .entry)) (now (table .entry)) ⌝ }
+{
+    if text.len() <= judging::MIDDLE {
+        return carry_small(text, out, table);
+    }
+    let b = early_lines::find_first(text);
+    carry_long(text, b, out, table, b.line as usize / (format::LONGEST + 1))
 }
 
 // Writes the tidy text of the lines of `text` that are not refused to the front of `out`, and for each line that is, its number and why, to
@@ -113,11 +174,41 @@ pub fn carry_on(text: &[u8], out: &mut [u8], table: &mut [u32]) -> Carried
     if format::LONGEST < text.len() {
         return Carried::Refused(1, LineNo(0));
     }
-    if text.len() <= 8192 {
-        return carry_short(text, out, table);
+    carry_lines(text, out, table)
+}
+
+// A text by the front of a lent area, where that is longer than an own one: a slot for each eight bytes of the text is enough for all keys in one
+// block.
+fn carry_lent(text: &[u8], out: &mut [u8], table: &mut [u32], area: &mut [u32]) -> Carried
+    requires { ⌜ length (now text) ≤ 16777216 ⌝ }
+    ensures answer { λ r. ⌜ r ≡ carriedAnswer (now (text .entry)) (now (out .entry)) (now (table .entry)) ⌝ }
+    ensures wrote { λ _. ⌜ now (out .exit) ≡ textLeft (now (text .entry)) (now (out .entry)) (now (table .entry)) ⌝ }
+    ensures listed { λ _. ⌜ now (table .exit) ≡ tableLeft (now (text .entry)) (now (out .entry)) (now (table .entry)) ⌝ }
+    ensures room { λ _. ⌜ length (now (area .exit)) ≡ length (now (area .entry)) ⌝ }
+{
+    if text.len() <= judging::MIDDLE {
+        return carry_small(text, out, table);
     }
-    if text.len() <= 262144 {
-        return carry_middle(text, out, table);
+    let n = judging::least(area.len(), text.len() / 8);
+    if n <= judging::OWN_SLOTS {
+        return carry_small(text, out, table);
     }
-    carry_long(text, out, table)
+    let front = &mut area[..n];
+    carry_indexed(text, front, out, table)
+}
+
+// The same as `carry_on`, by a lent area of any length and with any content, which is all zeros afterwards.
+pub fn carry_on_with(text: &[u8], out: &mut [u8], table: &mut [u32], work: &mut [u32]) -> Carried
+    ensures answer { λ r. ⌜ r ≡ carriedAnswer (now (text .entry)) (now (out .entry)) (now (table .entry)) ⌝ }
+    ensures wrote { λ _. ⌜ now (out .exit) ≡ textLeft (now (text .entry)) (now (out .entry)) (now (table .entry)) ⌝ }
+    ensures listed { λ _. ⌜ now (table .exit) ≡ tableLeft (now (text .entry)) (now (out .entry)) (now (table .entry)) ⌝ }
+    ensures zeros { λ _. ⌜ now (work .exit) ≡ allZeros (now (work .entry)) ⌝ }
+{
+    if format::LONGEST < text.len() {
+        key_index::clear(work);
+        return Carried::Refused(1, LineNo(0));
+    }
+    let carried = carry_lent(text, out, table, work);
+    key_index::clear(work);
+    carried
 }

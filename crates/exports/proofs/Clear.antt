@@ -1,11 +1,11 @@
 -- An answer of carrying on, leaves, key or field that is no refusal and not the stand-in keeps bit 63 clear.
 use Prim.Native.Nat.{ℕ, _+_, _*_, _/_, _^_, _≤_, _<_}
-use mathlib.Core.Path.{_≡_, sym, ap, subst}
+use mathlib.Core.Path.{_≡_, refl, sym, ap, subst}
 use mathlib.Core.List.{List}
 use native.Mathlib.Omega.{arith}
 use lib.ListN.{length}
 use Rattle.format.specs.Lines.{Piece}
-use Rattle.format.specs.Calls.{yes, keying, valuing, leafing}
+use Rattle.format.specs.Calls.{Answer, refused, yes, keying, valuing, leafing}
 use Rattle.format.specs.Table.{leafingTable}
 use Rattle.format.specs.declared.Node.{Node}
 use Rattle.calls.specs.Answers.{keyAnswerOf, valuePlaceOf}
@@ -17,7 +17,7 @@ use Rattle.leaves_by_table.proofs.Same.{same-as-first}
 use Rattle.carried.specs.Carrying.{carrying}
 use Rattle.carried.proofs.Bound.{carried-few}
 use Rattle.carry_on.specs.Answers.{carriedOf}
-use Rattle.words.specs.Words.{carriedWord, leavesWord, pairWord, keyWord, fieldWord}
+use Rattle.words.specs.Words.{carriedWord, FitsHalves, leavesWord, pairWord, keyWord, fieldWord}
 
 place-clear : (p : Piece) → p .at + length (p .bytes) ≤ 16777216 → pairWord (p .at) (length (p .bytes)) < 2 ^ 63
 unfolding pairWord
@@ -29,6 +29,15 @@ carried-clear t room table xs ys is =
     let f = carried-few t room table xs ys is in
     let z : length ys / 2 * 2 ^ 32 + length xs < 2 ^ 63 = omega (arith, f) in
     subst (λ a. carriedWord (carriedOf a) < 2 ^ 63) (sym is) z
+
+-- both counts of carrying on fit 32 bits
+pub carried-halves : (t : List ℕ) (room table : ℕ) → FitsHalves (carriedOf (carrying t room table))
+unfolding FitsHalves carriedOf
+carried-halves t room table = go (carrying t room table) refl
+  where
+    go : (a : Answer (List ℕ × List ℕ)) → carrying t room table ≡ a → FitsHalves (carriedOf a)
+    go (refused n l) is = tt
+    go (yes (xs, ys)) is = let f = carried-few t room table xs ys is in (omega (arith, f .0), omega (arith, f .1))
 
 module _ (t c : List ℕ) where
   -- the hops and the number of leaves, whichever engine answers

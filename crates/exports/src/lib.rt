@@ -1,11 +1,11 @@
 // The calls for programs in C and Rust: each answer is one number (include/sam_header.h).
 use calls::LengthAnswer;
-use carry_on::Carried;
 use format::Node;
 use names::NamesAnswer;
 ghost use mathlib.Core.Path.{_≡_};
 ghost use lib.ListN.{length};
 ghost use Rattle.format.specs.Calls.{reading, fresh, tidying, counting, keying, sizing, locating, valuing, rooting, leafing, adding};
+ghost use Rattle.format.specs.Work.{allZeros, readingWith};
 ghost use Rattle.format.specs.Prune.{pruning};
 ghost use Rattle.carry_on.specs.Answers.{carriedAnswer, textLeft, tableLeft};
 ghost use Rattle.names.specs.Batch.{batching};
@@ -44,15 +44,54 @@ pub extern "C" fn sam_header_tidy(text: &[u8], out: &mut [u8]) -> u64
 }
 
 #[no_mangle]
+pub extern "C" fn sam_header_read_with(text: &[u8], catalogue: &mut [u8], work: &mut [u32]) -> u64
+    ensures answer { λ r. ⌜ r ≡ answerWord (answerOf (readingWith (now (text .entry)) (length (now (catalogue .entry))) (now (work .entry)) .0)) ⌝ }
+    ensures wrote { λ _. ⌜ now (catalogue .exit)
+        ≡ outputOf (readingWith (now (text .entry)) (length (now (catalogue .entry))) (now (work .entry)) .0) (now (catalogue .entry)) ⌝ }
+    ensures zeros { λ _. ⌜ now (work .exit) ≡ readingWith (now (text .entry)) (length (now (catalogue .entry))) (now (work .entry)) .1 ⌝ }
+{
+    words::answer_word(parser::read_with(text, catalogue, work))
+}
+
+#[no_mangle]
+pub extern "C" fn sam_header_check_with(text: &[u8], catalogue: &[u8], work: &mut [u32]) -> u64
+    ensures checked { λ r. ⌜ r ≡ checkedWord (checkedOf (fresh (now (text .entry)) (now (catalogue .entry)))) ⌝ }
+    ensures zeros { λ _. ⌜ now (work .exit) ≡ allZeros (now (work .entry)) ⌝ }
+{
+    words::checked_word(parser::check_with(text, catalogue, work))
+}
+
+#[no_mangle]
+pub extern "C" fn sam_header_tidy_with(text: &[u8], out: &mut [u8], work: &mut [u32]) -> u64
+    ensures answer { λ r. ⌜ r ≡ answerWord (answerOf (tidying (now (text .entry)) (length (now (out .entry))))) ⌝ }
+    ensures wrote { λ _. ⌜ now (out .exit) ≡ outputOf (tidying (now (text .entry)) (length (now (out .entry)))) (now (out .entry)) ⌝ }
+    ensures zeros { λ _. ⌜ now (work .exit) ≡ allZeros (now (work .entry)) ⌝ }
+{
+    words::answer_word(tidy::tidy_with(text, out, work))
+}
+
+#[no_mangle]
 pub extern "C" fn sam_header_carry_on(text: &[u8], out: &mut [u8], table: &mut [u32]) -> u64
     ensures answer { λ r. ⌜ r ≡ carriedWord (carriedAnswer (now (text .entry)) (now (out .entry)) (now (table .entry))) ⌝ }
     ensures wrote { λ _. ⌜ now (out .exit) ≡ textLeft (now (text .entry)) (now (out .entry)) (now (table .entry)) ⌝ }
     ensures listed { λ _. ⌜ now (table .exit) ≡ tableLeft (now (text .entry)) (now (out .entry)) (now (table .entry)) ⌝ }
 {
-    match carry_on::carry_on(text, out, table) {
-        Carried::Refused(n, line) => words::refusal_word(n, line),
-        Carried::Written(n, lines) => words::pair_word(lines as u32, n as u32),
-    }
+    words::carried_word(carry_on::carry_on(text, out, table))
+}
+
+#[no_mangle]
+pub extern "C" fn sam_header_carry_on_with(
+    text: &[u8],
+    out: &mut [u8],
+    table: &mut [u32],
+    work: &mut [u32],
+) -> u64
+    ensures answer { λ r. ⌜ r ≡ carriedWord (carriedAnswer (now (text .entry)) (now (out .entry)) (now (table .entry))) ⌝ }
+    ensures wrote { λ _. ⌜ now (out .exit) ≡ textLeft (now (text .entry)) (now (out .entry)) (now (table .entry)) ⌝ }
+    ensures listed { λ _. ⌜ now (table .exit) ≡ tableLeft (now (text .entry)) (now (out .entry)) (now (table .entry)) ⌝ }
+    ensures zeros { λ _. ⌜ now (work .exit) ≡ allZeros (now (work .entry)) ⌝ }
+{
+    words::carried_word(carry_on::carry_on_with(text, out, table, work))
 }
 
 #[no_mangle]

@@ -1,3 +1,4 @@
 pub mod Judging
 pub mod Blocks
 pub mod Whole
+pub mod Smaller

@@ -2,17 +2,27 @@
 use format::LineNo;
 use record::Head;
 ghost use mathlib.Core.Path.{_≡_};
-ghost use mathlib.Core.Bool.{_||_};
+ghost use mathlib.Core.Bool.{_||_, cond};
 ghost use mathlib.Core.List.{[]};
 ghost use Prim.Native.Nat.{_≤_, _<_};
 ghost use lib.ListN.{length, drop};
+ghost use lib.Dec.{ltb};
 ghost use Rattle.format.specs.Lines.{lines, linesFrom};
 ghost use Rattle.format.specs.Reading.{readFrom, readText};
+ghost use Rattle.format.specs.Work.{allZeros};
 ghost use Rattle.format.specs.Slots.{Held};
 ghost use Rattle.admission.specs.Admission.{barring};
 ghost use Rattle.key_index.specs.Told.{start};
 ghost use Rattle.judging.specs.Blocks.{clashOf, turned, emptied};
 ghost use Rattle.judging.specs.Judged.{judgedOf};
+
+// Texts of at most so many bytes are judged with a small area, and with one of 24 KiB.
+pub const SHORT: usize = 8192;
+
+pub const MIDDLE: usize = 262144;
+
+// How many slots that one has.
+pub const OWN_SLOTS: usize = 6144;
 
 // The first refusal and its line, or how many bytes the catalogue has.
 pub enum Judged {
@@ -141,22 +151,38 @@ fn judge_short(text: &[u8], strict: bool) -> Judged
     judge_indexed(text, strict, &mut area)
 }
 
-// A text of some thousand lines, in blocks of 6,144.
+// A text of some thousand lines, in blocks of 4,608.
 fn judge_middle(text: &[u8], strict: bool) -> Judged
     requires { ⌜ length (now text) ≤ 16777216 ⌝ }
     ensures { λ r. ⌜ r ≡ judgedOf (readFrom strict 0 [] (lines (now (text .entry)))) ⌝ }
 {
-    let mut area = [0u32; 8192];
+    let mut area = [0u32; OWN_SLOTS];
     judge_indexed(text, strict, &mut area)
 }
 
-// Any text, in blocks of 147,456 lines.
-fn judge_long(text: &[u8], strict: bool) -> Judged
+// Any text, in blocks of 147,456 lines, and `more` times again. Nobody asks for more than once: a function that calls itself is compiled by
+// itself, so that its 768 KiB are on the stack only while it runs, and not in the frames of its callers, which serve short texts too.
+fn judge_long(text: &[u8], strict: bool, more: usize) -> Judged
     requires { ⌜ length (now text) ≤ 16777216 ⌝ }
     ensures { λ r. ⌜ r ≡ judgedOf (readFrom strict 0 [] (lines (now (text .entry)))) ⌝ }
 {
     let mut area = [0u32; 196608];
-    judge_indexed(text, strict, &mut area)
+    let judged = judge_indexed(text, strict, &mut area);
+    if 0 < more {
+        return judge_long(text, strict, more - 1);
+    }
+    judged
+}
+
+// A text with an area of this function's own, of 24 KiB at most. It is slow where the text has many more lines than a block takes.
+fn judge_small(text: &[u8], strict: bool) -> Judged
+    requires { ⌜ length (now text) ≤ 16777216 ⌝ }
+    ensures { λ r. ⌜ r ≡ judgedOf (readFrom strict 0 [] (lines (now (text .entry)))) ⌝ }
+{
+    if text.len() <= SHORT {
+        return judge_short(text, strict);
+    }
+    judge_middle(text, strict)
 }
 
 // The lines of a text: the first refusal, or the size of the text's catalogue.
@@ -164,13 +190,10 @@ fn judge_lines(text: &[u8], strict: bool) -> Judged
     requires { ⌜ length (now text) ≤ 16777216 ⌝ }
     ensures { λ r. ⌜ r ≡ judgedOf (readFrom strict 0 [] (lines (now (text .entry)))) ⌝ }
 {
-    if text.len() <= 8192 {
-        return judge_short(text, strict);
+    if text.len() <= MIDDLE {
+        return judge_small(text, strict);
     }
-    if text.len() <= 262144 {
-        return judge_middle(text, strict);
-    }
-    judge_long(text, strict)
+    judge_long(text, strict, text.len() / (format::LONGEST + 1))
 }
 
 // What any bytes are: 1 where they are too many, the first refusal of their lines, or the size of their catalogue.
@@ -181,4 +204,44 @@ pub fn judge(text: &[u8]) -> Judged
         return Judged::Refused(1, LineNo(0));
     }
     judge_lines(text, repeat_rule::is_strict(text))
+}
+
+// The smaller of two numbers.
+pub fn least(a: usize, b: usize) -> usize
+    ensures { λ r. ⌜ r ≡ cond (ltb a b) a b ⌝ }
+{
+    if a < b { a } else { b }
+}
+
+// The lines of a text by the front of a lent area, where that is longer than an own one: a slot for each eight bytes of the text is enough for all
+// keys in one block.
+fn judge_lent(text: &[u8], strict: bool, area: &mut [u32]) -> Judged
+    requires { ⌜ length (now text) ≤ 16777216 ⌝ }
+    ensures { λ r. ⌜ r ≡ judgedOf (readFrom strict 0 [] (lines (now (text .entry)))) ⌝ }
+    ensures length { λ _. ⌜ length (now (area .exit)) ≡ length (now (area .entry)) ⌝ }
+{
+    if text.len() <= MIDDLE {
+        return judge_small(text, strict);
+    }
+    let n = least(area.len(), text.len() / 8);
+    if n <= OWN_SLOTS {
+        return judge_small(text, strict);
+    }
+    let front = &mut area[..n];
+    key_index::clear(front);
+    judge_indexed(text, strict, front)
+}
+
+// The same as `judge`, by a lent area of any length and with any content, which is all zeros afterwards.
+pub fn judge_with(text: &[u8], area: &mut [u32]) -> Judged
+    ensures judged { λ r. ⌜ r ≡ judgedOf (readText (now (text .entry))) ⌝ }
+    ensures zeros { λ _. ⌜ now (area .exit) ≡ allZeros (now (area .entry)) ⌝ }
+{
+    if format::LONGEST < text.len() {
+        key_index::clear(area);
+        return Judged::Refused(1, LineNo(0));
+    }
+    let judged = judge_lent(text, repeat_rule::is_strict(text), area);
+    key_index::clear(area);
+    judged
 }

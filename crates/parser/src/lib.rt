@@ -7,9 +7,12 @@ ghost use Prim.Native.Nat.{_≤_};
 ghost use lib.ListN.{length};
 ghost use Rattle.format.specs.Bytes.{same};
 ghost use Rattle.format.specs.Catalogue.{catalogue};
+ghost use Rattle.format.specs.Reading.{readText};
 ghost use Rattle.format.specs.Calls.{reading, fresh};
+ghost use Rattle.format.specs.Work.{allZeros, readingWith};
 ghost use Rattle.text.specs.Over.{over};
 ghost use Rattle.accepted.specs.Read.{recordsOf};
+ghost use Rattle.judging.specs.Judged.{judgedOf};
 ghost use Rattle.parser.specs.Accepted.{AcceptedText};
 ghost use Rattle.parser.specs.Answers.{answerOf, outputOf, checkedOf};
 
@@ -71,12 +74,13 @@ fn is_catalogue(text: &[u8], strict: bool, kept: &[u8]) -> bool
     o == kept.len()
 }
 
-// Reads `text`: its catalogue at the front of `kept`, or the first refusal, which changes nothing.
-pub fn read(text: &[u8], kept: &mut [u8]) -> CountAnswer
+// Reads a text that has been judged.
+fn read_judged(text: &[u8], judged: Judged, kept: &mut [u8]) -> CountAnswer
+    requires { ⌜ judged ≡ judgedOf (readText (now text)) ⌝ }
     ensures answer { λ r. ⌜ r ≡ answerOf (reading (now (text .entry)) (length (now (kept .entry)))) ⌝ }
     ensures wrote { λ _. ⌜ now (kept .exit) ≡ outputOf (reading (now (text .entry)) (length (now (kept .entry)))) (now (kept .entry)) ⌝ }
 {
-    match judging::judge(text) {
+    match judged {
         Judged::Refused(n, line) => CountAnswer::Refused(n, line),
         Judged::Accepted(size) => {
             if kept.len() < size {
@@ -88,11 +92,31 @@ pub fn read(text: &[u8], kept: &mut [u8]) -> CountAnswer
     }
 }
 
-// Whether `kept` is the catalogue of `text`: reading's own refusal comes first, then 21.
-pub fn check(text: &[u8], kept: &[u8]) -> Checked
+// Reads `text`: its catalogue at the front of `kept`, or the first refusal, which changes nothing.
+pub fn read(text: &[u8], kept: &mut [u8]) -> CountAnswer
+    ensures answer { λ r. ⌜ r ≡ answerOf (reading (now (text .entry)) (length (now (kept .entry)))) ⌝ }
+    ensures wrote { λ _. ⌜ now (kept .exit) ≡ outputOf (reading (now (text .entry)) (length (now (kept .entry)))) (now (kept .entry)) ⌝ }
+{
+    read_judged(text, judging::judge(text), kept)
+}
+
+// The same with a lent work area, which is all zeros afterwards.
+pub fn read_with(text: &[u8], catalogue: &mut [u8], work: &mut [u32]) -> CountAnswer
+    ensures answer { λ r. ⌜ r ≡ answerOf (readingWith (now (text .entry)) (length (now (catalogue .entry))) (now (work .entry)) .0) ⌝ }
+    ensures wrote { λ _. ⌜ now (catalogue .exit)
+        ≡ outputOf (readingWith (now (text .entry)) (length (now (catalogue .entry))) (now (work .entry)) .0) (now (catalogue .entry)) ⌝ }
+    ensures zeros { λ _. ⌜ now (work .exit) ≡ readingWith (now (text .entry)) (length (now (catalogue .entry))) (now (work .entry)) .1 ⌝ }
+{
+    let judged = judging::judge_with(text, work);
+    read_judged(text, judged, catalogue)
+}
+
+// Whether `kept` is the catalogue of a text that has been judged.
+fn check_judged(text: &[u8], judged: Judged, kept: &[u8]) -> Checked
+    requires { ⌜ judged ≡ judgedOf (readText (now text)) ⌝ }
     ensures { λ r. ⌜ r ≡ checkedOf (fresh (now (text .entry)) (now (kept .entry))) ⌝ }
 {
-    match judging::judge(text) {
+    match judged {
         Judged::Refused(n, line) => Checked::Refused(n, line),
         Judged::Accepted(size) => {
             if size != kept.len() {
@@ -104,4 +128,20 @@ pub fn check(text: &[u8], kept: &[u8]) -> Checked
             Checked::Refused(21, LineNo(0))
         }
     }
+}
+
+// Whether `kept` is the catalogue of `text`: reading's own refusal comes first, then 21.
+pub fn check(text: &[u8], kept: &[u8]) -> Checked
+    ensures { λ r. ⌜ r ≡ checkedOf (fresh (now (text .entry)) (now (kept .entry))) ⌝ }
+{
+    check_judged(text, judging::judge(text), kept)
+}
+
+// The same with a lent work area, which is all zeros afterwards.
+pub fn check_with(text: &[u8], catalogue: &[u8], work: &mut [u32]) -> Checked
+    ensures checked { λ r. ⌜ r ≡ checkedOf (fresh (now (text .entry)) (now (catalogue .entry))) ⌝ }
+    ensures zeros { λ _. ⌜ now (work .exit) ≡ allZeros (now (work .entry)) ⌝ }
+{
+    let judged = judging::judge_with(text, work);
+    check_judged(text, judged, catalogue)
 }

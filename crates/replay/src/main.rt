@@ -32,13 +32,15 @@
 //     tidy TEXT ROOM ok BYTES
 //     carry_on TEXT ROOM TABLE ok BYTES ROWS
 //     read TEXT ROOM ok CATALOGUE
+//     read_with TEXT ROOM SLOTS ok CATALOGUE
 //     binary_out TEXT ROOM ok BYTES
 //     binary_in BYTES ROOM ok BYTES
 // have what the program on standard input writes, the tidy text, the tidy text of what is kept with the table of what is skipped, eight
-// digits for each number, the catalogue, which the check must then take, and refuse when its last byte is another, the binary header, and the
-// tidy text of a binary header. A line of the oracle has its text first; each such text is read, tidied, and asked for its roots and leaves. Of an
-// output that is lent every element is looked at: what is not the answer must be as it was. Where the field call's answer stands no program
-// can see: its contract says it. Over three texts and two lists:
+// digits for each number, the catalogue, which the check must then take, and refuse when its last byte is another, the catalogue again, by
+// a work area of SLOTS numbers, which is all zeros afterwards, the binary header, and the tidy text of a binary header. A line of the oracle
+// has its text first; each such text is read, tidied, and asked for its roots and leaves. Of an output that is lent every element is looked at:
+// what is not the answer must be as it was. Where the field call's answer stands no program can see: its contract says it. Over three texts and
+// two lists:
 //     judge_merge A B MERGED LIST_A LIST_B ok
 // or `refused NUMBER LINE ABOUT` in place of `ok`: ABOUT is `A`, `B` or `M` for the text that it is about, or `-`; each number of a list has eight
 // hex digits.
@@ -65,6 +67,7 @@ use replay_asked::NAMES;
 use replay_asked::PROGRAM;
 use replay_asked::PRUNED;
 use replay_asked::READ;
+use replay_asked::READ_WITH;
 use replay_asked::REFUSED;
 use replay_asked::ROOTS;
 use replay_asked::UNKNOWN;
@@ -118,6 +121,10 @@ fn is_written(line: &[u8], asked: usize, text: &[u8]) -> bool {
     if asked == CARRIED {
         let mut table = stored_answers::ordinals();
         return replay_carried::is_carried(line, text, &mut out, &mut table);
+    }
+    if asked == READ_WITH {
+        let mut work = stored_answers::ordinals();
+        return replay_work::is_read_with(line, text, &mut out, &mut work);
     }
     match asked {
         READ => replay_graphs::is_reading(line, text, &mut out),
@@ -265,7 +272,7 @@ fn replay(place: usize) {
         os::fail(&name[..n]);
         return;
     }
-    let mut tally: [u32; 25] = [0; 25];
+    let mut tally: [u32; 26] = [0; 26];
     all_blocks(fd, &mut tally);
     libc::close(fd);
     io::write_all(STDOUT_FILENO, &name[..n]);

@@ -38,21 +38,23 @@ pub const BINARY_OUT: usize = 15;
 
 pub const BINARY_IN: usize = 16;
 
-pub const REFUSED: usize = 17;
+pub const READ_WITH: usize = 17;
 
-pub const ACCEPTED: usize = 18;
+pub const REFUSED: usize = 18;
 
-pub const UNWRITABLE: usize = 19;
+pub const ACCEPTED: usize = 19;
 
-pub const UNKNOWN: usize = 20;
+pub const UNWRITABLE: usize = 20;
 
-pub const WRONG: usize = 21;
+pub const UNKNOWN: usize = 21;
 
-pub const MARKED: usize = 22;
+pub const WRONG: usize = 22;
 
-pub const FOUND: usize = 23;
+pub const MARKED: usize = 23;
 
-pub const MERGED: usize = 24;
+pub const FOUND: usize = 24;
+
+pub const MERGED: usize = 25;
 
 // What a line asks: its first word is a call, or its second what the crate makes of the text.
 pub fn asked_by(line: &[u8]) -> usize {
@@ -117,6 +119,9 @@ fn written_by(line: &[u8]) -> usize {
     if text::same(call, b"binary_in") {
         return BINARY_IN;
     }
+    if text::same(call, b"read_with") {
+        return READ_WITH;
+    }
     judged_by(stored_cases::word(line, 1))
 }
 
@@ -160,7 +165,7 @@ fn print_count(name: &[u8], n: u32) {
 
 // Writes how many lines ask for something written.
 fn print_written(tally: &[u32])
-    requires { ⌜ length (now tally) ≡ 25 ⌝ }
+    requires { ⌜ length (now tally) ≡ 26 ⌝ }
 {
     print_count(b" add ", tally[ADDED]);
     print_count(b" names ", tally[NAMES]);
@@ -171,12 +176,13 @@ fn print_written(tally: &[u32])
     print_count(b" read ", tally[READ]);
     print_count(b" binary_out ", tally[BINARY_OUT]);
     print_count(b" binary_in ", tally[BINARY_IN]);
+    print_count(b" read_with ", tally[READ_WITH]);
     print_count(b" judge_merge ", tally[MERGED]);
 }
 
 // Writes how many lines ask each call.
 pub fn print_asked(tally: &[u32])
-    requires { ⌜ length (now tally) ≡ 25 ⌝ }
+    requires { ⌜ length (now tally) ≡ 26 ⌝ }
 {
     print_count(b" count ", tally[COUNT]);
     print_count(b" key ", tally[KEY]);
@@ -191,7 +197,7 @@ pub fn print_asked(tally: &[u32])
 
 // Writes how many texts the crate judged in each way, and how many lines ask nothing.
 pub fn print_judged(tally: &[u32])
-    requires { ⌜ length (now tally) ≡ 25 ⌝ }
+    requires { ⌜ length (now tally) ≡ 26 ⌝ }
 {
     print_count(b" refused ", tally[REFUSED]);
     print_count(b" accepted ", tally[ACCEPTED]);
@@ -201,7 +207,7 @@ pub fn print_judged(tally: &[u32])
 
 // Writes how many answers were wrong, and how many of the marked lines were found.
 pub fn print_found(tally: &[u32])
-    requires { ⌜ length (now tally) ≡ 25 ⌝ }
+    requires { ⌜ length (now tally) ≡ 26 ⌝ }
 {
     print_number(b" wrong ", tally[WRONG]);
     print_number(b", known wrong found ", tally[FOUND]);

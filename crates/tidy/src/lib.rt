@@ -9,7 +9,9 @@ ghost use lib.ListN.{length};
 ghost use Rattle.format.specs.Lines.{lines};
 ghost use Rattle.format.specs.Reading.{announced, isStrict, readText};
 ghost use Rattle.format.specs.Calls.{tidying};
+ghost use Rattle.format.specs.Work.{allZeros};
 ghost use Rattle.accepted.specs.Read.{isAccepted};
+ghost use Rattle.judging.specs.Judged.{judgedOf};
 ghost use Rattle.parser.specs.Answers.{answerOf, outputOf};
 ghost use Rattle.tidy.specs.Written.{writingTidy, writingMarked};
 
@@ -48,13 +50,32 @@ pub fn write_accepted(text: &[u8], strict: bool, out: &mut [u8]) -> CountAnswer
     write_marked(text, strict, &[], out)
 }
 
+// Tidies a text that has been judged.
+fn tidy_judged(text: &[u8], judged: Judged, out: &mut [u8]) -> CountAnswer
+    requires { ⌜ judged ≡ judgedOf (readText (now text)) ⌝ }
+    ensures answer { λ r. ⌜ r ≡ answerOf (tidying (now (text .entry)) (length (now (out .entry)))) ⌝ }
+    ensures wrote { λ _. ⌜ now (out .exit) ≡ outputOf (tidying (now (text .entry)) (length (now (out .entry)))) (now (out .entry)) ⌝ }
+{
+    match judged {
+        Judged::Refused(n, line) => CountAnswer::Refused(n, line),
+        Judged::Accepted(_) => write_accepted(text, repeat_rule::is_strict(text), out),
+    }
+}
+
 // Tidies `text` into the front of `out`, or answers the first refusal, which changes nothing.
 pub fn tidy(text: &[u8], out: &mut [u8]) -> CountAnswer
     ensures answer { λ r. ⌜ r ≡ answerOf (tidying (now (text .entry)) (length (now (out .entry)))) ⌝ }
     ensures wrote { λ _. ⌜ now (out .exit) ≡ outputOf (tidying (now (text .entry)) (length (now (out .entry)))) (now (out .entry)) ⌝ }
 {
-    match judging::judge(text) {
-        Judged::Refused(n, line) => CountAnswer::Refused(n, line),
-        Judged::Accepted(_) => write_accepted(text, repeat_rule::is_strict(text), out),
-    }
+    tidy_judged(text, judging::judge(text), out)
+}
+
+// The same with a lent work area, which is all zeros afterwards.
+pub fn tidy_with(text: &[u8], out: &mut [u8], work: &mut [u32]) -> CountAnswer
+    ensures answer { λ r. ⌜ r ≡ answerOf (tidying (now (text .entry)) (length (now (out .entry)))) ⌝ }
+    ensures wrote { λ _. ⌜ now (out .exit) ≡ outputOf (tidying (now (text .entry)) (length (now (out .entry)))) (now (out .entry)) ⌝ }
+    ensures zeros { λ _. ⌜ now (work .exit) ≡ allZeros (now (work .entry)) ⌝ }
+{
+    let judged = judging::judge_with(text, work);
+    tidy_judged(text, judged, out)
 }

@@ -1,5 +1,5 @@
 -- Answers as one number: what is counted; or bit 63, the refusal number shifted left by 32, and the line.
-use Prim.Native.Nat.{ℕ, _+_, _*_, _^_, _≤_}
+use Prim.Native.Nat.{ℕ, _+_, _*_, _^_, _≤_, _<_}
 use Rattle.parser.specs.declared.CountAnswer.{CountAnswer}
 use Rattle.parser.specs.declared.CountAnswer.the-variants.{Refused, Count}
 use Rattle.parser.specs.declared.Checked.{Checked}
@@ -57,6 +57,11 @@ unfoldable pub carriedWord : Carried → ℕ
 unfolding refusalWord pairWord
 carriedWord (carried.Refused n l) = refusalWord n (l .0)
 carriedWord (carried.Written n k) = pairWord k n
+
+-- each of them fits half of the number
+unfoldable pub FitsHalves : Carried → Type 0
+FitsHalves (carried.Refused n l) = Unit
+FitsHalves (carried.Written n k) = (n < 2 ^ 32) × (k < 2 ^ 32)
 
 -- the key's offset, and its length
 unfoldable pub keyWord : KeyAnswer → ℕ

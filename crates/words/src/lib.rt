@@ -2,6 +2,7 @@
 use calls::KeyAnswer;
 use calls::LineAnswer;
 use calls::ValuePlace;
+use carry_on::Carried;
 use format::LineNo;
 use merge_judge::Verdict;
 use merge_judge::Which;
@@ -9,8 +10,8 @@ use parser::Checked;
 use parser::CountAnswer;
 use roots_and_leaves::LeavesAnswer;
 ghost use mathlib.Core.Path.{_≡_};
-ghost use Rattle.words.specs.Words.{refusalWord, answerWord, checkedWord, pairWord, keyWord, lineWord, fieldWord, FewLeaves, leavesWord};
-ghost use Rattle.words.specs.Words.{aboutNumber, unfitWord, verdictWord};
+ghost use Rattle.words.specs.Words.{refusalWord, answerWord, checkedWord, pairWord, FitsHalves, carriedWord, keyWord, lineWord, fieldWord};
+ghost use Rattle.words.specs.Words.{FewLeaves, leavesWord, aboutNumber, unfitWord, verdictWord};
 
 // A refusal: bit 63, its number and its line.
 pub fn refusal_word(n: u8, line: LineNo) -> u64
@@ -54,6 +55,17 @@ pub fn leaves_word(answer: LeavesAnswer) -> u64
     match answer {
         LeavesAnswer::Refused(n, line) => refusal_word(n, line),
         LeavesAnswer::Counted(n, hops) => pair_word(hops, n as u32),
+    }
+}
+
+// How many lines are skipped and how many bytes are written.
+pub fn carried_word(carried: Carried) -> u64
+    requires { ⌜ FitsHalves carried ⌝ }
+    ensures { λ r. ⌜ r ≡ carriedWord carried ⌝ }
+{
+    match carried {
+        Carried::Refused(n, line) => refusal_word(n, line),
+        Carried::Written(n, lines) => pair_word(lines as u32, n as u32),
     }
 }
 

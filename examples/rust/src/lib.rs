@@ -294,6 +294,16 @@ mod tests {
     }
 
     #[test]
+    fn a_small_stack() {
+        let calls = || {
+            let header = Header::read(TEXT).unwrap();
+            (tidy(TEXT).is_ok(), carry_on(TEXT).is_ok(), header.leaves().is_ok(), header.prune(&[0]).is_ok())
+        };
+        let thread = std::thread::Builder::new().stack_size(192 << 10).spawn(calls).unwrap(); // 112 KiB are promised
+        assert_eq!(thread.join().unwrap(), (true, true, true, true));
+    }
+
+    #[test]
     fn pruned() {
         let header = Header::read(TEXT).unwrap();
         let rest = b"@SQ\tSN:chr1\tLN:248956422\n@RG\tID:lane3\tSM:NA12878\n";

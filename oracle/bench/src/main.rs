@@ -8,6 +8,7 @@
 //! bench leaves_by_table [--rounds N]   the fifth table (`table.rs`), where the archive has the call
 //! bench prune [--rounds N]             the sixth table (`pruned.rs`), where the archive has the call
 //! bench judge_merge [--rounds N]       the seventh table (`merged.rs`), where the archive has the call
+//! bench read_with [--rounds N]         the eighth table (`area.rs`), where the archive has the call
 //!
 //! FOLDER has real headers, `*.sam` (default ../shared/headers beside the repository).
 //!
@@ -33,6 +34,8 @@
 //!   500 PG, long CL       with command lines of 400 bytes
 //!   500 PG, accented CL   the same with accents, as many bytes; the crate, whose stand-in takes none, is given the row before
 
+#[cfg(feature = "work")]
+mod area;
 mod calls;
 #[cfg(feature = "carry_on")]
 mod carried;
@@ -165,7 +168,7 @@ fn main() -> ExitCode {
     let args: Vec<String> = std::env::args().skip(1).collect();
     let args: Vec<&str> = args.iter().map(String::as_str).collect();
     let (call, args) = match args[..] {
-        [call @ ("names" | "carry_on" | "leaves_by_table" | "prune" | "judge_merge"), ref rest @ ..] => (call, rest),
+        [call @ ("names" | "carry_on" | "leaves_by_table" | "prune" | "judge_merge" | "read_with"), ref rest @ ..] => (call, rest),
         _ => ("", &args[..]),
     };
     let (rounds, folder) = match *args {
@@ -173,7 +176,8 @@ fn main() -> ExitCode {
             || call == "carry_on" && !cfg!(feature = "carry_on")
             || call == "leaves_by_table" && !cfg!(feature = "table")
             || call == "prune" && !cfg!(feature = "prune")
-            || call == "judge_merge" && !cfg!(feature = "judge_merge") =>
+            || call == "judge_merge" && !cfg!(feature = "judge_merge")
+            || call == "read_with" && !cfg!(feature = "work") =>
         {
             eprintln!("the archive has no sam_header_{call}");
             return ExitCode::from(2);
@@ -211,6 +215,11 @@ fn main() -> ExitCode {
     #[cfg(feature = "prune")]
     if call == "prune" {
         pruned::table(rounds);
+        return ExitCode::SUCCESS;
+    }
+    #[cfg(feature = "work")]
+    if call == "read_with" {
+        area::table(rounds);
         return ExitCode::SUCCESS;
     }
     #[cfg(feature = "judge_merge")]

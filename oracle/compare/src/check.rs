@@ -8,6 +8,8 @@ use oracle::{
     inputs::{self, Rng},
 };
 
+#[cfg(feature = "work")]
+use crate::area;
 #[cfg(feature = "carry_on")]
 use crate::carried;
 #[cfg(feature = "add")]
@@ -346,7 +348,7 @@ pub struct Checker {
     bytes: Lent<u8>,
     #[cfg(any(feature = "graph", feature = "names", feature = "carry_on"))]
     words: Lent<u32>,
-    #[cfg(feature = "names")]
+    #[cfg(any(feature = "names", feature = "carry_on"))]
     work: Lent<u32>,
     #[cfg(feature = "table")]
     lender: table::Lender,
@@ -367,6 +369,13 @@ impl Checker {
         #[cfg(feature = "carry_on")]
         if case.list.is_none() {
             self.carry_on(&case.text);
+        }
+        #[cfg(feature = "work")]
+        if case.list.is_none() {
+            match area::wrong(&case.text, seeded(&case.text).next()) {
+                None => self.tally.area(),
+                Some(what) => self.differ(Call::Read, None, what),
+            }
         }
         if *case != before {
             self.differ(Call::Read, None, "a text, a prefix, fields or a list were changed".into());
@@ -1032,25 +1041,54 @@ impl Checker {
             }
             let due = match want {
                 Ok(_) if room < n || table < m => Err(SHORT),
-                Ok(_) => Ok((m as u64 / 2) << 32 | n as u64),
+                Ok(bytes) => Ok((bytes, rows)),
                 Err(r) => Err(r),
             };
             let got = library::carry_on(text, self.bytes.lend(room), self.words.lend(table));
-            let (bytes, numbers) = if due.is_ok() { (want.unwrap_or(b""), rows) } else { (&b""[..], &[][..]) };
-            let wrong = if got != due {
-                format!("{got:?}, wanted {due:?}")
-            } else if self.bytes.front(bytes.len()) != bytes {
-                format!("{}, wanted {}", u8::show(self.bytes.front(n)), u8::show(bytes))
-            } else if self.words.front(numbers.len()) != numbers {
-                format!("the table {:?}, wanted {numbers:?}", self.words.front(m))
-            } else if !self.bytes.kept_from(bytes.len()) || !self.words.kept_from(numbers.len()) {
-                "something past the answer or the table was changed".into()
-            } else {
-                continue;
-            };
-            return Some(format!("an output of {room} and a table of {table}: {wrong}"));
+            let areas: &[usize] = if room > n { &[0, 1, 6_144, 6_145, 70_000] } else { &[6_145] };
+            let wrong = self.carried_wrong(got, due).or_else(|| self.carried_with(text, room, table, due, areas));
+            if let Some(wrong) = wrong {
+                return Some(format!("an output of {room} and a table of {table}: {wrong}"));
+            }
         }
         None
+    }
+
+    // Asks by work areas of these lengths, filled with the pattern: the same, and the area is all zeros.
+    fn carried_with(
+        &mut self,
+        text: &[u8],
+        room: usize,
+        table: usize,
+        due: Result<(&[u8], &[u32]), Refusal>,
+        areas: &[usize],
+    ) -> Option<String> {
+        for &len in areas {
+            let got = library::carry_on_with(text, self.bytes.lend(room), self.words.lend(table), self.work.lend(len));
+            let zeros = self.work.front(len).iter().all(|x| *x == 0) && self.work.kept_from(len);
+            let wrong = self.carried_wrong(got, due).or_else(|| (!zeros).then(|| "the area is not all zeros".into()));
+            if let Some(wrong) = wrong {
+                return Some(format!("a work area of {len}: {wrong}"));
+            }
+        }
+        None
+    }
+
+    // Holds one answer, the output and the table to what is due: the bytes and the numbers that are written, or a refusal.
+    fn carried_wrong(&self, got: Answer, due: Result<(&[u8], &[u32]), Refusal>) -> Option<String> {
+        let (bytes, numbers): (&[u8], &[u32]) = due.unwrap_or((&[], &[]));
+        let due = due.map(|_| (numbers.len() as u64 / 2) << 32 | bytes.len() as u64);
+        if got != due {
+            Some(format!("{got:?}, wanted {due:?}"))
+        } else if self.bytes.front(bytes.len()) != bytes {
+            Some(format!("{}, wanted {}", u8::show(self.bytes.front(bytes.len())), u8::show(bytes)))
+        } else if self.words.front(numbers.len()) != numbers {
+            Some(format!("the table {:?}, wanted {numbers:?}", self.words.front(numbers.len())))
+        } else if !self.bytes.kept_from(bytes.len()) || !self.words.kept_from(numbers.len()) {
+            Some("something past the answer or the table was changed".into())
+        } else {
+            None
+        }
     }
 }
 

@@ -7,6 +7,8 @@
 //! reduced. Exit status 1 if there is an unlisted one. With --trace each case is written to standard error before it is asked,
 //! for a library that crashes.
 
+#[cfg(feature = "work")]
+mod area;
 #[cfg(feature = "carry_on")]
 mod carried;
 mod check;

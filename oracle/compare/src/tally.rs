@@ -55,6 +55,7 @@ pub struct Tally {
     calls: [[u64; NUMBERS]; CALLS.len()],
     refused: [u64; CALLS.len()],
     grown: u64,
+    areas: u64,
 }
 
 impl Tally {
@@ -71,6 +72,12 @@ impl Tally {
     /// A call over a refused text gave reading's refusal, for every length of its output.
     pub fn refused(&mut self, call: Call) {
         self.refused[call as usize] += 1;
+    }
+
+    /// Reading, checking and tidying a text with a work area answered as without one.
+    #[cfg(feature = "work")]
+    pub fn area(&mut self) {
+        self.areas += 1;
     }
 
     /// An add to a header with programs did to its chains what it must.
@@ -100,6 +107,7 @@ impl fmt::Display for Tally {
                 row(f, &self.calls[i])?;
             }
         }
-        writeln!(f, "Chains after add that are as they must be: {}", self.grown)
+        writeln!(f, "Chains after add that are as they must be: {}", self.grown)?;
+        writeln!(f, "Texts that are read, checked and tidied alike with a work area: {}", self.areas)
     }
 }

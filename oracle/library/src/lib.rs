@@ -139,6 +139,44 @@ unsafe extern "C" {
         table: *mut u32,
         table_len: usize,
     ) -> u64;
+    fn sam_header_carry_on_with(
+        text: *const u8,
+        text_len: usize,
+        out: *mut u8,
+        out_len: usize,
+        table: *mut u32,
+        table_len: usize,
+        work: *mut u32,
+        work_len: usize,
+    ) -> u64;
+}
+
+#[cfg(feature = "work")]
+unsafe extern "C" {
+    fn sam_header_read_with(
+        text: *const u8,
+        text_len: usize,
+        catalogue: *mut u8,
+        catalogue_len: usize,
+        work: *mut u32,
+        work_len: usize,
+    ) -> u64;
+    fn sam_header_check_with(
+        text: *const u8,
+        text_len: usize,
+        catalogue: *const u8,
+        catalogue_len: usize,
+        work: *mut u32,
+        work_len: usize,
+    ) -> u64;
+    fn sam_header_tidy_with(
+        text: *const u8,
+        text_len: usize,
+        out: *mut u8,
+        out_len: usize,
+        work: *mut u32,
+        work_len: usize,
+    ) -> u64;
 }
 
 #[cfg(feature = "binary")]
@@ -316,6 +354,44 @@ pub fn carry_on(text: &[u8], out: &mut [u8], table: &mut [u32]) -> Answer {
     answer(unsafe {
         sam_header_carry_on(text.as_ptr(), text.len(), out.as_mut_ptr(), out.len(), table.as_mut_ptr(), table.len())
     })
+}
+
+/// The same by a lent area, which is all zeros afterwards.
+#[cfg(feature = "carry_on")]
+pub fn carry_on_with(text: &[u8], out: &mut [u8], table: &mut [u32], work: &mut [u32]) -> Answer {
+    answer(unsafe {
+        sam_header_carry_on_with(
+            text.as_ptr(),
+            text.len(),
+            out.as_mut_ptr(),
+            out.len(),
+            table.as_mut_ptr(),
+            table.len(),
+            work.as_mut_ptr(),
+            work.len(),
+        )
+    })
+}
+
+/// Reading by a lent area, which is all zeros afterwards.
+#[cfg(feature = "work")]
+pub fn read_with(text: &[u8], catalogue: &mut [u8], work: &mut [u32]) -> Answer {
+    let (c, w) = (catalogue.as_mut_ptr(), work.as_mut_ptr());
+    answer(unsafe { sam_header_read_with(text.as_ptr(), text.len(), c, catalogue.len(), w, work.len()) })
+}
+
+/// Checking by a lent area.
+#[cfg(feature = "work")]
+pub fn check_with(text: &[u8], catalogue: &[u8], work: &mut [u32]) -> Answer {
+    let (c, w) = (catalogue.as_ptr(), work.as_mut_ptr());
+    answer(unsafe { sam_header_check_with(text.as_ptr(), text.len(), c, catalogue.len(), w, work.len()) })
+}
+
+/// Tidying by a lent area.
+#[cfg(feature = "work")]
+pub fn tidy_with(text: &[u8], out: &mut [u8], work: &mut [u32]) -> Answer {
+    let (o, w) = (out.as_mut_ptr(), work.as_mut_ptr());
+    answer(unsafe { sam_header_tidy_with(text.as_ptr(), text.len(), o, out.len(), w, work.len()) })
 }
 
 #[cfg(feature = "binary")]

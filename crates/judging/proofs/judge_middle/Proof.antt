@@ -13,7 +13,7 @@ slice-aggregate-judge-indexed : tie.Need-slice-aggregate-judge-indexed
 slice-aggregate-judge-indexed c = search needs
 
 judge-indexed-requires : tie.Need-judge-indexed-requires
-judge-indexed-requires c κs = let s = c .before .before in (s .pre, (omega arith, held-none (start (s .args .text .now) 8192) 8192))
+judge-indexed-requires c κs = let s = c .before .before in (s .pre, (omega arith, held-none (start (s .args .text .now) 6144) 6144))
 
 returns : tie.Need-returns
 returns c = search needs
