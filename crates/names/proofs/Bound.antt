@@ -73,6 +73,10 @@ module _ (t c list : List ℕ) (work room : ℕ) (a : List ℕ × List ℕ × �
   unfolding batching
   bounded = answer-bound (references (recordsOf t)) list work room a (sym (goes-on t c (λ rs. batched (references rs) list work room) own) ∙ is)
 
+  -- a list has at most as many names as bytes
+  pub batch-few : length (a .0) ≤ 16777216
+  batch-few = bounded .few
+
   -- at most one slot more for each name than there are SQ
   pub batch-bound : a .2 ≤ length (a .0) * (length (references (recordsOf t)) + 1)
   batch-bound = bounded .most
