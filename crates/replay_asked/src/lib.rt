@@ -188,6 +188,12 @@ fn print_written(tally: &[u32])
     print_count(b" binary_in ", tally[BINARY_IN]);
     print_count(b" read_with ", tally[READ_WITH]);
     print_count(b" judge_merge ", tally[MERGED]);
+}
+
+// Writes how many lines ask how long a header is.
+fn print_lens(tally: &[u32])
+    requires { ⌜ length (now tally) ≡ 28 ⌝ }
+{
     print_count(b" text_len ", tally[TEXT_LEN]);
     print_count(b" binary_len ", tally[BINARY_LEN]);
 }
@@ -205,6 +211,7 @@ pub fn print_asked(tally: &[u32])
     print_count(b" leaves ", tally[LEAVES]);
     print_count(b" leaves_by_table ", tally[BY_TABLE]);
     print_written(tally);
+    print_lens(tally);
 }
 
 // Writes how many texts the crate judged in each way, and how many lines ask nothing.
