@@ -88,7 +88,7 @@ pub fn file(rng: &mut Rng) -> Vec<u8> {
     if rng.one_in(2) && !text.ends_with(b"\n") {
         text.push(b'\n');
     }
-    text.extend_from_slice(rng.of(&BEHIND));
+    text.extend_from_slice(BEHIND[rng.below(BEHIND.len())]);
     text
 }
 
@@ -97,7 +97,7 @@ pub fn stream(rng: &mut Rng) -> Vec<u8> {
     let sized = |bytes: &[u8]| [&(bytes.len() as u32).to_le_bytes(), bytes].concat();
     let text = if rng.one_in(3) { inputs::header(rng) } else { vec![b'@'; rng.below(9)] };
     let count = if rng.one_in(20) { rng.below(200) } else { rng.below(5) };
-    let mut all = [b"BAM\x01", &sized(&text)[..], &(count as u32).to_le_bytes()].concat();
+    let mut all = [b"BAM\x01", &sized(&text)[..], &(count as u32).to_le_bytes()[..]].concat();
     for _ in 0..count {
         let mut name: Vec<u8> = (0..rng.below(12)).map(|_| rng.below(256) as u8).collect();
         name.push(0);
@@ -110,7 +110,8 @@ pub fn stream(rng: &mut Rng) -> Vec<u8> {
         // mostly behind the text, where the parts are
         let low = if rng.one_in(4) { 0 } else { end.saturating_sub(60) };
         let i = low + rng.below(all.len() - low);
-        all[i] = *rng.of(&[0, 1, 2, 7, 255, rng.below(256) as u8]);
+        let any = rng.below(256) as u8;
+        all[i] = *rng.of(&[0, 1, 2, 7, 255, any]);
     }
     if rng.one_in(2) {
         let to = if rng.one_in(2) { end.saturating_sub(rng.below(24)) } else { rng.below(all.len() + 1) };
