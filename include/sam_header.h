@@ -37,6 +37,10 @@ extern "C" {
 #define SAM_HEADER_SKIPPED(answer) ((uint32_t)((uint64_t)(answer) >> 32))
 #define SAM_HEADER_WRITTEN(answer) ((uint32_t)((uint64_t)(answer) & UINT32_MAX))
 
+/* Of binary_len, where it is no refusal: whether more bytes are needed, and how many in all. */
+#define SAM_HEADER_IS_CUT(answer) ((int)((uint64_t)(answer) >> 62 & 1))
+#define SAM_HEADER_NEEDED(answer) ((uint64_t)(answer) & (UINT64_MAX >> 2))
+
 /* Refusal numbers. */
 enum {
     SAM_HEADER_TOO_LONG = 1,       /* the text, or the text to be written */
@@ -66,7 +70,7 @@ enum {
     SAM_HEADER_NO_RECORD = 25,     /* kind not served, or no record at that ordinal */
     SAM_HEADER_BAD_GIVEN = 26,     /* add: prefix or fields */
     SAM_HEADER_LONG_LENGTH = 27,   /* LN of SQ: above 2,147,483,647, in 64 bits */
-    SAM_HEADER_BAD_BINARY = 28,    /* binary_in: not the form of a binary header */
+    SAM_HEADER_BAD_BINARY = 28,    /* binary_in, binary_len: not the form of a binary header */
     SAM_HEADER_OTHER_LIST = 29,    /* binary_in: the reference list is not the text's SQ list */
     SAM_HEADER_MERGED_SQ = 30,     /* judge_merge: the merged SQ list, or shared names with other lengths */
     SAM_HEADER_MERGED_LISTS = 31,  /* judge_merge: the lists of ordinals */
@@ -126,6 +130,18 @@ uint64_t sam_header_binary_out(const uint8_t *text, size_t text_len, uint8_t *ou
  * too many, a name length of 0, a name without its closing zero. Then reading's refusals of the text, with lines of the text; 29 where the list is not the
  * text's SQ list, names and lengths in order; then as tidy. */
 uint64_t sam_header_binary_in(const uint8_t *bytes, size_t bytes_len, uint8_t *out, size_t out_len);
+
+/* How many bytes at the front of a SAM file belong to its header: all lines from the first on that start with @, their endings included; an empty line
+ * ends it. It judges nothing else and never refuses; a text that reading accepts is header to its end. The front that was lent may end within the header or
+ * within a line: where the answer is bytes_len, lend more. */
+uint64_t sam_header_text_len(const uint8_t *bytes, size_t bytes_len);
+
+/* How many bytes at the front of an uncompressed BAM stream are its binary header: as many as binary_in takes, which then never answers 28. Where the header
+ * goes on behind the bytes that were lent, bit 62 is set and SAM_HEADER_NEEDED is how many are needed to say more, always more than were lent and never
+ * more than the header has: lend so many, or twice as many as before, and ask again; each call passes all references anew, so that doubling costs as one
+ * call and lending just what is needed does not. 28 as soon as it can be no binary header, whatever follows. 1 for a number of 2^62 or more, which no
+ * memory holds. The text is passed, not read. */
+uint64_t sam_header_binary_len(const uint8_t *bytes, size_t bytes_len);
 
 /* ---- over a text and its catalogue: reading's own refusal comes first, then 21.
  * Kinds are HD 1, SQ 2, RG 3, PG 4, CO 5; ordinals count from 0 within a kind. */

@@ -18,7 +18,9 @@ ghost use Rattle.format.specs.Merge.{judgingMerge};
 ghost use Rattle.merge_judge.specs.Judged.{verdictOf};
 ghost use Rattle.binary.specs.Binary.{binaryOut, binaryIn};
 ghost use Rattle.words.specs.Words.{answerWord, checkedWord, carriedWord, leavesWord, keyWord, fieldWord, lengthWord, lineWord, lengthLeft};
-ghost use Rattle.words.specs.Words.{namesWord, namesLeft, verdictWord};
+ghost use Rattle.words.specs.Words.{namesWord, namesLeft, verdictWord, lenWord};
+ghost use Rattle.text_len.specs.TextLen.{textLen};
+ghost use Rattle.binary_len.specs.BinaryLen.{binaryLen};
 
 #[no_mangle]
 pub extern "C" fn sam_header_read(text: &[u8], catalogue: &mut [u8]) -> u64
@@ -108,6 +110,20 @@ pub extern "C" fn sam_header_binary_in(bytes: &[u8], out: &mut [u8]) -> u64
     ensures wrote { λ _. ⌜ now (out .exit) ≡ outputOf (binaryIn (now (bytes .entry)) (length (now (out .entry)))) (now (out .entry)) ⌝ }
 {
     words::answer_word(binary_in::binary_in(bytes, out))
+}
+
+#[no_mangle]
+pub extern "C" fn sam_header_text_len(bytes: &[u8]) -> u64
+    ensures { λ r. ⌜ r ≡ textLen (now (bytes .entry)) ⌝ }
+{
+    text_len::text_len(bytes) as u64
+}
+
+#[no_mangle]
+pub extern "C" fn sam_header_binary_len(bytes: &[u8]) -> u64
+    ensures { λ r. ⌜ r ≡ lenWord (binaryLen (now (bytes .entry))) ⌝ }
+{
+    words::len_word(binary_len::binary_len(bytes))
 }
 
 #[no_mangle]

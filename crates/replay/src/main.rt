@@ -11,6 +11,8 @@
 // `names.txt`: questions to `names`, answered by a model written from document 02 alone.
 // `requests.txt`: questions to every call, answered by that model, request by request.
 // `merges.txt`: merges that samtools, picard and sambamba made of small headers, judged by a model written from document 02 alone (`oracle/merges`).
+// `lens.txt`: fronts of SAM files and of uncompressed BAM streams, to `text_len` and `binary_len`: answered by that model, written by samtools, and
+// corners written by hand.
 //
 // Words are parted by one space; byte strings are in hex, `-` for none. A line is a call, its text, its catalogue (`=` for the one that
 // `parser::read` gives), its other arguments, and the answer:
@@ -43,7 +45,11 @@
 // two lists:
 //     judge_merge A B MERGED LIST_A LIST_B ok
 // or `refused NUMBER LINE ABOUT` in place of `ok`: ABOUT is `A`, `B` or `M` for the text that it is about, or `-`; each number of a list has eight
-// hex digits.
+// hex digits. Over the front of a file or of a stream:
+//     text_len BYTES ok COUNT
+//     binary_len BYTES ok whole COUNT
+//     binary_len BYTES ok more COUNT
+// or `refused 28 0`. The same must be said where as many bytes as are asked for are lent each time, with the cursor.
 //
 // A line that starts with `!` holds a wrong answer, and the program must find it wrong: so it is seen that each comparison can fail. One that
 // starts with `#` is a note.
@@ -51,6 +57,7 @@ use libc::STDOUT_FILENO;
 use replay_asked::ACCEPTED;
 use replay_asked::ADDED;
 use replay_asked::BINARY_IN;
+use replay_asked::BINARY_LEN;
 use replay_asked::BINARY_OUT;
 use replay_asked::BY_TABLE;
 use replay_asked::CARRIED;
@@ -70,6 +77,7 @@ use replay_asked::READ;
 use replay_asked::READ_WITH;
 use replay_asked::REFUSED;
 use replay_asked::ROOTS;
+use replay_asked::TEXT_LEN;
 use replay_asked::UNKNOWN;
 use replay_asked::UNWRITABLE;
 use replay_asked::WRONG;
@@ -157,6 +165,12 @@ fn is_sample(line: &[u8], asked: usize, text: &[u8]) -> bool {
 fn is_right(line: &[u8], asked: usize) -> bool {
     if asked == MERGED {
         return replay_merged::is_merged(line);
+    }
+    if asked == TEXT_LEN {
+        return replay_lens::is_text_len(line);
+    }
+    if asked == BINARY_LEN {
+        return replay_lens::is_binary_len(line);
     }
     let mut text = io::large_buffer();
     if asked < PROGRAM {
@@ -272,7 +286,7 @@ fn replay(place: usize) {
         os::fail(&name[..n]);
         return;
     }
-    let mut tally: [u32; 26] = [0; 26];
+    let mut tally: [u32; 28] = [0; 28];
     all_blocks(fd, &mut tally);
     libc::close(fd);
     io::write_all(STDOUT_FILENO, &name[..n]);

@@ -56,6 +56,10 @@ pub const FOUND: usize = 24;
 
 pub const MERGED: usize = 25;
 
+pub const TEXT_LEN: usize = 26;
+
+pub const BINARY_LEN: usize = 27;
+
 // What a line asks: its first word is a call, or its second what the crate makes of the text.
 pub fn asked_by(line: &[u8]) -> usize {
     let call = stored_cases::word(line, 0);
@@ -122,6 +126,12 @@ fn written_by(line: &[u8]) -> usize {
     if text::same(call, b"read_with") {
         return READ_WITH;
     }
+    if text::same(call, b"text_len") {
+        return TEXT_LEN;
+    }
+    if text::same(call, b"binary_len") {
+        return BINARY_LEN;
+    }
     judged_by(stored_cases::word(line, 1))
 }
 
@@ -165,7 +175,7 @@ fn print_count(name: &[u8], n: u32) {
 
 // Writes how many lines ask for something written.
 fn print_written(tally: &[u32])
-    requires { ⌜ length (now tally) ≡ 26 ⌝ }
+    requires { ⌜ length (now tally) ≡ 28 ⌝ }
 {
     print_count(b" add ", tally[ADDED]);
     print_count(b" names ", tally[NAMES]);
@@ -180,9 +190,17 @@ fn print_written(tally: &[u32])
     print_count(b" judge_merge ", tally[MERGED]);
 }
 
+// Writes how many lines ask how long a header is.
+fn print_lens(tally: &[u32])
+    requires { ⌜ length (now tally) ≡ 28 ⌝ }
+{
+    print_count(b" text_len ", tally[TEXT_LEN]);
+    print_count(b" binary_len ", tally[BINARY_LEN]);
+}
+
 // Writes how many lines ask each call.
 pub fn print_asked(tally: &[u32])
-    requires { ⌜ length (now tally) ≡ 26 ⌝ }
+    requires { ⌜ length (now tally) ≡ 28 ⌝ }
 {
     print_count(b" count ", tally[COUNT]);
     print_count(b" key ", tally[KEY]);
@@ -193,11 +211,12 @@ pub fn print_asked(tally: &[u32])
     print_count(b" leaves ", tally[LEAVES]);
     print_count(b" leaves_by_table ", tally[BY_TABLE]);
     print_written(tally);
+    print_lens(tally);
 }
 
 // Writes how many texts the crate judged in each way, and how many lines ask nothing.
 pub fn print_judged(tally: &[u32])
-    requires { ⌜ length (now tally) ≡ 26 ⌝ }
+    requires { ⌜ length (now tally) ≡ 28 ⌝ }
 {
     print_count(b" refused ", tally[REFUSED]);
     print_count(b" accepted ", tally[ACCEPTED]);
@@ -207,7 +226,7 @@ pub fn print_judged(tally: &[u32])
 
 // Writes how many answers were wrong, and how many of the marked lines were found.
 pub fn print_found(tally: &[u32])
-    requires { ⌜ length (now tally) ≡ 26 ⌝ }
+    requires { ⌜ length (now tally) ≡ 28 ⌝ }
 {
     print_number(b" wrong ", tally[WRONG]);
     print_number(b", known wrong found ", tally[FOUND]);

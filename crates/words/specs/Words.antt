@@ -1,5 +1,7 @@
 -- Answers as one number: what is counted; or bit 63, the refusal number shifted left by 32, and the line.
 use Prim.Native.Nat.{ℕ, _+_, _*_, _^_, _≤_, _<_}
+use mathlib.Core.Bool.{cond}
+use lib.Dec.{ltb}
 use Rattle.parser.specs.declared.CountAnswer.{CountAnswer}
 use Rattle.parser.specs.declared.CountAnswer.the-variants.{Refused, Count}
 use Rattle.parser.specs.declared.Checked.{Checked}
@@ -22,6 +24,8 @@ use Rattle.merge_judge.specs.declared.Which.{Which}
 use Rattle.merge_judge.specs.declared.Which.the-variants as which
 use Rattle.merge_judge.specs.declared.Verdict.{Verdict}
 use Rattle.merge_judge.specs.declared.Verdict.the-variants as verdict
+use Rattle.binary_len.specs.declared.BinaryLen.{BinaryLen}
+use Rattle.binary_len.specs.declared.BinaryLen.the-variants as len
 
 unfoldable pub refusalWord : ℕ → ℕ → ℕ
 refusalWord n l = 2 ^ 63 + n * 2 ^ 32 + l
@@ -120,3 +124,15 @@ unfolding refusalWord unfitWord
 verdictWord verdict.Accepted = 0
 verdictWord (verdict.Unfit w n l) = unfitWord w n (l .0)
 verdictWord (verdict.Unmerged n) = refusalWord n 0
+
+-- a number on top of the bits of its kind: 1 where it reaches bit 62, as no number of bytes in a memory does
+unfoldable pub shortWord : ℕ → ℕ → ℕ
+unfolding refusalWord
+shortWord kind n = cond (ltb n (2 ^ 62)) (kind + n) (refusalWord 1 0)
+
+-- the bytes of a binary header; or bit 62, and the bytes that are needed to say more
+unfoldable pub lenWord : BinaryLen → ℕ
+unfolding refusalWord shortWord
+lenWord (len.Refused n) = refusalWord n 0
+lenWord (len.Whole n) = shortWord 0 n
+lenWord (len.More n) = shortWord (2 ^ 62) n

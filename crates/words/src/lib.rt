@@ -1,4 +1,5 @@
 // Answers as one number, for programs in C and Rust (include/sam_header.h).
+use binary_len::BinaryLen;
 use calls::KeyAnswer;
 use calls::LineAnswer;
 use calls::ValuePlace;
@@ -10,8 +11,9 @@ use parser::Checked;
 use parser::CountAnswer;
 use roots_and_leaves::LeavesAnswer;
 ghost use mathlib.Core.Path.{_≡_};
+ghost use Prim.Native.Nat.{_≤_};
 ghost use Rattle.words.specs.Words.{refusalWord, answerWord, checkedWord, pairWord, FitsHalves, carriedWord, keyWord, lineWord, fieldWord};
-ghost use Rattle.words.specs.Words.{FewLeaves, leavesWord, aboutNumber, unfitWord, verdictWord};
+ghost use Rattle.words.specs.Words.{FewLeaves, leavesWord, aboutNumber, unfitWord, verdictWord, shortWord, lenWord};
 
 // A refusal: bit 63, its number and its line.
 pub fn refusal_word(n: u8, line: LineNo) -> u64
@@ -125,5 +127,28 @@ pub fn verdict_word(verdict: Verdict) -> u64
         Verdict::Accepted => 0,
         Verdict::Unfit(which, n, line) => unfit_word(which, n, line),
         Verdict::Unmerged(n) => refusal_word(n, LineNo(0)),
+    }
+}
+
+// A number on top of the bits of its kind: refusal 1 where it reaches bit 62.
+fn short_word(kind: u64, n: usize) -> u64
+    requires { ⌜ kind ≤ 4611686018427387904 ⌝ }
+    ensures { λ r. ⌜ r ≡ shortWord kind n ⌝ }
+{
+    if n < 4611686018427387904 {
+        kind + n as u64
+    } else {
+        refusal_word(1, LineNo(0))
+    }
+}
+
+// How many bytes a binary header has; or bit 62, and how many are needed to say more.
+pub fn len_word(len: BinaryLen) -> u64
+    ensures { λ r. ⌜ r ≡ lenWord len ⌝ }
+{
+    match len {
+        BinaryLen::Refused(n) => refusal_word(n, LineNo(0)),
+        BinaryLen::Whole(n) => short_word(0, n),
+        BinaryLen::More(n) => short_word(4611686018427387904, n),
     }
 }

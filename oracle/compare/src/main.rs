@@ -15,6 +15,8 @@ mod check;
 #[cfg(feature = "add")]
 mod grown;
 mod known;
+#[cfg(feature = "lens")]
+mod lens;
 #[cfg(feature = "judge_merge")]
 mod merged;
 #[cfg(feature = "prune")]
@@ -30,8 +32,8 @@ use check::{Case, Checker, Difference};
 use known::Kind;
 use oracle::inputs::{self, Rng, in_domain};
 
-const PHASES: [&str; 13] = [
-    "corners", "tokens", "fields", "bytes", "graphs", "random", "damaged", "programs", "boundaries", "keys", "names", "skipped", "merged",
+const PHASES: [&str; 14] = [
+    "corners", "tokens", "fields", "bytes", "graphs", "random", "damaged", "programs", "boundaries", "keys", "names", "skipped", "merged", "lens",
 ];
 
 /// Unlisted differences that are printed; the run ends at the last of them.
@@ -47,6 +49,8 @@ struct Run {
     unlisted_count: u64,
     #[cfg(feature = "judge_merge")]
     merges: merged::Tally,
+    #[cfg(feature = "lens")]
+    lens: lens::Tally,
     trace: bool,
 }
 
@@ -171,6 +175,17 @@ impl Run {
         }
     }
 
+    #[cfg(feature = "lens")]
+    fn stream(&mut self, bytes: &[u8]) {
+        self.texts += 1;
+        if let Some(what) = self.lens.compare(bytes) {
+            self.unlisted_count += 1;
+            if self.unlisted_count <= MOST as u64 {
+                println!("UNLISTED {}", clipped(&what));
+            }
+        }
+    }
+
     fn phase(&mut self, phase: &str, rng: &mut Rng, scale: usize) {
         match phase {
             "corners" => {
@@ -290,6 +305,15 @@ impl Run {
             }
             #[cfg(not(feature = "judge_merge"))]
             "merged" => {}
+            #[cfg(feature = "lens")]
+            "lens" => {
+                for _ in 0..100_000 * scale {
+                    self.stream(&lens::file(rng));
+                    self.stream(&lens::stream(rng));
+                }
+            }
+            #[cfg(not(feature = "lens"))]
+            "lens" => {}
             _ => unreachable!(),
         }
     }
@@ -346,6 +370,7 @@ fn main() -> ExitCode {
         ("carry_on", cfg!(feature = "carry_on")),
         ("binary", cfg!(feature = "binary")),
         ("judge_merge", cfg!(feature = "judge_merge")),
+        ("text_len binary_len", cfg!(feature = "lens")),
     ]
     .iter()
     .filter_map(|&(name, there)| there.then_some(name))
@@ -365,6 +390,8 @@ fn main() -> ExitCode {
         unlisted_count: 0,
         #[cfg(feature = "judge_merge")]
         merges: merged::Tally::default(),
+        #[cfg(feature = "lens")]
+        lens: lens::Tally::default(),
         trace,
     };
     let began = Instant::now();
@@ -381,6 +408,8 @@ fn main() -> ExitCode {
     print!("{}", run.checker.tally);
     #[cfg(feature = "judge_merge")]
     print!("{}", run.merges);
+    #[cfg(feature = "lens")]
+    print!("{}", run.lens);
     println!("\nKnown kinds of difference, with the smallest input:");
     for (kind, meaning) in known::ALL {
         if let Some((n, smallest)) = run.known.get(&kind).cloned() {

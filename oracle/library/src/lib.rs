@@ -185,6 +185,12 @@ unsafe extern "C" {
     fn sam_header_binary_in(bytes: *const u8, bytes_len: usize, out: *mut u8, out_len: usize) -> u64;
 }
 
+#[cfg(feature = "lens")]
+unsafe extern "C" {
+    fn sam_header_text_len(bytes: *const u8, bytes_len: usize) -> u64;
+    fn sam_header_binary_len(bytes: *const u8, bytes_len: usize) -> u64;
+}
+
 #[cfg(feature = "judge_merge")]
 unsafe extern "C" {
     fn sam_header_judge_merge(
@@ -402,6 +408,25 @@ pub fn binary_out(text: &[u8], out: &mut [u8]) -> Answer {
 #[cfg(feature = "binary")]
 pub fn binary_in(bytes: &[u8], out: &mut [u8]) -> Answer {
     answer(unsafe { sam_header_binary_in(bytes.as_ptr(), bytes.len(), out.as_mut_ptr(), out.len()) })
+}
+
+/// How many bytes at the front of a file belong to its header.
+#[cfg(feature = "lens")]
+pub fn text_len(bytes: &[u8]) -> Answer {
+    answer(unsafe { sam_header_text_len(bytes.as_ptr(), bytes.len()) })
+}
+
+/// What the front of a stream tells of its binary header: how many bytes it has, or how many are needed to say more.
+#[derive(Clone, Copy, Debug, Eq, PartialEq)]
+pub enum Len {
+    Whole(u64),
+    More(u64),
+}
+
+#[cfg(feature = "lens")]
+pub fn binary_len(bytes: &[u8]) -> Result<Len, Refusal> {
+    let word = answer(unsafe { sam_header_binary_len(bytes.as_ptr(), bytes.len()) })?;
+    Ok(if word >> 62 == 0 { Len::Whole(word) } else { Len::More(word ^ 1 << 62) })
 }
 
 /// A refusal comes with which text it is about: 1 for A, 2 for B, 3 for the merged one, 0 for none.

@@ -1,0 +1,2 @@
+pub mod TextLen
+pub mod Laws
