@@ -65,3 +65,19 @@ sized-in = refl
 pub nameless-in : binaryIn (66 ∷ 65 ∷ 77 ∷ 1 ∷ 0 ∷ 0 ∷ 0 ∷ 0 ∷ 1 ∷ 0 ∷ 0 ∷ 0 ∷ 0 ∷ 0 ∷ 0 ∷ 0 ∷ 8 ∷ 0 ∷ 0 ∷ 0 ∷ []) 0 ≡ refused 28 0
 unfolding binaryIn
 nameless-in = refl
+
+-- ---- a list that is not the text's
+
+-- one reference fewer
+pub fewer-in : binaryIn (binary (ascii "@SQ\tSN:a\tLN:8\n") []) 14 ≡ refused 29 0
+unfolding ascii binary binaryIn
+fewer-in = refl
+
+-- 29 comes before 24 and 20, and after reading's refusals
+pub unwritable-in : binaryIn (binary (ascii "@SQ\tSN:*\tLN:8\n") []) 0 ≡ refused 29 0
+unfolding ascii binary binaryIn
+unwritable-in = refl
+
+pub unread-in : binaryIn (binary (ascii "@SQ\tSN:a\tLN:0\n") []) 0 ≡ refused 13 0
+unfolding ascii binary binaryIn
+unread-in = refl

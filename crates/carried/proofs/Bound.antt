@@ -1,6 +1,6 @@
 -- What is written and what is skipped is small: both counts are at most 16,777,216.
 use Prim.Native.Nat.{ℕ, _/_, _≤_}
-use mathlib.Core.Path.{_≡_, refl, ap, subst}
+use mathlib.Core.Path.{_≡_, refl, ap, subst, _∙_}
 use mathlib.Core.Bool.{Bool, true, false, cond}
 use mathlib.Core.List.{List, []}
 use mathlib.Core.Option.{Option, none, some}
@@ -37,22 +37,32 @@ same-answers : (zs ws xs ys : List ℕ) → _≡_ {A = Answer (List ℕ × List 
 unfolding answered
 same-answers zs ws xs ys e = (ap (λ a. answered a .0) e, ap (λ a. answered a .1) e)
 
+-- and what the table takes is the table
+taken : (n : ℕ) (xs ys : List ℕ) → fitting n xs ≡ yes ys → xs ≡ ys
+unfolding fitting
+taken n xs ys e = go (ltb n (length xs)) e
+  where
+    go : (b : Bool) → cond b (refused 20 0) (yes xs) ≡ yes ys → xs ≡ ys
+    go true e = absurd (never cc)
+    go false e = cc
+
 pub carried-few : (t : List ℕ) (room table : ℕ) (xs ys : List ℕ) → carrying t room table ≡ yes (xs, ys) → (length xs ≤ 16777216) × (length ys / 2 ≤ 16777216)
-unfolding carrying longest then fitting
+unfolding carrying longest then
 carried-few t room table xs ys is =
-    go (ltb 16777216 (length t)) refl (writing room (unwritableLine 0 (carriedLines t)) (tidy (keptOf (carriedLines t)))) refl (ltb table (length (rows (skips 0 (carriedLines t))))) is
+    go (ltb 16777216 (length t)) refl (writing room (unwritableLine 0 (carriedLines t)) (tidy (keptOf (carriedLines t)))) refl _ (fitting _ found) refl is
   where
     found : List ℕ
     found = rows (skips 0 (carriedLines t))
 
-    go : (b : Bool) → ltb 16777216 (length t) ≡ b → (a : Answer (List ℕ)) → writing room (unwritableLine 0 (carriedLines t)) (tidy (keptOf (carriedLines t))) ≡ a → (d : Bool)
-        → cond {A = Answer (List ℕ × List ℕ)} b (refused 1 0) (then a (λ out. then (cond d (refused 20 0) (yes found)) (λ ss. yes (out, ss)))) ≡ yes (xs, ys)
+    go : (b : Bool) → ltb 16777216 (length t) ≡ b → (a : Answer (List ℕ)) → writing room (unwritableLine 0 (carriedLines t)) (tidy (keptOf (carriedLines t))) ≡ a
+        → (k : ℕ) (f : Answer (List ℕ)) → fitting k found ≡ f
+        → cond {A = Answer (List ℕ × List ℕ)} b (refused 1 0) (then a (λ out. then f (λ ss. yes (out, ss)))) ≡ yes (xs, ys)
         → (length xs ≤ 16777216) × (length ys / 2 ≤ 16777216)
-    go true q a w d e = absurd (never cc)
-    go false q (refused n l) w d e = absurd (never cc)
-    go false q (yes zs) w true e = absurd (never cc)
-    go false q (yes zs) w false e =
-        let same = same-answers zs found xs ys e in (
+    go true q a w k f h e = absurd (never cc)
+    go false q (refused n l) w k f h e = absurd (never cc)
+    go false q (yes zs) w k (refused n l) h e = absurd (never cc)
+    go false q (yes zs) w k (yes ss) h e =
+        let same = same-answers zs ss xs ys e in (
           subst (λ s. length s ≤ 16777216) (same .0) (written-few room (unwritableLine 0 (carriedLines t)) (tidy (keptOf (carriedLines t))) zs w),
-          subst (λ s. length s / 2 ≤ 16777216) (same .1) (omega (arith, rows-few t, ltb-false 16777216 (length t) q)),
+          subst (λ s. length s / 2 ≤ 16777216) (taken k found ss h ∙ same .1) (omega (arith, rows-few t, ltb-false 16777216 (length t) q)),
         )

@@ -25,7 +25,7 @@ unfolding carriedFrom
 carried-length v before [] = refl
 carried-length v before (p ∷ ps) =
     let w : Option Version = ruling v before p in
-    ap suc (carried-length w (before ++ keptOf (admitted (isStrict w) before p ∷ [])) ps)
+    ap suc (carried-length w _ ps)
 
 -- it is kept or skipped
 pub skips-kept : (l : ℕ) (ls : List Line) → length (skips l ls) + length (keptOf ls) ≡ length ls

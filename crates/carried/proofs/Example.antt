@@ -28,3 +28,8 @@ early = ascii "@HD\tVN:1.6\tx\n@HD\tVN:z\n@PG\tID:a\tID:b\n@SQ\tLN:08\tSN:s\n@HD
 pub early-carried : carrying early 23 12 ≡ yes (ascii "@SQ\tSN:s\tLN:8\n@RG\tID:g\n", 0 ∷ 8 ∷ 1 ∷ 11 ∷ 2 ∷ 14 ∷ 4 ∷ 17 ∷ 5 ∷ 14 ∷ 6 ∷ 18 ∷ [])
 unfolding ascii early carrying
 early-carried = refl
+
+-- 24 comes before 20 for both
+pub unwritable-carried : carrying (ascii "@CO\t\n@SQ\tSN:*\tLN:1\n@XX\n") 0 0 ≡ refused 24 1
+unfolding ascii carrying
+unwritable-carried = refl

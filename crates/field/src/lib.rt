@@ -76,7 +76,9 @@ fn parse_length_value(src: &[u8]) -> ParsedField
     ensures { λ r. ⌜ r ≡ lengthFieldBy (parsedLengthOf (lengthField 0 (span (before 9 (now (src .entry)))))) ⌝ }
 {
     match length::parse_length(src) {
-        ParsedLength::Refused(stop) => ParsedField::refused(stop),
+        ParsedLength::Invalid => ParsedField::refused(12),
+        ParsedLength::Zero => ParsedField::refused(13),
+        ParsedLength::Long => ParsedField::refused(27),
         ParsedLength::Is(length, len) => ParsedField {
             stop: 0,
             tag_0: b'L',

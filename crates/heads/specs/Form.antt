@@ -1,14 +1,15 @@
 -- An accepted line of a text, by its kind and by its form: a comment, or fields in which no tag stands twice, or in which one may.
 use Prim.Native.Nat.{ℕ, _+_, _≤_}
 use mathlib.Core.Path.{_≡_}
-use mathlib.Core.Bool.{true, false}
+use mathlib.Core.Bool.{Bool, true, false, _||_, cond}
 use mathlib.Core.List.{List}
-use lib.ListN.{length, getD}
+use lib.ListN.{length, getD, replicate}
 use Rattle.format.specs.Records.{line}
 use Rattle.format.specs.declared.Kind.{Kind}
 use Rattle.format.specs.declared.Kind.the-variants as kind
 use Rattle.accepted.specs.Read.{isRead}
-use Rattle.other_fields.specs.Run.{AtField}
+use Rattle.other_fields.specs.Run.{AtField, fieldsFrom}
+use Rattle.other_fields.specs.Tables.{spread}
 use Rattle.heads.specs.Found.{kindBy, isComment}
 use Rattle.heads.specs.declared.Form.{Form}
 use Rattle.heads.specs.declared.Form.the-variants.{Comment, Once, Repeating}
@@ -24,3 +25,10 @@ unfoldable pub IsForm : ℕ → List ℕ → Form → Type 0
 IsForm at s Comment = LineOf kind.Comment at s
 IsForm at s (Once k) = LineOf k at s × (isComment k ≡ false) × AtField true at s 3
 IsForm at s (Repeating k) = LineOf k at s × (isComment k ≡ false)
+
+-- which form is told: `Once` where repeated tags are forbidden, or where all tags take different marks of 112
+unfoldable pub formOf : Bool → ℕ → List ℕ → Form
+unfolding kindBy spread
+formOf strict at s =
+    let k : Kind = kindBy (getD s 1 0) in
+    cond (isComment k) Comment (cond (strict || spread (replicate 112 false) (fieldsFrom at s 3)) (Once k) (Repeating k))

@@ -17,7 +17,7 @@ ghost use Rattle.other_fields.specs.Run.{fieldsFrom};
 ghost use Rattle.other_fields.specs.Tables.{Walkable};
 ghost use Rattle.heads.specs.Found.{kindBy, isComment, uncounted};
 ghost use Rattle.heads.specs.Keys.{noKeyValues, withKey, keysIn};
-ghost use Rattle.heads.specs.Form.{LineOf, IsForm};
+ghost use Rattle.heads.specs.Form.{LineOf, IsForm, formOf};
 
 // The form of an accepted line: a comment, or fields in which no tag stands twice, or in which one may.
 pub enum Form {
@@ -108,7 +108,8 @@ fn is_comment(kind: Kind) -> bool
 pub fn form_of(src: &[u8], at: usize, strict: bool) -> Form
     requires { ⌜ isRead (line strict (record { at = at; bytes = now src })) ≡ true ⌝ }
     requires { ⌜ at + length (now src) ≤ 16777216 ⌝ }
-    ensures { λ r. ⌜ IsForm at (now (src .entry)) r ⌝ }
+    ensures right { λ r. ⌜ IsForm at (now (src .entry)) r ⌝ }
+    ensures is { λ r. ⌜ r ≡ formOf strict at (now (src .entry)) ⌝ }
 {
     let kind = kind_of(src);
     if is_comment(kind) {
@@ -148,7 +149,8 @@ pub fn find_keys(kind: Kind, src: &[u8], at: usize, once: bool, tables: &[u32]) 
     }
 }
 
-// The head of an accepted HD: the version that its VN spells.
+// The head of an accepted HD: the version that its VN spells. It spells one, since the line is accepted; the arm for the other case is there because a
+// `match` has one for each.
 fn header_of(src: &[u8], at: usize, version: Value) -> Head
     requires { ⌜ LineOf Header at (now src) ⌝ }
     requires { ⌜ version ≡ keysIn Header (fieldsFrom at (now src) 3) .key ⌝ }
@@ -162,7 +164,8 @@ fn header_of(src: &[u8], at: usize, version: Value) -> Head
     }
 }
 
-// The head of an accepted SQ: where its SN stands, and the number that its LN spells.
+// The head of an accepted SQ: where its SN stands, and the number that its LN spells. It spells one, since the line is accepted; the arms for the other
+// cases are there because a `match` has one for each.
 fn sequence_of(src: &[u8], at: usize, keys: KeyValues) -> Head
     requires { ⌜ LineOf ReferenceSequence at (now src) ⌝ }
     requires { ⌜ keys ≡ keysIn ReferenceSequence (fieldsFrom at (now src) 3) ⌝ }

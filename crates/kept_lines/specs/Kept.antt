@@ -4,12 +4,19 @@ use mathlib.Core.Bool.{Bool, not, cond}
 use mathlib.Core.List.{List}
 use lib.ListN.{length}
 use lib.Dec.{eqb}
+use Rattle.format.specs.Records.{line}
+use Rattle.accepted.specs.First.{firstAt}
+use Rattle.record.specs.Head.{headOf}
 use Rattle.record.specs.declared.Head.{Head}
 use Rattle.record.specs.declared.Head.the-variants as head
 use Rattle.admission.specs.Admission.{programsOf}
 use Rattle.key_index.specs.Told.{isMet, afterMeeting, isFirstKey}
 use Rattle.first_keys.specs.Blocks.{afterKeyed, filledFor}
 use Rattle.kept_lines.specs.declared.Cursor.{Cursor}
+
+-- the head of the line at an offset
+abbrev pub headAt : Bool → List ℕ → ℕ → Head
+headAt strict t at = headOf (line strict (firstAt at t))
 
 -- is a head's key used? Programs that are kept are in the slots `ids`; the slots `area` tell where other keys stood first
 unfoldable pub usedBy : List ℕ → List ℕ → List ℕ → Head → Bool

@@ -6,7 +6,7 @@ ghost use lib.ListN.{length, drop};
 ghost use lib.Dec.{ltb};
 ghost use Rattle.text.specs.First.{firstLine};
 ghost use Rattle.key_index.specs.Keyed.{KeyInText};
-ghost use Rattle.kept_lines.specs.Kept.{usedBy, idsAfter, advanced, filledAt, untilAt};
+ghost use Rattle.kept_lines.specs.Kept.{headAt, usedBy, idsAfter, advanced, filledAt, untilAt};
 ghost use Rattle.kept_lines.specs.Going.{Going, judgedLines, refusalAt};
 
 // Where judging stands: the offset of the next line, how many lines are judged, the offset where the block ends for which the area is
@@ -89,6 +89,10 @@ pub fn next_line(
     ensures next { λ r. ⌜ Going strict (now (text .entry)) from (now (area .exit)) (now (ids .exit)) (r .next) ⌝ }
     ensures room { λ _. ⌜ length (now (area .exit)) ≡ length (now (area .entry)) ⌝ }
     ensures room2 { λ _. ⌜ length (now (ids .exit)) ≡ length (now (ids .entry)) ⌝ }
+    ensures stands { λ r. ⌜ r .next ≡ advanced c (c .at + firstLine (drop (c .at) (now (text .entry))) .next)
+        (untilAt strict (now (text .entry)) (length (now (area .entry))) (c .at) (c .until)) (headAt strict (now (text .entry)) (c .at)) (r .refusal) ⌝ }
+    ensures filled { λ _. ⌜ now (area .exit) ≡ filledAt strict (now (text .entry)) from (now (area .entry)) (c .at) (c .until) ⌝ }
+    ensures entered { λ _. ⌜ now (ids .exit) ≡ idsAfter (ltb (c .programs) 1024) (now (text .entry)) (now (ids .entry)) (headAt strict (now (text .entry)) (c .at)) ⌝ }
 {
     let at = c.at;
     let until = turn(text, strict, from, area, at, c.until);

@@ -1,9 +1,11 @@
 -- What measuring the lines from the first kept on answers.
 use Prim.Native.Nat.{ℕ, zero, suc}
+use mathlib.Core.Path.{_≡_}
 use mathlib.Core.Option.{Option, none, some}
 use mathlib.Core.List.{List}
 use lib.ListN.{length}
 use Rattle.format.specs.Records.{Line}
+use Rattle.format.specs.Calls.{Answer, refused, yes, writing}
 use Rattle.format.specs.declared.Kind.{Kind}
 use Rattle.per_kind.specs.declared.PerKind.{PerKind}
 use Rattle.tidy_text.specs.Sizes.{grownBy, sizesOf}
@@ -28,3 +30,12 @@ keptMeasured (some l) s n = measured.Unwritable (record { 0 = l })
 -- of a text, where the first line kept stands at `b`
 abbrev pub measuredFrom : List ℕ → Begin → KeptSizes
 measuredFrom t b = keptMeasured (unwritableFrom t b) (sizesOf (keptFrom t b)) (length (skippedFrom t b))
+
+-- what each is: 24 on the line of that SQ, or the sizes and the count
+unfoldable pub keptAnswer : KeptSizes → Answer (PerKind × ℕ)
+keptAnswer (measured.Unwritable l) = refused 24 (l .0)
+keptAnswer (measured.Is s n) = yes (s, n)
+
+-- where `r` answers for a text as a refusal, writing what is kept of it is refused with the same number and line
+abbrev pub KeptTold : List ℕ → Begin → KeptSizes → Type 0
+KeptTold t b r = (room n l : ℕ) (text : List ℕ) → keptAnswer r ≡ refused n l → writing room (unwritableFrom t b) text ≡ refused n l

@@ -9,12 +9,13 @@ ghost use mathlib.Core.Bool.{true};
 ghost use Prim.Native.Nat.{_≤_, _+_};
 ghost use lib.ListN.{length};
 ghost use Rattle.format.specs.Records.{line};
+ghost use Rattle.format.specs.Work.{allZeros};
 ghost use Rattle.accepted.specs.Read.{isRead};
 ghost use Rattle.per_kind.specs.Numbers.{get};
 ghost use Rattle.tidy_text.specs.Kinds.{lineKind, tidyLine};
 ghost use Rattle.early_lines.specs.First.{First};
 ghost use Rattle.kept_from.specs.From.{Fresh};
-ghost use Rattle.kept_sizes.specs.Measured.{grownAt, measuredFrom};
+ghost use Rattle.kept_sizes.specs.Measured.{grownAt, measuredFrom, KeptTold};
 
 // How many bytes the records kept have in the tidy text, of each kind, and how many lines are skipped among those from the first that is
 // kept on; or the line of the first SQ kept whose name can't be written.
@@ -66,14 +67,17 @@ fn measure_lines(text: &[u8], b: Begin, area: &mut [u32], ids: &mut [u32]) -> Ke
     KeptSizes::Is(sizes, c.line - c.kept)
 }
 
-// The same with slots of its own for the programs kept.
+// The same with slots of its own for the programs kept. The area is all zeros afterwards.
 pub fn measure(text: &[u8], b: Begin, area: &mut [u32]) -> KeptSizes
     requires { ⌜ length (now text) ≤ 16777216 ⌝ }
     requires { ⌜ First (now text) b ⌝ }
     requires { ⌜ 4 ≤ length (now area) ⌝ }
     ensures measured { λ r. ⌜ r ≡ measuredFrom (now (text .entry)) b ⌝ }
-    ensures room { λ _. ⌜ length (now (area .exit)) ≡ length (now (area .entry)) ⌝ }
+    ensures refusal { λ r. ⌜ KeptTold (now (text .entry)) b r ⌝ }
+    ensures zeros { λ _. ⌜ now (area .exit) ≡ allZeros (now (area .entry)) ⌝ }
 {
     let mut ids = [0u32; 2048];
-    measure_lines(text, b, area, &mut ids)
+    let measured = measure_lines(text, b, area, &mut ids);
+    key_index::clear(area);
+    measured
 }

@@ -7,6 +7,7 @@ ghost use mathlib.Core.Path.{_≡_};
 ghost use Prim.Native.Nat.{_≤_, _+_, _*_};
 ghost use lib.ListN.{length};
 ghost use Rattle.format.specs.Tidy.{tidy};
+ghost use Rattle.format.specs.Work.{allZeros};
 ghost use Rattle.text.specs.Over.{over};
 ghost use Rattle.per_kind.specs.Numbers.{kindStarts};
 ghost use Rattle.tidy_text.specs.Sizes.{sizesOf};
@@ -79,7 +80,7 @@ fn put_lines(
     }
 }
 
-// Writes the tidy text of what is kept and the whole table.
+// Writes the tidy text of what is kept and the whole table. The area is all zeros afterwards.
 pub fn put_all(
     text: &[u8],
     b: Begin,
@@ -96,8 +97,10 @@ pub fn put_all(
     requires { ⌜ b .line * 2 + length (rowsOf (now text) b) ≤ length (now table) ⌝ }
     ensures wrote { λ _. ⌜ now (out .exit) ≡ over (now (out .entry)) 0 (tidy (keptOf (carriedLines (now (text .entry))))) ⌝ }
     ensures listed { λ _. ⌜ now (table .exit) ≡ over (now (table .entry)) 0 (rows (skips 0 (carriedLines (now (text .entry))))) ⌝ }
+    ensures zeros { λ _. ⌜ now (area .exit) ≡ allZeros (now (area .entry)) ⌝ }
 {
     early_lines::put_early(text, b.line, table);
     let mut ids = [0u32; 2048];
     put_lines(text, b, area, &mut ids, places, out, table);
+    key_index::clear(area);
 }

@@ -1,9 +1,11 @@
 -- What reading the front of a line answers: the byte that is due there, and the kind.
-use Prim.Native.Nat.{ℕ}
+use Prim.Native.Nat.{ℕ, suc}
+use mathlib.Core.Path.{_≡_}
+use mathlib.Core.Bool.{Bool}
 use mathlib.Core.List.{List, [], _∷_}
 use mathlib.Core.Option.{Option, none, some}
 use Rattle.format.specs.declared.Kind.{Kind}
-use Rattle.format.specs.Records.{kindOf}
+use Rattle.format.specs.Records.{refusedLine, kindOf, kinded}
 use Rattle.kind.specs.declared.ParsedKind.{ParsedKind}
 use Rattle.kind.specs.declared.ParsedKind.the-variants.{Empty, Invalid, Is}
 
@@ -23,3 +25,7 @@ unfoldable pub kindRefusal : ParsedKind → ℕ
 kindRefusal Empty = 4
 kindRefusal Invalid = 5
 kindRefusal (Is k) = 0
+
+-- a line whose kind bytes, at the front of `s`, are answered by `r`: where that is a refusal, the line is refused with its number
+abbrev pub KindTold : List ℕ → ParsedKind → Type 0
+KindTold s r = (strict : Bool) (at n : ℕ) → kindRefusal r ≡ suc n → kinded strict at s ≡ refusedLine (suc n)

@@ -2,7 +2,7 @@
 use format::Kind;
 ghost use mathlib.Core.Path.{_≡_};
 ghost use Rattle.format.specs.Records.{kindOf};
-ghost use Rattle.kind.specs.Kind.{kindAt, parsedKindOf};
+ghost use Rattle.kind.specs.Kind.{kindAt, parsedKindOf, KindTold};
 
 pub enum ParsedKind {
     Empty,
@@ -12,7 +12,8 @@ pub enum ParsedKind {
 
 // The kind that the two bytes after the `@` name.
 pub fn parse_kind(src: &[u8]) -> ParsedKind
-    ensures { λ r. ⌜ r ≡ kindAt (now (src .entry)) ⌝ }
+    ensures is { λ r. ⌜ r ≡ kindAt (now (src .entry)) ⌝ }
+    ensures refusal { λ r. ⌜ KindTold (now (src .entry)) r ⌝ }
 {
     if src.len() == 0 {
         return ParsedKind::Empty;

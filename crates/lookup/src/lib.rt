@@ -6,6 +6,7 @@ ghost use mathlib.Core.Path.{_≡_};
 ghost use lib.ListN.{drop};
 ghost use Rattle.entries.specs.Entries.{entriesIn};
 ghost use Rattle.lookup.specs.Lookup.{entryKey, entryLength, entryLine, valueIn, keyIn, lengthIn, lineIn, fieldIn};
+ghost use Rattle.lookup.specs.Told.{KeyTold, LengthTold, LineTold, FieldTold};
 
 // A place of the text, if there is one.
 pub enum Found {
@@ -63,7 +64,8 @@ fn line_of(e: Entry) -> Located
 
 // The key of the record of a kind with an ordinal among its kind: SQ, RG and PG have one.
 pub fn find_key(catalogue: &[u8], kind: u8, ordinal: u32) -> Found
-    ensures { λ r. ⌜ r ≡ keyIn kind ordinal (entriesIn (now (catalogue .entry))) ⌝ }
+    ensures is { λ r. ⌜ r ≡ keyIn kind ordinal (entriesIn (now (catalogue .entry))) ⌝ }
+    ensures answer { λ r. ⌜ KeyTold (now (catalogue .entry)) kind ordinal r ⌝ }
 {
     let at = record_entries::find_record(catalogue, kind, ordinal as usize);
     key_of(entries::entry_at(catalogue, at))
@@ -71,7 +73,8 @@ pub fn find_key(catalogue: &[u8], kind: u8, ordinal: u32) -> Found
 
 // The LN of the SQ with an ordinal.
 pub fn find_length(catalogue: &[u8], ordinal: u32) -> Sized
-    ensures { λ r. ⌜ r ≡ lengthIn ordinal (entriesIn (now (catalogue .entry))) ⌝ }
+    ensures is { λ r. ⌜ r ≡ lengthIn ordinal (entriesIn (now (catalogue .entry))) ⌝ }
+    ensures answer { λ r. ⌜ LengthTold (now (catalogue .entry)) ordinal r ⌝ }
 {
     let at = record_entries::find_record(catalogue, format::REFERENCE_SEQUENCE, ordinal as usize);
     length_of(entries::entry_at(catalogue, at))
@@ -79,7 +82,8 @@ pub fn find_length(catalogue: &[u8], ordinal: u32) -> Sized
 
 // The line of the record of a kind, 1 to 5, with an ordinal among its kind.
 pub fn find_line(catalogue: &[u8], kind: u8, ordinal: u32) -> Located
-    ensures { λ r. ⌜ r ≡ lineIn kind ordinal (entriesIn (now (catalogue .entry))) ⌝ }
+    ensures is { λ r. ⌜ r ≡ lineIn kind ordinal (entriesIn (now (catalogue .entry))) ⌝ }
+    ensures answer { λ r. ⌜ LineTold (now (catalogue .entry)) kind ordinal r ⌝ }
 {
     let at = record_entries::find_record(catalogue, kind, ordinal as usize);
     line_of(entries::entry_at(catalogue, at))
@@ -105,7 +109,8 @@ pub fn field_from(catalogue: &[u8], from: usize, a: u8, b: u8) -> Found
 
 // The value of a field of the record of a kind, 1 to 5, with an ordinal among its kind.
 pub fn find_field(catalogue: &[u8], kind: u8, ordinal: u32, a: u8, b: u8) -> Found
-    ensures { λ r. ⌜ r ≡ fieldIn kind ordinal a b (entriesIn (now (catalogue .entry))) ⌝ }
+    ensures is { λ r. ⌜ r ≡ fieldIn kind ordinal a b (entriesIn (now (catalogue .entry))) ⌝ }
+    ensures answer { λ r. ⌜ FieldTold (now (catalogue .entry)) kind ordinal a b r ⌝ }
 {
     if 5 < kind {
         return Found::Nothing;

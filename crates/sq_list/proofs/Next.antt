@@ -5,8 +5,9 @@ use mathlib.Core.Bool.{Bool, true, false, false≢true, cond}
 use mathlib.Core.List.{List, [], _∷_, _++_}
 use native.Mathlib.Omega.{arith}
 use lib.ListN.{length, take, drop, getD, length-drop, drop-of-length-le}
+use lib.Dec.{ltb}
 use lib.Seq.{drop-drop, length-take-le}
-use borrow.Author.Tests.{eq-eqb}
+use borrow.Author.Tests.{eq-eqb, ltb-true, ltb-false}
 use Rattle.format.specs.Lines.{Piece, lines, linesFrom}
 use Rattle.format.specs.Records as records
 use Rattle.format.specs.Records.{Record, header, reference, group, program, comment, Line, refusedLine, read}
@@ -35,7 +36,7 @@ use Rattle.record.specs.declared.Head.{Head}
 use Rattle.record.specs.declared.Head.the-variants as head
 use Rattle.record.specs.declared.Stretch.{Stretch}
 use Rattle.format.specs.References.{Reference, sqList}
-use Rattle.sq_list.specs.Next.{mayBeSq, withReference, lineReferences, sqFrom, toldReference, toldList}
+use Rattle.sq_list.specs.Next.{mayBeSq, withReference, lineReferences, sqFrom, toldReference, toldList, startOf, nextBy, nextIn, nextFrom}
 use Rattle.sq_list.specs.declared.NextReference.{NextReference}
 
 -- ---- all lines of an accepted text
@@ -65,6 +66,28 @@ pub sq-none : (strict : Bool) (t : List ℕ) (at : ℕ) → length t ≤ at → 
 unfolding lineReferences
 sq-none strict t at h = ap (λ s. lineReferences strict (linesFrom at s)) (drop-of-length-le t h) ∙ ap (lineReferences strict) (lines-none at)
 
+-- and none is told
+pub next-none : (strict : Bool) (t : List ℕ) (at : ℕ) → at ≤ length t → length t ≤ at → nextFrom strict t at ≡ record { found = false; name = record { at = 0; len = 0 }; length = 0; next = at }
+unfolding nextIn
+next-none strict t at h k =
+    let e : length t ≡ at = omega arith in
+    ap (λ s. nextIn strict (length t) (linesFrom at s)) (drop-of-length-le t k) ∙ ap (nextIn strict (length t)) (lines-none at) ∙ ap none e
+  where
+    none : ℕ → NextReference
+    none n = record { found = false; name = record { at = 0; len = 0 }; length = 0; next = n }
+
+-- where the lines from an offset on start
+start-at : (t : List ℕ) (at : ℕ) → at ≤ length t → startOf (length t) (linesFrom at (drop at t)) ≡ at
+unfolding startOf
+start-at t at h = go (ltb at (length t)) refl
+  where
+    go : (b : Bool) → ltb at (length t) ≡ b → startOf (length t) (linesFrom at (drop at t)) ≡ at
+    go true e = ap (startOf (length t)) (lines-first at (drop at t) (omega (arith, length-drop at t, ltb-true at (length t) e)))
+    go false e =
+        let k : length t ≤ at = ltb-false at (length t) e in
+        let z : length t ≡ at = omega arith in
+        ap (λ s. startOf (length t) (linesFrom at s)) (drop-of-length-le t k) ∙ ap (startOf (length t)) (lines-none at) ∙ z
+
 -- ---- the first line of those that are left
 
 -- the part of the text that the line is lent as
@@ -76,10 +99,11 @@ pub record Turn (strict : Bool) (t : List ℕ) (at : ℕ) (c : Cut) : Type 0 whe
   pub onward : 0 < c .next
   pub within : at + c .next ≤ length t
   pub list : sqFrom strict t at ≡ withReference (records.line strict (record { at = at; bytes = lent t at (c .len) })) (sqFrom strict t (at + c .next))
+  pub next : nextFrom strict t at ≡ nextBy (records.line strict (record { at = at; bytes = lent t at (c .len) })) (at + c .next) (nextFrom strict t (at + c .next))
   pub stands : Stands t 0 (record { at = at; bytes = lent t at (c .len) })
 
 pub turn : (strict : Bool) (t : List ℕ) (at : ℕ) → at < length t → (c : Cut) → c ≡ firstLine (drop at t) → Turn strict t at c
-unfolding lineReferences
+unfolding lineReferences nextIn
 turn strict t at h c f =
     let s : List ℕ = drop at t in
     let l : length s ≡ length t - at = length-drop at t in
@@ -93,6 +117,8 @@ turn strict t at h c f =
       onward = bound .2;
       within = omega (arith, bound);
       list = ap (lineReferences strict) cut;
+      next = ap (nextIn strict (length t)) cut
+          ∙ ap (λ k. nextBy (records.line strict (record { at = at; bytes = lent t at (c .len) })) k (nextFrom strict t (at + c .next))) (start-at t (at + c .next) (omega (arith, bound)));
       stands = rw m (stands-onward t 0 at (omega arith) (record { at = at; bytes = take (c .len) s }) (subst (λ k. Stands s k (record { at = at; bytes = take (c .len) s })) zero-at (stands-front s at (c .len) (omega (arith, bound)))));
     }
 
@@ -103,10 +129,11 @@ pub record IsSq (t : List ℕ) (q : Stretch) (n : ℕ) (l : Line) : Type 0 where
   pub inside : q .at + q .len ≤ length t
   pub small : n < 2147483648
   pub list : (rest : List Reference) → withReference l rest ≡ record { name = take (q .len) (drop (q .at) t); size = n } ∷ rest
+  pub next : (k : ℕ) (rest : NextReference) → nextBy l k rest ≡ record { found = true; name = q; length = n; next = k }
 
 module _ (strict : Bool) (t : List ℕ) (p : Piece) (s : Stands t 0 p) where
   sq-record : (r : Record) → records.line strict p ≡ read r → (q : Stretch) (n k : ℕ) → recordHead r ≡ head.ReferenceSequence q n k → IsSq t q n (read r)
-  unfolding recordHead stretchOf withReference sqList pieces Each FitsRecord
+  unfolding recordHead stretchOf withReference sqList nextBy pieces Each FitsRecord
   sq-record (header v fs) e q n k h = absurd (never (cc))
   sq-record (reference x m fs) e q n k h =
       let i : Stands t 0 x = stands-within t 0 p x s (line-stand strict p (reference x m fs) e .0) in
@@ -117,6 +144,7 @@ module _ (strict : Bool) (t : List ℕ) (p : Piece) (s : Stands t 0 p) where
         inside = omega (arith, i .within, a, b);
         small = omega (arith, line-sound strict p (reference x m fs) e .fits .1, number h);
         list = λ rest. ap (λ y. y ∷ rest) (made (i .bytes ∙ rw (z, a, b) refl) (number h));
+        next = λ k rest. told k (same h) (number h);
       }
     where
       same : head.ReferenceSequence (record { at = x .at; len = length (x .bytes) }) m (length fs) ≡ head.ReferenceSequence q n k → record { at = x .at; len = length (x .bytes) } ≡ q
@@ -124,6 +152,9 @@ module _ (strict : Bool) (t : List ℕ) (p : Piece) (s : Stands t 0 p) where
 
       number : head.ReferenceSequence (record { at = x .at; len = length (x .bytes) }) m (length fs) ≡ head.ReferenceSequence q n k → m ≡ n
       number h = cc
+
+      told : {p : Stretch} {m : ℕ} (k : ℕ) → p ≡ q → m ≡ n → _≡_ {A = NextReference} (record { found = true; name = p; length = m; next = k }) (record { found = true; name = q; length = n; next = k })
+      told k e f = rw (e, f) refl
 
       made : {a b : List ℕ} {c d : ℕ} → a ≡ b → c ≡ d → _≡_ {A = Reference} (record { name = a; size = c }) (record { name = b; size = d })
       made e f = rw (e, f) refl
@@ -140,16 +171,20 @@ module _ (strict : Bool) (t : List ℕ) (p : Piece) (s : Stands t 0 p) where
       go (read r) e h = sq-record r e q n k h
 
 -- any other line has no reference
-other-head : (l : Line) → OneOf (0 ∷ 1 ∷ 3 ∷ 4 ∷ 5 ∷ []) (tagOf the-type (headOf l)) → (rest : List Reference) → withReference l rest ≡ rest
-unfolding headOf recordHead withReference sqList
-other-head (refusedLine n) h rest = refl
-other-head (read (header v fs)) h rest = refl
-other-head (read (reference p n fs)) h rest = absurd (miss (0 ∷ 1 ∷ 3 ∷ 4 ∷ 5 ∷ []) 2 tt h)
-other-head (read (group p fs)) h rest = refl
-other-head (read (program p fs)) h rest = refl
-other-head (read (comment p)) h rest = refl
+pub record NoSq (l : Line) : Type 0 where
+  pub list : (rest : List Reference) → withReference l rest ≡ rest
+  pub next : (k : ℕ) (rest : NextReference) → nextBy l k rest ≡ rest
 
-pub sq-other : (l : Line) (x : Head) → x ≡ headOf l → OneOf (0 ∷ 1 ∷ 3 ∷ 4 ∷ 5 ∷ []) (tagOf the-type x) → (rest : List Reference) → withReference l rest ≡ rest
+other-head : (l : Line) → OneOf (0 ∷ 1 ∷ 3 ∷ 4 ∷ 5 ∷ []) (tagOf the-type (headOf l)) → NoSq l
+unfolding headOf recordHead withReference sqList nextBy
+other-head (refusedLine n) h = record { list = λ rest. refl; next = λ k rest. refl }
+other-head (read (header v fs)) h = record { list = λ rest. refl; next = λ k rest. refl }
+other-head (read (reference p n fs)) h = absurd (miss (0 ∷ 1 ∷ 3 ∷ 4 ∷ 5 ∷ []) 2 tt h)
+other-head (read (group p fs)) h = record { list = λ rest. refl; next = λ k rest. refl }
+other-head (read (program p fs)) h = record { list = λ rest. refl; next = λ k rest. refl }
+other-head (read (comment p)) h = record { list = λ rest. refl; next = λ k rest. refl }
+
+pub sq-other : (l : Line) (x : Head) → x ≡ headOf l → OneOf (0 ∷ 1 ∷ 3 ∷ 4 ∷ 5 ∷ []) (tagOf the-type x) → NoSq l
 sq-other l x e h = other-head l (subst (λ y. OneOf (0 ∷ 1 ∷ 3 ∷ 4 ∷ 5 ∷ []) (tagOf the-type y)) e h)
 
 -- ---- by the line's second byte
@@ -159,22 +194,22 @@ unfolding kind₀ kind
 second-byte strict at s r (sp.of-remark t) = refl
 second-byte strict at s r (sp.of-fields a) = ap (λ l. getD l 1 0) (a .spells) ∙ ap kind₀ (sym (made-kind (a .fields) (a .kind) r (a .made)))
 
-no-sq : (s : List ℕ) (r : Record) → getD s 1 0 ≡ kind₀ (kind r) → mayBeSq s ≡ false → (rest : List Reference) → withReference (read r) rest ≡ rest
-unfolding kind₀ kind mayBeSq withReference sqList
-no-sq s (header v fs) e h rest = refl
-no-sq s (reference p n fs) e h rest = absurd (false≢true (sym h ∙ eq-eqb (getD s 1 0) 83 e))
-no-sq s (group p fs) e h rest = refl
-no-sq s (program p fs) e h rest = refl
-no-sq s (comment p) e h rest = refl
+no-sq : (s : List ℕ) (r : Record) → getD s 1 0 ≡ kind₀ (kind r) → mayBeSq s ≡ false → NoSq (read r)
+unfolding kind₀ kind mayBeSq withReference sqList nextBy
+no-sq s (header v fs) e h = record { list = λ rest. refl; next = λ k rest. refl }
+no-sq s (reference p n fs) e h = absurd (false≢true (sym h ∙ eq-eqb (getD s 1 0) 83 e))
+no-sq s (group p fs) e h = record { list = λ rest. refl; next = λ k rest. refl }
+no-sq s (program p fs) e h = record { list = λ rest. refl; next = λ k rest. refl }
+no-sq s (comment p) e h = record { list = λ rest. refl; next = λ k rest. refl }
 
 -- a line whose second byte is not `S` has no reference
-pub sq-never : (strict : Bool) (p : Piece) → mayBeSq (p .bytes) ≡ false → (rest : List Reference) → withReference (records.line strict p) rest ≡ rest
-unfolding withReference
-sq-never strict p h rest = go (records.line strict p) refl
+pub sq-never : (strict : Bool) (p : Piece) → mayBeSq (p .bytes) ≡ false → NoSq (records.line strict p)
+unfolding withReference nextBy
+sq-never strict p h = go (records.line strict p) refl
   where
-    go : (l : Line) → records.line strict p ≡ l → withReference l rest ≡ rest
-    go (refusedLine n) e = refl
-    go (read r) e = no-sq (p .bytes) r (second-byte strict (p .at) (p .bytes) r (line-accepted strict p r e)) h rest
+    go : (l : Line) → records.line strict p ≡ l → NoSq l
+    go (refusedLine n) e = record { list = λ rest. refl; next = λ k rest. refl }
+    go (read r) e = no-sq (p .bytes) r (second-byte strict (p .at) (p .bytes) r (line-accepted strict p r e)) h
 
 -- ---- by what the next reference tells
 

@@ -29,7 +29,7 @@ pub fn next_reference(text: &[u8], strict: bool, start: usize) -> NextReference
     requires { ⌜ length (now text) ≤ 16777216 ⌝ }
     requires { ⌜ start ≤ length (now text) ⌝ }
     ensures list { λ r. ⌜ sqFrom strict (now (text .entry)) start ≡ toldList strict (now (text .entry)) r ⌝ }
-    ensures place { λ r. ⌜ NextInText (now (text .entry)) start r ⌝ }
+    ensures place { λ r. ⌜ NextInText strict (now (text .entry)) start r ⌝ }
 {
     let mut at = start;
     while at < text.len() {

@@ -3,9 +3,10 @@ use entries::Entry;
 use entries::Place;
 use key_at::OFFSETS;
 ghost use mathlib.Core.Path.{_≡_};
-ghost use mathlib.Core.Bool.{true};
+ghost use mathlib.Core.Bool.{true, cond};
 ghost use Prim.Native.Nat.{ℕ, _≤_, _<_, _^_};
 ghost use lib.ListN.{length, take};
+ghost use lib.Dec.{ltb};
 ghost use Rattle.format.specs.Slots.{seat};
 ghost use Rattle.name_index.specs.Index.{first};
 ghost use Rattle.sq_entries.specs.Names.{nameAt};
@@ -123,7 +124,9 @@ pub fn refill(text: &[u8], catalogue: &[u8], m: usize, slots: &mut [u32], notes:
     requires { ⌜ length (now catalogue) ≤ 4294967294 ⌝ }
     requires { ⌜ m ≤ 4294967294 ⌝ }
     requires { ⌜ (m ≤ length (now notes) → take m (now notes) ≡ seatsAnew true (now text) (now catalogue) (now slots)) ⌝ }
-    ensures { λ _. ⌜ now (slots .exit) ≡ filledAnew true (now (text .entry)) (now (catalogue .entry)) (now (slots .entry)) ⌝ }
+    ensures wrote { λ _. ⌜ now (slots .exit) ≡ filledAnew true (now (text .entry)) (now (catalogue .entry)) (now (slots .entry)) ⌝ }
+    ensures noted { λ _. ⌜ now (notes .exit) ≡ cond (ltb (length (now (notes .entry))) m)
+        (notedAnew true (now (text .entry)) (now (catalogue .entry)) (now (slots .entry)) (now (notes .entry))) (now (notes .entry)) ⌝ }
 {
     if notes.len() < m {
         fill(text, catalogue, slots, notes, true);

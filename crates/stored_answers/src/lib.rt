@@ -1,36 +1,39 @@
 // Answers that stand in files: whether a number, bytes, ordinals or a refusal are the ones that a line's words say.
 use format::LineNo;
 ghost use mathlib.Core.Path.{_≡_};
-ghost use Prim.Native.Nat.{_<_, _≤_, _+_};
-ghost use lib.ListN.{length, take};
+ghost use mathlib.Core.Bool.{_&&_};
+ghost use Prim.Native.Nat.{_<_, _≤_, _+_, _/_, _%_};
+ghost use lib.ListN.{length, take, getD, replicate};
+ghost use lib.Dec.{eqb};
+ghost use Rattle.format.specs.Bytes.{same};
+ghost use Rattle.format.specs.Decimal.{written};
+ghost use Rattle.stored_cases.specs.Cases.{smaller, numberFrom};
+ghost use Rattle.stored_answers.specs.Answers.{hexDigit, hexWord, textIs, refusalIs, okIs};
 
 // Whether `s` is `n` in decimal, without leading zeros.
-pub fn is_number(s: &[u8], n: u64) -> bool {
-    let mut rest = n;
-    let mut i = s.len();
-    while 0 < i {
-        i -= 1;
-        if s[i] != b'0' + (rest % 10) as u8 {
-            return false;
-        }
-        rest /= 10;
-        if rest == 0 {
-            return i == 0;
-        }
-    }
-    false
+pub fn is_number(s: &[u8], n: u64) -> bool
+    ensures { λ r. ⌜ r ≡ same (now (s .entry)) (written n) ⌝ }
+{
+    let mut digits = [0u8; 20];
+    let len = decimal::write_u64(&mut digits, 0, n);
+    text::same(s, &digits[..len])
 }
 
 // The digit of a value below 16.
 fn letter(n: u8) -> u8
     requires { ⌜ n < 16 ⌝ }
+    ensures { λ r. ⌜ r ≡ hexDigit n ⌝ }
 {
-    if n < 10 { b'0' + n } else { b'a' + (n - 10) }
+    if n < 10 {
+        return b'0' + n;
+    }
+    87 + n
 }
 
 // Whether the two digits at `at` are a byte's.
 fn is_pair(s: &[u8], at: usize, b: u8) -> bool
     requires { ⌜ at + 2 ≤ length (now s) ⌝ }
+    ensures { λ r. ⌜ r ≡ (eqb (getD (now (s .entry)) at 0) (hexDigit (b / 16)) && eqb (getD (now (s .entry)) (at + 1) 0) (hexDigit (b % 16))) ⌝ }
 {
     if s[at] != letter(b / 16) {
         return false;
@@ -39,7 +42,9 @@ fn is_pair(s: &[u8], at: usize, b: u8) -> bool
 }
 
 // Whether `s` is these bytes in hex, `-` for none.
-pub fn is_hex(s: &[u8], bytes: &[u8]) -> bool {
+pub fn is_hex(s: &[u8], bytes: &[u8]) -> bool
+    ensures { λ r. ⌜ r ≡ same (now (s .entry)) (hexWord (now (bytes .entry))) ⌝ }
+{
     if bytes.len() == 0 {
         return text::same(s, b"-");
     }
@@ -104,47 +109,56 @@ pub fn is_list(word: &[u8], out: &[u32], n: usize, width: usize) -> bool {
 }
 
 // Whether the first `n` bytes of an output are these and the others as they were.
-pub fn is_text(word: &[u8], out: &[u8], n: usize) -> bool {
+pub fn is_text(word: &[u8], out: &[u8], n: usize) -> bool
+    ensures { λ r. ⌜ r ≡ textIs (now (word .entry)) (now (out .entry)) n ⌝ }
+{
     if out.len() < n {
         return false;
     }
-    is_hex(word, &out[..n]) && stored_cases::is_untouched(&out[n..])
+    if !is_hex(word, &out[..n]) {
+        return false;
+    }
+    stored_cases::is_untouched(&out[n..])
 }
 
 // An output of bytes, as it is before a call.
 pub fn bytes() -> [u8; 65536]
-    ensures { λ r. ⌜ 65536 ≡ length r ⌝ }
+    ensures { λ r. ⌜ (65536 ≡ length r) × (r ≡ replicate 65536 165) ⌝ }
 {
     [stored_cases::FILLER; 65536]
 }
 
 // An output of ordinals, as it is before a call.
 pub fn ordinals() -> [u32; 2048]
-    ensures { λ r. ⌜ 2048 ≡ length r ⌝ }
+    ensures { λ r. ⌜ (2048 ≡ length r) × (r ≡ replicate 2048 2779096485) ⌝ }
 {
     [stored_cases::NO_ORDINAL; 2048]
 }
 
 // A number of a line as a byte: 255 for any that is larger.
-pub fn byte_of(word: &[u8]) -> u8 {
+pub fn byte_of(word: &[u8]) -> u8
+    ensures { λ r. ⌜ r ≡ smaller (numberFrom 0 (now (word .entry))) 255 ⌝ }
+{
     stored_cases::least(stored_cases::number(word), 255) as u8
 }
 
 // A number of a line as an ordinal: the largest for any that is larger.
-pub fn ordinal_of(word: &[u8]) -> u32 {
+pub fn ordinal_of(word: &[u8]) -> u32
+    ensures { λ r. ⌜ r ≡ smaller (numberFrom 0 (now (word .entry))) 4294967295 ⌝ }
+{
     stored_cases::least(stored_cases::number(word), 4294967295) as u32
 }
 
 // How many bytes of an output a line lends: as many as a word says, at most all.
 pub fn byte_room(word: &[u8], out: &[u8]) -> usize
-    ensures { λ r. ⌜ (r ≤ length (now (out .entry))) × (r ≡ length (take r (now (out .entry)))) ⌝ }
+    ensures { λ r. ⌜ (r ≤ length (now (out .entry))) × (r ≡ length (take r (now (out .entry)))) × (r ≡ smaller (numberFrom 0 (now (word .entry))) (length (now (out .entry)))) ⌝ }
 {
     stored_cases::least(stored_cases::number(word), out.len())
 }
 
 // How many ordinals of an output a line lends: as many as a word says, at most all.
 pub fn ordinal_room(word: &[u8], out: &[u32]) -> usize
-    ensures { λ r. ⌜ (r ≤ length (now (out .entry))) × (r ≡ length (take r (now (out .entry)))) ⌝ }
+    ensures { λ r. ⌜ (r ≤ length (now (out .entry))) × (r ≡ length (take r (now (out .entry)))) × (r ≡ smaller (numberFrom 0 (now (word .entry))) (length (now (out .entry)))) ⌝ }
 {
     stored_cases::least(stored_cases::number(word), out.len())
 }
@@ -152,17 +166,27 @@ pub fn ordinal_room(word: &[u8], out: &[u32]) -> usize
 // Whether the answer at word `at` is this refusal.
 pub fn is_refusal(line: &[u8], at: usize, n: u8, no: LineNo) -> bool
     requires { ⌜ at < 8 ⌝ }
+    ensures { λ r. ⌜ r ≡ refusalIs (now (line .entry)) at n (no .0) ⌝ }
 {
-    text::same(stored_cases::word(line, at), b"refused")
-        && is_number(stored_cases::word(line, at + 1), n as u64)
-        && is_number(stored_cases::word(line, at + 2), no.0 as u64)
-        && stored_cases::word(line, at + 3).len() == 0
+    if !text::same(stored_cases::word(line, at), b"refused") {
+        return false;
+    }
+    if !is_number(stored_cases::word(line, at + 1), n as u64) {
+        return false;
+    }
+    if !is_number(stored_cases::word(line, at + 2), no.0 as u64) {
+        return false;
+    }
+    stored_cases::word(line, at + 3).len() == 0
 }
 
 // Whether the answer at word `at` is `ok` and `n` words more.
 pub fn is_ok(line: &[u8], at: usize, n: usize) -> bool
     requires { ⌜ (at < 8) × (n < 4) ⌝ }
+    ensures { λ r. ⌜ r ≡ okIs (now (line .entry)) at n ⌝ }
 {
-    text::same(stored_cases::word(line, at), b"ok")
-        && stored_cases::word(line, at + n + 1).len() == 0
+    if !text::same(stored_cases::word(line, at), b"ok") {
+        return false;
+    }
+    stored_cases::word(line, at + n + 1).len() == 0
 }

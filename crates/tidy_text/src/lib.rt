@@ -14,7 +14,7 @@ ghost use Rattle.format.specs.Reading.{announced, isStrict, readText};
 ghost use Rattle.format.specs.Tidy.{tidy, unwritable};
 ghost use Rattle.text.specs.Over.{over};
 ghost use Rattle.accepted.specs.Read.{isAccepted, isRead, recordsOf};
-ghost use Rattle.tidy_text.specs.Accepted.{measuredOf};
+ghost use Rattle.tidy_text.specs.Accepted.{measuredOf, MeasuredTold};
 ghost use Rattle.tidy_text.specs.Kinds.{lineKind, tidyLine};
 ghost use Rattle.per_kind.specs.Numbers.{get, plus};
 ghost use Rattle.tidy_text.specs.Sizes.{grownBy, sizesOf};
@@ -93,8 +93,9 @@ pub fn with_line(sizes: PerKind, src: &[u8], at: usize, strict: bool) -> Grown
 pub fn measure_marked(text: &[u8], strict: bool, marks: &[bool]) -> Measured
     requires { ⌜ isAccepted (readText (now text)) ≡ true ⌝ }
     requires { ⌜ strict ≡ isStrict (announced (lines (now text))) ⌝ }
-    ensures { λ r. ⌜ r ≡ measuredOf (unwritable 0 (recordsOf (now (text .entry))))
+    ensures is { λ r. ⌜ r ≡ measuredOf (unwritable 0 (recordsOf (now (text .entry))))
         (sizesOf (sifted (isMarked (now (marks .entry))) 0 (recordsOf (now (text .entry))))) ⌝ }
+    ensures refusal { λ r. ⌜ MeasuredTold (unwritable 0 (recordsOf (now (text .entry)))) r ⌝ }
 {
     let mut l: u32 = 0;
     let mut k: usize = 0;
@@ -119,7 +120,8 @@ pub fn measure_marked(text: &[u8], strict: bool, marks: &[bool]) -> Measured
 pub fn measure(text: &[u8], strict: bool) -> Measured
     requires { ⌜ isAccepted (readText (now text)) ≡ true ⌝ }
     requires { ⌜ strict ≡ isStrict (announced (lines (now text))) ⌝ }
-    ensures { λ r. ⌜ r ≡ measuredOf (unwritable 0 (recordsOf (now (text .entry)))) (sizesOf (recordsOf (now (text .entry)))) ⌝ }
+    ensures is { λ r. ⌜ r ≡ measuredOf (unwritable 0 (recordsOf (now (text .entry)))) (sizesOf (recordsOf (now (text .entry)))) ⌝ }
+    ensures refusal { λ r. ⌜ MeasuredTold (unwritable 0 (recordsOf (now (text .entry)))) r ⌝ }
 {
     measure_marked(text, strict, &[])
 }

@@ -1,7 +1,11 @@
 -- What the readers of a version answer, by the definitions of `format`.
-use Prim.Native.Nat.{ℕ}
+use Prim.Native.Nat.{ℕ, suc}
+use mathlib.Core.Path.{_≡_}
+use mathlib.Core.Bool.{true}
+use mathlib.Core.List.{List}
 use mathlib.Core.Option.{Option, none, some}
 use Rattle.format.specs.declared.Version.{Version}
+use Rattle.format.specs.Fields.{isValue, refusedPiece, versionField}
 use Rattle.version.specs.declared.VersionSide.{VersionSide}
 use Rattle.version.specs.declared.VersionSide.the-variants as part
 use Rattle.version.specs.declared.ParsedVersion.{ParsedVersion}
@@ -21,3 +25,7 @@ parsedVersionOf (some v) = spelled.Is v
 unfoldable pub versionRefusal : ParsedVersion → ℕ
 versionRefusal spelled.Invalid = 11
 versionRefusal (spelled.Is v) = 0
+
+-- VN of HD with the value `v`, whose version is answered by `r`: where that is a refusal, the field is refused with its number
+abbrev pub VersionTold : List ℕ → ParsedVersion → Type 0
+VersionTold v r = (at n : ℕ) → isValue v ≡ true → versionRefusal r ≡ suc n → versionField at v ≡ refusedPiece (suc n)

@@ -5,7 +5,7 @@ ghost use mathlib.Core.Path.{_≡_};
 ghost use Rattle.format.specs.Decimal.{number};
 ghost use Rattle.format.specs.Version.{version};
 ghost use Prim.Native.Nat.{_^_};
-ghost use Rattle.version.specs.Spelled.{versionSideOf, parsedVersionOf};
+ghost use Rattle.version.specs.Spelled.{versionSideOf, parsedVersionOf, VersionTold};
 
 // The version that a value spells.
 pub enum ParsedVersion {
@@ -38,7 +38,8 @@ fn parse_part(src: &[u8]) -> VersionSide
 
 // The version that all of `src` spells, split at its first dot.
 pub fn parse_version(src: &[u8]) -> ParsedVersion
-    ensures { λ r. ⌜ r ≡ parsedVersionOf (version (now (src .entry))) ⌝ }
+    ensures is { λ r. ⌜ r ≡ parsedVersionOf (version (now (src .entry))) ⌝ }
+    ensures refusal { λ r. ⌜ VersionTold (now (src .entry)) r ⌝ }
 {
     let dot = text::upto(src, b'.');
     if dot == src.len() {

@@ -32,7 +32,7 @@ measured : (c : tie.After-sizes)
 measured c =
     let m = c .before .before in
     let rs = recordsOf (m .before .before .before .args .text .now) in
-    measured-is (unwritable 0 rs) (sizesOf rs) (c .sizes .given .0 .0) (sym (m .measure .ensures) ∙ c .sizes .given .1)
+    measured-is (unwritable 0 rs) (sizesOf rs) (c .sizes .given .0 .0) (sym (m .measure .ensures .0) ∙ c .sizes .given .1)
 
 -- how many bytes it has
 sum : (c : tie.After-sizes) → total (c .sizes .given .0 .0) ≡ length (tidy (recordsOf (c .before .before .before .before .before .args .text .now)))
@@ -124,7 +124,7 @@ returns-3 c =
     let room = length (a .out .now) in
     let l = c .before .line .given .0 .0 in
     refused-answer (writingBinary (a .text .now) room) (a .out .now) 24 l
-    (out-bad (a .text .now) room (l .0) (measured-bad (unwritable 0 rs) (sizesOf rs) l (sym (m .measure .ensures) ∙ c .before .line .given .1)))
+    (out-bad (a .text .now) room (l .0) (measured-bad (unwritable 0 rs) (sizesOf rs) l (sym (m .measure .ensures .0) ∙ c .before .line .given .1)))
 
 same-length : tie.Need-same-length
 same-length c = search needs

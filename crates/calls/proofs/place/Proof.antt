@@ -38,13 +38,13 @@ unfolding valuePlaceOf
 returns-2 c =
     let f = c .before .before in
     let a = f .before .before .before .before .before .before .args in
-    sym (ap valuePlaceOf (field-none (a .text .now) (a .kept .now) (fresh-by (a .text .now) (a .kept .now) (f .before .before .before .check .ensures) (f .before .enum-told2 .given .1)) (a .kind) (a .ordinal) (a .a) (a .b) (sym (f .find-field .ensures) ∙ c .enum-told3 .given .1)))
+    sym (ap valuePlaceOf (field-none (a .text .now) (a .kept .now) (fresh-by (a .text .now) (a .kept .now) (f .before .before .before .check .ensures) (f .before .enum-told2 .given .1)) (a .kind) (a .ordinal) (a .a) (a .b) (sym (f .find-field .ensures .0) ∙ c .enum-told3 .given .1)))
 
 returns-3 : tie.Need-returns-3
 returns-3 c =
     let f = c .before .before .before in
     let a = f .before .before .before .before .before .before .args in
-    sym (field-found (a .text .now) (a .kept .now) (fresh-by (a .text .now) (a .kept .now) (f .before .before .before .check .ensures) (f .before .enum-told2 .given .1)) (a .kind) (a .ordinal) (a .a) (a .b) (c .before .p .given .0 .0) (sym (f .find-field .ensures) ∙ c .before .p .given .1))
+    sym (field-found (a .text .now) (a .kept .now) (fresh-by (a .text .now) (a .kept .now) (f .before .before .before .check .ensures) (f .before .enum-told2 .given .1)) (a .kind) (a .ordinal) (a .a) (a .b) (c .before .p .given .0 .0) (sym (f .find-field .ensures .0) ∙ c .before .p .given .1))
 
 pub place-spec : {M : Type 1} → statement M
 place-spec =

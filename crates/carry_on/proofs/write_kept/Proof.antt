@@ -132,7 +132,7 @@ returns-4 c =
     (told-fits t (length (a .out .now)) (length (a .table .now)) (s .pre .0) (kept t)
     (write-fits (length (a .out .now)) (unwritableLine 0 (carriedLines t)) (kept t) (s .pre .1 .1 .1 .0) (omega (arith, n, sum s, c .before .before .before .before .before .before .before .before .before .before .before .before .before .before .if1 .left)) (omega (arith, n, sum s, c .before .before .before .before .before .before .before .before .before .before .before .before .before .if2 .left)))
     (omega (arith, count s, c .before .before .before .before .before .before .before .before .before .before .before .if3 .left)))
-    (n ∙ sum s .0) half (w .0) (w .1)
+    (n ∙ sum s .0) half (w .0) (w .1 .0)
 
 pub write-kept-spec : {M : Type 1} → statement M
 write-kept-spec =

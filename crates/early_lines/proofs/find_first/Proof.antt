@@ -6,8 +6,9 @@ use mathlib.Core.List.{List, []}
 use native.Mathlib.Omega.{arith}
 use lib.ListN.{length}
 use Rattle.format.specs.Lines.{lines}
-use Rattle.accepted.proofs.Ahead.{ahead, ahead-none}
+use Rattle.accepted.proofs.Ahead.{ahead, ahead-one, ahead-none}
 use Rattle.early_lines.specs.Early.{earlyFrom, earlyOf}
+use Rattle.early_lines.specs.First.{startOf}
 use Rattle.early_lines.proofs.Early.{early-within, early-kept, early-skipped}
 use Rattle.early_lines.proofs.find_first.Statement.{statement}
 use Rattle.early_lines.proofs.find_first.Tie as tie
@@ -19,6 +20,15 @@ record Left (t : List ℕ) (at line : ℕ) (strict : Bool) : Type 0 where
   pub rest : earlyFrom strict (ahead t at) .rest ≡ earlyOf t .rest
   pub rule : earlyFrom strict (ahead t at) .strict ≡ earlyOf t .strict
   pub count : line + length (earlyFrom strict (ahead t at) .refusals) ≡ length (earlyOf t .refusals)
+
+-- where the lines still to come start
+start : (t : List ℕ) (at : ℕ) → at < length t → at ≡ startOf (length t) (ahead t at)
+unfolding startOf
+start t at h = sym (ap (startOf (length t)) (ahead-one t at h))
+
+end : (t : List ℕ) (at : ℕ) → at ≤ length t → length t ≤ at → at ≡ startOf (length t) (ahead t at)
+unfolding startOf
+end t at h k = let e : at ≡ length t = omega arith in e ∙ sym (ap (startOf (length t)) (ahead-none t at k))
 
 abbrev Inv-loop : tie.InvT-loop
 Inv-loop text at₀ line₀ strict₀ at line strict = Left text at line strict
@@ -48,9 +58,11 @@ returns c =
     let i = l .loop .inv in
     let e = j .judge-early .ensures in
     let k = early-kept t (l .loop .at) (l .loop .strict) (j .before .loop-test .taken) _ _ _ (e .0) (e .1 .0) (e .1 .1) (c .if1 .taken) in
+    let rest = sym (ap (λ x. x .rest) k) ∙ i .rest in
     record {
+      place = start t (l .loop .at) (j .before .loop-test .taken) ∙ ap (startOf (length t)) rest;
       inside = i .inside;
-      rest = sym (ap (λ x. x .rest) k) ∙ i .rest;
+      rest = rest;
       line = omega (arith, i .count, ap (λ x. length (x .refusals)) k);
       slow = i .slow;
       strict = sym (ap (λ x. x .strict) k) ∙ i .rule;
@@ -87,9 +99,11 @@ returns-2 c =
     let i = l .loop .inv in
     let none = ahead-none t (l .loop .at) (c .loop-test .left) in
     let e : earlyFrom (l .loop .strict) (ahead t (l .loop .at)) ≡ record { refusals = []; strict = l .loop .strict; rest = [] } = ap (earlyFrom (l .loop .strict)) none in
+    let rest = none ∙ sym (ap (λ x. x .rest) e) ∙ i .rest in
     record {
+      place = end t (l .loop .at) (i .inside) (c .loop-test .left) ∙ ap (startOf (length t)) rest;
       inside = i .inside;
-      rest = none ∙ sym (ap (λ x. x .rest) e) ∙ i .rest;
+      rest = rest;
       line = omega (arith, i .count, ap (λ x. length (x .refusals)) e);
       slow = i .slow;
       strict = sym (ap (λ x. x .strict) e) ∙ i .rule;

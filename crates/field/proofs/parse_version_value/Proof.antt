@@ -40,14 +40,14 @@ unfolding versionBy
 returns c =
     let e = c .before in
     let p = e .before .before in
-    c .refused .ensures ∙ ap (versionBy _) (sym (e .enum-told .given .1) ∙ p .parse-version .ensures) ∙ by-spelled _ _
+    c .refused .ensures ∙ ap (versionBy _) (sym (e .enum-told .given .1) ∙ p .parse-version .ensures .0) ∙ by-spelled _ _
 
 returns-2 : tie.Need-returns-2
 unfolding versionBy
 returns-2 c =
     let v = c .before in
     let p = v .before .before in
-    ap (versionBy _) (sym (v .version .given .1) ∙ p .parse-version .ensures) ∙ by-spelled _ _
+    ap (versionBy _) (sym (v .version .given .1) ∙ p .parse-version .ensures .0) ∙ by-spelled _ _
 
 pub parse-version-value-spec : {M : Type 1} → statement M
 parse-version-value-spec =

@@ -1,19 +1,39 @@
 -- `heads::form_of` meets its contract: a line that is accepted is accepted where repeated tags are allowed too.
-use Prim.Native.Nat.{_+_}
-use mathlib.Core.Path.{_≡_, sym, ap, _∙_}
-use mathlib.Core.Bool.{false}
+use Prim.Native.Nat.{ℕ, _+_}
+use mathlib.Core.Path.{_≡_, refl, sym, ap, _∙_}
+use mathlib.Core.Bool.{Bool, true, false, _||_}
+use mathlib.Core.List.{List}
 use native.Mathlib.Omega.{arith}
-use lib.ListN.{getD}
+use lib.ListN.{getD, replicate}
 use borrow.Author.Needs.{needs}
 use Rattle.format.specs.declared.Kind.{Kind}
-use Rattle.other_fields.specs.Run.{AtField}
+use Rattle.other_fields.specs.Run.{AtField, fieldsFrom}
+use Rattle.other_fields.specs.Tables.{spread}
 use Rattle.other_fields.proofs.Start.{once-start}
 use Rattle.heads.specs.Found.{kindBy, isComment}
-use Rattle.heads.specs.Form.{LineOf, IsForm}
+use Rattle.heads.specs.Form.{LineOf, IsForm, formOf}
+use Rattle.heads.specs.declared.Form.the-variants as form
 use Rattle.heads.proofs.Lax.{read-lax}
 use Rattle.heads.proofs.Finds.{comment-is, three, fielded}
 use Rattle.heads.proofs.form_of.Statement.{statement}
 use Rattle.heads.proofs.form_of.Tie as tie
+
+-- ---- which form is told
+
+module _ (strict : Bool) (at : ℕ) (s : List ℕ) (k : Kind) (e : k ≡ kindBy (getD s 1 0)) where
+  form-comment : isComment k ≡ true → form.Comment ≡ formOf strict at s
+  unfolding formOf
+  form-comment c = rw (← e, c) refl
+
+  form-once : isComment k ≡ false → (strict || spread (replicate 112 false) (fieldsFrom at s 3)) ≡ true → form.Once k ≡ formOf strict at s
+  unfolding formOf
+  form-once c o = rw (← e, c, o) refl
+
+  form-repeating : isComment k ≡ false → (strict || spread (replicate 112 false) (fieldsFrom at s 3)) ≡ false → form.Repeating k ≡ formOf strict at s
+  unfolding formOf
+  form-repeating c o = rw (← e, c, o) refl
+
+-- ---- that it is told rightly
 
 -- the line is of the kind `k`
 of : (s : tie.Start) (k : Kind) → (let a = s .args in kindBy (getD (a .src .now) 1 0) ≡ k → LineOf k (a .at) (a .src .now))
@@ -36,7 +56,10 @@ returns : tie.Need-returns
 unfolding IsForm
 returns c =
     let k = c .before in
-    of (k .before .before .before) _ (sym (k .before .kind-of .ensures) ∙ comment-is (k .before .kind-of .result) (sym (k .is-comment .ensures) ∙ c .if1 .taken))
+    let s = k .before .before .before in (
+      of s _ (sym (k .before .kind-of .ensures) ∙ comment-is (k .before .kind-of .result) (sym (k .is-comment .ensures) ∙ c .if1 .taken)),
+      form-comment (s .args .strict) (s .args .at) (s .args .src .now) (k .before .kind-of .result) (k .before .kind-of .ensures) (sym (k .is-comment .ensures) ∙ c .if1 .taken),
+    )
 
 is-once-requires : tie.Need-is-once-requires
 is-once-requires c κs = (fields c, omega (arith, c .before .before .before .before .pre .1))
@@ -48,14 +71,23 @@ returns-2 c =
     let k = e .before in
     let s = k .before .before .before in
     let a = s .args in
-    (of s _ (sym (k .before .kind-of .ensures)), sym (k .is-comment .ensures) ∙ e .if1 .left, once-start (a .strict) (a .at) (a .src .now) (fields e) (sym (c .before .is-once .ensures) ∙ c .if2 .taken))
+    let n = sym (k .is-comment .ensures) ∙ e .if1 .left in
+    let o = sym (c .before .is-once .ensures) ∙ c .if2 .taken in (
+      (of s _ (sym (k .before .kind-of .ensures)), n, once-start (a .strict) (a .at) (a .src .now) (fields e) o),
+      form-once (a .strict) (a .at) (a .src .now) (k .before .kind-of .result) (k .before .kind-of .ensures) n o,
+    )
 
 returns-3 : tie.Need-returns-3
 unfolding IsForm
 returns-3 c =
     let e = c .before .before in
     let k = e .before in
-    (of (k .before .before .before) _ (sym (k .before .kind-of .ensures)), sym (k .is-comment .ensures) ∙ e .if1 .left)
+    let s = k .before .before .before in
+    let a = s .args in
+    let n = sym (k .is-comment .ensures) ∙ e .if1 .left in (
+      (of s _ (sym (k .before .kind-of .ensures)), n),
+      form-repeating (a .strict) (a .at) (a .src .now) (k .before .kind-of .result) (k .before .kind-of .ensures) n (sym (c .before .is-once .ensures) ∙ c .if2 .left),
+    )
 
 pub form-of-spec : {M : Type 1} → statement M
 form-of-spec =

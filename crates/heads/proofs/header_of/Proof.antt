@@ -50,7 +50,7 @@ spelled : (c : tie.After-parse-version) → c .parse-version .result ≡ parsedV
 spelled c =
     let s = c .before .before .before .before in
     let a = s .args in
-    c .parse-version .ensures
+    c .parse-version .ensures .0
     ∙ ap (λ l. parsedVersionOf (version l)) (value-bytes (a .at) (a .src .now) 86 78 (kept s .piece) (kept s .has) (a .version) (value s))
     ∙ ap parsedVersionOf (kept s .spells)
 

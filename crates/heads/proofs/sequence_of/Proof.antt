@@ -50,7 +50,7 @@ told c =
     let s = c .before .before .before .before .before .before in
     let a = s .args in
     let k = kept s in
-    c .read-u64 .ensures
+    c .read-u64 .ensures .0
     ∙ ap (numberAtFront (2 ^ 64)) (value-bytes (a .at) (a .src .now) 76 78 (k .size) (k .has-size) (a .keys .number) (number s))
     ∙ front-digits (2 ^ 64) (k .size .bytes) (k .spells) (k .fits)
 

@@ -159,7 +159,10 @@ returns c =
               rw (after, ids, w .turn .ensures .1) (going-on (a .strict) t (a .from) (a .area .now) (a .ids .now) (a .c) (s .pre .0) (s .pre .1 .0) (s .pre .1 .1) n refusal),
               (
                 long w,
-                ap length ids ∙ ids-length (a .strict) t (a .from) (a .area .now) (a .ids .now) (a .c) (s .pre .0) (s .pre .1 .0) (s .pre .1 .1) (ltb (a .c .programs) 1024) (headOf (line (a .strict) (firstAt (a .c .at) t))),
+                (
+                  ap length ids ∙ ids-length (a .strict) t (a .from) (a .area .now) (a .ids .now) (a .c) (s .pre .0) (s .pre .1 .0) (s .pre .1 .1) (ltb (a .c .programs) 1024) (headOf (line (a .strict) (firstAt (a .c .at) t))),
+                  (after, (w .turn .ensures .1, ids)),
+                ),
               ),
             ),
           ),

@@ -1,8 +1,12 @@
--- `kept_sizes::measure` meets its contract: slots of zeros hold no program.
+-- `kept_sizes::measure` meets its contract: slots of zeros hold no program, and the area is emptied last.
+use mathlib.Core.Path.{ap, _∙_}
 use native.Mathlib.Omega.{arith}
+use lib.ListN.{replicate}
+use Rattle.format.specs.Work.{allZeros}
 use borrow.Author.Needs.{needs}
 use Rattle.format.proofs.Slots.{held-none}
 use Rattle.key_index.specs.Told.{start}
+use Rattle.kept_sizes.proofs.Told.{kept-told}
 use Rattle.kept_sizes.proofs.measure.Statement.{statement}
 use Rattle.kept_sizes.proofs.measure.Tie as tie
 use Rattle.kept_sizes.proofs.measure.Reads as reads
@@ -17,12 +21,21 @@ measure-lines-requires c κs =
     let s = c .before .before .before .before in
     (s .pre .0, (s .pre .1 .0, record { some = s .pre .1 .1; room = omega arith; held = held-none (start (s .args .text .now) 2048) 2048 }))
 
+clear-requires : tie.Need-clear-requires
+clear-requires c κs = search needs
+
 same-length : tie.Need-same-length
 same-length c = search needs
 
 returns : tie.Need-returns
-returns c = search needs
+unfolding allZeros
+returns c =
+    let k = c .before .before in
+    let m = k .before .before .before .before .before in
+    let a = m .before .before .before .before .before .args in
+    let e = m .measure-lines .ensures in
+    (e .0, (kept-told (a .text .now) (a .b) (m .measure-lines .result) (e .0), k .clear .ensures ∙ ap (λ n. replicate n 0) (e .1)))
 
 pub measure-spec : {M : Type 1} → statement M
 measure-spec =
-    tie.close (tie.spec slice-aggregate-measure-lines measure-lines-requires same-length returns)
+    tie.close (tie.spec slice-aggregate-measure-lines measure-lines-requires clear-requires same-length returns)

@@ -115,7 +115,7 @@ same-length : tie.Need-same-length Inv-loop μ-loop
 same-length c = c .before .before .before .before .before .before .before .before .before .before .next-line .ensures .1 .1 .1 .1 .1 .0 ∙ c .before .before .before .before .before .before .before .before .before .before .before .before .before .before .before .loop .inv .3
 
 same-length-2 : tie.Need-same-length-2 Inv-loop μ-loop
-same-length-2 c = c .before .before .before .before .before .before .before .before .before .before .next-line .ensures .1 .1 .1 .1 .1 .1 ∙ c .before .before .before .before .before .before .before .before .before .before .before .before .before .before .before .loop .inv .4
+same-length-2 c = c .before .before .before .before .before .before .before .before .before .before .next-line .ensures .1 .1 .1 .1 .1 .1 .0 ∙ c .before .before .before .before .before .before .before .before .before .before .before .before .before .before .before .loop .inv .4
 
 returns : tie.Need-returns Inv-loop μ-loop
 unfolding keptMeasured
@@ -149,7 +149,7 @@ loop-again c =
           ∙ ap (λ k. unwritableLine (b .line + k) (drop k ls)) (sym on),
       (λ k. ap (λ m. get k s + size k (keptOf (drop m ls))) on ∙ sizes-more (b .strict) (a .text .now) (b .at) (l .c) (w .result .end) (w .result .refusal) u (l .sizes) s e k ∙ l .inv .2 k),
       w .ensures .1 .1 .1 .1 .1 .0 ∙ l .inv .3,
-      w .ensures .1 .1 .1 .1 .1 .1 ∙ l .inv .4,
+      w .ensures .1 .1 .1 .1 .1 .1 .0 ∙ l .inv .4,
     )
 
 sub-t24 : tie.Need-sub-t24 Inv-loop μ-loop

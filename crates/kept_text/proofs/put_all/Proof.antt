@@ -2,8 +2,9 @@
 use Prim.Native.Nat.{_+_, _*_, _≤_}
 use mathlib.Core.Path.{_≡_, sym, ap, subst, _∙_}
 use native.Mathlib.Omega.{arith}
-use lib.ListN.{length}
+use lib.ListN.{length, replicate}
 use Rattle.format.specs.Tidy.{tidy}
+use Rattle.format.specs.Work.{allZeros}
 use Rattle.format.proofs.Slots.{held-none}
 use Rattle.text.specs.Over.{over}
 use Rattle.text.proofs.Over.{over-over}
@@ -44,6 +45,9 @@ put-lines-requires c κs =
       ),
     )
 
+clear-requires : tie.Need-clear-requires
+clear-requires c κs = search needs
+
 same-length : tie.Need-same-length
 same-length c = search needs
 
@@ -54,26 +58,32 @@ same-length-3 : tie.Need-same-length-3
 same-length-3 c = search needs
 
 returns : tie.Need-returns
+unfolding allZeros
 returns c =
-    let s = c .before .before .before .before .before .before .before .before .before .before .before .before .before .before .before .before .before .before .before .before in
+    let s = c .before .before .before .before .before .before .before .before .before .before .before .before .before .before .before .before .before .before .before .before .before .before .before .before in
     let a = s .args in
     let t = a .text .now in
     let f = s .pre .1 .0 in
     let p = s .pre .1 .1 .1 in
-    let w = c .before .before .before .before .before .before .before .put-lines .ensures in
+    let w = c .before .before .before .before .before .before .before .before .before .before .before .put-lines .ensures in
     let rs = keptFrom t (a .b) in
     let early = rowsFrom 0 (earlyOf t .refusals) in
+    let put = c .before .before .before .before .before .before .before .before .before .before .before .put-lines in
+    let long : length (put .last .1 .1 .0) ≡ length (a .area .now) = omega (arith, put .kept) in
     let room : length (tidy rs) + 0 ≤ length (a .out .now) = omega (arith, p .1 .0) in (
       w .0
           ∙ ap (λ q. withParts (a .out .now) (parts q rs)) (p .0)
           ∙ starts-placed (a .out .now) 0 rs room
           ∙ around-none (a .out .now) rs (p .1 .0)
           ∙ ap (λ rs. over (a .out .now) 0 (tidy rs)) (sym (first-kept t (a .b) f)),
-      w .1
-          ∙ ap (λ o. over o (a .b .line * 2) (rowsOf t (a .b))) (c .before .before .before .before .before .before .before .before .before .before .before .before .before .before .put-early .ensures)
-          ∙ ap (λ k. over (over (a .table .now) 0 early) k (rowsOf t (a .b))) (let z : a .b .line * 2 ≡ 0 + length early = omega (arith, early-rows t (a .b) f) in z)
-          ∙ over-over (a .table .now) 0 early (rowsOf t (a .b)) (omega (arith, p .1 .1, early-rows t (a .b) f))
-          ∙ ap (over (a .table .now) 0) (sym (first-rows t (a .b) f)),
+      (
+        w .1
+            ∙ ap (λ o. over o (a .b .line * 2) (rowsOf t (a .b))) (c .before .before .before .before .before .before .before .before .before .before .before .before .before .before .before .before .before .before .put-early .ensures)
+            ∙ ap (λ k. over (over (a .table .now) 0 early) k (rowsOf t (a .b))) (let z : a .b .line * 2 ≡ 0 + length early = omega (arith, early-rows t (a .b) f) in z)
+            ∙ over-over (a .table .now) 0 early (rowsOf t (a .b)) (omega (arith, p .1 .1, early-rows t (a .b) f))
+            ∙ ap (over (a .table .now) 0) (sym (first-rows t (a .b) f)),
+        c .before .before .clear .ensures ∙ ap (λ n. replicate n 0) long,
+      ),
     )
 
 pub put-all-spec : {M : Type 1} → statement M
@@ -83,6 +93,7 @@ put-all-spec =
     put-early-requires
     slice-aggregate-put-lines
     put-lines-requires
+    clear-requires
     same-length
     same-length-2
     same-length-3

@@ -149,7 +149,7 @@ loop-again c =
           ∙ table-same (b .strict) t (b .at) (l .c) (w .result .end) n u k (rowsBefore b (l .c)) (l .table) (l .inv .3)
           ∙ l .inv .4,
       w .ensures .1 .1 .1 .1 .1 .0 ∙ l .inv .5,
-      w .ensures .1 .1 .1 .1 .1 .1 ∙ l .inv .6,
+      w .ensures .1 .1 .1 .1 .1 .1 .0 ∙ l .inv .6,
       p .kept .1 .1 .1 .1 .1 .0 ∙ l .inv .7,
       p .kept .1 .1 .1 .1 .1 .1 .0 ∙ l .inv .8,
     )

@@ -8,6 +8,7 @@ use borrow.Author.Needs.{needs}
 use Rattle.format.specs.Records.{kindOf}
 use Rattle.kind.specs.declared.ParsedKind.the-variants.{Empty, Invalid}
 use Rattle.kind.specs.Kind.{kindAt, parsedKindOf}
+use Rattle.kind.proofs.Refused.{kind-told}
 use Rattle.kind.proofs.parse_kind.Statement.{statement}
 use Rattle.kind.proofs.parse_kind.Tie as tie
 
@@ -29,10 +30,10 @@ two (a ∷ []) h = absurd (omega arith)
 two (a ∷ b ∷ s) h = refl
 
 returns : tie.Need-returns
-returns c = none _ (c .if1 .taken)
+returns c = kind-told _ Empty (none _ (c .if1 .taken))
 
 returns-2 : tie.Need-returns-2
-returns-2 c = one _ (c .if2 .taken)
+returns-2 c = kind-told _ Invalid (one _ (c .if2 .taken))
 
 shared-slice-read-kind-of : tie.Need-shared-slice-read-kind-of
 shared-slice-read-kind-of c = search needs
@@ -44,7 +45,9 @@ kind-of-requires : tie.Need-kind-of-requires
 kind-of-requires c κs = search needs
 
 returns-3 : tie.Need-returns-3
-returns-3 c = c .kind-of .ensures ∙ two (c .before .before .before .before .before .before .args .src .now) (omega arith)
+returns-3 c =
+    let s = c .before .before .before .before .before .before .args .src .now in
+    kind-told s (c .kind-of .result) (c .kind-of .ensures ∙ two s (omega arith))
 
 pub parse-kind-spec : {M : Type 1} → statement M
 parse-kind-spec =

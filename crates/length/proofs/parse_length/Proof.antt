@@ -9,8 +9,10 @@ use Rattle.decimal.specs.Number.{digitsNumber, numberAtFront}
 use Rattle.format.specs.Decimal.{span}
 use Rattle.format.specs.Fields.{lengthField}
 use Rattle.text.specs.Upto.{before}
-use Rattle.length.specs.Parsed.{parsedLengthOf}
-use Rattle.length.proofs.Sized.{lengthBy, length-sized, span-before}
+use Rattle.length.specs.Parsed.{parsedLengthOf, pieceRefusal, lengthRefusal}
+use Rattle.length.specs.declared.ParsedLength.{ParsedLength}
+use Rattle.length.specs.declared.ParsedLength.the-variants.{Invalid, Zero, Long}
+use Rattle.length.proofs.Sized.{lengthBy, length-sized, length-refusal, span-before}
 use Rattle.length.proofs.parse_length.Statement.{statement}
 use Rattle.length.proofs.parse_length.Tie as tie
 
@@ -19,6 +21,11 @@ unfolding numberAtFront
 sized s =
     ap (λ ds. lengthBy (digitsNumber (2 ^ 64) ds)) (sym (span-before s))
     ∙ sym (length-sized 0 (span (before 9 s) .0) (span (before 9 s) .1))
+
+-- what is answered, and its refusal
+told : (s : List ℕ) (r : ParsedLength) → r ≡ parsedLengthOf (lengthField 0 (span (before 9 s)))
+    → (r ≡ parsedLengthOf (lengthField 0 (span (before 9 s)))) × (lengthRefusal r ≡ pieceRefusal (lengthField 0 (span (before 9 s))))
+told s r e = (e, ap lengthRefusal e ∙ length-refusal 0 (span (before 9 s)))
 
 read-u64-requires : tie.Need-read-u64-requires
 read-u64-requires c κs = search needs
@@ -37,7 +44,7 @@ unfolding lengthBy
 returns c =
     let n = c .before .before in
     let r = n .before .before in
-    sym (sym (sized _) ∙ ap lengthBy (sym (r .read-u64 .ensures) ∙ n .n .given .1) ∙ simp (eq-eqb _ _ (c .if1 .taken)))
+    told _ Zero (sym (sym (sized _) ∙ ap lengthBy (sym (r .read-u64 .ensures .0) ∙ n .n .given .1) ∙ simp (eq-eqb _ _ (c .if1 .taken))))
 
 returns-2 : tie.Need-returns-2
 unfolding lengthBy
@@ -46,15 +53,15 @@ returns-2 c =
     let r = n .before .before in
     let zero = ne-eqb (n .n .given .0 .0) 0 (c .before .if1 .left) in
     let large = le-ltb (n .n .given .0 .0) (2 ^ 31) (omega (arith, c .if2 .taken)) in
-    sym (sym (sized _) ∙ ap lengthBy (sym (r .read-u64 .ensures) ∙ n .n .given .1) ∙ simp (zero, large))
+    told _ Long (sym (sym (sized _) ∙ ap lengthBy (sym (r .read-u64 .ensures .0) ∙ n .n .given .1) ∙ simp (zero, large)))
 
 returns-3 : tie.Need-returns-3
 unfolding lengthBy
-returns-3 c = ap lengthBy (sym (c .enum-told .given .1) ∙ c .before .before .read-u64 .ensures) ∙ sized _
+returns-3 c = told _ Invalid (ap lengthBy (sym (c .enum-told .given .1) ∙ c .before .before .read-u64 .ensures .0) ∙ sized _)
 
 returns-4 : tie.Need-returns-4
 unfolding lengthBy
-returns-4 c = ap lengthBy (sym (c .enum-told2 .given .1) ∙ c .before .before .read-u64 .ensures) ∙ sized _
+returns-4 c = told _ Invalid (ap lengthBy (sym (c .enum-told2 .given .1) ∙ c .before .before .read-u64 .ensures .0) ∙ sized _)
 
 returns-5 : tie.Need-returns-5
 unfolding lengthBy
@@ -63,7 +70,7 @@ returns-5 c =
     let r = n .before .before in
     let zero = ne-eqb (n .n .given .0 .0) 0 (c .before .if1 .left) in
     let small = lt-ltb (n .n .given .0 .0) (2 ^ 31) (omega (arith, c .if2 .left)) in
-    sym (sym (sized _) ∙ ap lengthBy (sym (r .read-u64 .ensures) ∙ n .n .given .1) ∙ simp (zero, small))
+    told _ _ (sym (sym (sized _) ∙ ap lengthBy (sym (r .read-u64 .ensures .0) ∙ n .n .given .1) ∙ simp (zero, small)))
 
 pub parse-length-spec : {M : Type 1} → statement M
 parse-length-spec =

@@ -24,7 +24,7 @@ room s = omega (arith, ap length (same s), s .pre .1 .1)
 
 -- the form of the line is `x`
 formed : (f : tie.After-form-of) (x : Form) → f .form-of .result ≡ x → (let a = f .before .before .before .args in IsForm (a .at) (a .src .now) x)
-formed f x e = let a = f .before .before .before .args in subst (IsForm (a .at) (a .src .now)) e (f .form-of .ensures)
+formed f x e = let a = f .before .before .before .args in subst (IsForm (a .at) (a .src .now)) e (f .form-of .ensures .0)
 
 form-of-requires : tie.Need-form-of-requires
 form-of-requires c κs = search needs

@@ -7,12 +7,16 @@ use borrow.Author.Tests.{lt-ltb, le-ltb}
 use Rattle.entries.specs.Entries.{entrySize}
 use Rattle.lookup.specs.Lookup.{valueIn, fieldIn}
 use Rattle.lookup.proofs.Walks.{found-rest, found-within}
+use Rattle.lookup.proofs.Told.{field-told}
+use Rattle.lookup.specs.declared.Found.the-variants.{Nothing}
 use Rattle.lookup.proofs.find_field.Statement.{statement}
 use Rattle.lookup.proofs.find_field.Tie as tie
 
 returns : tie.Need-returns
 unfolding fieldIn
-returns c = rw (lt-ltb _ _ (c .if1 .taken)) refl
+returns c =
+    let a = c .before .before .args in
+    field-told (a .catalogue .now) (a .kind) (a .ordinal) (a .a) (a .b) Nothing (rw (lt-ltb _ _ (c .if1 .taken)) refl)
 
 find-record-requires : tie.Need-find-record-requires
 find-record-requires c κs = search needs
@@ -40,7 +44,8 @@ returns-2 c =
     let a = t .before .before .before .before .before .args in
     let f = t .before .before .find-record in
     let long = t .size .ensures ∙ ap entrySize (t .before .entry-at .ensures) in
-    rw (le-ltb 5 (a .kind) (t .before .before .before .if1 .left)) (c .field-from .ensures ∙ ap (valueIn (a .a) (a .b)) (found-rest (a .kind) (a .ordinal) (a .catalogue .now) (f .result) (f .ensures) (t .size .result) long))
+    field-told (a .catalogue .now) (a .kind) (a .ordinal) (a .a) (a .b) (c .field-from .result)
+    (rw (le-ltb 5 (a .kind) (t .before .before .before .if1 .left)) (c .field-from .ensures ∙ ap (valueIn (a .a) (a .b)) (found-rest (a .kind) (a .ordinal) (a .catalogue .now) (f .result) (f .ensures) (t .size .result) long)))
 
 pub find-field-spec : {M : Type 1} → statement M
 find-field-spec =

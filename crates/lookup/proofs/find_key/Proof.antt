@@ -3,6 +3,7 @@ use mathlib.Core.Path.{_∙_, ap}
 use borrow.Author.Needs.{needs}
 use Rattle.lookup.specs.Lookup.{entryKey, keyIn}
 use Rattle.lookup.proofs.Walks.{found-entry}
+use Rattle.lookup.proofs.Told.{key-told}
 use Rattle.lookup.proofs.find_key.Statement.{statement}
 use Rattle.lookup.proofs.find_key.Tie as tie
 
@@ -20,7 +21,8 @@ unfolding keyIn
 returns c =
     let a = c .before .before .before .before .args in
     let f = c .before .before .find-record in
-    c .key-of .ensures ∙ ap entryKey (c .before .entry-at .ensures ∙ found-entry (a .kind) (a .ordinal) (a .catalogue .now) (f .result) (f .ensures))
+    key-told (a .catalogue .now) (a .kind) (a .ordinal) (c .key-of .result)
+    (c .key-of .ensures ∙ ap entryKey (c .before .entry-at .ensures ∙ found-entry (a .kind) (a .ordinal) (a .catalogue .now) (f .result) (f .ensures)))
 
 pub find-key-spec : {M : Type 1} → statement M
 find-key-spec = tie.close (tie.spec find-record-requires entry-at-requires key-of-requires returns)

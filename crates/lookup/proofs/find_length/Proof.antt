@@ -3,6 +3,7 @@ use mathlib.Core.Path.{_∙_, ap}
 use borrow.Author.Needs.{needs}
 use Rattle.lookup.specs.Lookup.{entryLength, lengthIn}
 use Rattle.lookup.proofs.Walks.{found-entry}
+use Rattle.lookup.proofs.Told.{length-told}
 use Rattle.lookup.proofs.find_length.Statement.{statement}
 use Rattle.lookup.proofs.find_length.Tie as tie
 
@@ -20,7 +21,8 @@ unfolding lengthIn
 returns c =
     let a = c .before .before .before .before .args in
     let f = c .before .before .find-record in
-    c .length-of .ensures ∙ ap entryLength (c .before .entry-at .ensures ∙ found-entry 2 (a .ordinal) (a .catalogue .now) (f .result) (f .ensures))
+    length-told (a .catalogue .now) (a .ordinal) (c .length-of .result)
+    (c .length-of .ensures ∙ ap entryLength (c .before .entry-at .ensures ∙ found-entry 2 (a .ordinal) (a .catalogue .now) (f .result) (f .ensures)))
 
 pub find-length-spec : {M : Type 1} → statement M
 find-length-spec =

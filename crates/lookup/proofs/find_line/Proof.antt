@@ -3,6 +3,7 @@ use mathlib.Core.Path.{_∙_, ap}
 use borrow.Author.Needs.{needs}
 use Rattle.lookup.specs.Lookup.{entryLine, lineIn}
 use Rattle.lookup.proofs.Walks.{found-entry}
+use Rattle.lookup.proofs.Told.{line-told}
 use Rattle.lookup.proofs.find_line.Statement.{statement}
 use Rattle.lookup.proofs.find_line.Tie as tie
 
@@ -20,7 +21,8 @@ unfolding lineIn
 returns c =
     let a = c .before .before .before .before .args in
     let f = c .before .before .find-record in
-    c .line-of .ensures ∙ ap entryLine (c .before .entry-at .ensures ∙ found-entry (a .kind) (a .ordinal) (a .catalogue .now) (f .result) (f .ensures))
+    line-told (a .catalogue .now) (a .kind) (a .ordinal) (c .line-of .result)
+    (c .line-of .ensures ∙ ap entryLine (c .before .entry-at .ensures ∙ found-entry (a .kind) (a .ordinal) (a .catalogue .now) (f .result) (f .ensures)))
 
 pub find-line-spec : {M : Type 1} → statement M
 find-line-spec = tie.close (tie.spec find-record-requires entry-at-requires line-of-requires returns)

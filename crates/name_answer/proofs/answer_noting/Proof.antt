@@ -79,9 +79,9 @@ returns c =
     let slots₁ = f .fill .last .1 .1 .0 in
     let slots₂ = g .refill .last .1 .1 .1 .0 in
     let told = s .pre .told in (
-      index-told t k (a .slots .now) slots₁ (s .pre .size) (f .fill .ensures .0) slots₂ (g .refill .ensures),
+      index-told t k (a .slots .now) slots₁ (s .pre .size) (f .fill .ensures .0) slots₂ (g .refill .ensures .0),
       (
-        found-told t k (a .slots .now) slots₁ (s .pre .size) (f .fill .ensures .0) slots₂ (g .refill .ensures) told (s .pre .few) (a .list .now) (a .out .now)
+        found-told t k (a .slots .now) slots₁ (s .pre .size) (f .fill .ensures .0) slots₂ (g .refill .ensures .0) told (s .pre .few) (a .list .now) (a .out .now)
             (l .find-slots .last .1 .1 .1 .0) (o .to-ordinals .last .1 .0) (s .pre .room) (l .find-slots .ensures .0) (o .to-ordinals .ensures),
         l .find-slots .ensures .1 ∙ looks-told t k (a .slots .now) slots₁ (s .pre .size) (f .fill .ensures .0) told (asked (a .list .now)),
       ),

@@ -22,7 +22,7 @@ there c =
     prefix-there (a .strict) (a .at) (a .src .now) (sym (c .before .leads .ensures) ∙ not-false (c .before .leads .result) (c .if1 .left))
 
 answer : (c : tie.After-parse-kind) → c .parse-kind .result ≡ kindAt (drop 1 (c .before .before .before .before .before .args .src .now))
-answer c = c .parse-kind .ensures ∙ ap kindAt (rest 1 (c .before .before .before .before .before .args .src .now))
+answer c = c .parse-kind .ensures .0 ∙ ap kindAt (rest 1 (c .before .before .before .before .before .args .src .now))
 
 leads-requires : tie.Need-leads-requires
 leads-requires c κs = search needs

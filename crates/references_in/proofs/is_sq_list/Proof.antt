@@ -60,7 +60,7 @@ take-reference-requires : tie.Need-take-reference-requires Inv-loop μ-loop
 take-reference-requires c κs = c .before .before .loop .inv .0
 
 is-same-requires : tie.Need-is-same-requires Inv-loop μ-loop
-is-same-requires c κs = let r = c .before .before in (r .take-reference .ensures .1 .1, r .before .before .next-reference .ensures .1 .name)
+is-same-requires c κs = let r = c .before .before in (r .take-reference .ensures .1 .1 .0, r .before .before .next-reference .ensures .1 .name)
 
 returns-3 : tie.Need-returns-3 Inv-loop μ-loop
 returns-3 c =

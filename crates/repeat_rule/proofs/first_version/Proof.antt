@@ -195,7 +195,7 @@ parse-version-requires : tie.Need-parse-version-requires Inv-loop μ-loop
 parse-version-requires c κs = search needs
 
 returns : tie.Need-returns Inv-loop μ-loop
-returns c = c .parse-version .ensures ∙ ap parsedVersionOf (ends (c .before .before .before .before) .2)
+returns c = c .parse-version .ensures .0 ∙ ap parsedVersionOf (ends (c .before .before .before .before) .2)
 
 pub first-version-spec : {M : Type 1} → statement M
 first-version-spec =

@@ -7,14 +7,14 @@ use lib.ListN.{length, drop, length-take}
 use Rattle.format.specs.Records.{line}
 use Rattle.text.specs.First.{firstLine}
 use Rattle.text.proofs.Before.{rest}
-use Rattle.sq_list.specs.Next.{sqFrom, toldReference, toldList}
-use Rattle.sq_list.proofs.Next.{lent, Turn, turn, sq-none, IsSq, sq-line, sq-other, sq-never}
+use Rattle.sq_list.specs.Next.{sqFrom, toldReference, toldList, nextFrom}
+use Rattle.sq_list.proofs.Next.{lent, Turn, turn, sq-none, next-none, IsSq, sq-line, sq-other, sq-never}
 use borrow.Author.Needs.{needs}
 use Rattle.sq_list.proofs.next_reference.Statement.{statement}
 use Rattle.sq_list.proofs.next_reference.Tie as tie
 
 abbrev Inv-loop : tie.InvT-loop
-Inv-loop text strict start at₀ at = (start ≤ at) × (at ≤ length text) × (sqFrom strict text start ≡ sqFrom strict text at)
+Inv-loop text strict start at₀ at = (start ≤ at) × (at ≤ length text) × (sqFrom strict text start ≡ sqFrom strict text at) × (nextFrom strict text start ≡ nextFrom strict text at)
 
 abbrev μ-loop : tie.MeasureT-loop
 μ-loop text strict start at₀ at = length text - at
@@ -41,7 +41,7 @@ sequence c =
     (c .before .head .given .0 .0) (c .before .head .given .0 .1 .0) (c .before .head .given .0 .1 .1 .0) (sym (p .parse-record .ensures) ∙ c .before .head .given .1)
 
 loop-holds : tie.Need-loop-holds Inv-loop μ-loop
-loop-holds c = (omega arith, c .before .pre .1, refl)
+loop-holds c = (omega arith, c .before .pre .1, refl, refl)
 
 sub-first-line : tie.Need-sub-first-line Inv-loop μ-loop
 sub-first-line c = omega arith
@@ -104,6 +104,7 @@ returns c =
     let u = turned q in (
       l .loop .inv .2 ∙ u .list ∙ n .list (sqFrom (l .before .before .args .strict) (l .before .before .args .text .now) (l .loop .at + q .first-line .result .next)),
       record {
+        is = sym (l .loop .inv .3 ∙ u .next ∙ n .next (l .loop .at + q .first-line .result .next) (nextFrom (l .before .before .args .strict) (l .before .before .args .text .now) (l .loop .at + q .first-line .result .next)));
         name = n .inside;
         small = n .small;
         onward = λ e. omega (arith, l .loop .inv .0, u .onward);
@@ -120,13 +121,16 @@ loop-again c =
     let q = p .before .before .before .before .before .before .before in
     let l = q .before .before .before in
     let a = l .before .before .args in
+    let other = sq-other (line (a .strict) (record { at = l .loop .at; bytes = lent (a .text .now) (l .loop .at) (q .first-line .result .len) })) (p .parse-record .result) (p .parse-record .ensures) (c .match .keys2) in
     let u = turned q in (
       omega (arith, l .loop .inv .0),
       u .within,
       l .loop .inv .2
           ∙ u .list
-          ∙ sq-other (line (a .strict) (record { at = l .loop .at; bytes = lent (a .text .now) (l .loop .at) (q .first-line .result .len) })) (p .parse-record .result) (p .parse-record .ensures) (c .match .keys2)
-          (sqFrom (a .strict) (a .text .now) (l .loop .at + q .first-line .result .next)),
+          ∙ other .list (sqFrom (a .strict) (a .text .now) (l .loop .at + q .first-line .result .next)),
+      l .loop .inv .3
+          ∙ u .next
+          ∙ other .next (l .loop .at + q .first-line .result .next) (nextFrom (a .strict) (a .text .now) (l .loop .at + q .first-line .result .next)),
     )
 
 loop-less-2 : tie.Need-loop-less-2 Inv-loop μ-loop
@@ -138,13 +142,16 @@ loop-again-2 c =
     let q = m .before .before .before .before in
     let l = q .before .before .before in
     let a = l .before .before .args in
+    let other = sq-never (a .strict) (record { at = l .loop .at; bytes = lent (a .text .now) (l .loop .at) (q .first-line .result .len) }) (sym (m .may-be-sq .ensures) ∙ c .if1 .left) in
     let u = turned q in (
       omega (arith, l .loop .inv .0),
       u .within,
       l .loop .inv .2
           ∙ u .list
-          ∙ sq-never (a .strict) (record { at = l .loop .at; bytes = lent (a .text .now) (l .loop .at) (q .first-line .result .len) }) (sym (m .may-be-sq .ensures) ∙ c .if1 .left)
-          (sqFrom (a .strict) (a .text .now) (l .loop .at + q .first-line .result .next)),
+          ∙ other .list (sqFrom (a .strict) (a .text .now) (l .loop .at + q .first-line .result .next)),
+      l .loop .inv .3
+          ∙ u .next
+          ∙ other .next (l .loop .at + q .first-line .result .next) (nextFrom (a .strict) (a .text .now) (l .loop .at + q .first-line .result .next)),
     )
 
 returns-2 : tie.Need-returns-2 Inv-loop μ-loop
@@ -153,7 +160,7 @@ returns-2 c =
     let l = c .before in
     let a = l .before .before .args in (
       l .loop .inv .2 ∙ sq-none (a .strict) (a .text .now) (l .loop .at) (c .loop-test .left),
-      record { name = omega arith; small = omega arith; onward = λ e. absurd (false≢true e); within = l .loop .inv .1 },
+      record { is = sym (l .loop .inv .3 ∙ next-none (a .strict) (a .text .now) (l .loop .at) (l .loop .inv .1) (c .loop-test .left)); name = omega arith; small = omega arith; onward = λ e. absurd (false≢true e); within = l .loop .inv .1 },
     )
 
 pub next-reference-spec : {M : Type 1} → statement M

@@ -1,12 +1,14 @@
 -- `sq_slots::refill` meets its contract: ordinals at the slots that are noted, or filled anew.
 use Prim.Native.Nat.{ℕ}
-use mathlib.Core.Path.{sym, ap₂, _∙_}
+use mathlib.Core.Path.{sym, ap, ap₂, _∙_}
+use mathlib.Core.Bool.{true, cond}
 use native.Mathlib.Omega.{arith}
 use borrow.Author.Needs.{needs}
+use borrow.Author.Tests.{lt-ltb, le-ltb}
 use lib.ListN.{length, replicate, length-take}
 use lib.Seq.{length-take-le}
 use Rattle.entries.specs.Entries.{entriesIn}
-use Rattle.sq_slots.specs.Filled.{withOrdinals}
+use Rattle.sq_slots.specs.Filled.{withOrdinals, notedAnew}
 use Rattle.sq_slots.proofs.Noted.{numbered-seats}
 use Rattle.sq_slots.proofs.refill.Statement.{statement}
 use Rattle.sq_slots.proofs.refill.Tie as tie
@@ -21,7 +23,14 @@ same-length-2 : tie.Need-same-length-2
 same-length-2 c = search needs
 
 returns : tie.Need-returns
-returns c = search needs
+returns c =
+    let f = c .before .before .before .before in
+    let t = f .before .before .before in
+    let a = t .before .before .before .before .before .args in (
+      f .fill .ensures .0,
+      f .fill .ensures .1
+          ∙ sym (ap (λ b. cond b (notedAnew true (a .text .now) (a .catalogue .now) (a .slots .now) (a .notes .now)) (a .notes .now)) (lt-ltb (length (a .notes .now)) (a .m) (t .if1 .taken))),
+    )
 
 clear-requires : tie.Need-clear-requires
 clear-requires c κs = search needs
@@ -54,10 +63,12 @@ returns-2 c =
     let a = s .args in
     let t = a .text .now in
     let es = entriesIn (a .catalogue .now) in
-    let empty = replicate {A = ℕ} (length (a .slots .now)) 0 in
-    p .put-ordinals .ensures
-    ∙ ap₂ (withOrdinals 0) (s .pre .1 .1 .1 .1 (o .if1 .left)) (k .clear .ensures)
-    ∙ numbered-seats t 0 es empty
+    let empty = replicate {A = ℕ} (length (a .slots .now)) 0 in (
+      p .put-ordinals .ensures
+          ∙ ap₂ (withOrdinals 0) (s .pre .1 .1 .1 .1 (o .if1 .left)) (k .clear .ensures)
+          ∙ numbered-seats t 0 es empty,
+      sym (ap (λ b. cond b (notedAnew true t (a .catalogue .now) (a .slots .now) (a .notes .now)) (a .notes .now)) (le-ltb (length (a .notes .now)) (a .m) (o .if1 .left))),
+    )
 
 pub refill-spec : {M : Type 1} → statement M
 refill-spec =

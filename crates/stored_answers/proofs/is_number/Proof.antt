@@ -1,61 +1,46 @@
--- `stored_answers::is_number` is safe and ends. Assumes nothing.
-use Prim.Native.Nat.{_≤_, _<_, _-_}
-use mathlib.Core.Path.{_≡_}
+-- `stored_answers::is_number` meets its contract: the digits are written, and compared.
+use Prim.Native.Nat.{ℕ, _+_}
+use mathlib.Core.Path.{_≡_, sym, ap, ap₂, _∙_}
 use native.Mathlib.Omega.{arith}
-use lib.ListN.{length}
+use lib.ListN.{length, take, replicate}
+use lib.Seq.{length-take-le}
+use Rattle.format.specs.Bytes.{same}
+use Rattle.format.specs.Decimal.{written}
+use Rattle.text.proofs.Over.{over-take}
+use Rattle.decimal.proofs.Written.{written-short}
 use borrow.Author.Needs.{needs}
 use Rattle.stored_answers.proofs.is_number.Statement.{statement}
 use Rattle.stored_answers.proofs.is_number.Tie as tie
 
-abbrev Inv-loop : tie.InvT-loop
-Inv-loop s n rest₀ i₀ rest i = i ≤ length s
+slice-aggregate-write-u64 : tie.Need-slice-aggregate-write-u64
+slice-aggregate-write-u64 c = search needs
 
-abbrev μ-loop : tie.MeasureT-loop
-μ-loop s n rest₀ i₀ rest i = i
+write-u64-requires : tie.Need-write-u64-requires
+write-u64-requires c κs = omega (arith, written-short (c .before .before .args .n))
 
-loop-holds : tie.Need-loop-holds Inv-loop μ-loop
-loop-holds c = search needs
+array-share-prefix-digits : tie.Need-array-share-prefix-digits
+array-share-prefix-digits c = let w = c .before in omega (arith, w .write-u64 .ensures .0, written-short (w .before .before .before .args .n))
 
-sub-i : tie.Need-sub-i Inv-loop μ-loop
-sub-i c = search needs
+slice-aggregate-same : tie.Need-slice-aggregate-same
+slice-aggregate-same c = sym (length-take-le _ _ (array-share-prefix-digits (c .before)))
 
-shared-slice-read-if1 : tie.Need-shared-slice-read-if1 Inv-loop μ-loop
-shared-slice-read-if1 c = search needs
+same-requires : tie.Need-same-requires
+same-requires c κs = search needs
 
-cast-if1 : tie.Need-cast-if1 Inv-loop μ-loop
-cast-if1 c = search needs
-
-add-if1 : tie.Need-add-if1 Inv-loop μ-loop
-add-if1 c = search needs
-
-returns : tie.Need-returns Inv-loop μ-loop
-returns c = search needs
-
-returns-2 : tie.Need-returns-2 Inv-loop μ-loop
-returns-2 c = search needs
-
-loop-less : tie.Need-loop-less Inv-loop μ-loop
-loop-less c = search needs
-
-loop-again : tie.Need-loop-again Inv-loop μ-loop
-loop-again c = search needs
-
-returns-3 : tie.Need-returns-3 Inv-loop μ-loop
-returns-3 c = search needs
+returns : tie.Need-returns
+returns c =
+    let w = c .before .before .before in
+    let a = w .before .before .before .args in
+    c .same .ensures
+    ∙ ap (same (a .s .now)) (ap₂ take (w .write-u64 .ensures .0) (w .write-u64 .ensures .1) ∙ over-take (replicate {A = ℕ} 20 0) 0 (written (a .n)) (omega arith))
 
 pub is-number-spec : {M : Type 1} → statement M
 is-number-spec =
     tie.close
     (tie.spec
-    Inv-loop
-    μ-loop
-    loop-holds
-    sub-i
-    shared-slice-read-if1
-    cast-if1
-    add-if1
-    returns
-    returns-2
-    loop-less
-    loop-again
-    returns-3)
+    slice-aggregate-write-u64
+    write-u64-requires
+    array-share-prefix-digits
+    slice-aggregate-same
+    same-requires
+    returns)

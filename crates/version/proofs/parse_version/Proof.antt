@@ -9,9 +9,10 @@ use Rattle.format.specs.Decimal.{number}
 use Rattle.format.specs.Version.{version, both}
 use Rattle.text.proofs.Lines.{upto-le}
 use Rattle.version.specs.Spelled.{parsedVersionOf, versionSideOf}
-use Rattle.version.specs.declared.ParsedVersion.the-variants.{Is}
+use Rattle.version.specs.declared.ParsedVersion.the-variants.{Is, Invalid}
 use Rattle.text.proofs.Before.{rest}
 use Rattle.version.proofs.Sides.{version-none, version-sides, no-major, no-minor, major-minor}
+use Rattle.version.proofs.Refused.{version-told}
 use Rattle.version.proofs.parse_version.Statement.{statement}
 use Rattle.version.proofs.parse_version.Tie as tie
 
@@ -31,7 +32,7 @@ upto-requires c κs = search needs
 
 returns : tie.Need-returns
 unfolding parsedVersionOf
-returns c = sym (ap parsedVersionOf (version-none _ (sym (c .before .upto .ensures) ∙ c .if1 .taken)))
+returns c = version-told _ Invalid (sym (ap parsedVersionOf (version-none _ (sym (c .before .upto .ensures) ∙ c .if1 .taken))))
 
 slice-aggregate-parse-part : tie.Need-slice-aggregate-parse-part
 slice-aggregate-parse-part c = sym (length-take-le _ _ (omega (arith, inside (c .before))))
@@ -48,7 +49,7 @@ enum-told c = search needs
 returns-2 : tie.Need-returns-2
 returns-2 c =
     let p = c .before .before in
-    sym (ap parsedVersionOf (split (p .before .before)) ∙ no-major _ _ (sym (c .enum-told .given .1) ∙ p .parse-part .ensures))
+    version-told _ Invalid (sym (ap parsedVersionOf (split (p .before .before)) ∙ no-major _ _ (sym (c .enum-told .given .1) ∙ p .parse-part .ensures)))
 
 add-parse-part : tie.Need-add-parse-part
 add-parse-part c = omega (arith, inside (c .before .before .before .before .before))
@@ -88,7 +89,7 @@ returns-3 : tie.Need-returns-3
 returns-3 c =
     let q = c .before .before in
     let p = q .before .before .before .before .before in
-    sym (ap parsedVersionOf (split (p .before .before)) ∙ no-minor _ _ (sym (c .enum-told2 .given .1) ∙ minor q))
+    version-told _ Invalid (sym (ap parsedVersionOf (split (p .before .before)) ∙ no-minor _ _ (sym (c .enum-told2 .given .1) ∙ minor q)))
 
 new-requires : tie.Need-new-requires
 new-requires c κs = search needs
@@ -99,10 +100,11 @@ returns-4 c =
     let q = d .before .before .before in
     let m = q .before .before in
     let p = m .before .before .before in
-    ap Is (c .new .ensures)
+    version-told _ (Is (c .new .result))
+    (ap Is (c .new .ensures)
     ∙ sym
     (ap parsedVersionOf (split (p .before .before))
-    ∙ major-minor _ _ _ _ (sym (m .before .major .given .1) ∙ p .parse-part .ensures) (sym (d .before .minor .given .1) ∙ minor q))
+    ∙ major-minor _ _ _ _ (sym (m .before .major .given .1) ∙ p .parse-part .ensures) (sym (d .before .minor .given .1) ∙ minor q)))
 
 pub parse-version-spec : {M : Type 1} → statement M
 parse-version-spec =

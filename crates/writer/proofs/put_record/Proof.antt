@@ -25,7 +25,7 @@ room s = subst (λ l. s .args .o + length (lineText l) ≤ length (s .args .out 
 
 -- the form of the line is `x`
 formed : (f : tie.After-form-of) (x : Form) → f .form-of .result ≡ x → (let a = f .before .before .before .args in IsForm (a .at) (a .src .now) x)
-formed f x e = let a = f .before .before .before .args in subst (IsForm (a .at) (a .src .now)) e (f .form-of .ensures)
+formed f x e = let a = f .before .before .before .args in subst (IsForm (a .at) (a .src .now)) e (f .form-of .ensures .0)
 
 -- a comment is its record's text
 whole : (e : tie.After-enum-told) → (let a = e .before .before .before .before .before .args in lineText (line false (record { at = a .at; bytes = a .src .now })) ≡ a .src .now ++ (10 ∷ []))
