@@ -16,29 +16,45 @@ is-strict-requires c κs = search needs
 gather-requires : tie.Need-gather-requires
 gather-requires c κs = search needs
 
-link-programs-requires : tie.Need-link-programs-requires
-link-programs-requires c κs =
-    let g = c .before .before in
+-- what is gathered from the lines is what is gathered from the catalogue
+gathers : (g : tie.After-gather) → let t = g .before .before .before .args .text .now in g .gather .result .programs ≡ gatheredOf (notedIn (entriesIn (catalogue (recordsOf t))))
+gathers g =
     let i = g .before in
     let s = i .before .before in
     let t = s .args .text .now in
-    (s .pre, g .gather .ensures .0 ∙ ap gatheredOf (same-gathered (i .is-strict .result) t (recordsOf t) (accepted-reads t (s .pre)) (i .is-strict .ensures)))
+    g .gather .ensures .0 ∙ ap gatheredOf (same-gathered (i .is-strict .result) t (recordsOf t) (accepted-reads t (s .pre)) (i .is-strict .ensures))
+
+slice-aggregate-find-parents : tie.Need-slice-aggregate-find-parents
+slice-aggregate-find-parents c = ?
+
+slice-aggregate-find-parents-2 : tie.Need-slice-aggregate-find-parents-2
+slice-aggregate-find-parents-2 c = ?
+
+slice-aggregate-find-parents-3 : tie.Need-slice-aggregate-find-parents-3
+slice-aggregate-find-parents-3 c = ?
+
+slice-aggregate-find-parents-4 : tie.Need-slice-aggregate-find-parents-4
+slice-aggregate-find-parents-4 c = ?
+
+find-parents-requires : tie.Need-find-parents-requires
+find-parents-requires c κs = ?
+
+tangle-requires : tie.Need-tangle-requires
+tangle-requires c κs = ?
 
 returns : tie.Need-returns
-returns c =
-    let f = c .before in
-    let g = f .before .before .before in
-    let i = g .before in
-    let s = i .before .before in
-    let ls = links (programs (recordsOf (s .args .text .now))) in
-    record {
-      accepted = s .pre;
-      rule = i .is-strict .ensures;
-      refusal = linked-refusal ls (f .link-programs .result) (f .link-programs .ensures);
-      lines-are = g .gather .ensures .1;
-      parents-are = linked-parents ls (f .link-programs .result) (f .link-programs .ensures);
-    }
+returns c = ?
 
 pub open-text-spec : {M : Type 1} → statement M
 open-text-spec =
-    tie.close (tie.spec is-strict-requires gather-requires link-programs-requires returns)
+    tie.close
+    (tie.spec
+    is-strict-requires
+    gather-requires
+    slice-aggregate-find-parents
+    slice-aggregate-find-parents-2
+    slice-aggregate-find-parents-3
+    slice-aggregate-find-parents-4
+    find-parents-requires
+    tangle-requires
+    returns)
