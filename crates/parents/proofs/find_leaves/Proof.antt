@@ -42,9 +42,9 @@ returns-2 c =
     let f = e .before in
     let q = f .before .args .parents in
     λ ps few is.
-      let z = sym (f .tangle .ensures ps few is) ∙ e .if1 .left in
-      let d = road-untangled ps few q is z in
-      road-leaves ps few q is d (lent-untangled ps few q is d z) (c .leaves .result) (c .leaves .ensures)
+    let z = sym (f .tangle .ensures ps few is) ∙ e .if1 .left in
+    let d = road-untangled ps few q is z in
+    road-leaves ps few q is d (lent-untangled ps few q is d z) (c .leaves .result) (c .leaves .ensures)
 
 pub find-leaves-spec : {M : Type 1} → statement M
 find-leaves-spec =
