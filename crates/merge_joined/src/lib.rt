@@ -243,8 +243,8 @@ fn pass_by(a: &[u8], b: &[u8], m: &[u8], of: Rules, from: Left, area: &mut [u32]
     pass_slots(a, b, m, of, from, area)
 }
 
-// A block of 4,608 references, and `more` times again. Nobody asks for more than once: a function that calls itself is compiled by itself, so that its
-// slots, of 24 KiB here, are on the stack only while it runs, and not in the frames of its callers (`judging::judge_long`).
+// A block of 18,432 references, and `more` times again. Nobody asks for more than once: a function that calls itself is compiled by itself, so that its
+// slots, of 96 KiB here, are on the stack only while it runs, and not in the frames of its callers (`judging::judge_long`).
 fn pass_few(a: &[u8], b: &[u8], m: &[u8], of: Rules, from: Left, more: usize) -> Left
     requires { ⌜ Readable of (now a) (now b) (now m) ⌝ }
     requires { ⌜ Reached (sqFrom (of .a) (now a) 0) (now b) (of .merged) (now m) from ⌝ }
@@ -252,7 +252,7 @@ fn pass_few(a: &[u8], b: &[u8], m: &[u8], of: Rules, from: Left, more: usize) ->
     ensures passed { λ x. ⌜ Passed (sqFrom (of .a) (now (a .entry)) 0) (of .b) (now (b .entry)) (of .merged) (now (m .entry)) from x ⌝ }
     ensures ahead { λ x. ⌜ (x .more ≡ true → from .at < x .at) ⌝ }
 {
-    let mut area = [0u32; 6144];
+    let mut area = [0u32; 24576];
     let left = pass_by(a, b, m, of, from, &mut area);
     if 0 < more {
         return pass_few(a, b, m, of, from, more - 1);

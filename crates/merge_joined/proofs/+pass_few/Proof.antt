@@ -31,7 +31,7 @@ pass-few-pass-by-requires t c κs =
     let s = c .before .before .before .before in
     let p = s .pre .1 in
     let a = s .args in
-    (p .0, (p .1 .0, (p .1 .1, ((omega (arith, length-replicate {A = ℕ} 6144 0), omega (arith, length-replicate {A = ℕ} 6144 0)), (placed-none (a .b .now) 6144, marked-none (a .of .b) (a .b .now) (sqFrom (a .of .a) (a .a .now) 0) 6144)))))
+    (p .0, (p .1 .0, (p .1 .1, ((omega (arith, length-replicate {A = ℕ} 24576 0), omega (arith, length-replicate {A = ℕ} 24576 0)), (placed-none (a .b .now) 24576, marked-none (a .of .b) (a .b .now) (sqFrom (a .of .a) (a .a .now) 0) 24576)))))
 
 pass-few-sub-pass-few : (t : ℕ) → pass-few-lts.Need-sub-pass-few (pass-by-reads.Asked, pass-by-reads.Learnt, pass-few-below t, pass-few.Post) (pass-few-at t) pass-few.Post
 pass-few-sub-pass-few t c = omega (arith, c .if1 .taken)
