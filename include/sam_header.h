@@ -2,9 +2,8 @@
  *
  * Any bytes may be lent. Of the pointers is asked what C asks of a slice: not NULL, also where the length is 0; aligned to their type; lengths below
  * PTRDIFF_MAX; and no slice that a call writes overlaps another slice of that call. Calls keep no state and lend nothing on: they may run side by side.
- * Stack: for a text of at most 256 KiB read, check, count, key, line, length, field, tidy, carry_on, binary_out, binary_in and names take at most 64 KiB, roots,
- * leaves, add and prune 112, leaves_by_table 136 and judge_merge 640; for a longer text any call takes at most 900 KiB. The calls with a work area
- * take at most 64 KiB for any text. examples/stack.c measures it.
+ * Stack: for texts of at most 256 KiB a call takes at most 64 KiB, but for leaves_by_table, which takes 72, and judge_merge, which takes 192; for longer
+ * texts any call takes at most 900 KiB. The calls with a work area take at most 64 KiB for any text. examples/stack.c measures it.
  *
  * Room that always suffices: for read 3 * text_len + 1 bytes; for tidy, prune, carry_on and binary_in as many as the text has and one more, and two numbers for each line in carry_on's table; for binary_out twice text_len and 14; for roots, leaves and leaves_by_table 1,024 ordinals, and 1,024 records in leaves_by_table's table; for names as many ordinals as the
  * list has names, and the slots that are said there; for add what tidy needs and for each new program, one after each leaf, prefix_len + fields_len, twice

@@ -282,16 +282,17 @@ pub fn add(text: &[u8], kept: &[u8], prefix: &[u8], fields: &[u8], out: &mut [u8
                 return CountAnswer::Refused(26, LineNo(0));
             }
             let previous = add_input::find_previous(fields);
-            let programs = programs::gather(kept);
-            let places = programs.id;
-            let at = places.at;
-            let len = places.len;
-            let ats = &at[..programs.count];
-            let lens = &len[..programs.count];
+            let mut at: [u32; 1024] = [0; 1024];
+            let mut len: [u32; 1024] = [0; 1024];
+            let mut from: [u32; 1024] = [0; 1024];
+            let mut widths: [u32; 1024] = [0; 1024];
+            let count = programs::gather(kept, &mut at, &mut len, &mut from, &mut widths);
+            let ats = &at[..count];
+            let lens = &len[..count];
             if is_stray(text, ats, lens, fields, previous) {
                 return CountAnswer::Refused(22, LineNo(0)); // the given PP
             }
-            let graph = parents::find_leaves(text, programs);
+            let graph = parents::find_leaves(parents::parents_of(text, kept));
             if graph.refusal != 0 {
                 return CountAnswer::Refused(graph.refusal, LineNo(0));
             }

@@ -5,7 +5,6 @@ use format::LineNo;
 use format::Node;
 use parser::Checked;
 use parser::CountAnswer;
-use programs::Programs;
 use roots_and_leaves::LeavesAnswer;
 ghost use mathlib.Core.Path.{_≡_};
 ghost use mathlib.Core.Bool.{true};
@@ -15,8 +14,6 @@ ghost use Rattle.format.specs.Catalogue.{catalogue};
 ghost use Rattle.format.specs.Programs.{programs, links};
 ghost use Rattle.format.specs.Table.{leafingTable};
 ghost use Rattle.accepted.specs.Read.{isAccepted, recordsOf};
-ghost use Rattle.entries.specs.Entries.{entriesIn};
-ghost use Rattle.programs.specs.Gathered.{notedIn, gatheredOf};
 ghost use Rattle.leaves_by_table.specs.Answers.{seatedAnswer, seatedLeaves, nodesLeft};
 ghost use Rattle.leaves_by_table.specs.Plans.{noGraphOf, DeepGraphOf, stoppedPlanOf, tablePlanOf, planFor};
 
@@ -50,12 +47,12 @@ fn nothing(refusal: u8) -> DeepGraph
 }
 
 // The leaves of an accepted text's programs, with the depths: 22 where a PP dangles, then 23 where there is a cycle.
-fn find(text: &[u8], p: Programs) -> DeepGraph
+fn find(text: &[u8], kept: &[u8]) -> DeepGraph
     requires { ⌜ isAccepted (readText (now text)) ≡ true ⌝ }
-    requires { ⌜ p ≡ gatheredOf (notedIn (entriesIn (catalogue (recordsOf (now text))))) ⌝ }
+    requires { ⌜ now kept ≡ catalogue (recordsOf (now text)) ⌝ }
     ensures { λ r. ⌜ DeepGraphOf (links (programs (recordsOf (now (text .entry))))) r ⌝ }
 {
-    let parents = parents::find_parents(text, p);
+    let parents = parents::parents_of(text, kept);
     if parents.dangling {
         return nothing(22);
     }
@@ -129,7 +126,7 @@ pub fn make_plan(text: &[u8], catalogue: &[u8], seats: usize, out: &mut [u32]) -
     match parser::check(text, catalogue) { // 21 comes before 22
         Checked::Refused(n, line) => stopped(n, line),
         Checked::Fresh => {
-            let found = find(text, programs::gather(catalogue));
+            let found = find(text, catalogue);
             if found.refusal != 0 {
                 return stopped(found.refusal, LineNo(0));
             }

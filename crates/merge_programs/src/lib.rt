@@ -30,9 +30,14 @@ pub fn open_text(text: &[u8]) -> Opened
     let gathered = program_lines::gather(text, strict);
     let programs = gathered.programs;
     let lines = gathered.lines;
-    let linked = parents::link_programs(text, programs);
-    let refusal = linked.refusal;
-    let parents = linked.parents;
+    let id = programs.id;
+    let ats = id.at;
+    let lens = id.len;
+    let previous = programs.previous;
+    let from = previous.at;
+    let widths = previous.len;
+    let parents = parents::find_parents(text, &ats, &lens, &from, &widths, programs.count);
+    let refusal = parents::tangle(parents);
     Opened {
         strict,
         refusal,

@@ -8,11 +8,16 @@ use Rattle.format.specs.Reading.{accept, readText}
 use Rattle.format.specs.Catalogue.{catalogue}
 use Rattle.format.specs.Programs.{programs}
 use Rattle.accepted.specs.Read.{isAccepted, recordsOf}
+use Rattle.accepted.proofs.Read.{accepted-reads}
 use Rattle.entries.specs.Entries.{entriesIn, counted}
 use Rattle.lookup.proofs.Kept.{text-few}
 use Rattle.programs.specs.declared.Programs.{Programs}
 use Rattle.programs.specs.Gathered.{notedIn, gatheredOf}
 use Rattle.parents.proofs.Own.{few-programs}
+
+-- it has few programs
+pub few-entries : (t c : List ℕ) → isAccepted (readText t) ≡ true → c ≡ catalogue (recordsOf t) → counted 4 (entriesIn c) ≤ 1024
+few-entries t c accepted own = subst (λ s. counted 4 (entriesIn s) ≤ 1024) (sym own) (text-few t (recordsOf t) (accepted-reads t accepted))
 
 -- what is gathered from it is what the text's programs are
 pub record Opened (t c : List ℕ) : Type 0 where

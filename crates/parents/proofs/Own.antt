@@ -16,7 +16,7 @@ use Rattle.accepted.proofs.Pairs.{pairs-length, pairs-at}
 use Rattle.accepted.proofs.Read.{accepted-reads}
 use Rattle.accepted.proofs.Text.{text-fits, text-programs}
 use Rattle.chains.specs.Parents.{inArray}
-use Rattle.chains.proofs.Arrays.{front, front-at}
+use Rattle.chains.proofs.Arrays.{array-length, front, front-at}
 use Rattle.chains.proofs.Walks.{map-at}
 use Rattle.entries.specs.declared.Place.{Place}
 use Rattle.entries.specs.Entries.{entriesIn}
@@ -109,6 +109,24 @@ module _ (t : List ℕ) (accepted : isAccepted (readText t) ≡ true) (p : Progr
 
   pub lens-inside : p .count ≤ length (p .id .len)
   lens-inside = omega (arith, own-lens, length-take (p .count) (p .id .len))
+
+  -- the arrays are whole
+  whole : (f : ProgramPlaces → ℕ) (xs : List ℕ) → xs ≡ inArray (map f ns) → length xs ≡ 1024
+  whole f xs q = ap length q ∙ array-length (map f ns) (omega (arith, length-map ns f, noted-count, own-few))
+
+  pub ats-whole : length (p .id .at) ≡ 1024
+  ats-whole = whole (λ n. n .id .at) (p .id .at) id-at
+
+  pub lens-whole : length (p .id .len) ≡ 1024
+  lens-whole = whole (λ n. n .id .len) (p .id .len) id-len
+
+  pub from-whole : length (p .previous .at) ≡ 1024
+  unfolding gatheredOf arraysOf
+  from-whole = whole (λ n. n .previous .at) (p .previous .at) (ap (λ q. q .previous .at) e)
+
+  pub widths-whole : length (p .previous .len) ≡ 1024
+  unfolding gatheredOf arraysOf
+  widths-whole = whole (λ n. n .previous .len) (p .previous .len) (ap (λ q. q .previous .len) e)
 
   pub own-placed : PlacesInText t ats lens
   own-placed = record {

@@ -14,9 +14,8 @@ use Rattle.chains.proofs.Arrays.{front, front-count, front-inside}
 use Rattle.chain_laws.proofs.Some.{leaves-some}
 use Rattle.chains.specs.Parents.{linksOf, areParents, inArray}
 use Rattle.parents.specs.declared.Parents.{Parents}
-use Rattle.parents.specs.declared.Linked.{Linked}
 use Rattle.parents.specs.declared.Graph.{Graph}
-use Rattle.parents.specs.Parents.{parentsOf, linkedOf, leavesIn, ordinalsOf, graphOf}
+use Rattle.parents.specs.Parents.{parentsOf, leavesIn, ordinalsOf, graphOf}
 use Rattle.parents.proofs.Numbers.{numbers, links-count, numbers-count, numbers-roots, numbers-links, numbers-within, links-named}
 
 -- ---- what links say
@@ -45,10 +44,6 @@ module _ (ls : List Link) where
         go : (b : Bool) → loopsFrom ls 0 ls ≡ b → b ≡ false
         go true q = absurd (omega (arith, z, tangled-loops true none-dangles q))
         go false q = refl
-
-  linked-by : (n : ℕ) (q : Parents) → tangled ls ≡ n → q ≡ parentsOf ls → _≡_ {A = Linked} (record { refusal = n; parents = q }) (linkedOf ls)
-  unfolding linkedOf
-  linked-by n q e is = ap₂ (λ k x. record { refusal = k; parents = x }) (sym e) is
 
   -- a refusal, and no leaves
   graph-refused : (n : ℕ) → tangled ls ≡ n → eqb n 0 ≡ false → (g : Graph) → g ≡ record { refusal = n; parents = parentsOf ls; leaves = ordinalsOf [] } → g ≡ graphOf ls
@@ -101,8 +96,14 @@ module _ (ps : List Program) (few : length ps ≤ 1024) (q : Parents) (is : q �
   road-dangling d g e =
       graph-refused (links ps) 22 (tangled-dangling (links ps) (sym dangling-is ∙ d)) refl g (e ∙ ap (λ x. record { refusal = 22; parents = x; leaves = ordinalsOf [] }) is)
 
-  pub linked-dangling : q .dangling ≡ true → _≡_ {A = Linked} (record { refusal = 22; parents = q }) (linkedOf (links ps))
-  linked-dangling d = linked-by (links ps) 22 q (tangled-dangling (links ps) (sym dangling-is ∙ d)) is
+  pub refusal-dangling : q .dangling ≡ true → 22 ≡ tangled (links ps)
+  refusal-dangling d = sym (tangled-dangling (links ps) (sym dangling-is ∙ d))
+
+  pub road-untangled : tangled (links ps) ≡ 0 → q .dangling ≡ false
+  road-untangled z = dangling-is ∙ none-dangles (links ps) z
+
+  pub road-refused : (n : ℕ) → n ≡ tangled (links ps) → (n ≡ 0 → ⊥) → (g : Graph) → g ≡ record { refusal = n; parents = q; leaves = ordinalsOf [] } → g ≡ graphOf (links ps)
+  road-refused n e d g k = graph-refused (links ps) n (sym e) (ne-eqb n 0 d) g (k ∙ ap (λ x. record { refusal = n; parents = x; leaves = ordinalsOf [] }) is)
 
   -- where nothing dangles
   module _ (d : q .dangling ≡ false) where
@@ -115,8 +116,8 @@ module _ (ps : List Program) (few : length ps ≤ 1024) (q : Parents) (is : q �
     loops : (b : Bool) → loopsFrom (linksOf lent) 0 (linksOf lent) ≡ b → tangled (links ps) ≡ cond b 23 0
     loops b e = tangled-loops (links ps) b (sym dangling-is ∙ d) (sym (ap (λ ls. loopsFrom ls 0 ls) lent-links) ∙ e)
 
-    pub linked-loops : (b : Bool) → loopsFrom (linksOf lent) 0 (linksOf lent) ≡ b → _≡_ {A = Linked} (record { refusal = cond b 23 0; parents = q }) (linkedOf (links ps))
-    linked-loops b e = linked-by (links ps) (cond b 23 0) q (loops b e) is
+    pub refusal-loops : (b : Bool) → loopsFrom (linksOf lent) 0 (linksOf lent) ≡ b → cond b 23 0 ≡ tangled (links ps)
+    refusal-loops b e = sym (loops b e)
 
     pub lent-untangled : tangled (links ps) ≡ 0 → loopsFrom (linksOf lent) 0 (linksOf lent) ≡ false
     lent-untangled z = ap (λ ls. loopsFrom ls 0 ls) lent-links ∙ none-loops (links ps) z
@@ -132,26 +133,6 @@ module _ (ps : List Program) (few : length ps ≤ 1024) (q : Parents) (is : q �
         ap₂ (λ x l. record { refusal = 0; parents = x; leaves = l }) is
         (ap₂ (λ l n. record { list = l; count = n }) (found .0) (found .1) ∙ ap (λ ls. ordinalsOf (leaves ls)) lent-links)
         ∙ graph-accepted (links ps) (loops false c)
-
--- ---- the parents, and whether they are tangled
-
-module _ (ls : List Link) (l : Linked) (is : l ≡ linkedOf ls) where
-  pub linked-refusal : l .refusal ≡ tangled ls
-  unfolding linkedOf
-  linked-refusal = ap (λ x. x .refusal) is
-
-  pub linked-parents : l .parents ≡ parentsOf ls
-  unfolding linkedOf
-  linked-parents = ap (λ x. x .parents) is
-
-  pub linked-undangled : l .refusal ≡ 0 → l .parents .dangling ≡ false
-  unfolding parentsOf
-  linked-undangled z = ap (λ x. x .dangling) linked-parents ∙ none-dangles ls (sym linked-refusal ∙ z)
-
-  -- a refusal, and no leaves
-  pub linked-refused : (l .refusal ≡ 0 → ⊥) → (g : Graph) → g ≡ record { refusal = l .refusal; parents = l .parents; leaves = ordinalsOf [] } → g ≡ graphOf ls
-  linked-refused d g e =
-      graph-refused ls (l .refusal) (sym linked-refusal) (ne-eqb (l .refusal) 0 d) g (e ∙ ap (λ x. record { refusal = l .refusal; parents = x; leaves = ordinalsOf [] }) linked-parents)
 
 -- ---- what the road comes to
 

@@ -1,5 +1,5 @@
 -- The parents of the programs, as numbers, and what is found along them.
-use Prim.Native.Nat.{ℕ}
+use Prim.Native.Nat.{ℕ, _≤_}
 use mathlib.Core.Path.{_≡_}
 use mathlib.Core.Bool.{cond}
 use mathlib.Core.List.{List, [], map}
@@ -7,14 +7,13 @@ use mathlib.Core.Option.{Option, none, some}
 use lib.ListN.{length}
 use lib.Dec.{eqb}
 use Rattle.format.specs.Bytes.{any}
-use Rattle.format.specs.Programs.{Link, root, dangling, child, isDangling, tangled, leaves}
+use Rattle.format.specs.Programs.{Program, Link, links, root, dangling, child, isDangling, tangled, leaves}
 use Rattle.chains.specs.Parents.{nobody, inArray}
 use Rattle.chains.specs.declared.Ordinals.{Ordinals}
 use Rattle.entries.specs.declared.Place.{Place}
 use Rattle.id_search.specs.Places.{InsideText, bytesAt}
 use Rattle.id_search.specs.Search.{idOrdinalFrom}
 use Rattle.parents.specs.declared.Parents.{Parents}
-use Rattle.parents.specs.declared.Linked.{Linked}
 use Rattle.parents.specs.declared.Graph.{Graph}
 
 -- ---- parents
@@ -49,10 +48,11 @@ unfoldable pub parentsOf : List Link → Parents
 unfolding inArray linkNumber any isDangling
 parentsOf ls = record { list = inArray (map linkNumber ls); count = length ls; dangling = any isDangling ls }
 
--- 0, 22 or 23; and the parents
-unfoldable pub linkedOf : List Link → Linked
-unfolding tangled parentsOf
-linkedOf ls = record { refusal = tangled ls; parents = parentsOf ls }
+-- they are those of some programs, of at most 1,024
+pub record AreParents (q : Parents) : Type 0 where
+  pub ps : List Program
+  pub few : length ps ≤ 1024
+  pub is : q ≡ parentsOf (links ps)
 
 -- ---- leaves
 

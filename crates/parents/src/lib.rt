@@ -2,19 +2,19 @@
 use chains::Ordinals;
 use entries::Place;
 use id_search::Named;
-use programs::Programs;
 ghost use mathlib.Core.Path.{_≡_};
 ghost use mathlib.Core.Bool.{true};
-ghost use mathlib.Core.List.{[]};
+ghost use mathlib.Core.List.{List, []};
+ghost use Prim.Native.Nat.{_≤_};
 ghost use lib.ListN.{length};
 ghost use Rattle.format.specs.Reading.{readText};
 ghost use Rattle.format.specs.Catalogue.{catalogue};
-ghost use Rattle.format.specs.Programs.{programs, links};
+ghost use Rattle.format.specs.Programs.{Program, programs, links, tangled};
 ghost use Rattle.accepted.specs.Read.{isAccepted, recordsOf};
 ghost use Rattle.entries.specs.Entries.{entriesIn};
-ghost use Rattle.programs.specs.Gathered.{notedIn, gatheredOf};
+ghost use Rattle.programs.specs.Gathered.{notedIn, programsIn, gatheredOf};
 ghost use Rattle.id_search.specs.Places.{idsAt, PlacesInText};
-ghost use Rattle.parents.specs.Parents.{Somewhere, parentOf, parentsOf, linkedOf, ordinalsOf, graphOf};
+ghost use Rattle.parents.specs.Parents.{Somewhere, parentOf, parentsOf, AreParents, ordinalsOf, graphOf};
 
 // The parent of a program whose PP equals no ID: no ordinal, and not nobody.
 pub const STRANGER: u32 = 4294967294;
@@ -43,19 +43,19 @@ pub struct Parents {
     pub dangling: bool,
 }
 
-// The parents of the programs of an accepted text: one search among the IDs for each PP.
-pub fn find_parents(text: &[u8], p: Programs) -> Parents
+// The parents of the programs of an accepted text, which are gathered in arrays: one search among the IDs for each PP.
+pub fn find_parents(
+    text: &[u8],
+    ats: &[u32],
+    lens: &[u32],
+    from: &[u32],
+    widths: &[u32],
+    count: usize,
+) -> Parents
     requires { ⌜ isAccepted (readText (now text)) ≡ true ⌝ }
-    requires { ⌜ p ≡ gatheredOf (notedIn (entriesIn (catalogue (recordsOf (now text))))) ⌝ }
+    requires { ⌜ programsIn (now ats) (now lens) (now from) (now widths) count ≡ gatheredOf (notedIn (entriesIn (catalogue (recordsOf (now text))))) ⌝ }
     ensures { λ r. ⌜ r ≡ parentsOf (links (programs (recordsOf (now (text .entry))))) ⌝ }
 {
-    let ids = p.id;
-    let ats = ids.at;
-    let lens = ids.len;
-    let previous = p.previous;
-    let from = previous.at;
-    let widths = previous.len;
-    let count = p.count;
     let mut list: [u32; 1024] = [0; 1024];
     let mut dangling = false;
     let mut i: usize = 0;
@@ -78,36 +78,46 @@ pub fn find_parents(text: &[u8], p: Programs) -> Parents
     }
 }
 
-// The parents, and 0, or 22 where a PP dangles, or 23 where there is a cycle.
-pub struct Linked {
-    pub refusal: u8,
-    pub parents: Parents,
+// The same by the text's own catalogue, and `more` times again. Nobody asks for more than once: a function that calls itself is compiled by itself, so
+// that its four arrays are on the stack only while it runs, and not while a text is checked (`judging::judge_long`).
+fn parents_again(text: &[u8], kept: &[u8], more: usize) -> Parents
+    requires { ⌜ isAccepted (readText (now text)) ≡ true ⌝ }
+    requires { ⌜ now kept ≡ catalogue (recordsOf (now text)) ⌝ }
+    ensures { λ r. ⌜ r ≡ parentsOf (links (programs (recordsOf (now (text .entry))))) ⌝ }
+{
+    let mut ats: [u32; 1024] = [0; 1024];
+    let mut lens: [u32; 1024] = [0; 1024];
+    let mut from: [u32; 1024] = [0; 1024];
+    let mut widths: [u32; 1024] = [0; 1024];
+    let count = programs::gather(kept, &mut ats, &mut lens, &mut from, &mut widths);
+    if 0 < more {
+        return parents_again(text, kept, more - 1);
+    }
+    find_parents(text, &ats, &lens, &from, &widths, count)
 }
 
-// The parents of an accepted text's programs, and whether they are tangled.
-pub fn link_programs(text: &[u8], p: Programs) -> Linked
+// The parents of the programs of an accepted text, by its own catalogue, which is far shorter than is needed for one time more.
+pub fn parents_of(text: &[u8], kept: &[u8]) -> Parents
     requires { ⌜ isAccepted (readText (now text)) ≡ true ⌝ }
-    requires { ⌜ p ≡ gatheredOf (notedIn (entriesIn (catalogue (recordsOf (now text))))) ⌝ }
-    ensures { λ r. ⌜ r ≡ linkedOf (links (programs (recordsOf (now (text .entry))))) ⌝ }
+    requires { ⌜ now kept ≡ catalogue (recordsOf (now text)) ⌝ }
+    ensures { λ r. ⌜ r ≡ parentsOf (links (programs (recordsOf (now (text .entry))))) ⌝ }
 {
-    let parents = find_parents(text, p);
+    parents_again(text, kept, kept.len() / 4294967296)
+}
+
+// 0, or 22 where a PP dangles, or 23 where there is a cycle.
+pub fn tangle(parents: Parents) -> u8
+    requires { ⌜ AreParents parents ⌝ }
+    ensures { λ r. ⌜ ((ps : List Program) → length ps ≤ 1024 → parents ≡ parentsOf (links ps) → r ≡ tangled (links ps)) ⌝ }
+{
     if parents.dangling {
-        return Linked {
-            refusal: 22,
-            parents,
-        };
+        return 22;
     }
     let list = parents.list;
     if chain_walks::has_cycle(&list[..parents.count]) {
-        return Linked {
-            refusal: 23,
-            parents,
-        };
+        return 23;
     }
-    Linked {
-        refusal: 0,
-        parents,
-    }
+    0
 }
 
 // The road to the leaves: 0, or 22 or 23 with no leaves; the parents; and the leaves.
@@ -130,15 +140,12 @@ fn refused(refusal: u8, parents: Parents) -> Graph
     }
 }
 
-// The leaves of an accepted text's programs, in the crate's order: 22 where a PP dangles, then 23 where there is a cycle.
-pub fn find_leaves(text: &[u8], p: Programs) -> Graph
-    requires { ⌜ isAccepted (readText (now text)) ≡ true ⌝ }
-    requires { ⌜ p ≡ gatheredOf (notedIn (entriesIn (catalogue (recordsOf (now text))))) ⌝ }
-    ensures { λ r. ⌜ r ≡ graphOf (links (programs (recordsOf (now (text .entry))))) ⌝ }
+// The leaves along the parents, in the crate's order: 22 where a PP dangles, then 23 where there is a cycle.
+pub fn find_leaves(parents: Parents) -> Graph
+    requires { ⌜ AreParents parents ⌝ }
+    ensures { λ r. ⌜ ((ps : List Program) → length ps ≤ 1024 → parents ≡ parentsOf (links ps) → r ≡ graphOf (links ps)) ⌝ }
 {
-    let linked = link_programs(text, p);
-    let refusal = linked.refusal;
-    let parents = linked.parents;
+    let refusal = tangle(parents);
     if refusal != 0 {
         return refused(refusal, parents);
     }

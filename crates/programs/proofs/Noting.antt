@@ -66,9 +66,13 @@ pub record Listed (c ats lens from widths : List ℕ) (count at : ℕ) : Type 0 
   pub joined : notedIn (entriesIn c) ≡ ns ++ notedIn (entriesIn (drop at c))
   pub room : count + counted 4 (entriesIn (drop at c)) ≤ 1024
 
-pub listed-none : (c : List ℕ) → counted 4 (entriesIn c) ≤ 1024 → Listed c (replicate 1024 0) (replicate 1024 0) (replicate 1024 0) (replicate 1024 0) 0 0
+listed-none : (c : List ℕ) → counted 4 (entriesIn c) ≤ 1024 → Listed c (replicate 1024 0) (replicate 1024 0) (replicate 1024 0) (replicate 1024 0) 0 0
 unfolding inArray
 listed-none c h = record { ns = []; id-at = refl; id-len = refl; previous-at = refl; previous-len = refl; counts = refl; joined = refl; room = omega arith }
+
+pub listed-start : (c ats lens from widths : List ℕ) → counted 4 (entriesIn c) ≤ 1024 → ats ≡ replicate 1024 0 → lens ≡ replicate 1024 0 → from ≡ replicate 1024 0 → widths ≡ replicate 1024 0
+    → Listed c ats lens from widths 0 0
+listed-start c ats lens from widths h a l f w = rw (a, l, f, w) (listed-none c h)
 
 -- the whole
 whole : (ns : List ProgramPlaces) (ats lens from widths : List ℕ) (count : ℕ)

@@ -1,4 +1,5 @@
 -- The programs of a catalogue: where the ID and the PP of each stand, as numbers in arrays.
+use Prim.Native.Nat.{ℕ}
 use mathlib.Core.List.{List, [], _∷_, map}
 use lib.ListN.{length}
 use Rattle.chains.specs.Parents.{inArray}
@@ -39,6 +40,10 @@ notedIn (Field a b p ∷ es) = notedIn es
 unfoldable pub arraysOf : (ProgramPlaces → Place) → List ProgramPlaces → Places
 unfolding inArray
 arraysOf f ns = record { at = inArray (map (λ n. f n .at) ns); len = inArray (map (λ n. f n .len) ns) }
+
+-- the places in four arrays, and how many they are
+abbrev pub programsIn : List ℕ → List ℕ → List ℕ → List ℕ → ℕ → Programs
+programsIn ats lens from widths n = record { id = record { at = ats; len = lens }; previous = record { at = from; len = widths }; count = n }
 
 unfoldable pub gatheredOf : List ProgramPlaces → Programs
 unfolding arraysOf

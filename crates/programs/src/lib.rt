@@ -4,10 +4,10 @@ use entries::Place;
 use lookup::Found;
 ghost use mathlib.Core.Path.{_≡_};
 ghost use Prim.Native.Nat.{_≤_};
-ghost use lib.ListN.{drop};
+ghost use lib.ListN.{drop, replicate};
 ghost use Rattle.entries.specs.Entries.{entriesIn, counted};
 ghost use Rattle.lookup.specs.Lookup.{valueIn};
-ghost use Rattle.programs.specs.Gathered.{orNowhere, notedIn, gatheredOf};
+ghost use Rattle.programs.specs.Gathered.{orNowhere, notedIn, programsIn, gatheredOf};
 
 // The offset of a PP that is not there: no place of a text is so far.
 pub const NOWHERE: u32 = 4294967295;
@@ -38,31 +38,27 @@ fn find_previous(catalogue: &[u8], from: usize) -> Place
     }
 }
 
-// The programs of a catalogue: one walk from entry to entry, in which the fields of a program are looked at once more.
-pub fn gather(catalogue: &[u8]) -> Programs
+// The programs of a catalogue, in four arrays of zeros: where their IDs stand and how long they are, and the same of their PPs. One walk from entry to
+// entry, in which the fields of a program are looked at once more. Answers how many there are.
+pub fn gather(
+    catalogue: &[u8],
+    ats: &mut [u32; 1024],
+    lens: &mut [u32; 1024],
+    from: &mut [u32; 1024],
+    widths: &mut [u32; 1024],
+) -> usize
     requires { ⌜ counted 4 (entriesIn (now catalogue)) ≤ 1024 ⌝ }
-    ensures { λ r. ⌜ r ≡ gatheredOf (notedIn (entriesIn (now (catalogue .entry)))) ⌝ }
+    requires { ⌜ (now ats ≡ replicate 1024 0) × (now lens ≡ replicate 1024 0) × (now from ≡ replicate 1024 0) × (now widths ≡ replicate 1024 0) ⌝ }
+    ensures { λ r. ⌜ programsIn (now (ats .exit)) (now (lens .exit)) (now (from .exit)) (now (widths .exit)) r
+        ≡ gatheredOf (notedIn (entriesIn (now (catalogue .entry)))) ⌝ }
 {
-    let mut ats: [u32; 1024] = [0; 1024];
-    let mut lens: [u32; 1024] = [0; 1024];
-    let mut from: [u32; 1024] = [0; 1024];
-    let mut widths: [u32; 1024] = [0; 1024];
     let mut count: usize = 0;
     let mut at: usize = 0;
     loop {
         let e = entries::entry_at(catalogue, at);
         let len = entries::size(e);
         if len == 0 {
-            let id = Places { at: ats, len: lens };
-            let previous = Places {
-                at: from,
-                len: widths,
-            };
-            return Programs {
-                id,
-                previous,
-                count,
-            };
+            return count;
         }
         at += len;
         if let Entry::Program(id, _) = e {

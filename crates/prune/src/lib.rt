@@ -35,9 +35,8 @@ pub fn prune(text: &[u8], catalogue: &[u8], used: &[u32], out: &mut [u8]) -> Cou
     match parser::check(text, catalogue) {
         Checked::Refused(n, line) => CountAnswer::Refused(n, line),
         Checked::Fresh => {
-            let programs = programs::gather(catalogue);
-            let high = has_high(used, programs.count);
-            let found = parents::find_parents(text, programs);
+            let found = parents::parents_of(text, catalogue);
+            let high = has_high(used, found.count);
             if high {
                 return CountAnswer::Refused(25, LineNo(0));
             }

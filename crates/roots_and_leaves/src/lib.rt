@@ -38,7 +38,7 @@ pub fn roots(text: &[u8], kept: &[u8], out: &mut [u32]) -> CountAnswer
     match parser::check(text, kept) {
         Checked::Refused(n, line) => CountAnswer::Refused(n, line),
         Checked::Fresh => {
-            let parents = parents::find_parents(text, programs::gather(kept));
+            let parents = parents::parents_of(text, kept);
             let list = parents.list;
             let found = chains::roots(&list[..parents.count]);
             let ordinals = found.list;
@@ -66,7 +66,7 @@ pub fn leaves(text: &[u8], kept: &[u8], out: &mut [u32]) -> LeavesAnswer
     match parser::check(text, kept) { // 21 comes before 22
         Checked::Refused(n, line) => LeavesAnswer::Refused(n, line),
         Checked::Fresh => {
-            let graph = parents::find_leaves(text, programs::gather(kept));
+            let graph = parents::find_leaves(parents::parents_of(text, kept));
             if graph.refusal != 0 {
                 return LeavesAnswer::Refused(graph.refusal, LineNo(0));
             }

@@ -1,6 +1,6 @@
 -- `add::add` meets its contract: reading, 21, 26, 22, 23, and then what is left once the leaves are known.
 use Prim.Native.Nat.{ℕ, _<_}
-use mathlib.Core.Path.{_≡_, sym, ap, _∙_}
+use mathlib.Core.Path.{_≡_, refl, sym, ap, _∙_}
 use mathlib.Core.Bool.{true, false}
 use mathlib.Core.List.{List}
 use native.Mathlib.Omega.{arith}
@@ -17,9 +17,11 @@ use Rattle.accepted.specs.Read.{isAccepted, recordsOf}
 use Rattle.chains.specs.Parents.{inArray}
 use Rattle.chains.proofs.Arrays.{front, front-count, front-inside}
 use Rattle.entries.specs.Entries.{entriesIn}
-use Rattle.programs.specs.Gathered.{notedIn, gatheredOf}
+use Rattle.programs.specs.declared.Programs.{Programs}
+use Rattle.programs.specs.Gathered.{notedIn, programsIn, gatheredOf}
 use Rattle.id_search.specs.Places.{idsAt}
 use Rattle.id_search.specs.Search.{idsOf}
+use Rattle.parents.specs.Parents.{graphOf}
 use Rattle.parents.proofs.Own.{own-count, own-ats, own-lens, ats-inside, lens-inside, own-placed, own-ids}
 use Rattle.parents.proofs.Road.{graph-refusal, graph-list, graph-count, some-leaf}
 use Rattle.parser.specs.Answers.{answerOf, outputOf}
@@ -47,27 +49,32 @@ formed c = not-true _ (sym (c .before .is-in-form .ensures) ∙ not-false (c .be
 -- ---- what is gathered
 
 abbrev text : tie.After-gather → List ℕ
-text c = c .before .before .before .before .before .before .before .before .before .before .before .before .args .text .now
+text c = c .before .before .before .before .before .before .before .before .before .before .before .before .before .before .before .before .args .text .now
 
 accepted : (c : tie.After-gather) → isAccepted (readText (text c)) ≡ true
-accepted c = opens (c .before .before .before .before) .accepted
+accepted c = opens (c .before .before .before .before .before .before .before .before) .accepted
 
-gathers : (c : tie.After-gather) → c .gather .result ≡ gatheredOf (notedIn (entriesIn (catalogue (recordsOf (text c)))))
-gathers c = opens (c .before .before .before .before) .gathers (c .gather .result) (c .gather .ensures)
+abbrev held : tie.After-gather → Programs
+held c = programsIn (c .gather .last .1 .0) (c .gather .last .1 .1 .0) (c .gather .last .1 .1 .1 .0) (c .gather .last .1 .1 .1 .1 .0) (c .gather .result)
+
+gathers : (c : tie.After-gather) → held c ≡ gatheredOf (notedIn (entriesIn (catalogue (recordsOf (text c)))))
+gathers c = opens (c .before .before .before .before .before .before .before .before) .gathers (held c) (c .gather .ensures)
 
 -- the IDs that are lent
-ids-are : (c : tie.After-gather)
-    → idsAt (text c) (take (c .gather .result .count) (c .gather .result .id .at)) (take (c .gather .result .count) (c .gather .result .id .len)) ≡ idsOf (programs (recordsOf (text c)))
-ids-are c = own-ids (text c) (accepted c) (c .gather .result) (gathers c)
+ids-are : (c : tie.After-gather) → idsAt (text c) (take (held c .count) (held c .id .at)) (take (held c .count) (held c .id .len)) ≡ idsOf (programs (recordsOf (text c)))
+ids-are c = own-ids (text c) (accepted c) (held c) (gathers c)
 
 -- a given PP that is no ID
-prior : (c : tie.After-is-stray) → let g = c .before .before .before .before .before .before in stray (idsOf (programs (recordsOf (text g)))) (lastOf 80 80 (given (g .before .before .before .before .before .before .before .before .before .before .before .before .args .fields .now) .fields)) ≡ c .is-stray .result
-prior c = let g = c .before .before .before .before .before .before in sym (c .is-stray .ensures ∙ ap (λ ids. stray ids (lastOf 80 80 (given (g .before .before .before .before .before .before .before .before .before .before .before .before .args .fields .now) .fields))) (ids-are g))
+prior : (c : tie.After-is-stray) → let g = c .before .before .before in stray (idsOf (programs (recordsOf (text g)))) (lastOf 80 80 (given (g .before .before .before .before .before .before .before .before .before .before .before .before .before .before .before .before .args .fields .now) .fields)) ≡ c .is-stray .result
+prior c = let g = c .before .before .before in sym (c .is-stray .ensures ∙ ap (λ ids. stray ids (lastOf 80 80 (given (g .before .before .before .before .before .before .before .before .before .before .before .before .before .before .before .before .args .fields .now) .fields))) (ids-are g))
 
 -- ---- what is found
 
 abbrev ps : tie.After-find-leaves → List Program
-ps c = programs (recordsOf (c .before .before .before .before .before .before .before .before .before .before .before .before .before .before .before .before .before .before .before .before .args .text .now))
+ps c = programs (recordsOf (c .before .before .before .before .before .before .before .before .before .before .before .before .before .before .before .before .before .before .before .before .before .before .args .text .now))
+
+graph-is : (c : tie.After-find-leaves) → c .find-leaves .result ≡ graphOf (links (ps c))
+graph-is c = c .find-leaves .ensures (ps c) (opens (c .before .before .before .before .before .before .before .before .before .before .before .before .before .before) .few) (c .before .parents-of .ensures)
 
 module _ (c : tie.Else3) where
   abbrev asked : tie.After-find-leaves
@@ -77,27 +84,27 @@ module _ (c : tie.Else3) where
   xs = leaves (links (ps asked))
 
   untangled : tangled (links (ps asked)) ≡ 0
-  untangled = sym (graph-refusal (links (ps asked)) (asked .find-leaves .result) (asked .find-leaves .ensures)) ∙ c .if3 .left
+  untangled = sym (graph-refusal (links (ps asked)) (asked .find-leaves .result) (graph-is asked)) ∙ c .if3 .left
 
   listed : asked .find-leaves .result .leaves .list ≡ inArray xs
-  listed = graph-list (links (ps asked)) (asked .find-leaves .result) (asked .find-leaves .ensures) (c .if3 .left)
+  listed = graph-list (links (ps asked)) (asked .find-leaves .result) (graph-is asked) (c .if3 .left)
 
   counted : asked .find-leaves .result .leaves .count ≡ length xs
-  counted = graph-count (links (ps asked)) (asked .find-leaves .result) (asked .find-leaves .ensures) (c .if3 .left)
+  counted = graph-count (links (ps asked)) (asked .find-leaves .result) (graph-is asked) (c .if3 .left)
 
   -- they are the leaves of the records, and there are some where there are programs
-  leaves-are : take (asked .find-leaves .result .leaves .count) (asked .find-leaves .result .leaves .list) ≡ leavesOf (recordsOf (c .before .before .before .before .before .before .before .before .before .before .before .before .before .before .before .before .before .before .before .before .before .before .args .text .now))
+  leaves-are : take (asked .find-leaves .result .leaves .count) (asked .find-leaves .result .leaves .list) ≡ leavesOf (recordsOf (c .before .before .before .before .before .before .before .before .before .before .before .before .before .before .before .before .before .before .before .before .before .before .before .before .args .text .now))
   unfolding leavesOf
   leaves-are = front xs (asked .find-leaves .result .leaves .list) (asked .find-leaves .result .leaves .count) listed counted
 
   abbrev gathered : tie.After-gather
-  gathered = c .before .before .before .before .before .before .before .before .before .before
+  gathered = c .before .before .before .before .before .before .before .before
 
-  some : 0 < length (take (gathered .gather .result .count) (gathered .gather .result .id .at)) → 0 < length (take (asked .find-leaves .result .leaves .count) (asked .find-leaves .result .leaves .list))
+  some : 0 < length (take (held gathered .count) (held gathered .id .at)) → 0 < length (take (asked .find-leaves .result .leaves .count) (asked .find-leaves .result .leaves .list))
   some h =
       let t = text gathered in
-      let p = gathered .gather .result in
-      let few = opens (gathered .before .before .before .before) .few in
+      let p = held gathered in
+      let few = opens (gathered .before .before .before .before .before .before .before .before) .few in
       let n = own-count t (accepted gathered) p (gathers gathered) in
       let m = own-ats t (accepted gathered) p (gathers gathered) in
       omega (arith, some-leaf (ps asked) few untangled (omega (arith, h, n, m)), ap length leaves-are, counted, front-count xs (asked .find-leaves .result .leaves .list) (asked .find-leaves .result .leaves .count) listed counted)
@@ -125,44 +132,51 @@ find-previous-requires : tie.Need-find-previous-requires
 find-previous-requires c κs = let a = c .before .before .before .before .before .before .before .before .before .before .args in in-form (a .prefix .now) (given (a .fields .now)) (formed c) .stop
 
 gather-requires : tie.Need-gather-requires
-gather-requires c κs = opens (c .before .before .before) .entries
+gather-requires c κs = (opens (c .before .before .before .before .before .before .before) .entries, (refl, refl, refl, refl))
 
 array-share-prefix-at : tie.Need-array-share-prefix-at
-array-share-prefix-at c = let g = c .before .before .before in ats-inside (text g) (accepted g) (g .gather .result) (gathers g)
+array-share-prefix-at c = let g = c in ats-inside (text g) (accepted g) (held g) (gathers g)
 
 slice-aggregate-ats : tie.Need-slice-aggregate-ats
-slice-aggregate-ats c = let g = c .before .before .before .before in sym (own-ats (text g) (accepted g) (g .gather .result) (gathers g))
+slice-aggregate-ats c = let g = c .before in sym (own-ats (text g) (accepted g) (held g) (gathers g))
 
 array-share-prefix-len : tie.Need-array-share-prefix-len
-array-share-prefix-len c = let g = c .before .before .before .before in lens-inside (text g) (accepted g) (g .gather .result) (gathers g)
+array-share-prefix-len c = let g = c .before in lens-inside (text g) (accepted g) (held g) (gathers g)
 
 slice-aggregate-lens : tie.Need-slice-aggregate-lens
-slice-aggregate-lens c = let g = c .before .before .before .before .before in sym (own-lens (text g) (accepted g) (g .gather .result) (gathers g))
+slice-aggregate-lens c = let g = c .before .before in sym (own-lens (text g) (accepted g) (held g) (gathers g))
 
 is-stray-requires : tie.Need-is-stray-requires
-is-stray-requires c κs = let g = c .before .before .before .before .before in (own-placed (text g) (accepted g) (g .gather .result) (gathers g), g .before .find-previous .ensures)
+is-stray-requires c κs = let g = c .before .before in (own-placed (text g) (accepted g) (held g) (gathers g), g .before .before .before .before .before .find-previous .ensures)
 
 returns-2 : tie.Need-returns-2
 returns-2 c =
-    let p = c .before .before .before .before .before .before .before .before in
-    let a = c .before .before .before .before .before .before .before .before .before .before .before .before .before .before .before .before .before .before .before .args in
+    let p = c .before .before .before .before .before .before .before .before .before in
+    let a = c .before .before .before .before .before .before .before .before .before .before .before .before .before .before .before .before .before .before .before .before .args in
     let room = length (a .out .now) in
     refused-answer (adding (a .text .now) (a .kept .now) (a .prefix .now) (a .fields .now) room) (a .out .now) 22 (record { 0 = 0 })
     (add-stray (a .text .now) (a .kept .now) (own (p .before .before .before)) (a .prefix .now) (a .fields .now) room (formed (p .before)) (prior (c .before) ∙ c .if2 .taken))
 
+parents-of-requires : tie.Need-parents-of-requires
+parents-of-requires c κs = let e = c .before .before .before .before .before .before .before .before .before .before .before .before in (opens e .accepted, own e .own)
+
 find-leaves-requires : tie.Need-find-leaves-requires
-find-leaves-requires c κs = let g = c .before .before .before .before .before .before .before in (accepted g, gathers g)
+find-leaves-requires c κs = record {
+  ps = programs (recordsOf (c .before .before .before .before .before .before .before .before .before .before .before .before .before .before .before .before .before .before .before .before .before .args .text .now));
+  few = opens (c .before .before .before .before .before .before .before .before .before .before .before .before .before) .few;
+  is = c .parents-of .ensures;
+}
 
 returns-3 : tie.Need-returns-3
 returns-3 c =
     let f = c .before .before in
-    let e = f .before in
-    let p = e .before .before .before .before .before .before .before .before in
-    let a = c .before .before .before .before .before .before .before .before .before .before .before .before .before .before .before .before .before .before .before .before .before .before .args in
+    let e = f .before .before in
+    let p = e .before .before .before .before .before .before .before .before .before in
+    let a = c .before .before .before .before .before .before .before .before .before .before .before .before .before .before .before .before .before .before .before .before .before .before .before .before .args in
     let room = length (a .out .now) in
     let n = f .find-leaves .result .refusal in
     refused-answer (adding (a .text .now) (a .kept .now) (a .prefix .now) (a .fields .now) room) (a .out .now) n (record { 0 = 0 })
-    (add-tangled (a .text .now) (a .kept .now) (own (p .before .before .before)) (a .prefix .now) (a .fields .now) room (formed (p .before)) (prior (e .before) ∙ e .if2 .left) n (graph-refusal (links (ps f)) (f .find-leaves .result) (f .find-leaves .ensures)) (c .if3 .taken))
+    (add-tangled (a .text .now) (a .kept .now) (own (p .before .before .before)) (a .prefix .now) (a .fields .now) room (formed (p .before)) (prior (e .before) ∙ e .if2 .left) n (graph-refusal (links (ps f)) (f .find-leaves .result) (graph-is f)) (c .if3 .taken))
 
 array-share-prefix-list : tie.Need-array-share-prefix-list
 array-share-prefix-list c = let e = c .before .before in front-inside (xs e) (asked e .find-leaves .result .leaves .list) (asked e .find-leaves .result .leaves .count) (listed e) (counted e)
@@ -177,11 +191,11 @@ add-after-requires : tie.Need-add-after-requires
 add-after-requires c κs =
     let e = c .before .before .before .before .before in
     let g = gathered e in
-    let p = g .before in
+    let p = g .before .before .before .before .before in
     let a = p .before .before .before .before .before .before .before .before .before .before .before .args in (
       accepted g,
       (
-        (own-placed (text g) (accepted g) (g .gather .result) (gathers g), ids-are g),
+        (own-placed (text g) (accepted g) (held g) (gathers g), ids-are g),
         (
           (
             in-form (a .prefix .now) (given (a .fields .now)) (formed (p .before)) .stop,
@@ -208,8 +222,8 @@ returns-5 : tie.Need-returns-5
 returns-5 c =
     let w = c .before .before in
     let l = w .before .before .before .before .before .before in
-    let e = l .before .before .before in
-    let p = e .before .before .before .before .before .before .before .before in
+    let e = l .before .before .before .before in
+    let p = e .before .before .before .before .before .before .before .before .before in
     let a = p .before .before .before .before .before .before .before .before .before .before .before .args in
     let room = length (a .out .now) in
     let on : addingOn (recordsOf (a .text .now)) (a .prefix .now) (given (a .fields .now) .fields) room ≡ adding (a .text .now) (a .kept .now) (a .prefix .now) (a .fields .now) room =
@@ -233,6 +247,7 @@ add-spec =
     slice-aggregate-lens
     is-stray-requires
     returns-2
+    parents-of-requires
     find-leaves-requires
     returns-3
     array-share-prefix-list

@@ -60,11 +60,8 @@ module _ (c : tie.After-enum-told) where
   few : length ls ≤ 1024
   few = omega (arith, opens .few, links-count (programs (recordsOf t)))
 
-gather-requires : tie.Need-gather-requires
-gather-requires c κs = opens c .entries
-
 find-requires : tie.Need-find-requires
-find-requires c κs = (opens (c .before) .accepted, opens (c .before) .gathers (c .gather .result) (c .gather .ensures))
+find-requires c κs = (opens c .accepted, own c .own)
 
 stopped-requires-2 : tie.Need-stopped-requires-2
 stopped-requires-2 c κs = search needs
@@ -72,7 +69,7 @@ stopped-requires-2 c κs = search needs
 returns : tie.Need-returns
 returns c =
     let f = c .before .before .before in
-    let e = f .before .before in
+    let e = f .before in
     let n = f .find .result .refusal in
     let r = stopped-says (leafingTable (t e) (s e) (room e) (seats e)) n (record { 0 = 0 }) (start e .args .out .now)
     (table-tangled (t e) (s e) (room e) (seats e) (own e) n (f .find .ensures .refusal) (c .before .if1 .taken)) (c .stopped2 .result) (c .stopped2 .ensures) in
@@ -85,7 +82,7 @@ returns-2 : tie.Need-returns-2
 returns-2 c =
     let l = c .before .before .before in
     let f = l .before .before in
-    let e = f .before .before in
+    let e = f .before in
     let z = l .if1 .left in
     let r = stopped-says (leafingTable (t e) (s e) (room e) (seats e)) 20 (record { 0 = 0 }) (start e .args .out .now)
     (table-short (t e) (s e) (room e) (seats e) (own e) (sym (f .find .ensures .refusal) ∙ z) (omega (arith, c .before .if2 .taken, f .find .ensures .count z))) (c .stopped3 .result) (c .stopped3 .ensures) in
@@ -100,7 +97,7 @@ module _ (w : tie.Else2) where
   asked = else1 .before .before
 
   abbrev told : tie.After-enum-told
-  told = asked .before .before
+  told = asked .before
 
   untangled : asked .find .result .refusal ≡ 0
   untangled = else1 .if1 .left
@@ -165,7 +162,6 @@ make-plan-spec =
     enum-known-n
     stopped-requires
     enum-told
-    gather-requires
     find-requires
     stopped-requires-2
     returns

@@ -4,7 +4,7 @@ use native.Mathlib.Omega.{arith}
 use borrow.Author.Needs.{needs}
 use lib.ListN.{length}
 use Rattle.entries.proofs.Walk.{turn-within}
-use Rattle.programs.proofs.Noting.{Listed, listed-none, listed-all, listed-other, listed-room, listed-more}
+use Rattle.programs.proofs.Noting.{Listed, listed-start, listed-all, listed-other, listed-room, listed-more}
 use Rattle.programs.proofs.gather.Statement.{statement}
 use Rattle.programs.proofs.gather.Tie as tie
 
@@ -15,7 +15,10 @@ abbrev μ-loop : tie.MeasureT-loop
 μ-loop catalogue ats₀ lens₀ from₀ widths₀ count₀ at₀ ats lens from widths count at = length catalogue - at
 
 loop-holds : tie.Need-loop-holds Inv-loop μ-loop
-loop-holds c = listed-none _ (c .before .pre)
+loop-holds c =
+    let s = c .before in
+    let z = s .pre .1 in
+    listed-start _ (s .args .ats .now) (s .args .lens .now) (s .args .from .now) (s .args .widths .now) (s .pre .0) (z .0) (z .1) (z .2) (z .3)
 
 entry-at-requires : tie.Need-entry-at-requires Inv-loop μ-loop
 entry-at-requires c κs = search needs
@@ -53,26 +56,26 @@ find-previous-requires c κs = search needs
 mul-ats : tie.Need-mul-ats Inv-loop μ-loop
 mul-ats c = omega (arith, room (c .before .before))
 
-array-write-ats : tie.Need-array-write-ats Inv-loop μ-loop
-array-write-ats c = room (c .before .before)
+element-write-ats : tie.Need-element-write-ats Inv-loop μ-loop
+element-write-ats c = room (c .before .before)
 
 mul-lens : tie.Need-mul-lens Inv-loop μ-loop
 mul-lens c = omega (arith, room (c .before .before))
 
-array-write-lens : tie.Need-array-write-lens Inv-loop μ-loop
-array-write-lens c = room (c .before .before)
+element-write-lens : tie.Need-element-write-lens Inv-loop μ-loop
+element-write-lens c = room (c .before .before)
 
 mul-from : tie.Need-mul-from Inv-loop μ-loop
 mul-from c = omega (arith, room (c .before .before))
 
-array-write-from : tie.Need-array-write-from Inv-loop μ-loop
-array-write-from c = room (c .before .before)
+element-write-from : tie.Need-element-write-from Inv-loop μ-loop
+element-write-from c = room (c .before .before)
 
 mul-widths : tie.Need-mul-widths Inv-loop μ-loop
 mul-widths c = omega (arith, room (c .before .before))
 
-array-write-widths : tie.Need-array-write-widths Inv-loop μ-loop
-array-write-widths c = room (c .before .before)
+element-write-widths : tie.Need-element-write-widths Inv-loop μ-loop
+element-write-widths c = room (c .before .before)
 
 add-count : tie.Need-add-count Inv-loop μ-loop
 add-count c = omega (arith, room (c .before .before))
@@ -111,13 +114,13 @@ gather-spec =
     enum-known-e
     find-previous-requires
     mul-ats
-    array-write-ats
+    element-write-ats
     mul-lens
-    array-write-lens
+    element-write-lens
     mul-from
-    array-write-from
+    element-write-from
     mul-widths
-    array-write-widths
+    element-write-widths
     add-count
     loop-less
     loop-again

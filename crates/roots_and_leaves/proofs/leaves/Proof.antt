@@ -8,6 +8,7 @@ use Rattle.format.specs.Calls.{then, fitting, leafing, yes}
 use Rattle.accepted.specs.Read.{recordsOf}
 use Rattle.chains.specs.Parents.{inArray}
 use Rattle.chains.proofs.Arrays.{front, front-count, front-inside}
+use Rattle.parents.specs.Parents.{graphOf}
 use Rattle.parents.proofs.Road.{lent-count, lent-inside, lent-few, lent-within, lent-links, graph-refusal, graph-parents, graph-undangled, graph-list, graph-count}
 use Rattle.parser.specs.Answers.{answerOf, outputOf}
 use Rattle.roots_and_leaves.specs.Answers.{withHops}
@@ -34,15 +35,23 @@ own c = let a = c .before .before .before .before .before .before .args in fresh
 opens : (c : tie.After-enum-told) → let a = c .before .before .before .before .before .before .args in Opened (a .text .now) (a .kept .now)
 opens c = let a = c .before .before .before .before .before .before .args in opened (a .text .now) (a .kept .now) (own c .reads) (own c .own)
 
-gather-requires : tie.Need-gather-requires
-gather-requires c κs = opens c .entries
+parents-of-requires : tie.Need-parents-of-requires
+parents-of-requires c κs = (opens c .accepted, own c .own)
 
 find-leaves-requires : tie.Need-find-leaves-requires
-find-leaves-requires c κs = (opens (c .before) .accepted, opens (c .before) .gathers (c .gather .result) (c .gather .ensures))
+find-leaves-requires c κs = record {
+  ps = programs (recordsOf (c .before .before .before .before .before .before .before .args .text .now));
+  few = opens (c .before) .few;
+  is = c .parents-of .ensures;
+}
 
 -- the programs of the text
 abbrev ps : tie.After-find-leaves → List Program
 ps c = programs (recordsOf (c .before .before .before .before .before .before .before .before .args .text .now))
+
+-- what is found along their parents
+graph-is : (c : tie.After-find-leaves) → c .find-leaves .result ≡ graphOf (links (ps c))
+graph-is c = c .find-leaves .ensures (ps c) (opens (c .before .before) .few) (c .before .parents-of .ensures)
 
 returns : tie.Need-returns
 returns c =
@@ -52,26 +61,26 @@ returns c =
     let room = length (a .out .now) in
     let g = f .find-leaves .result in
     refused-leaves (leafing (a .text .now) (a .kept .now) room) (a .out .now) (g .refusal) (record { 0 = 0 })
-    (leaves-tangled (a .text .now) (a .kept .now) (own e) room (g .refusal) (graph-refusal (links (ps f)) g (f .find-leaves .ensures)) (c .if1 .taken))
+    (leaves-tangled (a .text .now) (a .kept .now) (own e) room (g .refusal) (graph-refusal (links (ps f)) g (graph-is f)) (c .if1 .taken))
 
 array-share-prefix-list : tie.Need-array-share-prefix-list
 array-share-prefix-list c =
     let f = c .before .before .before .before in
     let g = f .find-leaves .result in
-    lent-inside (ps f) (opens (f .before .before) .few) (g .parents) (graph-parents (links (ps f)) g (f .find-leaves .ensures))
+    lent-inside (ps f) (opens (f .before .before) .few) (g .parents) (graph-parents (links (ps f)) g (graph-is f))
 
 slice-aggregate-hops : tie.Need-slice-aggregate-hops
 slice-aggregate-hops c =
     let f = c .before .before .before .before .before in
     let g = f .find-leaves .result in
-    lent-count (ps f) (opens (f .before .before) .few) (g .parents) (graph-parents (links (ps f)) g (f .find-leaves .ensures))
+    lent-count (ps f) (opens (f .before .before) .few) (g .parents) (graph-parents (links (ps f)) g (graph-is f))
 
 hops-requires : tie.Need-hops-requires
 hops-requires c κs =
     let f = c .before .before .before .before .before in
     let g = f .find-leaves .result in
-    let q = graph-parents (links (ps f)) g (f .find-leaves .ensures) in
-    (lent-within (ps f) (opens (f .before .before) .few) (g .parents) q (graph-undangled (links (ps f)) g (f .find-leaves .ensures) (c .before .before .before .if1 .left)), lent-few (ps f) (opens (f .before .before) .few) (g .parents) q)
+    let q = graph-parents (links (ps f)) g (graph-is f) in
+    (lent-within (ps f) (opens (f .before .before) .few) (g .parents) q (graph-undangled (links (ps f)) g (graph-is f) (c .before .before .before .if1 .left)), lent-few (ps f) (opens (f .before .before) .few) (g .parents) q)
 
 -- what is found: the leaves in an array, as they are lent
 module _ (e : tie.Else1) where
@@ -82,10 +91,10 @@ module _ (e : tie.Else1) where
   xs = leaves (links (ps asked))
 
   listed : asked .find-leaves .result .leaves .list ≡ inArray xs
-  listed = graph-list (links (ps asked)) (asked .find-leaves .result) (asked .find-leaves .ensures) (e .if1 .left)
+  listed = graph-list (links (ps asked)) (asked .find-leaves .result) (graph-is asked) (e .if1 .left)
 
   counted : asked .find-leaves .result .leaves .count ≡ length xs
-  counted = graph-count (links (ps asked)) (asked .find-leaves .result) (asked .find-leaves .ensures) (e .if1 .left)
+  counted = graph-count (links (ps asked)) (asked .find-leaves .result) (graph-is asked) (e .if1 .left)
 
 array-share-prefix-ordinals : tie.Need-array-share-prefix-ordinals
 array-share-prefix-ordinals c = let e = c .before .before .before .before .before .before .before in front-inside (xs e) (asked e .find-leaves .result .leaves .list) (asked e .find-leaves .result .leaves .count) (listed e) (counted e)
@@ -121,7 +130,7 @@ returns-3 c =
     let a = e .before .before .before .before .before .before .args in
     let room = length (a .out .now) in
     let g = f .find-leaves .result in
-    let is = f .find-leaves .ensures in
+    let is = graph-is f in
     let sum = h .hops .ensures ∙ ap hops (lent-links (ps f) (opens (f .before .before) .few) (g .parents) (graph-parents (links (ps f)) g is) (graph-undangled (links (ps f)) g is (l .if1 .left))) in
     let found = front (xs l) (g .leaves .list) (g .leaves .count) (listed l) (counted l) in
     let told = written-leaves (h .hops .result) (leafing (a .text .now) (a .kept .now) room) room (xs l) (a .out .now)
@@ -137,7 +146,7 @@ leaves-spec =
     check-requires
     enum-known-n
     enum-told
-    gather-requires
+    parents-of-requires
     find-leaves-requires
     returns
     array-share-prefix-list

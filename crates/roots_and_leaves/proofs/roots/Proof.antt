@@ -33,30 +33,27 @@ own c = let a = c .before .before .before .before .before .before .args in fresh
 opens : (c : tie.After-enum-told) → let a = c .before .before .before .before .before .before .args in Opened (a .text .now) (a .kept .now)
 opens c = let a = c .before .before .before .before .before .before .args in opened (a .text .now) (a .kept .now) (own c .reads) (own c .own)
 
-gather-requires : tie.Need-gather-requires
-gather-requires c κs = opens c .entries
-
-find-parents-requires : tie.Need-find-parents-requires
-find-parents-requires c κs = (opens (c .before) .accepted, opens (c .before) .gathers (c .gather .result) (c .gather .ensures))
+parents-of-requires : tie.Need-parents-of-requires
+parents-of-requires c κs = (opens c .accepted, own c .own)
 
 -- the programs of the text
-abbrev ps : tie.After-find-parents → List Program
-ps c = programs (recordsOf (c .before .before .before .before .before .before .before .before .args .text .now))
+abbrev ps : tie.After-parents-of → List Program
+ps c = programs (recordsOf (c .before .before .before .before .before .before .before .args .text .now))
 
 array-share-prefix-list : tie.Need-array-share-prefix-list
-array-share-prefix-list c = let f = c .before in lent-inside (ps f) (opens (f .before .before) .few) (f .find-parents .result) (f .find-parents .ensures)
+array-share-prefix-list c = let f = c .before in lent-inside (ps f) (opens (f .before) .few) (f .parents-of .result) (f .parents-of .ensures)
 
 slice-aggregate-roots : tie.Need-slice-aggregate-roots
-slice-aggregate-roots c = let f = c .before .before in lent-count (ps f) (opens (f .before .before) .few) (f .find-parents .result) (f .find-parents .ensures)
+slice-aggregate-roots c = let f = c .before .before in lent-count (ps f) (opens (f .before) .few) (f .parents-of .result) (f .parents-of .ensures)
 
 roots-requires : tie.Need-roots-requires
-roots-requires c κs = let f = c .before .before in lent-few (ps f) (opens (f .before .before) .few) (f .find-parents .result) (f .find-parents .ensures)
+roots-requires c κs = let f = c .before .before in lent-few (ps f) (opens (f .before) .few) (f .parents-of .result) (f .parents-of .ensures)
 
 -- what is found: the roots in an array
 found : (c : tie.After-roots) → let xs = roots (links (ps (c .before .before .before))) in (c .roots .result .list ≡ inArray xs) × (c .roots .result .count ≡ length xs)
 found c =
     let f = c .before .before .before in
-    let l = lent-roots (ps f) (opens (f .before .before) .few) (f .find-parents .result) (f .find-parents .ensures) in
+    let l = lent-roots (ps f) (opens (f .before) .few) (f .parents-of .result) (f .parents-of .ensures) in
     (c .roots .ensures .0 ∙ ap inArray l, c .roots .ensures .1 ∙ ap length l)
 
 array-share-prefix-ordinals : tie.Need-array-share-prefix-ordinals
@@ -85,7 +82,7 @@ returns-2 c =
     let w = c .before .before in
     let r = w .before .before .before .before in
     let f = r .before .before .before in
-    let e = f .before .before in
+    let e = f .before in
     let a = e .before .before .before .before .before .before .args in
     let room = length (a .out .now) in
     let xs = roots (links (ps f)) in
@@ -100,8 +97,7 @@ roots-spec =
     check-requires
     enum-known-n
     enum-told
-    gather-requires
-    find-parents-requires
+    parents-of-requires
     array-share-prefix-list
     slice-aggregate-roots
     roots-requires
