@@ -5,7 +5,7 @@
  * Stack: for texts of at most 256 KiB a call takes at most 64 KiB, but for leaves_by_table, which takes 72, and judge_merge, which takes 192; for longer
  * texts any call takes at most 900 KiB. The calls with a work area take at most 64 KiB for any text. examples/stack.c measures it.
  *
- * Room that always suffices: for read 3 * text_len + 1 bytes; for tidy, prune, carry_on and binary_in as many as the text has and one more, and two numbers for each line in carry_on's table; for binary_out twice text_len and 14; for roots, leaves and leaves_by_table 1,024 ordinals, and 1,024 records in leaves_by_table's table; for names as many ordinals as the
+ * Room that always suffices: for read 3 * text_len + 1 bytes; for tidy, prune, carry_on and binary_in as many as the text has and one more, and two numbers for each line in carry_on's table; for binary_out twice text_len and 14; for roots, leaves and leaves_by_table 1,024 ordinals, and 1,024 records in leaves_by_table's table; for references three numbers for each SQ, and as many as text_len always suffice; for names as many ordinals as the
  * list has names, and the slots that are said there; for add what tidy needs and for each new program, one after each leaf, prefix_len + fields_len, twice
  * the leaf's ID and 13 bytes more. An output that is too short is refusal 20.
  *
@@ -66,7 +66,7 @@ enum {
     SAM_HEADER_DANGLING = 22,      /* a PP names no program */
     SAM_HEADER_CYCLE = 23,
     SAM_HEADER_UNWRITABLE = 24,    /* SN can't be written */
-    SAM_HEADER_NO_RECORD = 25,     /* kind not served, or no record at that ordinal */
+    SAM_HEADER_NO_RECORD = 25,     /* kind not served, or no record at that ordinal or with that key */
     SAM_HEADER_BAD_GIVEN = 26,     /* add: prefix or fields */
     SAM_HEADER_LONG_LENGTH = 27,   /* LN of SQ: above 2,147,483,647, in 64 bits */
     SAM_HEADER_BAD_BINARY = 28,    /* binary_in, binary_len: not the form of a binary header */
@@ -152,6 +152,11 @@ uint64_t sam_header_count(const uint8_t *text, size_t text_len, const uint8_t *c
 uint64_t sam_header_key(const uint8_t *text, size_t text_len, const uint8_t *catalogue, size_t catalogue_len, uint8_t kind,
                         uint32_t ordinal);
 
+/* The ordinal of the SQ, RG or PG whose key, SN or ID, is `key`, of any bytes: the inverse of sam_header_key. 25 where there is none, and for
+ * another kind. Each call looks through the records one after another: for many names of SQ ask sam_header_names. */
+uint64_t sam_header_find(const uint8_t *text, size_t text_len, const uint8_t *catalogue, size_t catalogue_len, uint8_t kind,
+                         const uint8_t *key, size_t key_len);
+
 /* The line on which a record of kind 1 to 5 stands: lines count from 0, and every line counts, of whatever kind. */
 uint64_t sam_header_line(const uint8_t *text, size_t text_len, const uint8_t *catalogue, size_t catalogue_len, uint8_t kind,
                          uint32_t ordinal);
@@ -159,6 +164,11 @@ uint64_t sam_header_line(const uint8_t *text, size_t text_len, const uint8_t *ca
 /* The LN of an SQ in `*length`, and 0. It is 1 to 2,147,483,647: reading refuses any other. */
 uint64_t sam_header_length(const uint8_t *text, size_t text_len, const uint8_t *catalogue, size_t catalogue_len, uint32_t ordinal,
                            uint64_t *length);
+
+/* Three numbers for each SQ, in order, in `table`, at its front: the offset of its SN, the length of that, and its LN; table_len counts numbers.
+ * The answer is how many SQ there are, a third of the numbers written. 20 for a table with fewer than three numbers for each. */
+uint64_t sam_header_references(const uint8_t *text, size_t text_len, const uint8_t *catalogue, size_t catalogue_len, uint32_t *table,
+                               size_t table_len);
 
 /* Where the value of a record's field stands, by the two bytes of its tag: its offset shifted left by 32, and its length; a key is no field.
  * SAM_HEADER_STAND_IN, in place of any refusal, where there is no such field or anything is amiss. */

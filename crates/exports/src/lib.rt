@@ -21,6 +21,11 @@ ghost use Rattle.words.specs.Words.{answerWord, checkedWord, carriedWord, leave
 ghost use Rattle.words.specs.Words.{namesWord, namesLeft, verdictWord, lenWord};
 ghost use Rattle.text_len.specs.TextLen.{textLen};
 ghost use Rattle.binary_len.specs.BinaryLen.{binaryLen};
+ghost use Rattle.find.specs.Finding.{finding};
+ghost use Rattle.find.specs.Answers.{findAnswerOf};
+ghost use Rattle.references.specs.Referencing.{referencing};
+ghost use Rattle.references.specs.Answers.{rowCountOf, numbersOf};
+ghost use Rattle.words.specs.Words.{findWord};
 
 #[no_mangle]
 pub extern "C" fn sam_header_read(text: &[u8], catalogue: &mut [u8]) -> u64
@@ -195,6 +200,22 @@ pub extern "C" fn sam_header_line(text: &[u8], catalogue: &[u8], kind: u8, ordin
     ensures { λ r. ⌜ r ≡ lineWord (lineAnswerOf (locating (now (text .entry)) (now (catalogue .entry)) kind ordinal)) ⌝ }
 {
     words::line_word(calls::line(text, catalogue, kind, ordinal))
+}
+
+#[no_mangle]
+pub extern "C" fn sam_header_find(text: &[u8], catalogue: &[u8], kind: u8, key: &[u8]) -> u64
+    ensures { λ r. ⌜ r ≡ findWord (findAnswerOf (finding (now (text .entry)) (now (catalogue .entry)) kind (now (key .entry)))) ⌝ }
+{
+    words::find_word(find::find(text, catalogue, kind, key))
+}
+
+#[no_mangle]
+pub extern "C" fn sam_header_references(text: &[u8], catalogue: &[u8], table: &mut [u32]) -> u64
+    ensures answer { λ r. ⌜ r ≡ answerWord (rowCountOf (referencing (now (text .entry)) (now (catalogue .entry)) (length (now (table .entry))))) ⌝ }
+    ensures wrote { λ _. ⌜ now (table .exit) ≡ outputOf
+        (numbersOf (referencing (now (text .entry)) (now (catalogue .entry)) (length (now (table .entry))))) (now (table .entry)) ⌝ }
+{
+    words::answer_word(references::references(text, catalogue, table))
 }
 
 #[no_mangle]

@@ -10,6 +10,7 @@
 // and one more; their answers were written by hand from these documents. 188 are longer, and answered by a model written from these alone.
 // `names.txt`: questions to `names`, answered by a model written from document 02 alone.
 // `requests.txt`: questions to every call, answered by that model, request by request.
+// `more.txt`: questions to the calls that no document names, answered by a model written from what was asked of them, and their edges by hand.
 // `merges.txt`: merges that samtools, picard and sambamba made of small headers, judged by a model written from document 02 alone (`oracle/merges`).
 // `lens.txt`: fronts of SAM files and of uncompressed BAM streams, to `text_len` and `binary_len`: answered by that model, written by samtools, and
 // corners written by hand.
@@ -27,8 +28,10 @@
 //     add TEXT KEPT ROOM PREFIX FIELDS ok BYTES
 //     names TEXT KEPT LIST WORK ROOM ok ORDINALS INDEX LOOKS
 //     prune TEXT KEPT ROOM USED ok BYTES
+//     find TEXT KEPT KIND KEY ok ORDINAL
+//     references TEXT KEPT ROOM ok COUNT ROWS
 // or `refused NUMBER LINE` in place of `ok ..`. ORDINALS have four hex digits each; those of names and of USED have eight, and so have the
-// slots of INDEX and the parent and the depth of each program in ROWS; SEATS is how many records the table has; LOOKS is `-` where it is not
+// slots of INDEX, the parent and the depth of each program in ROWS, and each number of a row of references; SEATS is how many records the table has; LOOKS is `-` where it is not
 // stored. Over a text alone:
 //     program TEXT BYTES
 //     tidy TEXT ROOM ok BYTES
@@ -63,6 +66,7 @@ use replay_asked::BY_TABLE;
 use replay_asked::CARRIED;
 use replay_asked::COUNT;
 use replay_asked::FIELD;
+use replay_asked::FIND;
 use replay_asked::FOUND;
 use replay_asked::KEY;
 use replay_asked::LEAVES;
@@ -75,6 +79,7 @@ use replay_asked::PROGRAM;
 use replay_asked::PRUNED;
 use replay_asked::READ;
 use replay_asked::READ_WITH;
+use replay_asked::REFERENCES;
 use replay_asked::REFUSED;
 use replay_asked::ROOTS;
 use replay_asked::TEXT_LEN;
@@ -96,6 +101,8 @@ fn is_call(line: &[u8], asked: usize, text: &[u8], kept: &[u8], out: &mut [u32])
         ROOTS => replay_graphs::is_roots(line, text, kept, out),
         LEAVES => replay_graphs::is_leaves(line, text, kept, out),
         BY_TABLE => replay_table::is_leaves_by_table(line, text, kept, out),
+        FIND => replay_found::is_found(line, text, kept),
+        REFERENCES => replay_found::is_referenced(line, text, kept, out),
         _ => false,
     }
 }
@@ -173,7 +180,7 @@ fn is_right(line: &[u8], asked: usize) -> bool {
         return replay_lens::is_binary_len(line);
     }
     let mut text = io::large_buffer();
-    if asked < PROGRAM {
+    if asked < PROGRAM || asked == FIND || asked == REFERENCES {
         let n = stored_cases::decode(stored_cases::word(line, 1), &mut text);
         return is_answer(line, asked, &text[..n]);
     }
@@ -286,7 +293,7 @@ fn replay(place: usize) {
         os::fail(&name[..n]);
         return;
     }
-    let mut tally: [u32; 28] = [0; 28];
+    let mut tally: [u32; 33] = [0; 33];
     all_blocks(fd, &mut tally);
     libc::close(fd);
     io::write_all(STDOUT_FILENO, &name[..n]);

@@ -60,6 +60,10 @@ pub const TEXT_LEN: usize = 26;
 
 pub const BINARY_LEN: usize = 27;
 
+pub const FIND: usize = 28;
+
+pub const REFERENCES: usize = 29;
+
 // What a line asks: its first word is a call, or its second what the crate makes of the text.
 pub fn asked_by(line: &[u8]) -> usize {
     let call = stored_cases::word(line, 0);
@@ -98,6 +102,18 @@ pub fn asked_by(line: &[u8]) -> usize {
     }
     if text::same(call, b"judge_merge") {
         return MERGED;
+    }
+    found_by(line)
+}
+
+// What a line asks about a key, or about all references.
+fn found_by(line: &[u8]) -> usize {
+    let call = stored_cases::word(line, 0);
+    if text::same(call, b"find") {
+        return FIND;
+    }
+    if text::same(call, b"references") {
+        return REFERENCES;
     }
     written_by(line)
 }
@@ -175,7 +191,7 @@ fn print_count(name: &[u8], n: u32) {
 
 // Writes how many lines ask for something written.
 fn print_written(tally: &[u32])
-    requires { ⌜ length (now tally) ≡ 28 ⌝ }
+    requires { ⌜ length (now tally) ≡ 33 ⌝ }
 {
     print_count(b" add ", tally[ADDED]);
     print_count(b" names ", tally[NAMES]);
@@ -192,15 +208,23 @@ fn print_written(tally: &[u32])
 
 // Writes how many lines ask how long a header is.
 fn print_lens(tally: &[u32])
-    requires { ⌜ length (now tally) ≡ 28 ⌝ }
+    requires { ⌜ length (now tally) ≡ 33 ⌝ }
 {
     print_count(b" text_len ", tally[TEXT_LEN]);
     print_count(b" binary_len ", tally[BINARY_LEN]);
 }
 
+// Writes how many lines ask about a key, or about all references.
+fn print_sought(tally: &[u32])
+    requires { ⌜ length (now tally) ≡ 33 ⌝ }
+{
+    print_count(b" find ", tally[FIND]);
+    print_count(b" references ", tally[REFERENCES]);
+}
+
 // Writes how many lines ask each call.
 pub fn print_asked(tally: &[u32])
-    requires { ⌜ length (now tally) ≡ 28 ⌝ }
+    requires { ⌜ length (now tally) ≡ 33 ⌝ }
 {
     print_count(b" count ", tally[COUNT]);
     print_count(b" key ", tally[KEY]);
@@ -212,11 +236,12 @@ pub fn print_asked(tally: &[u32])
     print_count(b" leaves_by_table ", tally[BY_TABLE]);
     print_written(tally);
     print_lens(tally);
+    print_sought(tally);
 }
 
 // Writes how many texts the crate judged in each way, and how many lines ask nothing.
 pub fn print_judged(tally: &[u32])
-    requires { ⌜ length (now tally) ≡ 28 ⌝ }
+    requires { ⌜ length (now tally) ≡ 33 ⌝ }
 {
     print_count(b" refused ", tally[REFUSED]);
     print_count(b" accepted ", tally[ACCEPTED]);
@@ -226,7 +251,7 @@ pub fn print_judged(tally: &[u32])
 
 // Writes how many answers were wrong, and how many of the marked lines were found.
 pub fn print_found(tally: &[u32])
-    requires { ⌜ length (now tally) ≡ 28 ⌝ }
+    requires { ⌜ length (now tally) ≡ 33 ⌝ }
 {
     print_number(b" wrong ", tally[WRONG]);
     print_number(b", known wrong found ", tally[FOUND]);

@@ -14,6 +14,8 @@ use Rattle.calls.specs.declared.LengthAnswer.{LengthAnswer}
 use Rattle.calls.specs.declared.LengthAnswer.the-variants as ln
 use Rattle.calls.specs.declared.LineAnswer.{LineAnswer}
 use Rattle.calls.specs.declared.LineAnswer.the-variants as line
+use Rattle.find.specs.declared.FindAnswer.{FindAnswer}
+use Rattle.find.specs.declared.FindAnswer.the-variants as find
 use Rattle.roots_and_leaves.specs.declared.LeavesAnswer.{LeavesAnswer}
 use Rattle.roots_and_leaves.specs.declared.LeavesAnswer.the-variants as leaves
 use Rattle.carry_on.specs.declared.Carried.{Carried}
@@ -78,6 +80,12 @@ unfoldable pub lineWord : LineAnswer → ℕ
 unfolding refusalWord
 lineWord (line.Refused n l) = refusalWord n (l .0)
 lineWord (line.Is l) = l .0
+
+-- the ordinal of a record
+unfoldable pub findWord : FindAnswer → ℕ
+unfolding refusalWord
+findWord (find.Refused n l) = refusalWord n (l .0)
+findWord (find.Is i) = i
 
 -- the value's offset and its length, or all ones where the stand-in takes its place
 unfoldable pub fieldWord : ValuePlace → ℕ

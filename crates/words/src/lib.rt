@@ -4,6 +4,7 @@ use calls::KeyAnswer;
 use calls::LineAnswer;
 use calls::ValuePlace;
 use carry_on::Carried;
+use find::FindAnswer;
 use format::LineNo;
 use merge_judge::Verdict;
 use merge_judge::Which;
@@ -14,6 +15,7 @@ ghost use mathlib.Core.Path.{_≡_};
 ghost use Prim.Native.Nat.{_≤_};
 ghost use Rattle.words.specs.Words.{refusalWord, answerWord, checkedWord, pairWord, FitsHalves, carriedWord, keyWord, lineWord, fieldWord};
 ghost use Rattle.words.specs.Words.{FewLeaves, leavesWord, aboutNumber, unfitWord, verdictWord, shortWord, lenWord};
+ghost use Rattle.words.specs.Words.{findWord};
 
 // A refusal: bit 63, its number and its line.
 pub fn refusal_word(n: u8, line: LineNo) -> u64
@@ -88,6 +90,16 @@ pub fn line_word(answer: LineAnswer) -> u64
     match answer {
         LineAnswer::Refused(n, line) => refusal_word(n, line),
         LineAnswer::Is(line) => line.0 as u64,
+    }
+}
+
+// The ordinal of a record.
+pub fn find_word(answer: FindAnswer) -> u64
+    ensures { λ r. ⌜ r ≡ findWord answer ⌝ }
+{
+    match answer {
+        FindAnswer::Refused(n, line) => refusal_word(n, line),
+        FindAnswer::Is(ordinal) => ordinal as u64,
     }
 }
 
