@@ -2,7 +2,7 @@
 use Prim.Native.Nat.{ℕ, _≤_}
 use mathlib.Core.Path.{_≡_, refl, sym, ap, _∙_}
 use mathlib.Core.Bool.{Bool, true, false, cond}
-use mathlib.Core.Logic.{_⊎_, inl, inr}
+use mathlib.Core.Logic.{inl, inr}
 use mathlib.Core.List.{List}
 use lib.ListN.{length}
 use native.Mathlib.Omega.{arith}
@@ -25,7 +25,7 @@ use Rattle.parser.proofs.Told.{fits}
 use Rattle.sha256.specs.Sha256.{sha256}
 use Rattle.sha256.proofs.Laws.{digest-length}
 use Rattle.seal.specs.Seal.{sealing, ownSeal, checkingSealed}
-use Rattle.seal_laws.specs.Sealed.{Collision, sealed, Sealed}
+use Rattle.seal_laws.specs.Sealed.{EqualOrCollision, sealed, Sealed}
 
 -- ---- what has been sealed
 
@@ -75,10 +75,10 @@ writable : (t : List ℕ) (rs : List Record) → records t ≡ yes rs → Writab
 writable t rs r = gathered-writable t rs (text-gathered t rs (read-of t rs r))
 
 told : (t u s : List ℕ) (rs qs : List Record) (room more : ℕ) → records t ≡ yes rs → records u ≡ yes qs
-    → sealing t room ≡ yes s → sealing u more ≡ yes s → Equal rs qs ⊎ Collision (tidy rs) (tidy qs)
+    → sealing t room ≡ yes s → sealing u more ≡ yes s → EqualOrCollision rs qs
 told t u s rs qs room more r q e f = go (same (tidy rs) (tidy qs)) refl
   where
-    go : (b : Bool) → same (tidy rs) (tidy qs) ≡ b → Equal rs qs ⊎ Collision (tidy rs) (tidy qs)
+    go : (b : Bool) → same (tidy rs) (tidy qs) ≡ b → EqualOrCollision rs qs
     go true h = inl (tidy-tells rs qs (writable t rs r) (writable u qs q) (given t s rs room r e .fits) (same-equal (tidy rs) (tidy qs) h))
     go false h =
         inr (record {
@@ -100,7 +100,7 @@ own-seal s own rs qs e = go (same s own) refl e
     go false q e = absurd (never (cc))
 
 passed : (t u c s : List ℕ) (rs qs : List Record) (room more : ℕ) → records t ≡ yes rs → sealing t room ≡ yes s → checkingSealed u c s more ≡ yes qs
-    → Equal rs qs ⊎ Collision (tidy rs) (tidy qs)
+    → EqualOrCollision rs qs
 unfolding checkingSealed records readAnswer
 passed t u c s rs qs room more r e k =
     let f = then-yes (fresh u c) (λ rs. then (sealing u more) (λ own. ownSeal s own rs)) qs k in

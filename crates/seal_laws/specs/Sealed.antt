@@ -22,6 +22,10 @@ unfoldable pub sealed : List ℕ → Answer (List ℕ)
 unfolding sealing
 sealed t = sealing t 16777216
 
+-- what one seal says of two headers: they are equal, or their tidy texts are a collision
+abbrev pub EqualOrCollision : List Record → List Record → Type 0
+EqualOrCollision rs qs = Equal rs qs ⊎ Collision (tidy rs) (tidy qs)
+
 pub record Sealed : Type 0 where
   -- an accepted text of at most 16,777,215 bytes with allowed names has a seal: the digest of its tidy text
   pub has : (t : List ℕ) (rs : List Record) → Allowed t rs → sealed t ≡ yes (sha256 (tidy rs))
@@ -31,14 +35,14 @@ pub record Sealed : Type 0 where
   pub again : (t : List ℕ) (rs : List Record) → Allowed t rs → sealed (tidy rs) ≡ sealed t
   -- a seal has 32 bytes, whatever was sealed
   pub long : (t : List ℕ) (room : ℕ) (s : List ℕ) → sealing t room ≡ yes s → length s ≡ 32
-  -- two texts with one seal have equal records, or their tidy texts are a collision
+  -- two texts with one seal
   pub told : (t u s : List ℕ) (rs qs : List Record) (room more : ℕ)
       → records t ≡ yes rs → records u ≡ yes qs
       → sealing t room ≡ yes s → sealing u more ≡ yes s
-      → Equal rs qs ⊎ Collision (tidy rs) (tidy qs)
-  -- a text that passes with the seal of another has the other's records, or the two tidy texts are a collision
+      → EqualOrCollision rs qs
+  -- a text that passes with the seal of another
   pub passed : (t u c s : List ℕ) (rs qs : List Record) (room more : ℕ)
       → records t ≡ yes rs
       → sealing t room ≡ yes s
       → checkingSealed u c s more ≡ yes qs
-      → Equal rs qs ⊎ Collision (tidy rs) (tidy qs)
+      → EqualOrCollision rs qs
