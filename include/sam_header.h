@@ -10,8 +10,8 @@
  * list has names, and the slots that are said there; for add what tidy needs and for each new program, one after each leaf, prefix_len + fields_len, twice
  * the leaf's ID and 13 bytes more. An output that is too short is refusal 20.
  *
- * An answer of 2^63 or more is a refusal, which changes no byte (check_sealed's 33 says what it leaves). Any other counts what was written at the front of the output, where a call says
- * nothing else. docs/REFUSALS.md says of each number what it means, which calls give it and what its line is. */
+ * An answer of 2^63 or more is a refusal, which changes no byte (what check_sealed's 33 leaves is said there). Any other counts what was written at
+ * the front of the output, where a call says nothing else. docs/REFUSALS.md says of each number what it means, which calls give it and what its line is. */
 #ifndef SAM_HEADER_H
 #define SAM_HEADER_H
 
@@ -106,14 +106,14 @@ uint64_t sam_header_tidy(const uint8_t *text, size_t text_len, uint8_t *out, siz
 /* The same answer with a lent work area, as in sam_header_read_with. */
 uint64_t sam_header_tidy_with(const uint8_t *text, size_t text_len, uint8_t *out, size_t out_len, uint32_t *work, size_t work_len);
 
-/* Seals a header: its tidy text at the front of `work`, as sam_header_tidy writes it to its output and answers, and the SHA-256 of that text in `seal`, which has
- * 32 bytes. The seal is the header's: texts of equal records have one, in whatever order, spelling and line endings they came; two headers with one seal
- * would be a collision of SHA-256. Refused as tidy is, 20 for a short work area; then neither `work` nor `seal` changes. */
+/* Seals a header: its tidy text at the front of `work`, as sam_header_tidy writes it, and the SHA-256 of that text in `seal`, which has 32 bytes. The
+ * answer is sam_header_tidy's. The seal is the header's: texts of equal records have one, in whatever order, spelling and line endings they came; two
+ * headers with one seal would be a collision of SHA-256. Refused as tidy is, 20 for a short work area; then neither `work` nor `seal` changes. */
 uint64_t sam_header_seal(const uint8_t *text, size_t text_len, uint8_t *work, size_t work_len, uint8_t seal[32]);
 
-/* 0 if the catalogue is the one that reading this text gives and the seal, 32 bytes, is the one that sealing it gives. Reading's refusals, 21, then as tidy, 20 for
- * a short work area, then 33 for another header's seal: an edit that keeps every length, as of chr1 to chrX, is seen by it and not by sam_header_check. On 0, and on
- * 33 too, the tidy text is at the front of `work` and the rest of it is as it was; any other refusal changes nothing. */
+/* 0 if the catalogue is the one that reading this text gives and the seal, 32 bytes, is the one that sealing it gives. Reading's refusals, 21, then as
+ * tidy, 20 for a short work area, then 33 for another header's seal: an edit that keeps every length, as of chr1 to chrX, is seen here and not by
+ * sam_header_check. On 0, and on 33 too, the tidy text is at the front of `work` and the rest of it is as it was; any other refusal changes nothing. */
 uint64_t sam_header_check_sealed(const uint8_t *text, size_t text_len, const uint8_t *catalogue, size_t catalogue_len,
                                  const uint8_t seal[32], uint8_t *work, size_t work_len);
 

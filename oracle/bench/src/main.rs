@@ -9,6 +9,7 @@
 //! bench prune [--rounds N]             the sixth table (`pruned.rs`), where the archive has the call
 //! bench judge_merge [--rounds N]       the seventh table (`merged.rs`), where the archive has the call
 //! bench read_with [--rounds N]         the eighth table (`area.rs`), where the archive has the call
+//! bench seal [--rounds N] [FOLDER]     seals (`sealed.rs`), where the archive has the calls
 //!
 //! FOLDER has real headers, `*.sam` (default ../shared/headers beside the repository).
 //!
@@ -45,6 +46,8 @@ mod merged;
 mod names;
 #[cfg(feature = "prune")]
 mod pruned;
+#[cfg(feature = "seal")]
+mod sealed;
 #[cfg(feature = "table")]
 mod table;
 mod texts;
@@ -168,7 +171,7 @@ fn main() -> ExitCode {
     let args: Vec<String> = std::env::args().skip(1).collect();
     let args: Vec<&str> = args.iter().map(String::as_str).collect();
     let (call, args) = match args[..] {
-        [call @ ("names" | "carry_on" | "leaves_by_table" | "prune" | "judge_merge" | "read_with"), ref rest @ ..] => (call, rest),
+        [call @ ("names" | "carry_on" | "leaves_by_table" | "prune" | "judge_merge" | "read_with" | "seal"), ref rest @ ..] => (call, rest),
         _ => ("", &args[..]),
     };
     let (rounds, folder) = match *args {
@@ -177,7 +180,8 @@ fn main() -> ExitCode {
             || call == "leaves_by_table" && !cfg!(feature = "table")
             || call == "prune" && !cfg!(feature = "prune")
             || call == "judge_merge" && !cfg!(feature = "judge_merge")
-            || call == "read_with" && !cfg!(feature = "work") =>
+            || call == "read_with" && !cfg!(feature = "work")
+            || call == "seal" && !cfg!(feature = "seal") =>
         {
             eprintln!("the archive has no sam_header_{call}");
             return ExitCode::from(2);
@@ -220,6 +224,11 @@ fn main() -> ExitCode {
     #[cfg(feature = "work")]
     if call == "read_with" {
         area::table(rounds);
+        return ExitCode::SUCCESS;
+    }
+    #[cfg(feature = "seal")]
+    if call == "seal" {
+        sealed::table(rounds, Path::new(folder));
         return ExitCode::SUCCESS;
     }
     #[cfg(feature = "judge_merge")]

@@ -20,6 +20,8 @@ mod merged;
 #[cfg(feature = "prune")]
 mod pruned;
 mod reduce;
+#[cfg(feature = "seal")]
+mod sealed;
 #[cfg(feature = "table")]
 mod table;
 mod tally;
@@ -346,6 +348,7 @@ fn main() -> ExitCode {
         ("carry_on", cfg!(feature = "carry_on")),
         ("binary", cfg!(feature = "binary")),
         ("judge_merge", cfg!(feature = "judge_merge")),
+        ("seal", cfg!(feature = "seal")),
     ]
     .iter()
     .filter_map(|&(name, there)| there.then_some(name))
