@@ -52,6 +52,9 @@ static void do_judge_merge(void) {
 }
 static void do_read_with(void) { answer = sam_header_read_with(text, text_len, out, out_len, work, SLOTS); }
 static void do_check_with(void) { answer = sam_header_check_with(text, text_len, catalogue, catalogue_len, work, SLOTS); }
+static uint8_t seal[32];
+static void do_seal(void) { answer = sam_header_seal(text, text_len, out, out_len, seal); }
+static void do_check_sealed(void) { answer = sam_header_check_sealed(text, text_len, catalogue, catalogue_len, seal, out, out_len); }
 static void do_tidy_with(void) { answer = sam_header_tidy_with(text, text_len, out, out_len, work, SLOTS); }
 static void do_carry_on_with(void) { answer = sam_header_carry_on_with(text, text_len, out, out_len, table, 4096, work, SLOTS); }
 
@@ -78,6 +81,8 @@ static const struct {
     {"add", do_add, 64, 900},
     {"prune", do_prune, 64, 900},
     {"judge_merge", do_judge_merge, 192, 900},
+    {"seal", do_seal, 64, 900},
+    {"check_sealed", do_check_sealed, 64, 900},
     {"read_with", do_read_with, 64, 64},
     {"check_with", do_check_with, 64, 64},
     {"tidy_with", do_tidy_with, 64, 64},

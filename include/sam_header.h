@@ -5,12 +5,12 @@
  * Stack: for texts of at most 256 KiB a call takes at most 64 KiB, but for leaves_by_table, which takes 72, and judge_merge, which takes 192; for longer
  * texts any call takes at most 900 KiB. The calls with a work area take at most 64 KiB for any text. examples/stack.c measures it.
  *
- * Room that always suffices: for read 3 * text_len + 1 bytes; for tidy, prune, carry_on and binary_in as many as the text has and one more, and two numbers for each line in carry_on's table; for binary_out twice text_len and 14; for roots, leaves and leaves_by_table 1,024 ordinals, and 1,024 records in leaves_by_table's table; for references three numbers for each SQ, and as many as text_len always suffice; for names as many ordinals as the
+ * Room that always suffices: for read 3 * text_len + 1 bytes; for tidy, prune, carry_on, binary_in, seal and check_sealed as many as the text has and one more, and two numbers for each line in carry_on's table; for binary_out twice text_len and 14; for roots, leaves and leaves_by_table 1,024 ordinals, and 1,024 records in leaves_by_table's table; for references three numbers for each SQ, and as many as text_len always suffice; for names as many ordinals as the
  * list has names, and the slots that are said there; for add what tidy needs and for each new program, one after each leaf, prefix_len + fields_len, twice
  * the leaf's ID and 13 bytes more. An output that is too short is refusal 20.
  *
- * An answer of 2^63 or more is a refusal, which changes no byte. Any other counts what was written at the front of the output, where a call says
- * nothing else. docs/REFUSALS.md says of each number what it means, which calls give it and what its line is. */
+ * An answer of 2^63 or more is a refusal, which changes no byte (what check_sealed's 33 leaves is said there). Any other counts what was written at
+ * the front of the output, where a call says nothing else. docs/REFUSALS.md says of each number what it means, which calls give it and what its line is. */
 #ifndef SAM_HEADER_H
 #define SAM_HEADER_H
 
@@ -73,7 +73,8 @@ enum {
     SAM_HEADER_OTHER_LIST = 29,    /* binary_in: the reference list is not the text's SQ list */
     SAM_HEADER_MERGED_SQ = 30,     /* judge_merge: the merged SQ list, or shared names with other lengths */
     SAM_HEADER_MERGED_LISTS = 31,  /* judge_merge: the lists of ordinals */
-    SAM_HEADER_MERGED_IMAGE = 32   /* judge_merge: an image has other fields, or another parent */
+    SAM_HEADER_MERGED_IMAGE = 32,  /* judge_merge: an image has other fields, or another parent */
+    SAM_HEADER_OTHER_SEAL = 33     /* check_sealed: the seal is another header's */
 };
 
 /* Field's answer where the caller's stand-in takes the value's place: all ones. It has no number and no line. */
@@ -107,6 +108,17 @@ uint64_t sam_header_tidy(const uint8_t *text, size_t text_len, uint8_t *out, siz
 
 /* The same answer with a lent work area, as in sam_header_read_with. */
 uint64_t sam_header_tidy_with(const uint8_t *text, size_t text_len, uint8_t *out, size_t out_len, uint32_t *work, size_t work_len);
+
+/* Seals a header: its tidy text at the front of `work`, as sam_header_tidy writes it, and the SHA-256 of that text in `seal`, which has 32 bytes. The
+ * answer is sam_header_tidy's. The seal is the header's: texts of equal records have one, in whatever order, spelling and line endings they came; two
+ * headers with one seal would be a collision of SHA-256. Refused as tidy is, 20 for a short work area; then neither `work` nor `seal` changes. */
+uint64_t sam_header_seal(const uint8_t *text, size_t text_len, uint8_t *work, size_t work_len, uint8_t seal[32]);
+
+/* 0 if the catalogue is the one that reading this text gives and the seal, 32 bytes, is the one that sealing it gives. Reading's refusals, 21, then as
+ * tidy, 20 for a short work area, then 33 for another header's seal: an edit that keeps every length, as of chr1 to chrX, is seen here and not by
+ * sam_header_check. On 0, and on 33 too, the tidy text is at the front of `work` and the rest of it is as it was; any other refusal changes nothing. */
+uint64_t sam_header_check_sealed(const uint8_t *text, size_t text_len, const uint8_t *catalogue, size_t catalogue_len,
+                                 const uint8_t seal[32], uint8_t *work, size_t work_len);
 
 /* Goes on after lines that are refused: skips them and writes the tidy text of the others. In `table`, at its front, two numbers for each skipped
  * line, in order: the line and the refusal's number; table_len counts numbers. The answer is the skipped lines shifted left by 32, and the bytes written.

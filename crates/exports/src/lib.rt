@@ -26,6 +26,8 @@ ghost use Rattle.find.specs.Answers.{findAnswerOf};
 ghost use Rattle.references.specs.Referencing.{referencing};
 ghost use Rattle.references.specs.Answers.{rowCountOf, numbersOf};
 ghost use Rattle.words.specs.Words.{findWord};
+ghost use Rattle.seal.specs.Seal.{sealing, tidyingFresh, checkingSealed};
+ghost use Rattle.seal.specs.Answers.{sealLeft};
 
 #[no_mangle]
 pub extern "C" fn sam_header_read(text: &[u8], catalogue: &mut [u8]) -> u64
@@ -305,4 +307,28 @@ pub extern "C" fn sam_header_judge_merge(
         (now («list_a» .entry)) (now («list_b» .entry)))) ⌝ }
 {
     words::verdict_word(merge_judge::judge_merge(a, b, merged, list_a, list_b))
+}
+
+#[no_mangle]
+pub extern "C" fn sam_header_seal(text: &[u8], work: &mut [u8], seal: &mut [u8; 32]) -> u64
+    ensures answer { λ r. ⌜ r ≡ answerWord (answerOf (tidying (now (text .entry)) (length (now (work .entry))))) ⌝ }
+    ensures wrote { λ _. ⌜ now (work .exit) ≡ outputOf (tidying (now (text .entry)) (length (now (work .entry)))) (now (work .entry)) ⌝ }
+    ensures sealed { λ _. ⌜ now (seal .exit) ≡ sealLeft (sealing (now (text .entry)) (length (now (work .entry)))) (now (seal .entry)) ⌝ }
+{
+    words::answer_word(seal::seal(text, work, seal))
+}
+
+#[no_mangle]
+pub extern "C" fn sam_header_check_sealed(
+    text: &[u8],
+    catalogue: &[u8],
+    seal: &[u8; 32],
+    work: &mut [u8],
+) -> u64
+    ensures checked { λ r. ⌜ r ≡ checkedWord
+        (checkedOf (checkingSealed (now (text .entry)) (now (catalogue .entry)) (now (seal .entry)) (length (now (work .entry))))) ⌝ }
+    ensures wrote { λ _. ⌜ now (work .exit)
+        ≡ outputOf (tidyingFresh (now (text .entry)) (now (catalogue .entry)) (length (now (work .entry)))) (now (work .entry)) ⌝ }
+{
+    words::checked_word(seal::check_sealed(text, catalogue, seal, work))
 }

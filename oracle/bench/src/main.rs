@@ -10,6 +10,7 @@
 //! bench judge_merge [--rounds N]       the seventh table (`merged.rs`), where the archive has the call
 //! bench read_with [--rounds N]         the eighth table (`area.rs`), where the archive has the call
 //! bench lens [--rounds N]              the ninth table (`lens.rs`), where the archive has text_len and binary_len
+//! bench seal [--rounds N] [FOLDER]     seals (`sealed.rs`), where the archive has the calls
 //!
 //! FOLDER has real headers, `*.sam` (default ../shared/headers beside the repository).
 //!
@@ -48,6 +49,8 @@ mod merged;
 mod names;
 #[cfg(feature = "prune")]
 mod pruned;
+#[cfg(feature = "seal")]
+mod sealed;
 #[cfg(feature = "table")]
 mod table;
 mod texts;
@@ -171,7 +174,7 @@ fn main() -> ExitCode {
     let args: Vec<String> = std::env::args().skip(1).collect();
     let args: Vec<&str> = args.iter().map(String::as_str).collect();
     let (call, args) = match args[..] {
-        [call @ ("names" | "carry_on" | "leaves_by_table" | "prune" | "judge_merge" | "read_with" | "lens"), ref rest @ ..] => (call, rest),
+        [call @ ("names" | "carry_on" | "leaves_by_table" | "prune" | "judge_merge" | "read_with" | "lens" | "seal"), ref rest @ ..] => (call, rest),
         _ => ("", &args[..]),
     };
     let (rounds, folder) = match *args {
@@ -181,7 +184,8 @@ fn main() -> ExitCode {
             || call == "prune" && !cfg!(feature = "prune")
             || call == "judge_merge" && !cfg!(feature = "judge_merge")
             || call == "read_with" && !cfg!(feature = "work")
-            || call == "lens" && !cfg!(feature = "lens") =>
+            || call == "lens" && !cfg!(feature = "lens")
+            || call == "seal" && !cfg!(feature = "seal") =>
         {
             eprintln!("the archive has no sam_header_{call}");
             return ExitCode::from(2);
@@ -229,6 +233,11 @@ fn main() -> ExitCode {
     #[cfg(feature = "lens")]
     if call == "lens" {
         lens::table(rounds);
+        return ExitCode::SUCCESS;
+    }
+    #[cfg(feature = "seal")]
+    if call == "seal" {
+        sealed::table(rounds, Path::new(folder));
         return ExitCode::SUCCESS;
     }
     #[cfg(feature = "judge_merge")]

@@ -18,6 +18,8 @@ use crate::grown::{self, Grown};
 use crate::table::{self, Tabled};
 #[cfg(feature = "prune")]
 use crate::pruned;
+#[cfg(feature = "seal")]
+use crate::sealed::Sha256;
 use crate::{
     known::{self, Kind},
     tally::{Call, Tally},
@@ -352,6 +354,8 @@ pub struct Checker {
     work: Lent<u32>,
     #[cfg(feature = "table")]
     lender: table::Lender,
+    #[cfg(feature = "seal")]
+    sha256: Sha256,
     found: Vec<Difference>,
     pub tally: Tally,
 }
@@ -501,6 +505,8 @@ impl Checker {
         self.held(Call::Read, said);
         let said = outputs(&mut self.bytes, Err(r), |o| library::tidy(text, o));
         self.held(Call::Tidy, said);
+        #[cfg(feature = "seal")]
+        self.seal_refused(text, r);
         #[cfg(feature = "binary")]
         self.binary_refused(text, r);
         for catalogue in [&b""[..], b"\x01\x01\x00\x00\x00\x06\x00\x00\x00\x00\x00\x00\x00"] {
@@ -578,6 +584,8 @@ impl Checker {
         }
 
         self.tidy(text, header);
+        #[cfg(feature = "seal")]
+        self.seal(text, catalogue, &damaged, header, &mut rng);
         #[cfg(feature = "binary")]
         self.binary(text, header, &mut rng);
         #[cfg(feature = "lookup")]
@@ -902,6 +910,74 @@ impl Checker {
         let (c, used) = (rng.of(damaged), rng.of(&lists));
         let said = outputs(&mut self.bytes, Err(STALE), |o| library::prune(text, c, used, o));
         self.said(Call::Prune, 21, said);
+    }
+}
+
+/// What a seal holds before a call.
+#[cfg(feature = "seal")]
+const UNSEALED: [u8; 32] = [0x5A; 32];
+
+/// The seal of another header.
+#[cfg(feature = "seal")]
+const OTHER: Refusal = Refusal { number: 33, line: 0 };
+
+#[cfg(feature = "seal")]
+impl Checker {
+    // A refused text gives reading's refusal, whatever the catalogue and the seal hold, and neither the work area nor the seal changes.
+    fn seal_refused(&mut self, text: &[u8], r: Refusal) {
+        let mut seal = UNSEALED;
+        let said = outputs(&mut self.bytes, Err(r), |o| library::seal(text, o, &mut seal));
+        let said = said.or((seal != UNSEALED).then(|| "a refusal changed the seal".into()));
+        self.held(Call::Seal, said);
+        let said = outputs(&mut self.bytes, Err(r), |o| library::check_sealed(text, b"", &seal, o));
+        self.held(Call::CheckSealed, said);
+    }
+
+    // The check of a seal that is another header's: 33 comes when the tidy text stands in the work area, and any other refusal as tidying's.
+    fn other_seal(&mut self, text: &[u8], catalogue: &[u8], seal: &[u8; 32], want: Result<&[u8], Refusal>) {
+        let said = outputs(&mut self.bytes, want.map(|t| (t, 33)), |o| match library::check_sealed(text, catalogue, seal, o) {
+            Err(OTHER) => Ok(33),
+            answer => answer,
+        });
+        self.said(Call::CheckSealed, want.err().map_or(33, |r| r.number), said.map(|what| format!("another seal: {what}")));
+    }
+
+    // The seal is the digest of the crate's tidy text. The check takes it and no other; a catalogue that is not the text's comes before, and the same text with
+    // other names, which has the same catalogue, has another seal.
+    fn seal(&mut self, text: &[u8], catalogue: &[u8], damaged: &[Vec<u8>], header: &Header, rng: &mut Rng) {
+        let written = oracle::tidy(header);
+        let want = match &written {
+            Ok(t) if t.len() > oracle::LONGEST => Err(refusal(1)),
+            Ok(t) => Ok(&t[..]),
+            Err(_) => Err(Self::unwritable(text, header)),
+        };
+        let number = want.err().map_or(0, |r| r.number);
+        let digest = want.map_or(UNSEALED, |t| self.sha256.digest(t));
+        let mut wrong = None;
+        let said = outputs(&mut self.bytes, want.map(|t| (t, t.len() as u64)), |o| {
+            let mut seal = UNSEALED;
+            let answer = library::seal(text, o, &mut seal);
+            if seal != if answer.is_ok() { digest } else { UNSEALED } {
+                wrong = Some(format!("{answer:?} and the seal {}", inputs::hex(&seal)));
+            }
+            answer
+        });
+        self.said(Call::Seal, number, said.or(wrong));
+        let said = outputs(&mut self.bytes, want.map(|t| (t, 0)), |o| library::check_sealed(text, catalogue, &digest, o));
+        self.said(Call::CheckSealed, number, said);
+        let mut other = digest;
+        other[rng.below(32)] ^= 1 << rng.below(8);
+        self.other_seal(text, catalogue, &other, want);
+        let (c, seal) = (rng.of(damaged), if rng.one_in(2) { &digest } else { &other });
+        let said = outputs(&mut self.bytes, Err(STALE), |o| library::check_sealed(text, c, seal, o));
+        self.said(Call::CheckSealed, 21, said);
+        let named = inputs::renamed(text);
+        if let (Ok(_), Ok(header)) = (want, oracle::parse(&named)) {
+            match oracle::tidy(&header) {
+                Ok(t) if named != text => self.other_seal(&named, catalogue, &digest, Ok(&t)),
+                _ => {}
+            }
+        }
     }
 }
 

@@ -22,6 +22,8 @@ mod merged;
 #[cfg(feature = "prune")]
 mod pruned;
 mod reduce;
+#[cfg(feature = "seal")]
+mod sealed;
 #[cfg(feature = "table")]
 mod table;
 mod tally;
@@ -371,6 +373,7 @@ fn main() -> ExitCode {
         ("binary", cfg!(feature = "binary")),
         ("judge_merge", cfg!(feature = "judge_merge")),
         ("text_len binary_len", cfg!(feature = "lens")),
+        ("seal", cfg!(feature = "seal")),
     ]
     .iter()
     .filter_map(|&(name, there)| there.then_some(name))

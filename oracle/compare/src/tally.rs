@@ -22,9 +22,11 @@ pub enum Call {
     CarryOn,
     BinaryOut,
     BinaryIn,
+    Seal,
+    CheckSealed,
 }
 
-const CALLS: [Call; 17] = [
+const CALLS: [Call; 19] = [
     Call::Read,
     Call::Check,
     Call::Tidy,
@@ -42,20 +44,27 @@ const CALLS: [Call; 17] = [
     Call::CarryOn,
     Call::BinaryOut,
     Call::BinaryIn,
+    Call::Seal,
+    Call::CheckSealed,
 ];
 
-/// Refusals have the numbers from 1 to 29.
-const NUMBERS: usize = 30;
+/// Refusals have the numbers from 1 to 33.
+const NUMBERS: usize = 34;
 
 /// How often both sides agreed. A number is a refusal's, 0 an acceptance. Field lookup gives no number: where the stand-in takes
 /// the value's place, it is counted under the number that key would give.
-#[derive(Default)]
 pub struct Tally {
     texts: [u64; NUMBERS],
     calls: [[u64; NUMBERS]; CALLS.len()],
     refused: [u64; CALLS.len()],
     grown: u64,
     areas: u64,
+}
+
+impl Default for Tally {
+    fn default() -> Self {
+        Self { texts: [0; NUMBERS], calls: [[0; NUMBERS]; CALLS.len()], refused: [0; CALLS.len()], grown: 0, areas: 0 }
+    }
 }
 
 impl Tally {

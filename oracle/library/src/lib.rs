@@ -207,6 +207,20 @@ unsafe extern "C" {
     ) -> u64;
 }
 
+#[cfg(feature = "seal")]
+unsafe extern "C" {
+    fn sam_header_seal(text: *const u8, text_len: usize, work: *mut u8, work_len: usize, seal: *mut u8) -> u64;
+    fn sam_header_check_sealed(
+        text: *const u8,
+        text_len: usize,
+        catalogue: *const u8,
+        catalogue_len: usize,
+        seal: *const u8,
+        work: *mut u8,
+        work_len: usize,
+    ) -> u64;
+}
+
 /// A refusal: its number and its line.
 #[derive(Clone, Copy, Debug, Eq, PartialEq)]
 pub struct Refusal {
@@ -427,6 +441,19 @@ pub enum Len {
 pub fn binary_len(bytes: &[u8]) -> Result<Len, Refusal> {
     let word = answer(unsafe { sam_header_binary_len(bytes.as_ptr(), bytes.len()) })?;
     Ok(if word >> 62 == 0 { Len::Whole(word) } else { Len::More(word ^ 1 << 62) })
+}
+
+/// The tidy text is left in `work`.
+#[cfg(feature = "seal")]
+pub fn seal(text: &[u8], work: &mut [u8], seal: &mut [u8; 32]) -> Answer {
+    answer(unsafe { sam_header_seal(text.as_ptr(), text.len(), work.as_mut_ptr(), work.len(), seal.as_mut_ptr()) })
+}
+
+/// The tidy text is left in `work`, after 33 too.
+#[cfg(feature = "seal")]
+pub fn check_sealed(text: &[u8], catalogue: &[u8], seal: &[u8; 32], work: &mut [u8]) -> Answer {
+    let (c, s) = (catalogue.as_ptr(), seal.as_ptr());
+    answer(unsafe { sam_header_check_sealed(text.as_ptr(), text.len(), c, catalogue.len(), s, work.as_mut_ptr(), work.len()) })
 }
 
 /// A refusal comes with which text it is about: 1 for A, 2 for B, 3 for the merged one, 0 for none.
