@@ -78,7 +78,7 @@ rows-early l (n ∷ ns) = omega (arith, rows-early (l + 1) ns)
 -- ---- by where the first line that is kept stands
 
 module _ (t : List ℕ) (b : Begin) (f : First t b) where
-  lined : carriedLines t ≡ map refusedLine (earlyOf t .refusals) ++ linesKeptFrom t b
+  pub lined : carriedLines t ≡ map refusedLine (earlyOf t .refusals) ++ linesKeptFrom t b
   unfolding judgedLines
   lined = split-text t ∙ rw (f .strict, f .rest) refl
 

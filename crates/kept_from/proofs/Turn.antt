@@ -32,7 +32,7 @@ module _ (strict : Bool) (t : List ℕ) (from : ℕ) (area ids : List ℕ) (c : 
   abbrev all : List Line
   all = judgedLines strict t from
 
-  abbrev done : List Line
+  abbrev pub done : List Line
   done = judgedFrom strict [] (g .passed)
 
   all-split : all ≡ done ++ judgedFrom strict (keptOf done) (ahead t (c .at))
@@ -45,7 +45,7 @@ module _ (strict : Bool) (t : List ℕ) (from : ℕ) (area ids : List ℕ) (c : 
   after : drop (c .line) all ≡ judgedFrom strict (keptOf done) (ahead t (c .at))
   after = ap (drop (c .line)) all-split ∙ drop-at done (judgedFrom strict (keptOf done) (ahead t (c .at))) (c .line) done-length
 
-  before : take (c .line) all ≡ done
+  pub before : take (c .line) all ≡ done
   before = ap (take (c .line)) all-split ∙ take-at done (judgedFrom strict (keptOf done) (ahead t (c .at))) (c .line) done-length
 
   pub kept-count : c .kept ≡ length (keptOf (take (c .line) all))

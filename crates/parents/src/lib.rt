@@ -20,7 +20,7 @@ ghost use Rattle.parents.specs.Parents.{Somewhere, parentOf, parentsOf, 
 pub const STRANGER: u32 = 4294967294;
 
 // The parent of a program by the place of its PP: nobody without PP, a stranger where PP equals no ID.
-fn find_parent(text: &[u8], ats: &[u32], lens: &[u32], previous: Place) -> u32
+pub fn find_parent(text: &[u8], ats: &[u32], lens: &[u32], previous: Place) -> u32
     requires { ⌜ PlacesInText (now text) (now ats) (now lens) ⌝ }
     requires { ⌜ Somewhere (length (now text)) previous ⌝ }
     ensures { λ r. ⌜ r ≡ parentOf (now (text .entry)) (idsAt (now (text .entry)) (now (ats .entry)) (now (lens .entry))) previous ⌝ }

@@ -83,13 +83,13 @@ last-settled a b fs = last-on a b [] fs refl ∙ later-none (lastOf a b fs)
 
 -- ---- one program
 
-unfoldable idPlace : Option Piece → Place
+unfoldable pub idPlace : Option Piece → Place
 unfolding nowhere pieceAt
 idPlace none = nowhere
 idPlace (some p) = pieceAt p
 
 -- what a record has of it
-unfoldable recordNotes : Record → ProgramPlaces
+unfoldable pub recordNotes : Record → ProgramPlaces
 unfolding idPlace orNowhere foundOf key others lastOf
 recordNotes r = record { id = idPlace (key r); previous = orNowhere (foundOf (lastOf 80 80 (others r))) }
 
@@ -120,7 +120,7 @@ made-notes at s strict fs r k h e (sp.of-program p d) c =
     pair : {a b c d : Place} → a ≡ b → c ≡ d → _≡_ {A = ProgramPlaces} (record { id = a; previous = c }) (record { id = b; previous = d })
     pair x y = rw (x, y) refl
 
-line-notes : (strict : Bool) (p : Piece) (r : Record) → IsProgram strict p r → notesOf p ≡ recordNotes r
+pub line-notes : (strict : Bool) (p : Piece) (r : Record) → IsProgram strict p r → notesOf p ≡ recordNotes r
 unfolding notesOf
 line-notes strict p r h =
     let a : Spelled strict (p .at) (p .bytes) r = spelled strict p r h in

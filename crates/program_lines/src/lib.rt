@@ -26,9 +26,9 @@ struct NextLine {
 }
 
 // Where the ID and the PP of a program stand.
-struct Noted {
-    id: Place,
-    previous: Place,
+pub struct Noted {
+    pub id: Place,
+    pub previous: Place,
 }
 
 // The programs of a text, and where their lines stand.
@@ -113,7 +113,7 @@ fn find_places(line: &[u8], at: usize, once: bool, tables: &[u32]) -> Noted
 }
 
 // The ID and the PP of an accepted PG line at the offset `at`.
-fn places_of(line: &[u8], at: usize, strict: bool) -> Noted
+pub fn places_of(line: &[u8], at: usize, strict: bool) -> Noted
     requires { ⌜ FieldsOf strict at (now line) ⌝ }
     ensures { λ r. ⌜ (r .id ≡ placeOf (lastIn at (now (line .entry)) 73 68)) × (r .previous ≡ previousOf (lastIn at (now (line .entry)) 80 80)) ⌝ }
 {
