@@ -149,9 +149,9 @@ uint64_t sam_header_text_len(const uint8_t *bytes, size_t bytes_len);
 
 /* How many bytes at the front of an uncompressed BAM stream are its binary header: as many as binary_in takes, which then never answers 28. Where the header
  * goes on behind the bytes that were lent, bit 62 is set and SAM_HEADER_NEEDED is how many are needed to say more, always more than were lent and never
- * more than the header has: lend so many, or twice as many as before, and ask again; each call passes all references anew, so that doubling costs as one
- * call and lending just what is needed does not. 28 as soon as it can be no binary header, whatever follows. 1 for a number of 2^62 or more, which no
- * memory holds. The text is passed, not read. */
+ * more than the header has: lend so many or more, and ask again. Each call passes all references anew: fronts that double cost at most three times as much
+ * as one call, and lending just what is needed, reference by reference, takes time that grows with the square. 28 as soon as it can be no binary header,
+ * whatever follows. 1 for a number of 2^62 or more, which no memory holds. The text is passed, not read. */
 uint64_t sam_header_binary_len(const uint8_t *bytes, size_t bytes_len);
 
 /* ---- over a text and its catalogue: reading's own refusal comes first, then 21.

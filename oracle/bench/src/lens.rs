@@ -5,7 +5,8 @@
 //!
 //!   one        the time of one call of binary_len over all of it, in microseconds
 //!   ns         the same for a reference: the rows shall differ little
-//!   doubled    the time where a front of 64 KiB is lent first, and then one of twice as many bytes, to that of one call
+//!   doubled    the time where a front of 64 KiB is lent first, and then one of twice as many bytes, to that of one call: about 3 at most,
+//!              since the fronts before the last one have at most twice as many bytes as the stream
 //!
 //! and how often all ran: rounds and the best time are as in the first table.
 
