@@ -9,6 +9,7 @@
 //! bench prune [--rounds N]             the sixth table (`pruned.rs`), where the archive has the call
 //! bench judge_merge [--rounds N]       the seventh table (`merged.rs`), where the archive has the call
 //! bench read_with [--rounds N]         the eighth table (`area.rs`), where the archive has the call
+//! bench references [--rounds N]        the ninth table (`found.rs`), where the archive has references and find
 //!
 //! FOLDER has real headers, `*.sam` (default ../shared/headers beside the repository).
 //!
@@ -39,6 +40,8 @@ mod area;
 mod calls;
 #[cfg(feature = "carry_on")]
 mod carried;
+#[cfg(feature = "found")]
+mod found;
 #[cfg(feature = "judge_merge")]
 mod merged;
 #[cfg(feature = "names")]
@@ -168,7 +171,10 @@ fn main() -> ExitCode {
     let args: Vec<String> = std::env::args().skip(1).collect();
     let args: Vec<&str> = args.iter().map(String::as_str).collect();
     let (call, args) = match args[..] {
-        [call @ ("names" | "carry_on" | "leaves_by_table" | "prune" | "judge_merge" | "read_with"), ref rest @ ..] => (call, rest),
+        [
+            call @ ("names" | "carry_on" | "leaves_by_table" | "prune" | "judge_merge" | "read_with" | "references"),
+            ref rest @ ..,
+        ] => (call, rest),
         _ => ("", &args[..]),
     };
     let (rounds, folder) = match *args {
@@ -177,7 +183,8 @@ fn main() -> ExitCode {
             || call == "leaves_by_table" && !cfg!(feature = "table")
             || call == "prune" && !cfg!(feature = "prune")
             || call == "judge_merge" && !cfg!(feature = "judge_merge")
-            || call == "read_with" && !cfg!(feature = "work") =>
+            || call == "read_with" && !cfg!(feature = "work")
+            || call == "references" && !cfg!(feature = "found") =>
         {
             eprintln!("the archive has no sam_header_{call}");
             return ExitCode::from(2);
@@ -215,6 +222,11 @@ fn main() -> ExitCode {
     #[cfg(feature = "prune")]
     if call == "prune" {
         pruned::table(rounds);
+        return ExitCode::SUCCESS;
+    }
+    #[cfg(feature = "found")]
+    if call == "references" {
+        found::table(rounds);
         return ExitCode::SUCCESS;
     }
     #[cfg(feature = "work")]

@@ -22,9 +22,11 @@ pub enum Call {
     CarryOn,
     BinaryOut,
     BinaryIn,
+    Find,
+    References,
 }
 
-const CALLS: [Call; 17] = [
+const CALLS: [Call; 19] = [
     Call::Read,
     Call::Check,
     Call::Tidy,
@@ -42,6 +44,8 @@ const CALLS: [Call; 17] = [
     Call::CarryOn,
     Call::BinaryOut,
     Call::BinaryIn,
+    Call::Find,
+    Call::References,
 ];
 
 /// Refusals have the numbers from 1 to 29.
