@@ -31,8 +31,8 @@
 //     find TEXT KEPT KIND KEY ok ORDINAL
 //     references TEXT KEPT ROOM ok COUNT ROWS
 // or `refused NUMBER LINE` in place of `ok ..`. ORDINALS have four hex digits each; those of names and of USED have eight, and so have the
-// slots of INDEX, the parent and the depth of each program in ROWS, and each number of a row of references; SEATS is how many records the table has; LOOKS is `-` where it is not
-// stored. Over a text alone:
+// slots of INDEX, the parent and the depth of each program in ROWS, and each number of a row of references; SEATS is how many records the
+// table has; LOOKS is `-` where it is not stored. Over a text alone:
 //     program TEXT BYTES
 //     tidy TEXT ROOM ok BYTES
 //     carry_on TEXT ROOM TABLE ok BYTES ROWS

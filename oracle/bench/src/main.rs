@@ -11,6 +11,7 @@
 //! bench read_with [--rounds N]         the eighth table (`area.rs`), where the archive has the call
 //! bench lens [--rounds N]              the ninth table (`lens.rs`), where the archive has text_len and binary_len
 //! bench seal [--rounds N] [FOLDER]     seals (`sealed.rs`), where the archive has the calls
+//! bench references [--rounds N]        the ninth table (`found.rs`), where the archive has references and find
 //!
 //! FOLDER has real headers, `*.sam` (default ../shared/headers beside the repository).
 //!
@@ -43,6 +44,8 @@ mod calls;
 mod carried;
 #[cfg(feature = "lens")]
 mod lens;
+#[cfg(feature = "found")]
+mod found;
 #[cfg(feature = "judge_merge")]
 mod merged;
 #[cfg(feature = "names")]
@@ -174,7 +177,10 @@ fn main() -> ExitCode {
     let args: Vec<String> = std::env::args().skip(1).collect();
     let args: Vec<&str> = args.iter().map(String::as_str).collect();
     let (call, args) = match args[..] {
-        [call @ ("names" | "carry_on" | "leaves_by_table" | "prune" | "judge_merge" | "read_with" | "lens" | "seal"), ref rest @ ..] => (call, rest),
+        [
+            call @ ("names" | "carry_on" | "leaves_by_table" | "prune" | "judge_merge" | "read_with" | "lens" | "seal" | "references"),
+            ref rest @ ..,
+        ] => (call, rest),
         _ => ("", &args[..]),
     };
     let (rounds, folder) = match *args {
@@ -185,7 +191,8 @@ fn main() -> ExitCode {
             || call == "judge_merge" && !cfg!(feature = "judge_merge")
             || call == "read_with" && !cfg!(feature = "work")
             || call == "lens" && !cfg!(feature = "lens")
-            || call == "seal" && !cfg!(feature = "seal") =>
+            || call == "seal" && !cfg!(feature = "seal")
+            || call == "references" && !cfg!(feature = "found") =>
         {
             eprintln!("the archive has no sam_header_{call}");
             return ExitCode::from(2);
@@ -223,6 +230,11 @@ fn main() -> ExitCode {
     #[cfg(feature = "prune")]
     if call == "prune" {
         pruned::table(rounds);
+        return ExitCode::SUCCESS;
+    }
+    #[cfg(feature = "found")]
+    if call == "references" {
+        found::table(rounds);
         return ExitCode::SUCCESS;
     }
     #[cfg(feature = "work")]

@@ -12,6 +12,8 @@ use oracle::{
 use crate::area;
 #[cfg(feature = "carry_on")]
 use crate::carried;
+#[cfg(feature = "found")]
+use crate::found;
 #[cfg(feature = "add")]
 use crate::grown::{self, Grown};
 #[cfg(feature = "table")]
@@ -50,7 +52,7 @@ pub struct Difference {
 
 const SHORT: Refusal = Refusal { number: 20, line: 0 };
 const STALE: Refusal = Refusal { number: 21, line: 0 };
-#[cfg(any(feature = "lookup", feature = "prune"))]
+#[cfg(any(feature = "lookup", feature = "found", feature = "prune"))]
 const ABSENT: Refusal = Refusal { number: 25, line: 0 };
 
 fn refusal(number: u32) -> Refusal {
@@ -348,7 +350,7 @@ fn some(n: usize, rng: &mut Rng) -> Vec<usize> {
 #[derive(Default)]
 pub struct Checker {
     bytes: Lent<u8>,
-    #[cfg(any(feature = "graph", feature = "names", feature = "carry_on"))]
+    #[cfg(any(feature = "graph", feature = "found", feature = "names", feature = "carry_on"))]
     words: Lent<u32>,
     #[cfg(any(feature = "names", feature = "carry_on"))]
     work: Lent<u32>,
@@ -527,6 +529,14 @@ impl Checker {
                     self.held(Call::Field, got.map(|place| format!("on a refused text: kind {kind} at {place:?}")));
                 }
             }
+            #[cfg(feature = "found")]
+            {
+                for kind in [2, 9] {
+                    self.still(Call::Find, library::find(text, catalogue, kind, b"a"), r);
+                }
+                let said = outputs(&mut self.words, Err(r), |o| library::references(text, catalogue, o));
+                self.held(Call::References, said);
+            }
             #[cfg(feature = "graph")]
             {
                 let said = outputs(&mut self.words, Err(r), |o| library::roots(text, catalogue, o));
@@ -595,6 +605,8 @@ impl Checker {
         }
         #[cfg(feature = "graph")]
         self.graph(text, catalogue, &damaged, header, &mut rng);
+        #[cfg(feature = "found")]
+        self.found(text, catalogue, &damaged, header);
         #[cfg(feature = "add")]
         self.add(case, catalogue, &damaged, header, &mut rng);
         #[cfg(feature = "prune")]
@@ -875,6 +887,37 @@ impl Checker {
         let c = rng.of(damaged);
         let said = outputs(&mut self.bytes, Err(STALE), |o| library::add(text, c, prefix, fields, o));
         self.said(Call::Add, 21, said);
+    }
+}
+
+#[cfg(feature = "found")]
+impl Checker {
+    // Keys of the text, and what is nearly one, asked for in the kind that has them and in another; then the table of references. What is asked by chance
+    // follows from the text, and leaves the other calls' chances as they are.
+    fn found(&mut self, text: &[u8], catalogue: &[u8], damaged: &[Vec<u8>], header: &Header) {
+        let mut rng = seeded(text);
+        for kind in 2..=4 {
+            let keys = found::keys(header, kind);
+            let mut asked = vec![(kind, Vec::new())];
+            for _ in 0..keys.len().min(2) {
+                let key = *rng.of(&keys);
+                asked.extend([(kind, key.to_vec()), (rng.below(7) as u8, key.to_vec()), (kind, found::nearly(key, &mut rng))]);
+            }
+            for (kind, key) in asked {
+                let place = found::keys(header, kind).iter().position(|k| *k == key);
+                let want = place.map_or(Err(ABSENT), |i| Ok(i as u64));
+                let what = format!("kind {kind} key {}", key.escape_ascii());
+                self.same(Call::Find, library::find(text, catalogue, kind, &key), want, &what);
+            }
+        }
+        let c = rng.of(damaged);
+        self.same(Call::Find, library::find(text, c, rng.below(7) as u8, b"a"), Err(STALE), "a damaged catalogue");
+        let rows = found::rows(text, header);
+        let want = Ok((&rows[..], rows.len() as u64 / 3));
+        let said = outputs(&mut self.words, want, |o| library::references(text, catalogue, o));
+        self.said(Call::References, 0, said);
+        let said = outputs(&mut self.words, Err(STALE), |o| library::references(text, c, o));
+        self.said(Call::References, 21, said);
     }
 }
 

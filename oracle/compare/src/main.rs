@@ -12,6 +12,8 @@ mod area;
 #[cfg(feature = "carry_on")]
 mod carried;
 mod check;
+#[cfg(feature = "found")]
+mod found;
 #[cfg(feature = "add")]
 mod grown;
 mod known;
@@ -364,6 +366,7 @@ fn main() -> ExitCode {
     }
     let calls: Vec<&str> = [
         ("lookup", cfg!(feature = "lookup")),
+        ("found", cfg!(feature = "found")),
         ("graph", cfg!(feature = "graph")),
         ("leaves_by_table", cfg!(feature = "table")),
         ("add", cfg!(feature = "add")),

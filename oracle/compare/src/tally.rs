@@ -24,6 +24,8 @@ pub enum Call {
     BinaryIn,
     Seal,
     CheckSealed,
+    Find,
+    References,
 }
 
 const CALLS: [Call; 19] = [
@@ -46,6 +48,8 @@ const CALLS: [Call; 19] = [
     Call::BinaryIn,
     Call::Seal,
     Call::CheckSealed,
+    Call::Find,
+    Call::References,
 ];
 
 /// Refusals have the numbers from 1 to 33.

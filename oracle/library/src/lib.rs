@@ -48,6 +48,27 @@ unsafe extern "C" {
     ) -> u64;
 }
 
+#[cfg(feature = "found")]
+unsafe extern "C" {
+    fn sam_header_find(
+        text: *const u8,
+        text_len: usize,
+        catalogue: *const u8,
+        catalogue_len: usize,
+        kind: u8,
+        key: *const u8,
+        key_len: usize,
+    ) -> u64;
+    fn sam_header_references(
+        text: *const u8,
+        text_len: usize,
+        catalogue: *const u8,
+        catalogue_len: usize,
+        table: *mut u32,
+        table_len: usize,
+    ) -> u64;
+}
+
 #[cfg(feature = "graph")]
 unsafe extern "C" {
     fn sam_header_roots(
@@ -273,6 +294,19 @@ pub fn field(text: &[u8], catalogue: &[u8], kind: u8, ordinal: u32, [a, b]: [u8;
     let place =
         unsafe { sam_header_field(text.as_ptr(), text.len(), catalogue.as_ptr(), catalogue.len(), kind, ordinal, a, b) };
     (place != u64::MAX).then_some(((place >> 32) as usize, place as u32 as usize))
+}
+
+#[cfg(feature = "found")]
+pub fn find(text: &[u8], catalogue: &[u8], kind: u8, key: &[u8]) -> Answer {
+    let (c, k) = (catalogue.as_ptr(), key.as_ptr());
+    answer(unsafe { sam_header_find(text.as_ptr(), text.len(), c, catalogue.len(), kind, k, key.len()) })
+}
+
+/// Three numbers for each SQ are left in `table`.
+#[cfg(feature = "found")]
+pub fn references(text: &[u8], catalogue: &[u8], table: &mut [u32]) -> Answer {
+    let (c, t) = (catalogue.as_ptr(), table.as_mut_ptr());
+    answer(unsafe { sam_header_references(text.as_ptr(), text.len(), c, catalogue.len(), t, table.len()) })
 }
 
 #[cfg(feature = "graph")]
