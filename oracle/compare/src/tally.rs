@@ -28,7 +28,7 @@ pub enum Call {
     References,
 }
 
-const CALLS: [Call; 19] = [
+const CALLS: [Call; 21] = [
     Call::Read,
     Call::Check,
     Call::Tidy,
