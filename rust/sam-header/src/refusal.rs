@@ -7,7 +7,7 @@ pub struct LineNo(pub u32);
 
 impl fmt::Display for LineNo {
     fn fmt(&self, f: &mut fmt::Formatter) -> fmt::Result {
-        write!(f, "{}", u64::from(self.0) + 1)
+        (u64::from(self.0) + 1).fmt(f)
     }
 }
 
