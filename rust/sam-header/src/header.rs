@@ -204,7 +204,7 @@ impl<'a> Header<'a> {
 
     /// The programs without PP.
     pub fn roots(&self) -> Result<Vec<ProgramNo>, Refusal> {
-        let mut out = [0; PROGRAM_LIMIT].to_vec();
+        let mut out = vec![0; PROGRAM_LIMIT];
         let n = calls::roots(self.text, &self.catalogue, &mut out)?;
         Ok(out.into_iter().take(n).map(ProgramNo).collect())
     }

@@ -1,4 +1,4 @@
-//! The crate on its own cases: refusals in words, room, stacks, files.
+//! The crate on its own cases: refusals in words, room, files.
 use sam_header::{
     binary_in, binary_out, calls, carry_on, faults, judge_merge, read_header, tidy, BinaryLen, Form, Header, Kind, LineNo,
     Node, ProgramNo, Refusal, Unmerged, Which,
@@ -146,27 +146,6 @@ fn room_for_every_text() {
 /// 300,000 bytes: texts of more than 256 KiB are judged with a work area from the heap.
 fn long_text() -> Vec<u8> {
     (0..14_000).map(|i| format!("@SQ\tSN:chr{i:05}\tLN:9\n")).collect::<String>().into_bytes()
-}
-
-#[test]
-fn small_stacks() {
-    let on =
-        |kib: usize, call: fn() -> bool| std::thread::Builder::new().stack_size(kib << 10).spawn(call).unwrap().join().unwrap();
-    let short = || {
-        let header = Header::read(TEXT).unwrap();
-        tidy(TEXT).is_ok()
-            && carry_on(TEXT).is_ok()
-            && header.chains().is_ok()
-            && header.prune(&[]).is_ok()
-            && header.add(b"x", b"").is_ok()
-    };
-    assert!(on(160, short)); // 136 KiB are promised
-    let long = || {
-        let text = long_text();
-        let kept = Header::read(&text).unwrap().into_catalogue();
-        Header::from_kept(&text, kept).is_ok() && tidy(&text).is_ok() && carry_on(&text).is_ok()
-    };
-    assert!(on(96, long)); // 64 KiB are promised
 }
 
 /// A stream that gives one byte at a time.

@@ -83,7 +83,7 @@ fn held_to_the_calls(text: &[u8], header: &Header) {
     asked.extend([&b"nobody"[..], b"", b"a\nb"]);
     let due = (0..header.count(Kind::Reference) as u32).map(Some).chain([None; 3]).collect::<Vec<_>>();
     assert_eq!(header.names(asked).unwrap().ordinals, due);
-    assert_eq!(header.find(Kind::Reference, b"nobody").is_some(), false);
+    assert!(header.find(Kind::Reference, b"nobody").is_none());
 }
 
 fn chains_held_to_the_calls(text: &[u8], header: &Header) {
