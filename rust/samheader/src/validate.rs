@@ -103,7 +103,7 @@ fn reports(asked: &Asked) -> Result<Total, Stop> {
     let (next, started) = (AtomicUsize::new(0), Instant::now());
     let (sender, reports) = mpsc::channel();
     let bar = ProgressBar::with_draw_target(Some(asked.files.len() as u64), ProgressDrawTarget::hidden());
-    if let Ok(style) = ProgressStyle::with_template("{bar:40} {pos} of {len} files, {per_sec}, {eta} left") {
+    if let Ok(style) = ProgressStyle::with_template("{bar:40} {pos} of {len} files, {eta} left") {
         bar.set_style(style);
     }
     let shows_bar = asked.files.len() > 1 && std::io::stderr().is_terminal();
@@ -129,10 +129,12 @@ fn reports(asked: &Asked) -> Result<Total, Stop> {
                 if shows_bar && bar.is_hidden() && started.elapsed() > Duration::from_secs(1) {
                     bar.set_draw_target(ProgressDrawTarget::stderr());
                 }
-                bar.suspend(|| {
-                    eprint!("{}", report.complaint);
-                    put(report.said.as_bytes(), None)
-                })?;
+                if !report.complaint.is_empty() || !report.said.is_empty() {
+                    bar.suspend(|| {
+                        eprint!("{}", report.complaint);
+                        put(report.said.as_bytes(), None)
+                    })?;
+                }
                 bar.inc(1);
             }
         }
