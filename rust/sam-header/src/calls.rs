@@ -15,12 +15,16 @@ extern "C" {
     fn sam_header_read_with(text: *const u8, text_len: usize, catalogue: *mut u8, catalogue_len: usize, work: *mut u32, work_len: usize) -> u64;
     fn sam_header_check(text: *const u8, text_len: usize, catalogue: *const u8, catalogue_len: usize) -> u64;
     fn sam_header_check_with(text: *const u8, text_len: usize, catalogue: *const u8, catalogue_len: usize, work: *mut u32, work_len: usize) -> u64;
-    fn sam_header_check_sealed(text: *const u8, text_len: usize, catalogue: *const u8, catalogue_len: usize, seal: *const u8, work: *mut u8, work_len: usize) -> u64;
+    fn sam_header_check_sealed(
+        text: *const u8, text_len: usize, catalogue: *const u8, catalogue_len: usize, seal: *const u8, work: *mut u8, work_len: usize,
+    ) -> u64;
     fn sam_header_seal(text: *const u8, text_len: usize, work: *mut u8, work_len: usize, seal: *mut u8) -> u64;
     fn sam_header_tidy(text: *const u8, text_len: usize, out: *mut u8, out_len: usize) -> u64;
     fn sam_header_tidy_with(text: *const u8, text_len: usize, out: *mut u8, out_len: usize, work: *mut u32, work_len: usize) -> u64;
     fn sam_header_carry_on(text: *const u8, text_len: usize, out: *mut u8, out_len: usize, table: *mut u32, table_len: usize) -> u64;
-    fn sam_header_carry_on_with(text: *const u8, text_len: usize, out: *mut u8, out_len: usize, table: *mut u32, table_len: usize, work: *mut u32, work_len: usize) -> u64;
+    fn sam_header_carry_on_with(
+        text: *const u8, text_len: usize, out: *mut u8, out_len: usize, table: *mut u32, table_len: usize, work: *mut u32, work_len: usize,
+    ) -> u64;
     fn sam_header_faults(text: *const u8, text_len: usize, table: *mut u32, table_len: usize) -> u64;
     fn sam_header_text_len(bytes: *const u8, len: usize) -> u64;
     fn sam_header_binary_len(bytes: *const u8, len: usize) -> u64;
@@ -33,13 +37,28 @@ extern "C" {
     fn sam_header_field(text: *const u8, text_len: usize, catalogue: *const u8, catalogue_len: usize, kind: u8, ordinal: u32, tag_0: u8, tag_1: u8) -> u64;
     fn sam_header_find(text: *const u8, text_len: usize, catalogue: *const u8, catalogue_len: usize, kind: u8, key: *const u8, key_len: usize) -> u64;
     fn sam_header_references(text: *const u8, text_len: usize, catalogue: *const u8, catalogue_len: usize, table: *mut u32, table_len: usize) -> u64;
-    fn sam_header_names(text: *const u8, text_len: usize, catalogue: *const u8, catalogue_len: usize, list: *const u8, list_len: usize, work: *mut u32, work_len: usize, out: *mut u32, out_len: usize, inspected: *mut u64) -> u64;
+    fn sam_header_names(
+        text: *const u8, text_len: usize, catalogue: *const u8, catalogue_len: usize, list: *const u8, list_len: usize, work: *mut u32,
+        work_len: usize, out: *mut u32, out_len: usize, inspected: *mut u64,
+    ) -> u64;
     fn sam_header_roots(text: *const u8, text_len: usize, catalogue: *const u8, catalogue_len: usize, out: *mut u32, out_len: usize) -> u64;
     fn sam_header_leaves(text: *const u8, text_len: usize, catalogue: *const u8, catalogue_len: usize, out: *mut u32, out_len: usize) -> u64;
-    fn sam_header_leaves_by_table(text: *const u8, text_len: usize, catalogue: *const u8, catalogue_len: usize, table: *mut Node, table_len: usize, out: *mut u32, out_len: usize) -> u64;
-    fn sam_header_add(text: *const u8, text_len: usize, catalogue: *const u8, catalogue_len: usize, prefix: *const u8, prefix_len: usize, fields: *const u8, fields_len: usize, out: *mut u8, out_len: usize) -> u64;
-    fn sam_header_prune(text: *const u8, text_len: usize, catalogue: *const u8, catalogue_len: usize, used: *const u32, used_len: usize, out: *mut u8, out_len: usize) -> u64;
-    fn sam_header_judge_merge(a: *const u8, a_len: usize, b: *const u8, b_len: usize, merged: *const u8, merged_len: usize, list_a: *const u32, list_a_len: usize, list_b: *const u32, list_b_len: usize) -> u64;
+    fn sam_header_leaves_by_table(
+        text: *const u8, text_len: usize, catalogue: *const u8, catalogue_len: usize, table: *mut Node, table_len: usize, out: *mut u32,
+        out_len: usize,
+    ) -> u64;
+    fn sam_header_add(
+        text: *const u8, text_len: usize, catalogue: *const u8, catalogue_len: usize, prefix: *const u8, prefix_len: usize, fields: *const u8,
+        fields_len: usize, out: *mut u8, out_len: usize,
+    ) -> u64;
+    fn sam_header_prune(
+        text: *const u8, text_len: usize, catalogue: *const u8, catalogue_len: usize, used: *const u32, used_len: usize, out: *mut u8,
+        out_len: usize,
+    ) -> u64;
+    fn sam_header_judge_merge(
+        a: *const u8, a_len: usize, b: *const u8, b_len: usize, merged: *const u8, merged_len: usize, list_a: *const u32, list_a_len: usize,
+        list_b: *const u32, list_b_len: usize,
+    ) -> u64;
 }
 
 /// Asks a call: `[x]` lends the slice `x` to be read, `[mut x]` to be written, and anything else goes as it is.

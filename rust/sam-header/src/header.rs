@@ -87,7 +87,8 @@ impl<'a> Header<'a> {
         Ok(Header { text, starts: starts_of(&catalogue), catalogue })
     }
 
-    /// The text with a catalogue that was kept: 21 where it is not this text's. It holds no bytes of names: [`Header::from_sealed`] sees an edit of those too.
+    /// The text with a catalogue that was kept: 21 where it is not this text's. It holds no bytes of names: [`Header::from_sealed`] sees an edit of
+    /// those too.
     pub fn from_kept(text: &'a [u8], catalogue: Vec<u8>) -> Result<Self, Refusal> {
         calls::check_with(text, &catalogue, &mut work_area(text))?;
         Ok(Header { text, starts: starts_of(&catalogue), catalogue })
@@ -174,8 +175,8 @@ impl<'a> Header<'a> {
         self.records(Kind::Comment).map(Comment)
     }
 
-    /// The SQ, RG or PG with this name or ID, by the proved search. It judges the text again: ask for many names by [`Header::names`], or put the records into
-    /// a map.
+    /// The SQ, RG or PG with this name or ID, by the proved search. It judges the text again: ask for many names by [`Header::names`], or put the
+    /// records into a map.
     pub fn find(&self, kind: Kind, key: &[u8]) -> Option<Record<'_>> {
         self.get(kind, calls::find(self.text, &self.catalogue, kind, key).ok()?)
     }
@@ -250,8 +251,9 @@ impl<'a> Header<'a> {
         Ok(seal)
     }
 
-    /// The tidy text with a new program after each leaf, its ID made from `prefix`. `fields` are a PG line's, each with its leading tab, or nothing. 18 where such
-    /// an ID is there already, 19 for more than 1,024 programs: they have no line here, since they are about programs that are not there.
+    /// The tidy text with a new program after each leaf, its ID made from `prefix`. `fields` are a PG line's, each with its leading tab, or nothing.
+    /// 18 where such an ID is there already, 19 for more than 1,024 programs: they have no line here, since they are about programs that are not
+    /// there.
     ///
     /// ```
     /// let header = sam_header::Header::read(b"@PG\tID:bwa\n")?;

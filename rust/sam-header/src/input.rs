@@ -69,9 +69,10 @@ impl Found {
 
 /// Cuts the header out of a SAM, BAM or CRAM file, also one in gzip or BGZF (with the feature `flate2`). It reads somewhat further than the header goes.
 ///
-/// In a SAM file the header ends before the first alignment record: a line that does not start with `@` and has eleven fields or more. Another line in its place
-/// is left in, so that it is refused (3) and not passed over, and the header goes on behind it if `@` comes next. In a BAM file the proved `binary_len` says where the header ends, and what can be no binary header is an error
-/// that holds refusal 28. Of CRAM, versions 2 and 3 are taken, whose header block is plain or in gzip.
+/// In a SAM file the header ends before the first alignment record: a line that does not start with `@` and has eleven fields or more. Another line
+/// in its place is left in, so that it is refused (3) and not passed over, and the header goes on behind it if `@` comes next. In a BAM file the
+/// proved `binary_len` says where the header ends, and what can be no binary header is an error that holds refusal 28. Of CRAM, versions 2 and 3 are
+/// taken, whose header block is plain or in gzip.
 ///
 /// ```
 /// let sam = &b"@SQ\tSN:chr1\tLN:9\nread1\t0\tchr1\t1\t60\t4M\t*\t0\t0\tACGT\tIIII\n"[..];

@@ -13,9 +13,10 @@
 //! ```
 //!
 //! # What is proved, and what is not
-//! Reading, checking, tidying, the program chains, names, adding, pruning, the binary header, faults, seals and merges are calls of the proved library
-//! ([`calls`]). A [`Header`] is made by such a call alone, so that its catalogue is this text's; its iterators walk that catalogue and are plain Rust, which
-//! the tests hold to the proved calls. Cutting a header out of a file asks the proved library where it ends ([`read_header`]); decompression is flate2's.
+//! Reading, checking, tidying, the program chains, names, adding, pruning, the binary header, faults, seals and merges are calls of the proved
+//! library ([`calls`]). A [`Header`] is made by such a call alone, so that its catalogue is this text's; its iterators walk that catalogue and are
+//! plain Rust, which the tests hold to the proved calls. Cutting a header out of a file asks the proved library where it ends ([`read_header`]);
+//! decompression is flate2's.
 //!
 //! # Stack
 //! For texts of up to 256 KiB no call takes more than 136 KiB, [`judge_merge`] 640. For longer texts reading, checking, tidying and carrying on take their

@@ -169,19 +169,22 @@ impl To {
 }
 
 /// The header of a file, cut out and not judged yet.
-fn load(file: &Path) -> Result<Found, Stop> {
-    let found = if file == Path::new("-") {
+fn cut_out(file: &Path) -> io::Result<Found> {
+    if file == Path::new("-") {
         sam_header::read_header(io::stdin().lock())
     } else {
-        File::open(file).and_then(sam_header::read_header)
-    };
-    found.map_err(|why| match refusal_in(&why) {
+        sam_header::read_header(File::open(file)?)
+    }
+}
+
+fn load(file: &Path) -> Result<Found, Stop> {
+    cut_out(file).map_err(|why| match refusal_in(&why) {
         Some(refusal) => Stop::Refused(fault::whole(file, refusal)),
         None => Stop::on(file, why),
     })
 }
 
-/// The refusal that an input's error holds.
+/// The refusal that an input's error holds: what can be no binary header.
 fn refusal_in(why: &io::Error) -> Option<Refusal> {
     why.get_ref().and_then(|inner| inner.downcast_ref::<Refusal>()).copied()
 }

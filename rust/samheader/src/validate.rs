@@ -3,7 +3,7 @@ use crate::fault::{self, Lines};
 use crate::output::{self, put, Stop};
 use crate::{warn, Done};
 use indicatif::{ProgressBar, ProgressDrawTarget, ProgressStyle};
-use sam_header::Found;
+use sam_header::Refusal;
 use serde_json::json;
 use std::collections::BTreeMap;
 use std::ffi::OsStr;
@@ -144,57 +144,45 @@ fn reports(asked: &Asked) -> Result<Total, Stop> {
 }
 
 fn report(asked: &Asked, file: &Path) -> Report {
-    match crate::load(file) {
-        Ok(found) => judged(asked, file, &found),
-        Err(Stop::Refused(said)) => {
-            let said = if asked.json {
-                format!(
-                    "{}\n",
-                    json!({ "file": file.to_string_lossy(), "faults": 1, "list": [{ "message": said.trim_end() }] })
-                )
-            } else {
-                said
-            };
-            Report { state: State::Faults(1), said: if asked.quiet { String::new() } else { said }, complaint: String::new() }
+    match crate::cut_out(file) {
+        Ok(found) => {
+            let mut faults = sam_header::faults(found.text()).unwrap_or_else(|whole| vec![whole]);
+            faults.extend(found.check_list().err());
+            told(asked, file, found.text(), &faults)
         }
-        Err(Stop::Usage(why)) => {
-            let said = json!({ "file": file.to_string_lossy(), "error": why.trim_end() });
-            Report {
-                state: State::Unreadable,
-                said: if asked.json { format!("{said}\n") } else { String::new() },
-                complaint: why,
+        Err(why) => match crate::refusal_in(&why) {
+            Some(refusal) => told(asked, file, &[], &[refusal]),
+            None => {
+                let said = if asked.json {
+                    format!("{}\n", json!({ "file": file.to_string_lossy(), "error": why.to_string() }))
+                } else {
+                    String::new()
+                };
+                Report { state: State::Unreadable, said, complaint: format!("samheader: {}: {why}\n", file.display()) }
             }
-        }
-        Err(Stop::BrokenPipe) => Report { state: State::Unreadable, said: String::new(), complaint: String::new() },
+        },
     }
 }
 
-fn judged(asked: &Asked, file: &Path, found: &Found) -> Report {
-    let lines = Lines::of(found.text());
-    let mut faults = sam_header::faults(found.text()).unwrap_or_else(|whole| vec![whole]);
-    faults.extend(found.check_list().err());
-    let warnings = if asked.warn { warn::warnings(found.text()) } else { Vec::new() };
+fn told(asked: &Asked, file: &Path, text: &[u8], faults: &[Refusal]) -> Report {
+    let lines = Lines::of(text);
+    let warnings = if asked.warn { warn::warnings(text) } else { Vec::new() };
     let mut said = String::new();
     if asked.quiet {
         // the exit status tells
     } else if asked.json {
         let list: Vec<_> = faults.iter().take(asked.max).map(|fault| fault::json(&lines, *fault)).collect();
-        let mut object = json!({ "file": file.to_string_lossy(), "faults": faults.len(), "list": list });
+        let mut object = json!({ "file": file.to_string_lossy(), "count": faults.len(), "faults": list });
         if asked.warn {
-            object["warnings"] = warnings
-                .iter()
-                .map(|warning| json!({ "line": u64::from(warning.line.0) + 1, "message": warning.says }))
-                .collect();
+            let warning = |warning: &warn::Warning| json!({ "line": u64::from(warning.line.0) + 1, "message": warning.says });
+            object["warnings"] = warnings.iter().map(warning).collect();
         }
         said = format!("{object}\n");
     } else {
         said.extend(faults.iter().take(asked.max).map(|fault| fault::explained(file, &lines, *fault)));
         for warning in &warnings {
-            said += &format!(
-                "{} warning: {} (not part of what is proved)\n",
-                output::bold(&format!("{}:{}:", file.display(), warning.line)),
-                warning.says
-            );
+            let place = output::bold(&format!("{}:{}:", file.display(), warning.line));
+            said += &format!("{place} warning: {} (not part of what is proved)\n", warning.says);
         }
         let state = if faults.is_empty() { "in order".into() } else { counted(faults.len(), "fault") };
         let more = if faults.len() > asked.max { format!(", {} of them shown", asked.max) } else { String::new() };
