@@ -42,8 +42,8 @@ enum Verb {
     Validate(validate::Asked),
     /// Write the header tidy
     Tidy {
-        #[arg(default_value = "-")]
-        file: PathBuf,
+        #[command(flatten)]
+        of: Of,
         /// Skip lines that are refused, and list them on standard error
         #[arg(long)]
         keep_going: bool,
@@ -72,8 +72,8 @@ enum Verb {
     },
     /// Show the programs as a tree; faulty PPs are marked with their lines
     Chains {
-        #[arg(default_value = "-")]
-        file: PathBuf,
+        #[command(flatten)]
+        of: Of,
         /// As a graph for Graphviz
         #[arg(long, conflicts_with = "json")]
         dot: bool,
@@ -83,8 +83,8 @@ enum Verb {
     },
     /// Print the ordinals of reference names, from 0; `-` for a name that is not there
     Names {
-        #[arg(default_value = "-")]
-        file: PathBuf,
+        #[command(flatten)]
+        of: Of,
         /// The names, with commas between
         #[arg(short, long, value_name = "NAME,..", value_delimiter = ',', required_unless_present = "from")]
         name: Vec<String>,
@@ -94,8 +94,8 @@ enum Verb {
     },
     /// Write the header tidy with a new program after each leaf
     Add {
-        #[arg(default_value = "-")]
-        file: PathBuf,
+        #[command(flatten)]
+        of: Of,
         /// What the new IDs are made from
         #[arg(long, value_name = "ID")]
         id: String,
@@ -107,8 +107,8 @@ enum Verb {
     },
     /// Write the header tidy with only the programs in use and their ancestors
     Prune {
-        #[arg(default_value = "-")]
-        file: PathBuf,
+        #[command(flatten)]
+        of: Of,
         /// The programs in use, with commas between; '' drops all of them
         #[arg(long, value_name = "ID,..", value_delimiter = ',', required = true)]
         keep: Vec<String>,
@@ -117,15 +117,15 @@ enum Verb {
     },
     /// Write the uncompressed binary header, as a BAM file has it
     Binary {
-        #[arg(default_value = "-")]
-        file: PathBuf,
+        #[command(flatten)]
+        of: Of,
         #[command(flatten)]
         to: To,
     },
     /// Write what a plan keeps: the header's seal and its catalogue
     Keep {
-        #[arg(default_value = "-")]
-        file: PathBuf,
+        #[command(flatten)]
+        of: Of,
         #[command(flatten)]
         to: To,
     },
@@ -133,26 +133,50 @@ enum Verb {
     Check {
         /// What `keep` wrote
         kept: PathBuf,
-        #[arg(default_value = "-")]
-        file: PathBuf,
+        #[command(flatten)]
+        of: Of,
     },
     /// Compare two headers: equal records, or the first differences
-    Same { a: PathBuf, b: PathBuf },
+    Same {
+        /// One header
+        a: PathBuf,
+        /// The other
+        b: PathBuf,
+    },
     /// Judge a merge of A and B that another tool made
     Merged {
+        /// The first header
         a: PathBuf,
+        /// The second
         b: PathBuf,
+        /// What was made of both
         merged: PathBuf,
         /// Two lines: for each program of A, and for each of B, its ordinal in the merged header
         #[arg(long, value_name = "FILE")]
         lists: Option<PathBuf>,
     },
     /// Say what a refusal's number or name means
-    Explain { number: String },
+    Explain {
+        /// As 13, or zero-length
+        number: String,
+    },
     /// Write completions for a shell
-    Completions { shell: clap_complete::Shell },
+    Completions {
+        /// The shell
+        shell: clap_complete::Shell,
+    },
     /// Write the man page, or that of one verb
-    Man { verb: Option<String> },
+    Man {
+        /// The verb
+        verb: Option<String>,
+    },
+}
+
+#[derive(clap::Args)]
+struct Of {
+    /// A SAM, BAM or CRAM file; `-` or nothing is standard input
+    #[arg(default_value = "-")]
+    file: PathBuf,
 }
 
 #[derive(clap::Args)]
@@ -283,40 +307,44 @@ fn man(verb: Option<&str>) -> Done {
     put(&page, None).map(|()| true)
 }
 
+fn add(file: &Path, id: &str, tags: &[String]) -> Result<Vec<u8>, Stop> {
+    let found = load(file)?;
+    let fields: String = tags.iter().map(|tag| format!("\t{tag}")).collect();
+    judged(file, &found, header(file, &found)?.add(id.as_bytes(), fields.as_bytes()))
+}
+
+fn binary(file: &Path) -> Result<Vec<u8>, Stop> {
+    let found = load(file)?;
+    judged(file, &found, header(file, &found)?.to_binary())
+}
+
+fn completions(shell: clap_complete::Shell) -> Done {
+    let mut script = Vec::new();
+    clap_complete::generate(shell, &mut Args::command(), "samheader", &mut script);
+    put(&script, None).map(|()| true)
+}
+
 fn run(verb: Verb) -> Done {
     match verb {
         Verb::Validate(asked) => validate::run(asked),
-        Verb::Tidy { file, keep_going, to } => {
-            let (tidy, whole) = tidy(&file, keep_going)?;
+        Verb::Tidy { of, keep_going, to } => {
+            let (tidy, whole) = tidy(&of.file, keep_going)?;
             to.put(&tidy)?;
             Ok(whole)
         }
         Verb::Show { words, json } => show::show(&words, json),
         Verb::Get { kind, name, words } => show::get(kind, &name, &words),
-        Verb::Chains { file, dot, json } => chains::run(&file, dot, json),
-        Verb::Names { file, name, from } => names(&file, name, from),
-        Verb::Add { file, id, tags, to } => {
-            let found = load(&file)?;
-            let fields: String = tags.iter().map(|tag| format!("\t{tag}")).collect();
-            let added = judged(&file, &found, header(&file, &found)?.add(id.as_bytes(), fields.as_bytes()))?;
-            to.put(&added)
-        }
-        Verb::Prune { file, keep, to } => prune(&file, &keep, &to),
-        Verb::Binary { file, to } => {
-            let found = load(&file)?;
-            let bytes = judged(&file, &found, header(&file, &found)?.to_binary())?;
-            to.put(&bytes)
-        }
-        Verb::Keep { file, to } => to.put(&kept(&file)?),
-        Verb::Check { kept, file } => check(&kept, &file),
+        Verb::Chains { of, dot, json } => chains::run(&of.file, dot, json),
+        Verb::Names { of, name, from } => names(&of.file, name, from),
+        Verb::Add { of, id, tags, to } => to.put(&add(&of.file, &id, &tags)?),
+        Verb::Prune { of, keep, to } => prune(&of.file, &keep, &to),
+        Verb::Binary { of, to } => to.put(&binary(&of.file)?),
+        Verb::Keep { of, to } => to.put(&kept(&of.file)?),
+        Verb::Check { kept, of } => check(&kept, &of.file),
         Verb::Same { a, b } => same::run(&a, &b),
         Verb::Merged { a, b, merged, lists } => merged::run([&a, &b, &merged], lists.as_deref()),
         Verb::Explain { number } => explain(&number),
-        Verb::Completions { shell } => {
-            let mut script = Vec::new();
-            clap_complete::generate(shell, &mut Args::command(), "samheader", &mut script);
-            put(&script, None).map(|()| true)
-        }
+        Verb::Completions { shell } => completions(shell),
         Verb::Man { verb } => man(verb.as_deref()),
     }
 }

@@ -16,6 +16,7 @@ use std::time::{Duration, Instant};
 
 #[derive(clap::Args)]
 pub struct Asked {
+    /// SAM, BAM or CRAM files; `-` or nothing is standard input
     #[arg(value_name = "FILE")]
     files: Vec<PathBuf>,
     /// A file with the name of a file on each line
