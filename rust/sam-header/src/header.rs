@@ -175,6 +175,16 @@ impl<'a> Header<'a> {
         self.records(Kind::Comment).map(Comment)
     }
 
+    /// The SQ with this ordinal: one look.
+    pub fn reference(&self, ordinal: u32) -> Option<Reference<'_>> {
+        self.get(Kind::Reference, ordinal).map(Reference)
+    }
+
+    /// The PG with this ordinal: one look.
+    pub fn program(&self, number: ProgramNo) -> Option<Program<'_>> {
+        self.get(Kind::Program, number.0).map(Program)
+    }
+
     /// The SQ, RG or PG with this name or ID, by the proved search. It judges the text again: ask for many names by [`Header::names`], or put the
     /// records into a map.
     pub fn find(&self, kind: Kind, key: &[u8]) -> Option<Record<'_>> {
@@ -263,7 +273,7 @@ impl<'a> Header<'a> {
     pub fn add(&self, prefix: &[u8], fields: &[u8]) -> Result<Vec<u8>, Refusal> {
         // where the chains are refused, so is adding: before it asks for room
         let leaves = self.chains().map(|chains| chains.leaves).unwrap_or_default();
-        let id_len = |leaf: &ProgramNo| self.get(Kind::Program, leaf.0).map_or(0, |program| program.key().len());
+        let id_len = |leaf: &ProgramNo| self.program(*leaf).map_or(0, |program| program.id().len());
         let ids: usize = leaves.iter().map(id_len).sum();
         let lines = leaves.len().max(1) * (prefix.len() + fields.len() + 13) + 2 * ids;
         written(room(self.text, 1, 1) + lines, |out| calls::add(self.text, &self.catalogue, prefix, fields, out))

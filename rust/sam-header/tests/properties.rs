@@ -77,6 +77,7 @@ fn held_to_the_calls(text: &[u8], header: &Header) {
     assert_eq!(calls::references(text, kept, &mut table), Ok(header.count(Kind::Reference)));
     for ((i, reference), row) in (0..).zip(header.references()).zip(table.chunks(3)) {
         assert_eq!(calls::length(text, kept, i), Ok(u64::from(reference.length())));
+        assert_eq!(header.reference(i).map(|again| again.line()), Some(reference.line()));
         assert_eq!((part((row[0] as usize, row[1] as usize)), row[2]), (reference.name(), reference.length()));
     }
     let mut asked: Vec<&[u8]> = header.references().map(|reference| reference.name()).collect();

@@ -351,7 +351,7 @@ fn run(verb: Verb) -> Done {
 
 /// A program by its number, for messages.
 fn program_name(header: &Header, number: ProgramNo) -> String {
-    header.get(Kind::Program, number.0).map_or_else(String::new, |program| output::shown(program.key()))
+    header.program(number).map_or_else(String::new, |program| output::shown(program.id()))
 }
 
 fn main() -> ExitCode {

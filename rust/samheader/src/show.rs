@@ -27,7 +27,7 @@ fn text(bytes: &[u8]) -> String {
 fn number(header: &Header, record: &Record) -> Option<String> {
     match record.kind() {
         Kind::Header => header.header().map(|hd| hd.version()).map(|(major, minor)| format!("{major}.{minor}")),
-        Kind::Reference => header.references().nth(record.ordinal() as usize).map(|reference| reference.length().to_string()),
+        Kind::Reference => header.reference(record.ordinal()).map(|reference| reference.length().to_string()),
         _ => None,
     }
 }
