@@ -156,3 +156,44 @@ pub fn of(file: &Path, text: &[u8], refusal: Refusal) -> String {
     }
     told.into_iter().map(|refusal| explained(file, &lines, refusal)).collect()
 }
+
+#[cfg(test)]
+mod tests {
+    use super::*;
+
+    /// Halving finds the same field as asking about each front in turn.
+    #[test]
+    fn the_shortest_front() {
+        let pieces: [&[u8]; 12] =
+            [b"ID:a", b"SN:s", b"LN:8", b"LN:8x", b"LN:0", b"LN:", b"VN:1.6", b"VN:x", b"SM:\xe9", b"DS:\xc3\xa9", b"X", b"SM"];
+        let mut asked = 0;
+        for kind in [&b"@HD"[..], b"@SQ", b"@RG", b"@PG", b"@SQ "] {
+            for i in 0..pieces.len().pow(3) {
+                let line = [kind, pieces[i % 12], pieces[i / 12 % 12], pieces[i / 144]].join(&b'\t');
+                let strict = [b"@HD\tVN:1.6\n", &line[..]].concat();
+                let number = number_of(if kind == b"@HD" { &line } else { &strict });
+                if !matches!(number, 6 | 8..=14 | 27) {
+                    continue;
+                }
+                let ends = (4..=line.len()).filter(|&end| end == line.len() || line[end] == b'\t');
+                let mut start = 4;
+                for end in ends {
+                    let front = match (number, kind) {
+                        (14, b"@HD") => [b"@HD\tVN:1.6\n@PG", &line[3..end]].concat(),
+                        (14, _) => [b"@HD\tVN:1.6\n", &line[..end]].concat(),
+                        _ => line[..end].to_vec(),
+                    };
+                    if number_of(&front) == number {
+                        assert_eq!(field(&line, number), Some((start.min(end), end)), "{:?}", String::from_utf8_lossy(&line));
+                        break;
+                    }
+                    start = end + 1;
+                }
+                let (from, to) = place(&line, number);
+                assert!(from <= to && to <= line.len());
+                asked += 1;
+            }
+        }
+        assert!(asked > 5000, "{asked} lines");
+    }
+}
