@@ -21,6 +21,9 @@
 extern "C" {
 #endif
 
+/* Rises when a call or an answer is changed; calls that are added leave it. The shared object has it in its name, libsam_header.so.4. */
+#define SAM_HEADER_VERSION 4
+
 #define SAM_HEADER_IS_REFUSAL(answer) ((int)((uint64_t)(answer) >> 63))
 #define SAM_HEADER_NUMBER(answer) ((unsigned)((uint64_t)(answer) >> 32 & 255))
 #define SAM_HEADER_LINE(answer) ((uint32_t)((uint64_t)(answer) & UINT32_MAX))
