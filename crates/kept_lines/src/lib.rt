@@ -92,7 +92,8 @@ pub fn next_line(
     ensures stands { λ r. ⌜ r .next ≡ advanced c (c .at + firstLine (drop (c .at) (now (text .entry))) .next)
         (untilAt strict (now (text .entry)) (length (now (area .entry))) (c .at) (c .until)) (headAt strict (now (text .entry)) (c .at)) (r .refusal) ⌝ }
     ensures filled { λ _. ⌜ now (area .exit) ≡ filledAt strict (now (text .entry)) from (now (area .entry)) (c .at) (c .until) ⌝ }
-    ensures entered { λ _. ⌜ now (ids .exit) ≡ idsAfter (ltb (c .programs) 1024) (now (text .entry)) (now (ids .entry)) (headAt strict (now (text .entry)) (c .at)) ⌝ }
+    ensures entered { λ _. ⌜ now (ids .exit) ≡ idsAfter (ltb (c .programs) 1024) (now (text .entry)) (now (ids .entry))
+        (headAt strict (now (text .entry)) (c .at)) ⌝ }
 {
     let at = c.at;
     let until = turn(text, strict, from, area, at, c.until);

@@ -151,14 +151,16 @@ pub fn ordinal_of(word: &[u8]) -> u32
 
 // How many bytes of an output a line lends: as many as a word says, at most all.
 pub fn byte_room(word: &[u8], out: &[u8]) -> usize
-    ensures { λ r. ⌜ (r ≤ length (now (out .entry))) × (r ≡ length (take r (now (out .entry)))) × (r ≡ smaller (numberFrom 0 (now (word .entry))) (length (now (out .entry)))) ⌝ }
+    ensures { λ r. ⌜ (r ≤ length (now (out .entry))) × (r ≡ length (take r (now (out .entry))))
+        × (r ≡ smaller (numberFrom 0 (now (word .entry))) (length (now (out .entry)))) ⌝ }
 {
     stored_cases::least(stored_cases::number(word), out.len())
 }
 
 // How many ordinals of an output a line lends: as many as a word says, at most all.
 pub fn ordinal_room(word: &[u8], out: &[u32]) -> usize
-    ensures { λ r. ⌜ (r ≤ length (now (out .entry))) × (r ≡ length (take r (now (out .entry)))) × (r ≡ smaller (numberFrom 0 (now (word .entry))) (length (now (out .entry)))) ⌝ }
+    ensures { λ r. ⌜ (r ≤ length (now (out .entry))) × (r ≡ length (take r (now (out .entry))))
+        × (r ≡ smaller (numberFrom 0 (now (word .entry))) (length (now (out .entry)))) ⌝ }
 {
     stored_cases::least(stored_cases::number(word), out.len())
 }
