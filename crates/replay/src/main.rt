@@ -10,6 +10,7 @@
 // and one more; their answers were written by hand from these documents. 188 are longer, and answered by a model written from these alone.
 // `names.txt`: questions to `names`, answered by a model written from document 02 alone.
 // `requests.txt`: questions to every call, answered by that model, request by request.
+// `seal.txt`: questions to `seal` and `check_sealed`, 100 answered by that model, the others written by hand.
 // `merges.txt`: merges that samtools, picard and sambamba made of small headers, judged by a model written from document 02 alone (`oracle/merges`).
 //
 // Words are parted by one space; byte strings are in hex, `-` for none. A line is a call, its text, its catalogue (`=` for the one that
@@ -25,6 +26,7 @@
 //     add TEXT KEPT ROOM PREFIX FIELDS ok BYTES
 //     names TEXT KEPT LIST WORK ROOM ok ORDINALS INDEX LOOKS
 //     prune TEXT KEPT ROOM USED ok BYTES
+//     check_sealed TEXT KEPT ROOM SEAL ok
 // or `refused NUMBER LINE` in place of `ok ..`. ORDINALS have four hex digits each; those of names and of USED have eight, and so have the
 // slots of INDEX and the parent and the depth of each program in ROWS; SEATS is how many records the table has; LOOKS is `-` where it is not
 // stored. Over a text alone:
@@ -35,9 +37,11 @@
 //     read_with TEXT ROOM SLOTS ok CATALOGUE
 //     binary_out TEXT ROOM ok BYTES
 //     binary_in BYTES ROOM ok BYTES
+//     seal TEXT ROOM ok SEAL
 // have what the program on standard input writes, the tidy text, the tidy text of what is kept with the table of what is skipped, eight
 // digits for each number, the catalogue, which the check must then take, and refuse when its last byte is another, the catalogue again, by
-// a work area of SLOTS numbers, which is all zeros afterwards, the binary header, and the tidy text of a binary header. A line of the oracle
+// a work area of SLOTS numbers, which is all zeros afterwards, the binary header, the tidy text of a binary header, and the seal, by a work area
+// of ROOM bytes, which must be as tidying leaves it, and after the check of a seal too unless that is refused before 33. A line of the oracle
 // has its text first; each such text is read, tidied, and asked for its roots and leaves. Of an output that is lent every element is looked at:
 // what is not the answer must be as it was. Where the field call's answer stands no program can see: its contract says it. Over three texts and
 // two lists:
@@ -54,6 +58,7 @@ use replay_asked::BINARY_IN;
 use replay_asked::BINARY_OUT;
 use replay_asked::BY_TABLE;
 use replay_asked::CARRIED;
+use replay_asked::CHECK_SEALED;
 use replay_asked::COUNT;
 use replay_asked::FIELD;
 use replay_asked::FOUND;
@@ -70,6 +75,7 @@ use replay_asked::READ;
 use replay_asked::READ_WITH;
 use replay_asked::REFUSED;
 use replay_asked::ROOTS;
+use replay_asked::SEALED;
 use replay_asked::UNKNOWN;
 use replay_asked::UNWRITABLE;
 use replay_asked::WRONG;
@@ -157,6 +163,12 @@ fn is_sample(line: &[u8], asked: usize, text: &[u8]) -> bool {
 fn is_right(line: &[u8], asked: usize) -> bool {
     if asked == MERGED {
         return replay_merged::is_merged(line);
+    }
+    if asked == SEALED {
+        return replay_seal::is_sealed(line);
+    }
+    if asked == CHECK_SEALED {
+        return replay_seal::is_check_sealed(line);
     }
     let mut text = io::large_buffer();
     if asked < PROGRAM {
@@ -272,7 +284,7 @@ fn replay(place: usize) {
         os::fail(&name[..n]);
         return;
     }
-    let mut tally: [u32; 26] = [0; 26];
+    let mut tally: [u32; 28] = [0; 28];
     all_blocks(fd, &mut tally);
     libc::close(fd);
     io::write_all(STDOUT_FILENO, &name[..n]);

@@ -56,6 +56,10 @@ pub const FOUND: usize = 24;
 
 pub const MERGED: usize = 25;
 
+pub const SEALED: usize = 26;
+
+pub const CHECK_SEALED: usize = 27;
+
 // What a line asks: its first word is a call, or its second what the crate makes of the text.
 pub fn asked_by(line: &[u8]) -> usize {
     let call = stored_cases::word(line, 0);
@@ -94,6 +98,12 @@ pub fn asked_by(line: &[u8]) -> usize {
     }
     if text::same(call, b"judge_merge") {
         return MERGED;
+    }
+    if text::same(call, b"seal") {
+        return SEALED;
+    }
+    if text::same(call, b"check_sealed") {
+        return CHECK_SEALED;
     }
     written_by(line)
 }
@@ -165,7 +175,7 @@ fn print_count(name: &[u8], n: u32) {
 
 // Writes how many lines ask for something written.
 fn print_written(tally: &[u32])
-    requires { ⌜ length (now tally) ≡ 26 ⌝ }
+    requires { ⌜ length (now tally) ≡ 28 ⌝ }
 {
     print_count(b" add ", tally[ADDED]);
     print_count(b" names ", tally[NAMES]);
@@ -180,9 +190,17 @@ fn print_written(tally: &[u32])
     print_count(b" judge_merge ", tally[MERGED]);
 }
 
+// Writes how many lines ask for a seal.
+fn print_sealed(tally: &[u32])
+    requires { ⌜ length (now tally) ≡ 28 ⌝ }
+{
+    print_count(b" seal ", tally[SEALED]);
+    print_count(b" check_sealed ", tally[CHECK_SEALED]);
+}
+
 // Writes how many lines ask each call.
 pub fn print_asked(tally: &[u32])
-    requires { ⌜ length (now tally) ≡ 26 ⌝ }
+    requires { ⌜ length (now tally) ≡ 28 ⌝ }
 {
     print_count(b" count ", tally[COUNT]);
     print_count(b" key ", tally[KEY]);
@@ -193,11 +211,12 @@ pub fn print_asked(tally: &[u32])
     print_count(b" leaves ", tally[LEAVES]);
     print_count(b" leaves_by_table ", tally[BY_TABLE]);
     print_written(tally);
+    print_sealed(tally);
 }
 
 // Writes how many texts the crate judged in each way, and how many lines ask nothing.
 pub fn print_judged(tally: &[u32])
-    requires { ⌜ length (now tally) ≡ 26 ⌝ }
+    requires { ⌜ length (now tally) ≡ 28 ⌝ }
 {
     print_count(b" refused ", tally[REFUSED]);
     print_count(b" accepted ", tally[ACCEPTED]);
@@ -207,7 +226,7 @@ pub fn print_judged(tally: &[u32])
 
 // Writes how many answers were wrong, and how many of the marked lines were found.
 pub fn print_found(tally: &[u32])
-    requires { ⌜ length (now tally) ≡ 26 ⌝ }
+    requires { ⌜ length (now tally) ≡ 28 ⌝ }
 {
     print_number(b" wrong ", tally[WRONG]);
     print_number(b", known wrong found ", tally[FOUND]);
