@@ -11,6 +11,7 @@
 // `names.txt`: questions to `names`, answered by a model written from document 02 alone.
 // `requests.txt`: questions to every call, answered by that model, request by request.
 // `more.txt`: questions to the calls that no document names, answered by a model written from what was asked of them, and their edges by hand.
+// `seal.txt`: questions to `seal` and `check_sealed`, 100 answered by that model, the others written by hand.
 // `merges.txt`: merges that samtools, picard and sambamba made of small headers, judged by a model written from document 02 alone (`oracle/merges`).
 // `lens.txt`: fronts of SAM files and of uncompressed BAM streams, to `text_len` and `binary_len`: answered by that model, written by samtools, and
 // corners written by hand.
@@ -30,6 +31,7 @@
 //     prune TEXT KEPT ROOM USED ok BYTES
 //     find TEXT KEPT KIND KEY ok ORDINAL
 //     references TEXT KEPT ROOM ok COUNT ROWS
+//     check_sealed TEXT KEPT ROOM SEAL ok
 // or `refused NUMBER LINE` in place of `ok ..`. ORDINALS have four hex digits each; those of names and of USED have eight, and so have the
 // slots of INDEX, the parent and the depth of each program in ROWS, and each number of a row of references; SEATS is how many records the
 // table has; LOOKS is `-` where it is not stored. Over a text alone:
@@ -40,9 +42,11 @@
 //     read_with TEXT ROOM SLOTS ok CATALOGUE
 //     binary_out TEXT ROOM ok BYTES
 //     binary_in BYTES ROOM ok BYTES
+//     seal TEXT ROOM ok SEAL
 // have what the program on standard input writes, the tidy text, the tidy text of what is kept with the table of what is skipped, eight
 // digits for each number, the catalogue, which the check must then take, and refuse when its last byte is another, the catalogue again, by
-// a work area of SLOTS numbers, which is all zeros afterwards, the binary header, and the tidy text of a binary header. A line of the oracle
+// a work area of SLOTS numbers, which is all zeros afterwards, the binary header, the tidy text of a binary header, and the seal, by a work area
+// of ROOM bytes, which must be as tidying leaves it, and after the check of a seal too unless that is refused before 33. A line of the oracle
 // has its text first; each such text is read, tidied, and asked for its roots and leaves. Of an output that is lent every element is looked at:
 // what is not the answer must be as it was. Where the field call's answer stands no program can see: its contract says it. Over three texts and
 // two lists:
@@ -64,6 +68,7 @@ use replay_asked::BINARY_LEN;
 use replay_asked::BINARY_OUT;
 use replay_asked::BY_TABLE;
 use replay_asked::CARRIED;
+use replay_asked::CHECK_SEALED;
 use replay_asked::COUNT;
 use replay_asked::FIELD;
 use replay_asked::FIND;
@@ -82,6 +87,7 @@ use replay_asked::READ_WITH;
 use replay_asked::REFERENCES;
 use replay_asked::REFUSED;
 use replay_asked::ROOTS;
+use replay_asked::SEALED;
 use replay_asked::TEXT_LEN;
 use replay_asked::UNKNOWN;
 use replay_asked::UNWRITABLE;
@@ -178,6 +184,12 @@ fn is_right(line: &[u8], asked: usize) -> bool {
     }
     if asked == BINARY_LEN {
         return replay_lens::is_binary_len(line);
+    }
+    if asked == SEALED {
+        return replay_seal::is_sealed(line);
+    }
+    if asked == CHECK_SEALED {
+        return replay_seal::is_check_sealed(line);
     }
     let mut text = io::large_buffer();
     if asked < PROGRAM || asked == FIND || asked == REFERENCES {

@@ -64,6 +64,10 @@ pub const FIND: usize = 28;
 
 pub const REFERENCES: usize = 29;
 
+pub const SEALED: usize = 30;
+
+pub const CHECK_SEALED: usize = 31;
+
 // What a line asks: its first word is a call, or its second what the crate makes of the text.
 pub fn asked_by(line: &[u8]) -> usize {
     let call = stored_cases::word(line, 0);
@@ -106,7 +110,7 @@ pub fn asked_by(line: &[u8]) -> usize {
     found_by(line)
 }
 
-// What a line asks about a key, or about all references.
+// What a line asks about a key, about all references, or about a seal.
 fn found_by(line: &[u8]) -> usize {
     let call = stored_cases::word(line, 0);
     if text::same(call, b"find") {
@@ -114,6 +118,12 @@ fn found_by(line: &[u8]) -> usize {
     }
     if text::same(call, b"references") {
         return REFERENCES;
+    }
+    if text::same(call, b"seal") {
+        return SEALED;
+    }
+    if text::same(call, b"check_sealed") {
+        return CHECK_SEALED;
     }
     written_by(line)
 }
@@ -222,6 +232,14 @@ fn print_sought(tally: &[u32])
     print_count(b" references ", tally[REFERENCES]);
 }
 
+// Writes how many lines ask for a seal.
+fn print_sealed(tally: &[u32])
+    requires { ⌜ length (now tally) ≡ 33 ⌝ }
+{
+    print_count(b" seal ", tally[SEALED]);
+    print_count(b" check_sealed ", tally[CHECK_SEALED]);
+}
+
 // Writes how many lines ask each call.
 pub fn print_asked(tally: &[u32])
     requires { ⌜ length (now tally) ≡ 33 ⌝ }
@@ -237,6 +255,7 @@ pub fn print_asked(tally: &[u32])
     print_written(tally);
     print_lens(tally);
     print_sought(tally);
+    print_sealed(tally);
 }
 
 // Writes how many texts the crate judged in each way, and how many lines ask nothing.

@@ -1,6 +1,7 @@
 // Hashes files: for each a line as `sha256sum` writes it, the digest in hexadecimal digits, two spaces and the file's name.
 //
-// The arguments name the files: no byte, `abc`, and random bytes whose numbers lie about the ends of a block and of the padding.
+// The arguments name the files: no byte, the two examples of FIPS 180-4, and random bytes whose numbers lie about the ends of a block and of the
+// padding.
 // What is expected was written by `sha256sum` of GNU coreutils.
 use libc::STDOUT_FILENO;
 
