@@ -166,7 +166,7 @@ fn report(asked: &Asked, file: &Path) -> Report {
 }
 
 fn told(asked: &Asked, file: &Path, text: &[u8], faults: &[Refusal]) -> Report {
-    let lines = Lines::of(text);
+    let lines = Lines::of(if faults.is_empty() { &[] } else { text });
     let warnings = if asked.warn { warn::warnings(text) } else { Vec::new() };
     let mut said = String::new();
     if asked.quiet {
