@@ -25,7 +25,7 @@ use Rattle.carried.specs.Carried.{unlessSkipped}
 use Rattle.carried.proofs.Skips.{reads}
 use Rattle.carried.proofs.Kept.{carried-gathered}
 use Rattle.faulty.specs.Faults.{linkFault, faultsIn}
-use Rattle.faulty.specs.Law.{AllAccept}
+use Rattle.faulty.specs.Law.{AllAccept, FaultsTell}
 use Rattle.fault_laws.proofs.None.{Clear, clear, cleared, faults-untangled, untangled-faults}
 
 -- what fits
@@ -123,5 +123,8 @@ module _ (t : List ℕ) (small : length t ≤ 16777215) where
     unfolding faultsIn
     no-faults = cleared (links (programs rs)) 0 0 (carriedLines t) no-skips all-names (untangled-faults (links (programs rs)) all-linked)
 
-  pub none-exactly : (faultsIn (carriedLines t) ≡ []) ↔ AllAccept t
+  none-exactly : (faultsIn (carriedLines t) ≡ []) ↔ AllAccept t
   none-exactly = (accepted, no-faults)
+
+pub faults-tell : FaultsTell
+faults-tell = record { none = none-exactly }

@@ -13,7 +13,13 @@ ghost use Rattle.faulty.specs.Faults.{faulting};
 ghost use Rattle.faults.specs.Answers.{IsLinks, faultyLines};
 
 // Once the programs are linked: 20 for a short table, or the rows are written.
-fn write_faults(text: &[u8], b: Begin, area: &mut [u32], links: KeptLinks, table: &mut [u32]) -> CountAnswer
+fn write_faults(
+    text: &[u8],
+    b: Begin,
+    area: &mut [u32],
+    links: KeptLinks,
+    table: &mut [u32],
+) -> CountAnswer
     requires { ⌜ length (now text) ≤ 16777216 ⌝ }
     requires { ⌜ First (now text) b ⌝ }
     requires { ⌜ 4 ≤ length (now area) ⌝ }

@@ -121,10 +121,16 @@ step-fault-requires c κs =
     let a = s .args in
     let b = a .b in
     let l = c .before .before .before .before .before .before .before .before .before .before .before .before .before .before .loop in
-    let w = c .before .before .before .before .before .before .before .before .before .next-line in
-    (s .pre .1 .1 .1 .0, λ e. omega (arith, e, s .pre .1 .1 .1 .1 .0,
-    with-line (b .strict) (a .text .now) (b .at) (l .area) (l .ids) (l .c) (l .inv .0) _ _ (w .result .next) (w .ensures .1 .1 .1 .1 .0) (w .ensures .1 .1 .1 .0) (w .result .end) (w .result .refusal) (turned (c .before .before .before .before .before .before .before .before .before)) (linksIn (a .parents .now)),
-    programs-within (b .strict) (a .text .now) (b .at) _ _ (w .result .next) (w .ensures .1 .1 .1 .1 .0)))
+    let w = c .before .before .before .before .before .before .before .before .before .next-line in (
+      s .pre .1 .1 .1 .0,
+      λ e. omega (
+        arith,
+        e,
+        s .pre .1 .1 .1 .1 .0,
+        with-line (b .strict) (a .text .now) (b .at) (l .area) (l .ids) (l .c) (l .inv .0) _ _ (w .result .next) (w .ensures .1 .1 .1 .1 .0) (w .ensures .1 .1 .1 .0) (w .result .end) (w .result .refusal) (turned (c .before .before .before .before .before .before .before .before .before)) (linksIn (a .parents .now)),
+        programs-within (b .strict) (a .text .now) (b .at) _ _ (w .result .next) (w .ensures .1 .1 .1 .1 .0),
+      ),
+    )
 
 loop-less : tie.Need-loop-less Inv-loop μ-loop
 loop-less c = omega (arith, c .before .before .before .before .before .before .before .before .before .before .before .before .before .before .if1 .taken, turned (c .before .before .before .before .before .before .before .before .before .before .before) .onward, c .before .before .before .before .before .before .before .before .before .before .before .next-line .ensures .1 .1 .0)

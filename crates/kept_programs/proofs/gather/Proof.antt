@@ -104,9 +104,14 @@ counted c =
     let u = turned (c .before .before .before .before .before .before .before) in
     let ls = linesKeptFrom (a .text .now) b in
     let m = c .before .plain-fault .result in (
-      omega (arith, l .inv .1, c .one-if .ensures, ap plainCount (u .more),
-      plain-judged (b .strict) (a .text .now) (b .at) (l .c) (w .result .end) (w .result .refusal) u m (c .before .plain-fault .ensures) (drop (l .c .line + 1) ls),
-      ap (λ k. plainCount (drop k ls)) (w .ensures .1 .1 .1 .0)),
+      omega (
+        arith,
+        l .inv .1,
+        c .one-if .ensures,
+        ap plainCount (u .more),
+        plain-judged (b .strict) (a .text .now) (b .at) (l .c) (w .result .end) (w .result .refusal) u m (c .before .plain-fault .ensures) (drop (l .c .line + 1) ls),
+        ap (λ k. plainCount (drop k ls)) (w .ensures .1 .1 .1 .0),
+      ),
       omega (arith, l .inv .2, c .one-if .ensures, one-le m, w .ensures .1 .1 .1 .0),
     )
 
