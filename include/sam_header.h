@@ -1,7 +1,8 @@
 /* The header library for C and C++: link libexports.a (README says how it is made).
  *
- * Any bytes may be lent. Of the pointers is asked what C asks of a slice: not NULL, also where the length is 0; aligned to their type; lengths below
- * PTRDIFF_MAX; and no slice that a call writes overlaps another slice of that call. Calls keep no state and lend nothing on: they may run side by side.
+ * Any bytes may be lent. Of the pointers is asked what C asks of a slice: not NULL, also where the length is 0; aligned to their type; fewer bytes than
+ * PTRDIFF_MAX; and nothing that a call writes, `*length`, `*inspected` and `seal` included, overlaps anything else that is lent to that call. Calls keep no
+ * state and lend nothing on: they may run side by side.
  * Stack: for texts of at most 256 KiB a call takes at most 64 KiB, but for leaves_by_table, which takes 72, and judge_merge, which takes 192; for longer
  * texts any call takes at most 900 KiB. The calls with a work area take at most 64 KiB for any text. examples/stack.c measures it.
  *
@@ -98,7 +99,7 @@ uint64_t sam_header_read(const uint8_t *text, size_t text_len, uint8_t *catalogu
 uint64_t sam_header_read_with(const uint8_t *text, size_t text_len, uint8_t *catalogue, size_t catalogue_len, uint32_t *work,
                               size_t work_len);
 
-/* 0 if the catalogue is the one that reading this text gives, and 21 if not: every offset, length, VN and LN in it is then this text's. It holds no bytes of
+/* 0 if the catalogue is the one that reading this text gives, and 21 if not: every offset, length, line number, VN and LN in it is then this text's. It holds no bytes of
  * names, so that two texts which differ in names of equal length alone have one catalogue. A text that reading refuses gets reading's refusal. */
 uint64_t sam_header_check(const uint8_t *text, size_t text_len, const uint8_t *catalogue, size_t catalogue_len);
 
