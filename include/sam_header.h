@@ -6,9 +6,11 @@
  * Stack: for texts of at most 256 KiB a call takes at most 64 KiB, but for leaves_by_table, which takes 72, and judge_merge, which takes 192; for longer
  * texts any call takes at most 900 KiB. The calls with a work area take at most 64 KiB for any text. examples/stack.c measures it.
  *
- * Room that always suffices: for read 3 * text_len + 1 bytes; for tidy, prune, carry_on, binary_in, seal and check_sealed as many as the text has and one more, and two numbers for each line in carry_on's table; for binary_out twice text_len and 14; for roots, leaves and leaves_by_table 1,024 ordinals, and 1,024 records in leaves_by_table's table; for references three numbers for each SQ, and as many as text_len always suffice; for names as many ordinals as the
- * list has names, and the slots that are said there; for add what tidy needs and for each new program, one after each leaf, prefix_len + fields_len, twice
- * the leaf's ID and 13 bytes more. An output that is too short is refusal 20.
+ * Room that always suffices: for read 3 * text_len + 1 bytes; for tidy, prune, carry_on, binary_in, seal and check_sealed as many as the text has and
+ * one more, and two numbers for each line in carry_on's table; for binary_out twice text_len and 14; for roots, leaves and leaves_by_table 1,024
+ * ordinals, and 1,024 records in leaves_by_table's table; for references three numbers for each SQ, and as many as text_len always suffice; for names as
+ * many ordinals as the list has names, and the slots that are said there; for add what tidy needs and for each new program, one after each leaf,
+ * prefix_len + fields_len, twice the leaf's ID and 13 bytes more. An output that is too short is refusal 20.
  *
  * An answer of 2^63 or more is a refusal, which changes no byte (what check_sealed's 33 leaves is said there). Any other counts what was written at
  * the front of the output, where a call says nothing else. docs/REFUSALS.md says of each number what it means, which calls give it and what its line is. */
