@@ -133,6 +133,13 @@ uint64_t sam_header_check_sealed(const uint8_t *text, size_t text_len, const uin
  * short table; then neither of them changes. */
 uint64_t sam_header_carry_on(const uint8_t *text, size_t text_len, uint8_t *out, size_t out_len, uint32_t *table, size_t table_len);
 
+/* The faults of a text. In `table`, at its front, two numbers for each faulty line, in order: the line and why; table_len counts numbers. The answer is
+ * how many faulty lines there are. A line that carrying on skips has its refusal there; of the lines that are kept, an SQ whose name can't be written has
+ * 24, a program whose PP equals the ID of no program kept has 22, and a program that comes back to itself by its parents has 23 (one that only leads into
+ * such a cycle is not faulty). There are none exactly where reading, tidying and the leaves all accept. 1 for the text, then 20 for a short table, which
+ * then does not change. */
+uint64_t sam_header_faults(const uint8_t *text, size_t text_len, uint32_t *table, size_t table_len);
+
 /* The same, with a lent work area of any length and with any content. It is all zeros afterwards, on every answer, refusals too; the answer, `out` and `table`
  * are those of carry_on. work_len counts numbers: one for each eight bytes of the text is as much as is used. An area of 6,144 numbers or fewer is only
  * cleared, and a text of more than 256 KiB is then carried on over in many small blocks, which is slow. At most 64 KiB of stack for any text. */

@@ -8,6 +8,8 @@ ghost use Rattle.format.specs.Calls.{reading, fresh, tidying, counting, keying,
 ghost use Rattle.format.specs.Work.{allZeros, readingWith};
 ghost use Rattle.format.specs.Prune.{pruning};
 ghost use Rattle.carry_on.specs.Answers.{carriedAnswer, textLeft, tableLeft};
+ghost use Rattle.faulty.specs.Faults.{faulting};
+ghost use Rattle.faults.specs.Answers.{faultyLines};
 ghost use Rattle.names.specs.Batch.{batching};
 ghost use Rattle.names.specs.Answers.{namesOf, resultsOf, slotsOf};
 ghost use Rattle.parser.specs.Answers.{answerOf, outputOf, checkedOf};
@@ -101,6 +103,14 @@ pub extern "C" fn sam_header_carry_on_with(
     ensures zeros { λ _. ⌜ now (work .exit) ≡ allZeros (now (work .entry)) ⌝ }
 {
     words::carried_word(carry_on::carry_on_with(text, out, table, work))
+}
+
+#[no_mangle]
+pub extern "C" fn sam_header_faults(text: &[u8], table: &mut [u32]) -> u64
+    ensures answer { λ r. ⌜ r ≡ answerWord (faultyLines (faulting (now (text .entry)) (length (now (table .entry))))) ⌝ }
+    ensures listed { λ _. ⌜ now (table .exit) ≡ outputOf (faulting (now (text .entry)) (length (now (table .entry)))) (now (table .entry)) ⌝ }
+{
+    words::answer_word(faults::faults(text, table))
 }
 
 #[no_mangle]
