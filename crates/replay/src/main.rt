@@ -11,6 +11,7 @@
 // `names.txt`: questions to `names`, answered by a model written from document 02 alone.
 // `requests.txt`: questions to every call, answered by that model, request by request.
 // `more.txt`: questions to the calls that no document names, answered by a model written from what was asked of them, and their edges by hand.
+// `faults.txt`: questions to `faults`, 58 answered by that model, the others by another written from the rule.
 // `seal.txt`: questions to `seal` and `check_sealed`, 100 answered by that model, the others written by hand.
 // `merges.txt`: merges that samtools, picard and sambamba made of small headers, judged by a model written from document 02 alone (`oracle/merges`).
 // `lens.txt`: fronts of SAM files and of uncompressed BAM streams, to `text_len` and `binary_len`: answered by that model, written by samtools, and
@@ -38,13 +39,14 @@
 //     program TEXT BYTES
 //     tidy TEXT ROOM ok BYTES
 //     carry_on TEXT ROOM TABLE ok BYTES ROWS
+//     faults TEXT TABLE ok ROWS
 //     read TEXT ROOM ok CATALOGUE
 //     read_with TEXT ROOM SLOTS ok CATALOGUE
 //     binary_out TEXT ROOM ok BYTES
 //     binary_in BYTES ROOM ok BYTES
 //     seal TEXT ROOM ok SEAL
 // have what the program on standard input writes, the tidy text, the tidy text of what is kept with the table of what is skipped, eight
-// digits for each number, the catalogue, which the check must then take, and refuse when its last byte is another, the catalogue again, by
+// digits for each number, the table of the faulty lines, the catalogue, which the check must then take, and refuse when its last byte is another, the catalogue again, by
 // a work area of SLOTS numbers, which is all zeros afterwards, the binary header, the tidy text of a binary header, and the seal, by a work area
 // of ROOM bytes, which must be as tidying leaves it, and after the check of a seal too unless that is refused before 33. A line of the oracle
 // has its text first; each such text is read, tidied, and asked for its roots and leaves. Of an output that is lent every element is looked at:
@@ -70,6 +72,7 @@ use replay_asked::BY_TABLE;
 use replay_asked::CARRIED;
 use replay_asked::CHECK_SEALED;
 use replay_asked::COUNT;
+use replay_asked::FAULTS;
 use replay_asked::FIELD;
 use replay_asked::FIND;
 use replay_asked::FOUND;
@@ -143,6 +146,10 @@ fn is_written(line: &[u8], asked: usize, text: &[u8]) -> bool {
         let mut table = stored_answers::ordinals();
         return replay_carried::is_carried(line, text, &mut out, &mut table);
     }
+    if asked == FAULTS {
+        let mut table = stored_answers::ordinals();
+        return replay_faults::is_faults(line, text, &mut table);
+    }
     if asked == READ_WITH {
         let mut work = stored_answers::ordinals();
         return replay_work::is_read_with(line, text, &mut out, &mut work);
@@ -196,7 +203,7 @@ fn is_right(line: &[u8], asked: usize) -> bool {
         let n = stored_cases::decode(stored_cases::word(line, 1), &mut text);
         return is_answer(line, asked, &text[..n]);
     }
-    if asked < REFUSED {
+    if asked < REFUSED || asked == FAULTS {
         let n = stored_cases::decode(stored_cases::word(line, 1), &mut text);
         return is_written(line, asked, &text[..n]);
     }

@@ -68,6 +68,8 @@ pub const SEALED: usize = 30;
 
 pub const CHECK_SEALED: usize = 31;
 
+pub const FAULTS: usize = 32;
+
 // What a line asks: its first word is a call, or its second what the crate makes of the text.
 pub fn asked_by(line: &[u8]) -> usize {
     let call = stored_cases::word(line, 0);
@@ -110,7 +112,7 @@ pub fn asked_by(line: &[u8]) -> usize {
     found_by(line)
 }
 
-// What a line asks about a key, about all references, or about a seal.
+// What a line asks about a key, about all references, a seal or faults.
 fn found_by(line: &[u8]) -> usize {
     let call = stored_cases::word(line, 0);
     if text::same(call, b"find") {
@@ -124,6 +126,9 @@ fn found_by(line: &[u8]) -> usize {
     }
     if text::same(call, b"check_sealed") {
         return CHECK_SEALED;
+    }
+    if text::same(call, b"faults") {
+        return FAULTS;
     }
     written_by(line)
 }
@@ -232,12 +237,13 @@ fn print_sought(tally: &[u32])
     print_count(b" references ", tally[REFERENCES]);
 }
 
-// Writes how many lines ask for a seal.
+// Writes how many lines ask for a seal, or for faults.
 fn print_sealed(tally: &[u32])
     requires { ⌜ length (now tally) ≡ 33 ⌝ }
 {
     print_count(b" seal ", tally[SEALED]);
     print_count(b" check_sealed ", tally[CHECK_SEALED]);
+    print_count(b" faults ", tally[FAULTS]);
 }
 
 // Writes how many lines ask each call.
