@@ -145,7 +145,7 @@ loop-again c =
       ap (over (l .table) (l .row * 2)) (sym e) ∙ l .inv .2,
       omega (arith, l .inv .3, w .ensures .1 .1 .1 .0),
       w .ensures .1 .1 .1 .1 .1 .0 ∙ l .inv .4,
-      w .ensures .1 .1 .1 .1 .1 .1 ∙ l .inv .5,
+      w .ensures .1 .1 .1 .1 .1 .1 .0 ∙ l .inv .5,
       l .inv .6,
     )
 
@@ -175,7 +175,7 @@ loop-again-2 c =
       ap (λ o. over o ((l .row + 1) * 2) (toCome (a .text .now) (a .b) (a .parents .now) (w .result .next))) (p .ensures) ∙ row-over _ _ (l .row) (l .table) n h (omega (arith, room, ap length e)) ∙ ap (over (l .table) (l .row * 2)) (sym e) ∙ l .inv .2,
       omega (arith, l .inv .3, w .ensures .1 .1 .1 .0),
       w .ensures .1 .1 .1 .1 .1 .0 ∙ l .inv .4,
-      w .ensures .1 .1 .1 .1 .1 .1 ∙ l .inv .5,
+      w .ensures .1 .1 .1 .1 .1 .1 .0 ∙ l .inv .5,
       p .kept .0 ∙ l .inv .6,
     )
 

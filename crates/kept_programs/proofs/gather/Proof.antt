@@ -130,7 +130,7 @@ loop-again c =
           (sym (programs-same (b .strict) (a .text .now) (b .at) (l .area) (l .ids) (l .c) (l .inv .0) _ _ (w .result .next) (w .ensures .1 .1 .1 .1 .0) (w .ensures .1 .1 .1 .0) (u .judged) (u .more) (c .if2 .taken)))
           (l .inv .3),
       w .ensures .1 .1 .1 .1 .1 .0 ∙ l .inv .4,
-      w .ensures .1 .1 .1 .1 .1 .1 ∙ l .inv .5,
+      w .ensures .1 .1 .1 .1 .1 .1 .0 ∙ l .inv .5,
     )
 
 sub-places-of : tie.Need-sub-places-of Inv-loop μ-loop
@@ -220,7 +220,7 @@ loop-again-2 c =
           (c .places-of .result .id) (c .places-of .result .previous) (c .places-of .ensures .0) (c .places-of .ensures .1) _
           (programs-more (b .strict) t (b .at) (l .area) (l .ids) (l .c) (l .inv .0) _ _ (w .result .next) (w .ensures .1 .1 .1 .1 .0) (w .ensures .1 .1 .1 .0) (u .judged) (u .more) p),
       w .ensures .1 .1 .1 .1 .1 .0 ∙ l .inv .4,
-      w .ensures .1 .1 .1 .1 .1 .1 ∙ l .inv .5,
+      w .ensures .1 .1 .1 .1 .1 .1 .0 ∙ l .inv .5,
     )
 
 same-length : tie.Need-same-length Inv-loop μ-loop
