@@ -16,7 +16,7 @@
 
 #include "sam_header.h"
 
-enum { PAINT = 0xA5, LARGE = 4 << 20, KIB = 1024, SLOTS = 1 << 18 };
+enum { PAINT = 0xA5, LARGE = 4 << 20, KIB = 1024, SLOTS = 1 << 18, NUMBERS = 1 << 16 };
 
 static uint8_t *text, *turned, *catalogue, *binary, *out;
 static size_t text_len, catalogue_len, binary_len, out_len;
@@ -30,10 +30,15 @@ static void do_check(void) { answer = sam_header_check(text, text_len, catalogue
 static void do_count(void) { answer = sam_header_count(text, text_len, catalogue, catalogue_len, 2); }
 static void do_key(void) { answer = sam_header_key(text, text_len, catalogue, catalogue_len, 4, 0); }
 static void do_field(void) { answer = sam_header_field(text, text_len, catalogue, catalogue_len, 4, 0, 'P', 'N'); }
+static void do_find(void) { answer = sam_header_find(text, text_len, catalogue, catalogue_len, 2, (const uint8_t *)"c0", 2); }
+static void do_references(void) { answer = sam_header_references(text, text_len, catalogue, catalogue_len, table, NUMBERS); }
 static void do_tidy(void) { answer = sam_header_tidy(text, text_len, out, out_len); }
-static void do_carry_on(void) { answer = sam_header_carry_on(text, text_len, out, out_len, table, 4096); }
+static void do_carry_on(void) { answer = sam_header_carry_on(text, text_len, out, out_len, table, NUMBERS); }
+static void do_faults(void) { answer = sam_header_faults(text, text_len, table, NUMBERS); }
 static void do_binary_out(void) { answer = sam_header_binary_out(text, text_len, out, out_len); }
 static void do_binary_in(void) { answer = sam_header_binary_in(binary, binary_len, out, out_len); }
+static void do_text_len(void) { answer = sam_header_text_len(text, text_len); }
+static void do_binary_len(void) { answer = sam_header_binary_len(binary, binary_len); }
 static void do_roots(void) { answer = sam_header_roots(text, text_len, catalogue, catalogue_len, table, 1024); }
 static void do_leaves(void) { answer = sam_header_leaves(text, text_len, catalogue, catalogue_len, table, 1024); }
 static void do_leaves_by_table(void) { answer = sam_header_leaves_by_table(text, text_len, catalogue, catalogue_len, nodes, 1024, table, 1024); }
@@ -56,7 +61,7 @@ static uint8_t seal[32];
 static void do_seal(void) { answer = sam_header_seal(text, text_len, out, out_len, seal); }
 static void do_check_sealed(void) { answer = sam_header_check_sealed(text, text_len, catalogue, catalogue_len, seal, out, out_len); }
 static void do_tidy_with(void) { answer = sam_header_tidy_with(text, text_len, out, out_len, work, SLOTS); }
-static void do_carry_on_with(void) { answer = sam_header_carry_on_with(text, text_len, out, out_len, table, 4096, work, SLOTS); }
+static void do_carry_on_with(void) { answer = sam_header_carry_on_with(text, text_len, out, out_len, table, NUMBERS, work, SLOTS); }
 
 /* What the header promises, in KiB: for texts of at most 256 KiB, and for longer ones. */
 static const struct {
@@ -70,10 +75,15 @@ static const struct {
     {"count", do_count, 64, 900},
     {"key", do_key, 64, 900},
     {"field", do_field, 64, 900},
+    {"find", do_find, 64, 900},
+    {"references", do_references, 64, 900},
     {"tidy", do_tidy, 64, 900},
     {"carry_on", do_carry_on, 64, 900},
+    {"faults", do_faults, 64, 900},
     {"binary_out", do_binary_out, 64, 900},
     {"binary_in", do_binary_in, 64, 900},
+    {"text_len", do_text_len, 64, 64},
+    {"binary_len", do_binary_len, 64, 64},
     {"roots", do_roots, 64, 900},
     {"leaves", do_leaves, 64, 900},
     {"leaves_by_table", do_leaves_by_table, 72, 900},
@@ -151,7 +161,7 @@ int main(void) {
     int status = 0;
     out_len = 16 << 20;
     text = malloc(16 << 20), turned = malloc(16 << 20), catalogue = malloc(out_len), binary = malloc(out_len), out = malloc(out_len);
-    table = malloc(4096 * sizeof *table), work = calloc(SLOTS, sizeof *work);
+    table = malloc(NUMBERS * sizeof *table), work = calloc(SLOTS, sizeof *work);
     for (size_t t = 0; t < sizeof texts / sizeof *texts; t++) {
         make(texts[t].lines, texts[t].wide ? fields : "");
         printf("%d SQ lines, %zu bytes: KiB of stack\n", texts[t].lines, text_len);

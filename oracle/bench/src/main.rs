@@ -12,6 +12,7 @@
 //! bench lens [--rounds N]              the ninth table (`lens.rs`), where the archive has text_len and binary_len
 //! bench seal [--rounds N] [FOLDER]     seals (`sealed.rs`), where the archive has the calls
 //! bench references [--rounds N]        the ninth table (`found.rs`), where the archive has references and find
+//! bench faults [--rounds N]            faults (`faulty.rs`), where the archive has the call
 //!
 //! FOLDER has real headers, `*.sam` (default ../shared/headers beside the repository).
 //!
@@ -44,6 +45,8 @@ mod calls;
 mod carried;
 #[cfg(feature = "lens")]
 mod lens;
+#[cfg(feature = "faults")]
+mod faulty;
 #[cfg(feature = "found")]
 mod found;
 #[cfg(feature = "judge_merge")]
@@ -178,7 +181,8 @@ fn main() -> ExitCode {
     let args: Vec<&str> = args.iter().map(String::as_str).collect();
     let (call, args) = match args[..] {
         [
-            call @ ("names" | "carry_on" | "leaves_by_table" | "prune" | "judge_merge" | "read_with" | "lens" | "seal" | "references"),
+            call @ ("names" | "carry_on" | "leaves_by_table" | "prune" | "judge_merge" | "read_with" | "lens" | "seal" | "references"
+            | "faults"),
             ref rest @ ..,
         ] => (call, rest),
         _ => ("", &args[..]),
@@ -192,7 +196,8 @@ fn main() -> ExitCode {
             || call == "read_with" && !cfg!(feature = "work")
             || call == "lens" && !cfg!(feature = "lens")
             || call == "seal" && !cfg!(feature = "seal")
-            || call == "references" && !cfg!(feature = "found") =>
+            || call == "references" && !cfg!(feature = "found")
+            || call == "faults" && !cfg!(feature = "faults") =>
         {
             eprintln!("the archive has no sam_header_{call}");
             return ExitCode::from(2);
@@ -235,6 +240,11 @@ fn main() -> ExitCode {
     #[cfg(feature = "found")]
     if call == "references" {
         found::table(rounds);
+        return ExitCode::SUCCESS;
+    }
+    #[cfg(feature = "faults")]
+    if call == "faults" {
+        faulty::table(rounds);
         return ExitCode::SUCCESS;
     }
     #[cfg(feature = "work")]

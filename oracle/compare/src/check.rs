@@ -12,6 +12,8 @@ use oracle::{
 use crate::area;
 #[cfg(feature = "carry_on")]
 use crate::carried;
+#[cfg(feature = "faults")]
+use crate::faulty;
 #[cfg(feature = "found")]
 use crate::found;
 #[cfg(feature = "add")]
@@ -375,6 +377,10 @@ impl Checker {
         #[cfg(feature = "carry_on")]
         if case.list.is_none() {
             self.carry_on(&case.text);
+        }
+        #[cfg(feature = "faults")]
+        if case.list.is_none() {
+            self.faultless(&case.text);
         }
         #[cfg(feature = "work")]
         if case.list.is_none() {
@@ -1127,7 +1133,7 @@ impl Checker {
             return self.said(Call::CarryOn, 1, said);
         }
         let takes = |t: &[u8]| library::read(t, &mut vec![0; 3 * t.len() + 1]).is_ok();
-        let Some(want) = carried::carried(text, takes) else {
+        let Some(mut want) = carried::carried(text, takes) else {
             return self.differ(Call::CarryOn, Some(Kind::Wide), "a value that the crate's stand-in does not take".into());
         };
         if want.skipped.iter().any(|s| s.1.is_none() || s.1 == Some(19)) {
@@ -1137,7 +1143,8 @@ impl Checker {
             self.differ(Call::CarryOn, Some(Kind::CarryDefault), "a repeated tag is allowed; the crate: 14".into());
         }
         let written = oracle::tidy(&want.header);
-        let rows = self.rows(text, &want.skipped);
+        let answer = library::carry_on(text, self.bytes.lend(text.len() + 1), self.words.lend(2 * want.skipped.len()));
+        let rows = self.rows(answer, &want.skipped);
         let due = match &written {
             Ok(t) if t.len() > oracle::LONGEST => Err(refusal(1)),
             Ok(t) => Ok(&t[..]),
@@ -1148,14 +1155,20 @@ impl Checker {
         };
         let said = self.carried_at_lengths(text, due, &rows);
         self.said(Call::CarryOn, due.err().map_or(0, |r| r.number), said);
+        // Of a line that the crate was not given the faults have the number that carrying on told, if it did.
+        for (skipped, row) in want.skipped.iter_mut().zip(rows.chunks(2)) {
+            skipped.1 = skipped.1.or(Some(row[1]).filter(|&n| n != 0));
+        }
+        #[cfg(feature = "faults")]
+        self.faults(text, &want);
     }
 
-    // The table that is due. A line that the crate was not given has any number of a line's refusal: the library's own is taken over.
-    fn rows(&mut self, text: &[u8], skipped: &[(u32, Option<u32>)]) -> Vec<u32> {
-        let answer = library::carry_on(text, self.bytes.lend(text.len() + 1), self.words.lend(2 * skipped.len()));
-        let own = |i: usize| answer.map_or(0, |_| self.words.front(2 * skipped.len())[2 * i + 1]);
+    // The rows that are due, after a call with room for them alone. A line that the crate was not given has any number of a line's refusal: the library's
+    // own is taken over.
+    fn rows(&self, answer: Answer, lines: &[(u32, Option<u32>)]) -> Vec<u32> {
+        let own = |i: usize| answer.map_or(0, |_| self.words.front(2 * lines.len())[2 * i + 1]);
         let number = |i: usize, n: Option<u32>| n.unwrap_or(if matches!(own(i), 2..=18 | 27) { own(i) } else { 0 });
-        skipped.iter().enumerate().flat_map(|(i, &(line, n))| [line, number(i, n)]).collect()
+        lines.iter().enumerate().flat_map(|(i, &(line, n))| [line, number(i, n)]).collect()
     }
 
     // Asks with an output and a table that are longer than the answer, exactly as long, one short, and empty. Says what is wrong, if anything.
@@ -1214,6 +1227,50 @@ impl Checker {
             Some("something past the answer or the table was changed".into())
         } else {
             None
+        }
+    }
+}
+
+#[cfg(feature = "faults")]
+impl Checker {
+    // The faulty lines: what is skipped and why is carrying on's, and what is faulty of the rest follows from the crate's tables.
+    fn faults(&mut self, text: &[u8], kept: &carried::Carried) {
+        let lines = faulty::lines(kept);
+        let answer = library::faults(text, self.words.lend(2 * lines.len()));
+        let rows = self.rows(answer, &lines);
+        let said = outputs(&mut self.words, Ok((&rows, lines.len() as u64)), |o| library::faults(text, o));
+        if said.is_none() {
+            self.tally.faults(&rows);
+        }
+        self.said(Call::Faults, 0, said);
+    }
+
+    // What the library must tell of any text, the crate unasked: 1 for one that is too long; else no faults exactly where reading, tidying and leaves all
+    // accept, and the first fault that has a number of reading's is reading's refusal.
+    fn faultless(&mut self, text: &[u8]) {
+        if text.len() > oracle::LONGEST {
+            let said = outputs(&mut self.words, Err(refusal(1)), |o| library::faults(text, o));
+            return self.said(Call::Faults, 1, said);
+        }
+        let mut table = vec![0; 2 * oracle::spans(text).count()];
+        let answer = library::faults(text, &mut table);
+        let Some(rows) = answer.ok().and_then(|n| table.get(..2 * n as usize)) else {
+            return self.differ(Call::Faults, None, format!("with room for all lines: {answer:?}"));
+        };
+        let mut catalogue = vec![0; 3 * text.len() + 1];
+        let read = library::read(text, &mut catalogue);
+        let tidy = library::tidy(text, &mut vec![0; text.len() + 1]);
+        let leaves = read.and_then(|n| library::leaves(text, &catalogue[..n as usize], &mut [0; oracle::PROGRAMS]));
+        // The longest text may be too long by the last LF when it is tidied, which is no fault.
+        let tidies = tidy.is_ok() || text.len() == oracle::LONGEST && tidy == Err(refusal(1));
+        let first = rows.chunks(2).find(|row| !matches!(row[1], 22..=24)).map(|row| Refusal { number: row[1], line: row[0] });
+        if rows.is_empty() != (tidies && leaves.is_ok()) {
+            let calls = format!("read {read:?}, tidy {tidy:?}, leaves {leaves:?}");
+            self.differ(Call::Faults, None, format!("the faults {rows:?}, and {calls}"));
+        } else if first != read.err() {
+            self.differ(Call::Faults, None, format!("the faults {rows:?}, and read {read:?}"));
+        } else {
+            self.tally.told();
         }
     }
 }

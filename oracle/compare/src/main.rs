@@ -12,6 +12,8 @@ mod area;
 #[cfg(feature = "carry_on")]
 mod carried;
 mod check;
+#[cfg(feature = "faults")]
+mod faulty;
 #[cfg(feature = "found")]
 mod found;
 #[cfg(feature = "add")]
@@ -36,8 +38,8 @@ use check::{Case, Checker, Difference};
 use known::Kind;
 use oracle::inputs::{self, Rng, in_domain};
 
-const PHASES: [&str; 14] = [
-    "corners", "tokens", "fields", "bytes", "graphs", "random", "damaged", "programs", "boundaries", "keys", "names", "skipped", "merged", "lens",
+const PHASES: [&str; 15] = [
+    "corners", "tokens", "fields", "bytes", "graphs", "random", "damaged", "programs", "boundaries", "keys", "names", "skipped", "merged", "lens", "faults",
 ];
 
 /// Unlisted differences that are printed; the run ends at the last of them.
@@ -318,6 +320,17 @@ impl Run {
             }
             #[cfg(not(feature = "lens"))]
             "lens" => {}
+            "faults" if cfg!(feature = "faults") => {
+                for _ in 0..100_000 * scale {
+                    let text = inputs::faulty(rng, false);
+                    self.text(&text);
+                }
+                for _ in 0..20 * scale {
+                    let text = inputs::faulty(rng, true);
+                    self.text(&text);
+                }
+            }
+            "faults" => {}
             _ => unreachable!(),
         }
     }
@@ -373,6 +386,7 @@ fn main() -> ExitCode {
         ("prune", cfg!(feature = "prune")),
         ("names", cfg!(feature = "names")),
         ("carry_on", cfg!(feature = "carry_on")),
+        ("faults", cfg!(feature = "faults")),
         ("binary", cfg!(feature = "binary")),
         ("judge_merge", cfg!(feature = "judge_merge")),
         ("text_len binary_len", cfg!(feature = "lens")),

@@ -172,6 +172,11 @@ unsafe extern "C" {
     ) -> u64;
 }
 
+#[cfg(feature = "faults")]
+unsafe extern "C" {
+    fn sam_header_faults(text: *const u8, text_len: usize, table: *mut u32, table_len: usize) -> u64;
+}
+
 #[cfg(feature = "work")]
 unsafe extern "C" {
     fn sam_header_read_with(
@@ -425,6 +430,12 @@ pub fn carry_on_with(text: &[u8], out: &mut [u8], table: &mut [u32], work: &mut 
             work.len(),
         )
     })
+}
+
+/// Two numbers for each faulty line are left in `table`.
+#[cfg(feature = "faults")]
+pub fn faults(text: &[u8], table: &mut [u32]) -> Answer {
+    answer(unsafe { sam_header_faults(text.as_ptr(), text.len(), table.as_mut_ptr(), table.len()) })
 }
 
 /// Reading by a lent area, which is all zeros afterwards.
