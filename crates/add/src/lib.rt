@@ -268,14 +268,14 @@ fn add_after(
 }
 
 // Adds a program after each leaf, and writes the tidy text to the front of `out`: reading's refusals, 21, 26, 22, 23, 18, 19, 24, 1, 20.
-pub fn add(text: &[u8], kept: &[u8], prefix: &[u8], fields: &[u8], out: &mut [u8]) -> CountAnswer
+pub fn add(text: &[u8], catalogue: &[u8], prefix: &[u8], fields: &[u8], out: &mut [u8]) -> CountAnswer
     ensures answer { λ r.
-        ⌜ r ≡ answerOf (adding (now (text .entry)) (now (kept .entry)) (now (prefix .entry)) (now (fields .entry)) (length (now (out .entry)))) ⌝ }
+        ⌜ r ≡ answerOf (adding (now (text .entry)) (now (catalogue .entry)) (now (prefix .entry)) (now (fields .entry)) (length (now (out .entry)))) ⌝ }
     ensures wrote { λ _. ⌜ now (out .exit) ≡ outputOf
-        (adding (now (text .entry)) (now (kept .entry)) (now (prefix .entry)) (now (fields .entry)) (length (now (out .entry))))
+        (adding (now (text .entry)) (now (catalogue .entry)) (now (prefix .entry)) (now (fields .entry)) (length (now (out .entry))))
         (now (out .entry)) ⌝ }
 {
-    match parser::check(text, kept) {
+    match parser::check(text, catalogue) {
         Checked::Refused(n, line) => CountAnswer::Refused(n, line),
         Checked::Fresh => {
             if !add_input::is_in_form(prefix, fields) {
@@ -286,13 +286,13 @@ pub fn add(text: &[u8], kept: &[u8], prefix: &[u8], fields: &[u8], out: &mut [u8
             let mut len: [u32; 1024] = [0; 1024];
             let mut from: [u32; 1024] = [0; 1024];
             let mut widths: [u32; 1024] = [0; 1024];
-            let count = programs::gather(kept, &mut at, &mut len, &mut from, &mut widths);
+            let count = programs::gather(catalogue, &mut at, &mut len, &mut from, &mut widths);
             let ats = &at[..count];
             let lens = &len[..count];
             if is_stray(text, ats, lens, fields, previous) {
                 return CountAnswer::Refused(22, LineNo(0)); // the given PP
             }
-            let graph = parents::find_leaves(parents::parents_of(text, kept));
+            let graph = parents::find_leaves(parents::parents_of(text, catalogue));
             if graph.refusal != 0 {
                 return CountAnswer::Refused(graph.refusal, LineNo(0));
             }

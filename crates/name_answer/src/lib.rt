@@ -10,21 +10,21 @@ const MIDDLE: usize = 262144;
 // its slot, and `notes` take which it is.
 fn answer_noting(
     text: &[u8],
-    kept: &[u8],
+    catalogue: &[u8],
     m: usize,
     list: &[u8],
     slots: &mut [u32],
     out: &mut [u32],
     notes: &mut [u32],
 ) -> u64
-    requires { ⌜ Answerable (now text) (now kept) m (now list) (now slots) (now out) ⌝ }
-    ensures slots { λ _. ⌜ now (slots .exit) ≡ nameIndexIn (now (text .entry)) (now (kept .entry)) ⌝ }
-    ensures found { λ _. ⌜ now (out .exit) ≡ ordinalsIn (now (text .entry)) (now (kept .entry)) (now (list .entry)) ⌝ }
-    ensures looks { λ r. ⌜ r ≡ looksIn (now (text .entry)) (now (kept .entry)) (now (list .entry)) ⌝ }
+    requires { ⌜ Answerable (now text) (now catalogue) m (now list) (now slots) (now out) ⌝ }
+    ensures slots { λ _. ⌜ now (slots .exit) ≡ nameIndexIn (now (text .entry)) (now (catalogue .entry)) ⌝ }
+    ensures found { λ _. ⌜ now (out .exit) ≡ ordinalsIn (now (text .entry)) (now (catalogue .entry)) (now (list .entry)) ⌝ }
+    ensures looks { λ r. ⌜ r ≡ looksIn (now (text .entry)) (now (catalogue .entry)) (now (list .entry)) ⌝ }
 {
-    sq_slots::fill(text, kept, slots, notes, false);
+    sq_slots::fill(text, catalogue, slots, notes, false);
     let looks = name_search::find_slots(text, slots, list, out);
-    sq_slots::refill(text, kept, m, slots, notes);
+    sq_slots::refill(text, catalogue, m, slots, notes);
     sq_index::to_ordinals(slots, out);
     looks
 }
@@ -33,22 +33,22 @@ fn answer_noting(
 // compiled by itself, so that its 256 KiB are not in the frame of its caller, which serves short texts too (`judging::judge_long`).
 fn answer_long(
     text: &[u8],
-    kept: &[u8],
+    catalogue: &[u8],
     m: usize,
     list: &[u8],
     slots: &mut [u32],
     out: &mut [u32],
     more: usize,
 ) -> u64
-    requires { ⌜ Answerable (now text) (now kept) m (now list) (now slots) (now out) ⌝ }
-    ensures slots { λ _. ⌜ now (slots .exit) ≡ nameIndexIn (now (text .entry)) (now (kept .entry)) ⌝ }
-    ensures found { λ _. ⌜ now (out .exit) ≡ ordinalsIn (now (text .entry)) (now (kept .entry)) (now (list .entry)) ⌝ }
-    ensures looks { λ r. ⌜ r ≡ looksIn (now (text .entry)) (now (kept .entry)) (now (list .entry)) ⌝ }
+    requires { ⌜ Answerable (now text) (now catalogue) m (now list) (now slots) (now out) ⌝ }
+    ensures slots { λ _. ⌜ now (slots .exit) ≡ nameIndexIn (now (text .entry)) (now (catalogue .entry)) ⌝ }
+    ensures found { λ _. ⌜ now (out .exit) ≡ ordinalsIn (now (text .entry)) (now (catalogue .entry)) (now (list .entry)) ⌝ }
+    ensures looks { λ r. ⌜ r ≡ looksIn (now (text .entry)) (now (catalogue .entry)) (now (list .entry)) ⌝ }
 {
     let mut notes = [0u32; 65536];
-    let looks = answer_noting(text, kept, m, list, slots, out, &mut notes);
+    let looks = answer_noting(text, catalogue, m, list, slots, out, &mut notes);
     if 0 < more {
-        return answer_long(text, kept, m, list, slots, out, more - 1);
+        return answer_long(text, catalogue, m, list, slots, out, more - 1);
     }
     looks
 }
@@ -56,28 +56,28 @@ fn answer_long(
 // The same with room for notes: little of it is cleared where there are few SQ, and 16 KiB where the text is not long.
 pub fn answer(
     text: &[u8],
-    kept: &[u8],
+    catalogue: &[u8],
     m: usize,
     list: &[u8],
     slots: &mut [u32],
     out: &mut [u32],
 ) -> u64
-    requires { ⌜ Answerable (now text) (now kept) m (now list) (now slots) (now out) ⌝ }
-    ensures slots { λ _. ⌜ now (slots .exit) ≡ nameIndexIn (now (text .entry)) (now (kept .entry)) ⌝ }
-    ensures found { λ _. ⌜ now (out .exit) ≡ ordinalsIn (now (text .entry)) (now (kept .entry)) (now (list .entry)) ⌝ }
-    ensures looks { λ r. ⌜ r ≡ looksIn (now (text .entry)) (now (kept .entry)) (now (list .entry)) ⌝ }
+    requires { ⌜ Answerable (now text) (now catalogue) m (now list) (now slots) (now out) ⌝ }
+    ensures slots { λ _. ⌜ now (slots .exit) ≡ nameIndexIn (now (text .entry)) (now (catalogue .entry)) ⌝ }
+    ensures found { λ _. ⌜ now (out .exit) ≡ ordinalsIn (now (text .entry)) (now (catalogue .entry)) (now (list .entry)) ⌝ }
+    ensures looks { λ r. ⌜ r ≡ looksIn (now (text .entry)) (now (catalogue .entry)) (now (list .entry)) ⌝ }
 {
     if m <= 512 {
         let mut notes = [0u32; 512];
-        return answer_noting(text, kept, m, list, slots, out, &mut notes);
+        return answer_noting(text, catalogue, m, list, slots, out, &mut notes);
     }
     if text.len() <= MIDDLE {
         let mut notes = [0u32; 4096];
-        return answer_noting(text, kept, m, list, slots, out, &mut notes);
+        return answer_noting(text, catalogue, m, list, slots, out, &mut notes);
     }
     answer_long(
         text,
-        kept,
+        catalogue,
         m,
         list,
         slots,

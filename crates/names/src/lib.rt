@@ -18,28 +18,28 @@ pub enum NamesAnswer {
 // short work area or result list.
 pub fn names(
     text: &[u8],
-    kept: &[u8],
+    catalogue: &[u8],
     list: &[u8],
     work: &mut [u32],
     out: &mut [u32],
 ) -> NamesAnswer
     ensures answer { λ r. ⌜ r ≡ namesOf
-        (batching (now (text .entry)) (now (kept .entry)) (now (list .entry)) (length (now (work .entry))) (length (now (out .entry)))) ⌝ }
+        (batching (now (text .entry)) (now (catalogue .entry)) (now (list .entry)) (length (now (work .entry))) (length (now (out .entry)))) ⌝ }
     ensures slots { λ _. ⌜ now (work .exit) ≡ outputOf
-        (slotsOf (batching (now (text .entry)) (now (kept .entry)) (now (list .entry)) (length (now (work .entry))) (length (now (out .entry)))))
+        (slotsOf (batching (now (text .entry)) (now (catalogue .entry)) (now (list .entry)) (length (now (work .entry))) (length (now (out .entry)))))
         (now (work .entry)) ⌝ }
     ensures found { λ _. ⌜ now (out .exit) ≡ outputOf
-        (resultsOf (batching (now (text .entry)) (now (kept .entry)) (now (list .entry)) (length (now (work .entry))) (length (now (out .entry)))))
+        (resultsOf (batching (now (text .entry)) (now (catalogue .entry)) (now (list .entry)) (length (now (work .entry))) (length (now (out .entry)))))
         (now (out .entry)) ⌝ }
 {
-    match parser::check(text, kept) {
+    match parser::check(text, catalogue) {
         Checked::Refused(n, line) => NamesAnswer::Refused(n, line),
         Checked::Fresh => {
             if format::LONGEST < list.len() {
                 return NamesAnswer::Refused(1, LineNo(0));
             }
             let room = work.len();
-            let m = sq_entries::count(kept);
+            let m = sq_entries::count(catalogue);
             let n = name_index::slot_count(m as u32) as usize;
             if room < n {
                 return NamesAnswer::Refused(20, LineNo(0));
@@ -48,7 +48,7 @@ pub fn names(
             if out.len() < count {
                 return NamesAnswer::Refused(20, LineNo(0));
             }
-            let looks = name_answer::answer(text, kept, m, list, &mut work[..n], &mut out[..count]);
+            let looks = name_answer::answer(text, catalogue, m, list, &mut work[..n], &mut out[..count]);
             NamesAnswer::Counted(count, looks)
         }
     }

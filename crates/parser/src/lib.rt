@@ -93,11 +93,11 @@ fn read_judged(text: &[u8], judged: Judged, kept: &mut [u8]) -> CountAnswer
 }
 
 // Reads `text`: its catalogue at the front of `kept`, or the first refusal, which changes nothing.
-pub fn read(text: &[u8], kept: &mut [u8]) -> CountAnswer
-    ensures answer { λ r. ⌜ r ≡ answerOf (reading (now (text .entry)) (length (now (kept .entry)))) ⌝ }
-    ensures wrote { λ _. ⌜ now (kept .exit) ≡ outputOf (reading (now (text .entry)) (length (now (kept .entry)))) (now (kept .entry)) ⌝ }
+pub fn read(text: &[u8], catalogue: &mut [u8]) -> CountAnswer
+    ensures answer { λ r. ⌜ r ≡ answerOf (reading (now (text .entry)) (length (now (catalogue .entry)))) ⌝ }
+    ensures wrote { λ _. ⌜ now (catalogue .exit) ≡ outputOf (reading (now (text .entry)) (length (now (catalogue .entry)))) (now (catalogue .entry)) ⌝ }
 {
-    read_judged(text, judging::judge(text), kept)
+    read_judged(text, judging::judge(text), catalogue)
 }
 
 // The same with a lent work area, which is all zeros afterwards.
@@ -131,10 +131,10 @@ fn check_judged(text: &[u8], judged: Judged, kept: &[u8]) -> Checked
 }
 
 // Whether `kept` is the catalogue of `text`: reading's own refusal comes first, then 21.
-pub fn check(text: &[u8], kept: &[u8]) -> Checked
-    ensures { λ r. ⌜ r ≡ checkedOf (fresh (now (text .entry)) (now (kept .entry))) ⌝ }
+pub fn check(text: &[u8], catalogue: &[u8]) -> Checked
+    ensures { λ r. ⌜ r ≡ checkedOf (fresh (now (text .entry)) (now (catalogue .entry))) ⌝ }
 {
-    check_judged(text, judging::judge(text), kept)
+    check_judged(text, judging::judge(text), catalogue)
 }
 
 // The same with a lent work area, which is all zeros afterwards.

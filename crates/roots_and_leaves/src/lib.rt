@@ -31,14 +31,14 @@ pub fn put_ordinals(out: &mut [u32], from: &[u32]) -> CountAnswer
 }
 
 // The programs without PP at the front of `out`: no graph check.
-pub fn roots(text: &[u8], kept: &[u8], out: &mut [u32]) -> CountAnswer
-    ensures answer { λ r. ⌜ r ≡ answerOf (rooting (now (text .entry)) (now (kept .entry)) (length (now (out .entry)))) ⌝ }
-    ensures wrote { λ _. ⌜ now (out .exit) ≡ outputOf (rooting (now (text .entry)) (now (kept .entry)) (length (now (out .entry)))) (now (out .entry)) ⌝ }
+pub fn roots(text: &[u8], catalogue: &[u8], out: &mut [u32]) -> CountAnswer
+    ensures answer { λ r. ⌜ r ≡ answerOf (rooting (now (text .entry)) (now (catalogue .entry)) (length (now (out .entry)))) ⌝ }
+    ensures wrote { λ _. ⌜ now (out .exit) ≡ outputOf (rooting (now (text .entry)) (now (catalogue .entry)) (length (now (out .entry)))) (now (out .entry)) ⌝ }
 {
-    match parser::check(text, kept) {
+    match parser::check(text, catalogue) {
         Checked::Refused(n, line) => CountAnswer::Refused(n, line),
         Checked::Fresh => {
-            let parents = parents::parents_of(text, kept);
+            let parents = parents::parents_of(text, catalogue);
             let list = parents.list;
             let found = chains::roots(&list[..parents.count]);
             let ordinals = found.list;
@@ -58,15 +58,15 @@ fn with_hops(a: CountAnswer, hops: u32) -> LeavesAnswer
 }
 
 // The leaves at the front of `out`, in the crate's order, and the hops: 22 where a PP dangles, 23 where there is a cycle.
-pub fn leaves(text: &[u8], kept: &[u8], out: &mut [u32]) -> LeavesAnswer
-    ensures answer { λ r. ⌜ r ≡ leavesAnswerOf (leafing (now (text .entry)) (now (kept .entry)) (length (now (out .entry)))) ⌝ }
-    ensures wrote { λ _. ⌜ now (out .exit) ≡ outputOf (listOf (leafing (now (text .entry)) (now (kept .entry)) (length (now (out .entry)))))
+pub fn leaves(text: &[u8], catalogue: &[u8], out: &mut [u32]) -> LeavesAnswer
+    ensures answer { λ r. ⌜ r ≡ leavesAnswerOf (leafing (now (text .entry)) (now (catalogue .entry)) (length (now (out .entry)))) ⌝ }
+    ensures wrote { λ _. ⌜ now (out .exit) ≡ outputOf (listOf (leafing (now (text .entry)) (now (catalogue .entry)) (length (now (out .entry)))))
         (now (out .entry)) ⌝ }
 {
-    match parser::check(text, kept) { // 21 comes before 22
+    match parser::check(text, catalogue) { // 21 comes before 22
         Checked::Refused(n, line) => LeavesAnswer::Refused(n, line),
         Checked::Fresh => {
-            let graph = parents::find_leaves(parents::parents_of(text, kept));
+            let graph = parents::find_leaves(parents::parents_of(text, catalogue));
             if graph.refusal != 0 {
                 return LeavesAnswer::Refused(graph.refusal, LineNo(0));
             }

@@ -36,11 +36,11 @@ use Rattle.add.proofs.add.Statement.{statement}
 use Rattle.add.proofs.add.Tie as tie
 
 -- the catalogue is the text's own
-own : (c : tie.After-enum-told) → let a = c .before .before .before .before .before .before .before .before .args in Current (a .text .now) (a .kept .now)
-own c = let a = c .before .before .before .before .before .before .before .before .args in fresh-by (a .text .now) (a .kept .now) (c .before .before .check .ensures) (c .enum-told .given .1)
+own : (c : tie.After-enum-told) → let a = c .before .before .before .before .before .before .before .before .args in Current (a .text .now) (a .catalogue .now)
+own c = let a = c .before .before .before .before .before .before .before .before .args in fresh-by (a .text .now) (a .catalogue .now) (c .before .before .check .ensures) (c .enum-told .given .1)
 
-opens : (c : tie.After-enum-told) → let a = c .before .before .before .before .before .before .before .before .args in Opened (a .text .now) (a .kept .now)
-opens c = let a = c .before .before .before .before .before .before .before .before .args in opened (a .text .now) (a .kept .now) (own c .reads) (own c .own)
+opens : (c : tie.After-enum-told) → let a = c .before .before .before .before .before .before .before .before .args in Opened (a .text .now) (a .catalogue .now)
+opens c = let a = c .before .before .before .before .before .before .before .before .args in opened (a .text .now) (a .catalogue .now) (own c .reads) (own c .own)
 
 -- what is given is in form
 formed : (c : tie.Else1) → let a = c .before .before .before .before .before .before .before .before .before .before .args in misformed (a .prefix .now) (given (a .fields .now)) ≡ false
@@ -125,8 +125,8 @@ returns : tie.Need-returns
 returns c =
     let a = c .before .before .before .before .before .before .before .before .before .before .args in
     let room = length (a .out .now) in
-    refused-answer (adding (a .text .now) (a .kept .now) (a .prefix .now) (a .fields .now) room) (a .out .now) 26 (record { 0 = 0 })
-    (add-misformed (a .text .now) (a .kept .now) (own (c .before .before)) (a .prefix .now) (a .fields .now) room (not-false _ (sym (c .before .is-in-form .ensures) ∙ not-true (c .before .is-in-form .result) (c .if1 .taken))))
+    refused-answer (adding (a .text .now) (a .catalogue .now) (a .prefix .now) (a .fields .now) room) (a .out .now) 26 (record { 0 = 0 })
+    (add-misformed (a .text .now) (a .catalogue .now) (own (c .before .before)) (a .prefix .now) (a .fields .now) room (not-false _ (sym (c .before .is-in-form .ensures) ∙ not-true (c .before .is-in-form .result) (c .if1 .taken))))
 
 find-previous-requires : tie.Need-find-previous-requires
 find-previous-requires c κs = let a = c .before .before .before .before .before .before .before .before .before .before .args in in-form (a .prefix .now) (given (a .fields .now)) (formed c) .stop
@@ -154,8 +154,8 @@ returns-2 c =
     let p = c .before .before .before .before .before .before .before .before .before in
     let a = c .before .before .before .before .before .before .before .before .before .before .before .before .before .before .before .before .before .before .before .before .args in
     let room = length (a .out .now) in
-    refused-answer (adding (a .text .now) (a .kept .now) (a .prefix .now) (a .fields .now) room) (a .out .now) 22 (record { 0 = 0 })
-    (add-stray (a .text .now) (a .kept .now) (own (p .before .before .before)) (a .prefix .now) (a .fields .now) room (formed (p .before)) (prior (c .before) ∙ c .if2 .taken))
+    refused-answer (adding (a .text .now) (a .catalogue .now) (a .prefix .now) (a .fields .now) room) (a .out .now) 22 (record { 0 = 0 })
+    (add-stray (a .text .now) (a .catalogue .now) (own (p .before .before .before)) (a .prefix .now) (a .fields .now) room (formed (p .before)) (prior (c .before) ∙ c .if2 .taken))
 
 parents-of-requires : tie.Need-parents-of-requires
 parents-of-requires c κs = let e = c .before .before .before .before .before .before .before .before .before .before .before .before in (opens e .accepted, own e .own)
@@ -175,8 +175,8 @@ returns-3 c =
     let a = c .before .before .before .before .before .before .before .before .before .before .before .before .before .before .before .before .before .before .before .before .before .before .before .before .args in
     let room = length (a .out .now) in
     let n = f .find-leaves .result .refusal in
-    refused-answer (adding (a .text .now) (a .kept .now) (a .prefix .now) (a .fields .now) room) (a .out .now) n (record { 0 = 0 })
-    (add-tangled (a .text .now) (a .kept .now) (own (p .before .before .before)) (a .prefix .now) (a .fields .now) room (formed (p .before)) (prior (e .before) ∙ e .if2 .left) n (graph-refusal (links (ps f)) (f .find-leaves .result) (graph-is f)) (c .if3 .taken))
+    refused-answer (adding (a .text .now) (a .catalogue .now) (a .prefix .now) (a .fields .now) room) (a .out .now) n (record { 0 = 0 })
+    (add-tangled (a .text .now) (a .catalogue .now) (own (p .before .before .before)) (a .prefix .now) (a .fields .now) room (formed (p .before)) (prior (e .before) ∙ e .if2 .left) n (graph-refusal (links (ps f)) (f .find-leaves .result) (graph-is f)) (c .if3 .taken))
 
 array-share-prefix-list : tie.Need-array-share-prefix-list
 array-share-prefix-list c = let e = c .before .before in front-inside (xs e) (asked e .find-leaves .result .leaves .list) (asked e .find-leaves .result .leaves .count) (listed e) (counted e)
@@ -212,8 +212,8 @@ returns-4 c =
     let a = k .before .before .before .before .before .before .args in
     let g = c .before .n .given in
     let room = length (a .out .now) in
-    refused-answer (adding (a .text .now) (a .kept .now) (a .prefix .now) (a .fields .now) room) (a .out .now) (g .0 .0) (g .0 .1 .0)
-    (add-refused (a .text .now) (a .kept .now) (a .prefix .now) (a .fields .now) room (g .0 .0) (g .0 .1 .0 .0) (refused-by (a .text .now) (a .kept .now) (k .check .ensures) (g .0 .0) (g .0 .1 .0) (g .1)))
+    refused-answer (adding (a .text .now) (a .catalogue .now) (a .prefix .now) (a .fields .now) room) (a .out .now) (g .0 .0) (g .0 .1 .0)
+    (add-refused (a .text .now) (a .catalogue .now) (a .prefix .now) (a .fields .now) room (g .0 .0) (g .0 .1 .0 .0) (refused-by (a .text .now) (a .catalogue .now) (k .check .ensures) (g .0 .0) (g .0 .1 .0) (g .1)))
 
 same-length : tie.Need-same-length
 same-length c = search needs
@@ -226,8 +226,8 @@ returns-5 c =
     let p = e .before .before .before .before .before .before .before .before .before in
     let a = p .before .before .before .before .before .before .before .before .before .before .before .args in
     let room = length (a .out .now) in
-    let on : addingOn (recordsOf (a .text .now)) (a .prefix .now) (given (a .fields .now) .fields) room ≡ adding (a .text .now) (a .kept .now) (a .prefix .now) (a .fields .now) room =
-    sym (add-on (a .text .now) (a .kept .now) (own (p .before .before .before)) (a .prefix .now) (a .fields .now) room (formed (p .before)) (prior (e .before) ∙ e .if2 .left) (untangled l)) in
+    let on : addingOn (recordsOf (a .text .now)) (a .prefix .now) (given (a .fields .now) .fields) room ≡ adding (a .text .now) (a .catalogue .now) (a .prefix .now) (a .fields .now) room =
+    sym (add-on (a .text .now) (a .catalogue .now) (own (p .before .before .before)) (a .prefix .now) (a .fields .now) room (formed (p .before)) (prior (e .before) ∙ e .if2 .left) (untangled l)) in
     (w .add-after .ensures .0 ∙ ap answerOf on, w .add-after .ensures .1 ∙ ap (λ x. outputOf x (a .out .now)) on)
 
 pub add-spec : {M : Type 1} → statement M

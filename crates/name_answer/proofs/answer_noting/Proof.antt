@@ -14,19 +14,19 @@ use Rattle.name_answer.proofs.answer_noting.Statement.{statement}
 use Rattle.name_answer.proofs.answer_noting.Tie as tie
 
 -- so many slots
-sized : (s : tie.Start) (n : ℕ) → n ≡ slotCount (length (namesIn (s .args .text .now) (entriesIn (s .args .kept .now)))) → (n ≤ 33554432) × ((e : ℕ) × (n ≡ 2 ^ e))
+sized : (s : tie.Start) (n : ℕ) → n ≡ slotCount (length (namesIn (s .args .text .now) (entriesIn (s .args .catalogue .now)))) → (n ≤ 33554432) × ((e : ℕ) × (n ≡ 2 ^ e))
 sized s n e =
-    let m : ℕ = length (namesIn (s .args .text .now) (entriesIn (s .args .kept .now))) in
+    let m : ℕ = length (namesIn (s .args .text .now) (entriesIn (s .args .catalogue .now))) in
     (omega (arith, e, slots-few m (s .pre .few)), (suc (slots-power m .0), e ∙ slots-power m .1))
 
 -- after the first filling
 abbrev start : tie.After-fill → tie.Start
 start f = f .before .before .before .before .before .before .before .before .before
 
-refilled : (f : tie.After-fill) → length (f .fill .last .1 .1 .0) ≡ slotCount (length (namesIn (start f .args .text .now) (entriesIn (start f .args .kept .now))))
+refilled : (f : tie.After-fill) → length (f .fill .last .1 .1 .0) ≡ slotCount (length (namesIn (start f .args .text .now) (entriesIn (start f .args .catalogue .now))))
 refilled f =
     let s = start f in
-    long₁ (s .args .text .now) (s .args .kept .now) (s .args .slots .now) (f .fill .last .1 .1 .0) (s .pre .size) (f .fill .ensures .0)
+    long₁ (s .args .text .now) (s .args .catalogue .now) (s .args .slots .now) (f .fill .last .1 .1 .0) (s .pre .size) (f .fill .ensures .0)
 
 fill-requires : tie.Need-fill-requires
 fill-requires c κs = let s = c .before .before .before .before .before .before .before .before in let z = sized s (length (s .args .slots .now)) (s .pre .size) in (z .0, (z .1, s .pre .short))
@@ -48,7 +48,7 @@ refill-requires c κs =
           s .pre .short,
           (
             omega (arith, m, s .pre .few),
-            notes-told (a .text .now) (a .kept .now) (a .slots .now) (f .fill .last .1 .1 .0) (s .pre .size) (f .fill .ensures .0) (a .m) m (a .notes .now) (f .fill .last .1 .1 .1 .0) (f .fill .ensures .1),
+            notes-told (a .text .now) (a .catalogue .now) (a .slots .now) (f .fill .last .1 .1 .0) (s .pre .size) (f .fill .ensures .0) (a .m) m (a .notes .now) (f .fill .last .1 .1 .1 .0) (f .fill .ensures .1),
           ),
         ),
       ),
@@ -75,7 +75,7 @@ returns c =
     let s = start f in
     let a = s .args in
     let t = a .text .now in
-    let k = a .kept .now in
+    let k = a .catalogue .now in
     let slots₁ = f .fill .last .1 .1 .0 in
     let slots₂ = g .refill .last .1 .1 .1 .0 in
     let told = s .pre .told in (

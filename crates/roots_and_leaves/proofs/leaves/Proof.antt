@@ -29,11 +29,11 @@ enum-told : tie.Need-enum-told
 enum-told c = search needs
 
 -- the catalogue is the text's own
-own : (c : tie.After-enum-told) → let a = c .before .before .before .before .before .before .args in Current (a .text .now) (a .kept .now)
-own c = let a = c .before .before .before .before .before .before .args in fresh-by (a .text .now) (a .kept .now) (c .before .before .check .ensures) (c .enum-told .given .1)
+own : (c : tie.After-enum-told) → let a = c .before .before .before .before .before .before .args in Current (a .text .now) (a .catalogue .now)
+own c = let a = c .before .before .before .before .before .before .args in fresh-by (a .text .now) (a .catalogue .now) (c .before .before .check .ensures) (c .enum-told .given .1)
 
-opens : (c : tie.After-enum-told) → let a = c .before .before .before .before .before .before .args in Opened (a .text .now) (a .kept .now)
-opens c = let a = c .before .before .before .before .before .before .args in opened (a .text .now) (a .kept .now) (own c .reads) (own c .own)
+opens : (c : tie.After-enum-told) → let a = c .before .before .before .before .before .before .args in Opened (a .text .now) (a .catalogue .now)
+opens c = let a = c .before .before .before .before .before .before .args in opened (a .text .now) (a .catalogue .now) (own c .reads) (own c .own)
 
 parents-of-requires : tie.Need-parents-of-requires
 parents-of-requires c κs = (opens c .accepted, own c .own)
@@ -60,8 +60,8 @@ returns c =
     let a = e .before .before .before .before .before .before .args in
     let room = length (a .out .now) in
     let g = f .find-leaves .result in
-    refused-leaves (leafing (a .text .now) (a .kept .now) room) (a .out .now) (g .refusal) (record { 0 = 0 })
-    (leaves-tangled (a .text .now) (a .kept .now) (own e) room (g .refusal) (graph-refusal (links (ps f)) g (graph-is f)) (c .if1 .taken))
+    refused-leaves (leafing (a .text .now) (a .catalogue .now) room) (a .out .now) (g .refusal) (record { 0 = 0 })
+    (leaves-tangled (a .text .now) (a .catalogue .now) (own e) room (g .refusal) (graph-refusal (links (ps f)) g (graph-is f)) (c .if1 .taken))
 
 array-share-prefix-list : tie.Need-array-share-prefix-list
 array-share-prefix-list c =
@@ -114,8 +114,8 @@ returns-2 c =
     let a = k .before .before .before .before .args in
     let g = c .before .n .given in
     let room = length (a .out .now) in
-    refused-leaves (leafing (a .text .now) (a .kept .now) room) (a .out .now) (g .0 .0) (g .0 .1 .0)
-    (leaves-refused (a .text .now) (a .kept .now) (g .0 .0) (g .0 .1 .0 .0) (refused-by (a .text .now) (a .kept .now) (k .check .ensures) (g .0 .0) (g .0 .1 .0) (g .1)) room)
+    refused-leaves (leafing (a .text .now) (a .catalogue .now) room) (a .out .now) (g .0 .0) (g .0 .1 .0)
+    (leaves-refused (a .text .now) (a .catalogue .now) (g .0 .0) (g .0 .1 .0 .0) (refused-by (a .text .now) (a .catalogue .now) (k .check .ensures) (g .0 .0) (g .0 .1 .0) (g .1)) room)
 
 same-length : tie.Need-same-length
 same-length c = search needs
@@ -133,8 +133,8 @@ returns-3 c =
     let is = graph-is f in
     let sum = h .hops .ensures ∙ ap hops (lent-links (ps f) (opens (f .before .before) .few) (g .parents) (graph-parents (links (ps f)) g is) (graph-undangled (links (ps f)) g is (l .if1 .left))) in
     let found = front (xs l) (g .leaves .list) (g .leaves .count) (listed l) (counted l) in
-    let told = written-leaves (h .hops .result) (leafing (a .text .now) (a .kept .now) room) room (xs l) (a .out .now)
-    (leaves-own (a .text .now) (a .kept .now) (own e) room (sym (graph-refusal (links (ps f)) g is) ∙ l .if1 .left) ∙ ap (λ k. then (fitting room (xs l)) (λ ys. yes (ys, k))) (sym sum)) in (
+    let told = written-leaves (h .hops .result) (leafing (a .text .now) (a .catalogue .now) room) room (xs l) (a .out .now)
+    (leaves-own (a .text .now) (a .catalogue .now) (own e) room (sym (graph-refusal (links (ps f)) g is) ∙ l .if1 .left) ∙ ap (λ k. then (fitting room (xs l)) (λ ys. yes (ys, k))) (sym sum)) in (
       c .with-hops .ensures ∙ ap (λ x. withHops x (h .hops .result)) (w .put-ordinals .ensures .0 ∙ ap (λ ys. answerOf (fitting room ys)) found) ∙ told .0,
       w .put-ordinals .ensures .1 ∙ ap (λ ys. outputOf (fitting room ys) (a .out .now)) found ∙ told .1,
     )

@@ -27,11 +27,11 @@ enum-told : tie.Need-enum-told
 enum-told c = search needs
 
 -- the catalogue is the text's own
-own : (c : tie.After-enum-told) → let a = c .before .before .before .before .before .before .args in Current (a .text .now) (a .kept .now)
-own c = let a = c .before .before .before .before .before .before .args in fresh-by (a .text .now) (a .kept .now) (c .before .before .check .ensures) (c .enum-told .given .1)
+own : (c : tie.After-enum-told) → let a = c .before .before .before .before .before .before .args in Current (a .text .now) (a .catalogue .now)
+own c = let a = c .before .before .before .before .before .before .args in fresh-by (a .text .now) (a .catalogue .now) (c .before .before .check .ensures) (c .enum-told .given .1)
 
-opens : (c : tie.After-enum-told) → let a = c .before .before .before .before .before .before .args in Opened (a .text .now) (a .kept .now)
-opens c = let a = c .before .before .before .before .before .before .args in opened (a .text .now) (a .kept .now) (own c .reads) (own c .own)
+opens : (c : tie.After-enum-told) → let a = c .before .before .before .before .before .before .args in Opened (a .text .now) (a .catalogue .now)
+opens c = let a = c .before .before .before .before .before .before .args in opened (a .text .now) (a .catalogue .now) (own c .reads) (own c .own)
 
 parents-of-requires : tie.Need-parents-of-requires
 parents-of-requires c κs = (opens c .accepted, own c .own)
@@ -71,8 +71,8 @@ returns c =
     let a = k .before .before .before .before .args in
     let g = c .before .n .given in
     let room = length (a .out .now) in
-    refused-answer (rooting (a .text .now) (a .kept .now) room) (a .out .now) (g .0 .0) (g .0 .1 .0)
-    (roots-refused (a .text .now) (a .kept .now) (g .0 .0) (g .0 .1 .0 .0) (refused-by (a .text .now) (a .kept .now) (k .check .ensures) (g .0 .0) (g .0 .1 .0) (g .1)) room)
+    refused-answer (rooting (a .text .now) (a .catalogue .now) room) (a .out .now) (g .0 .0) (g .0 .1 .0)
+    (roots-refused (a .text .now) (a .catalogue .now) (g .0 .0) (g .0 .1 .0 .0) (refused-by (a .text .now) (a .catalogue .now) (k .check .ensures) (g .0 .0) (g .0 .1 .0) (g .1)) room)
 
 same-length : tie.Need-same-length
 same-length c = search needs
@@ -87,7 +87,7 @@ returns-2 c =
     let room = length (a .out .now) in
     let xs = roots (links (ps f)) in
     let is =
-    ap (fitting room) (front xs (r .roots .result .list) (r .roots .result .count) (found r .0) (found r .1)) ∙ sym (rooted (a .text .now) (a .kept .now) (own e) room) in
+    ap (fitting room) (front xs (r .roots .result .list) (r .roots .result .count) (found r .0) (found r .1)) ∙ sym (rooted (a .text .now) (a .catalogue .now) (own e) room) in
     (w .put-ordinals .ensures .0 ∙ ap answerOf is, w .put-ordinals .ensures .1 ∙ ap (λ x. outputOf x (a .out .now)) is)
 
 pub roots-spec : {M : Type 1} → statement M
