@@ -12,7 +12,7 @@ use borrow.Author.Tests.{eq-eqb, ne-eqb}
 use Rattle.format.specs.Lines.{onto}
 use Rattle.text.specs.Upto.{upto}
 use Rattle.text.proofs.Lines.{upto-le}
-use Rattle.asked_names.specs.Asked.{asked}
+use Rattle.format.specs.Asked.{asked}
 use Rattle.asked_names.specs.Ends.{ends}
 
 -- a byte that is no LF stands before the first name of what follows

@@ -3,7 +3,7 @@ ghost use mathlib.Core.Path.{_≡_};
 ghost use Prim.Native.Nat.{_≤_, _+_};
 ghost use lib.ListN.{length, drop};
 ghost use Rattle.asked_names.specs.Ends.{ends};
-ghost use Rattle.asked_names.specs.Asked.{asked};
+ghost use Rattle.format.specs.Asked.{asked};
 
 // How many LFs are among the 128 bytes from `at` on: in eight bits, so that a processor can take many bytes at once.
 fn count_block(list: &[u8], at: usize) -> u8

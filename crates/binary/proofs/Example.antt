@@ -4,7 +4,7 @@ use mathlib.Core.Path.{_≡_, refl}
 use mathlib.Core.List.{List, [], _∷_, _++_}
 use Rattle.format.specs.Calls.{refused, yes}
 use Rattle.roundtrip.proofs.Example.{ascii}
-use Rattle.binary.specs.Binary.{binary, binaryOut, binaryIn}
+use Rattle.format.specs.Binary.{binary, binaryOut, binaryIn}
 
 unfoldable pub given : List ℕ
 unfolding ascii

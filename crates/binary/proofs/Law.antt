@@ -32,7 +32,7 @@ use Rattle.roundtrip.proofs.Line.{record-line}
 use Rattle.roundtrip.proofs.Total.{record-length, order-length}
 use Rattle.roundtrip.proofs.Tidy.{tidy-back, tidy-again, names-again}
 use Rattle.format.specs.References.{Reference, sqList, sameReference, sameReferences}
-use Rattle.binary.specs.Binary.{binary, binaryParts, unpadded, wellFormed, listedAlike, binaryOut, binaryIn}
+use Rattle.format.specs.Binary.{binary, binaryParts, unpadded, wellFormed, listedAlike, binaryOut, binaryIn}
 use Rattle.binary.specs.Undone.{InAfterOut}
 use Rattle.binary.proofs.Parts.{Small, AllSmall, parts-back}
 

@@ -12,7 +12,7 @@ use Rattle.format.specs.Catalogue.{little}
 use Rattle.format.specs.Programs.{lastOr, butLast}
 use Rattle.little.proofs.Little.{little-length, of-little}
 use Rattle.format.specs.References.{Reference}
-use Rattle.binary.specs.Binary.{magic, sized, referenceBytes, listBytes, binary, andThen, takeBytes, takeNumber, takeSized, closedName, takeReference, takeList, takeBoth, binaryParts}
+use Rattle.format.specs.Binary.{magic, sized, referenceBytes, listBytes, binary, andThen, takeBytes, takeNumber, takeSized, closedName, takeReference, takeList, takeBoth, binaryParts}
 
 -- ---- a number, and a run of bytes after its length
 

@@ -12,7 +12,7 @@ use Rattle.format.specs.Calls.{yes}
 use Rattle.little.proofs.Little.{little-length}
 use Rattle.roundtrip.proofs.Total.{order-length, tidy-length}
 use Rattle.format.specs.References.{Reference, sqList}
-use Rattle.binary.specs.Binary.{magic, sized, referenceBytes, listBytes, binary, binaryOut}
+use Rattle.format.specs.Binary.{magic, sized, referenceBytes, listBytes, binary, binaryOut}
 use Rattle.binary.proofs.Law.{more, name-length, Wrote, wrote}
 
 pub reference-length : (r : Reference) → length (referenceBytes r) ≡ length (r .name) + 9

@@ -3,7 +3,7 @@ use Prim.Native.Nat.{ℕ}
 use mathlib.Core.Path.{_≡_}
 use mathlib.Core.List.{List}
 use Rattle.format.specs.Calls.{yes, tidying}
-use Rattle.binary.specs.Binary.{binaryOut, binaryIn}
+use Rattle.format.specs.Binary.{binaryOut, binaryIn}
 
 -- in after out gives the tidy text back: for every text and output, and for every room that in has
 unfoldable pub InAfterOut : Type 0

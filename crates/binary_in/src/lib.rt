@@ -4,7 +4,7 @@ use judging::Judged;
 use parser::CountAnswer;
 ghost use mathlib.Core.Path.{_≡_};
 ghost use lib.ListN.{length};
-ghost use Rattle.binary.specs.Binary.{binaryIn};
+ghost use Rattle.format.specs.Binary.{binaryIn};
 ghost use Rattle.parser.specs.Answers.{answerOf, outputOf};
 
 // Reads a binary header: the tidy text at the front of `out`, or the first refusal, which changes nothing.

@@ -11,7 +11,7 @@ use Rattle.format.specs.Reading.{Reading, refusedText, accept, readText, longes
 use Rattle.format.specs.Tidy.{tidy, unwritable}
 use Rattle.format.specs.Calls.{Answer, refused, yes, then, readAnswer, records, fitting, writing}
 use Rattle.format.specs.References.{Reference, sqList, sameReferences}
-use Rattle.binary.specs.Binary.{binaryParts, unpadded, wellFormed, listedAlike, binaryIn}
+use Rattle.format.specs.Binary.{binaryParts, unpadded, wellFormed, listedAlike, binaryIn}
 use Rattle.binary_laws.specs.Exact.{AllBytes, IsBinary, PartsAreBinary, BinaryIsTakenApart, NoneIs28, BinaryIsNot28}
 use Rattle.binary_laws.proofs.Low.{cond-both, reading-low}
 use Rattle.binary_laws.proofs.Apart.{parts-are-binary, binary-is-taken-apart}

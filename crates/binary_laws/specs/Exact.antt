@@ -9,7 +9,7 @@ use Rattle.format.specs.Reading.{readText, accept}
 use Rattle.format.specs.References.{Reference, sqList}
 use Rattle.format.specs.Calls.{refused, tidying}
 use Rattle.text.specs.Stands.{Each}
-use Rattle.binary.specs.Binary.{binary, binaryParts, unpadded, binaryIn}
+use Rattle.format.specs.Binary.{binary, binaryParts, unpadded, binaryIn}
 use Rattle.binary.proofs.Parts.{AllSmall}
 
 -- each of these numbers is a byte

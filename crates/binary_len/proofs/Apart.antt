@@ -12,9 +12,9 @@ use lib.Dec.{eqb, leb}
 use borrow.Author.Tests.{eq-eqb, ne-eqb, eqb-true, eqb-false, leb-true, leb-false}
 use Rattle.format.specs.Bytes.{none?, starts}
 use Rattle.format.specs.Programs.{lastOr}
-use Rattle.little.specs.Little.{ofLittle}
+use Rattle.format.specs.Little.{ofLittle}
 use Rattle.format.specs.References.{Reference}
-use Rattle.binary.specs.Binary.{magic, andThen, takeNumber, takeSized, closedName, takeReference, takeList, takeBoth}
+use Rattle.format.specs.Binary.{magic, andThen, takeNumber, takeSized, closedName, takeReference, takeList, takeBoth}
 use Rattle.binary_parts.specs.declared.NumberAt.{NumberAt}
 use Rattle.binary_parts.specs.Parts.{numberTaken, isWhole}
 use Rattle.binary_parts.proofs.Taken.{number-short, number-at, sized-short, sized-at}

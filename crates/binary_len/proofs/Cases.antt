@@ -4,7 +4,7 @@ use mathlib.Core.Path.{_≡_, refl}
 use mathlib.Core.List.{List, [], _∷_, _++_, map}
 use lib.ListN.{take}
 use Rattle.format.specs.Catalogue.{little}
-use Rattle.binary.specs.Binary.{magic, binary}
+use Rattle.format.specs.Binary.{magic, binary}
 use Rattle.roundtrip.proofs.Example.{ascii}
 use Rattle.binary_len.specs.declared.BinaryLen.{BinaryLen}
 use Rattle.binary_len.specs.declared.BinaryLen.the-variants.{Whole, More, Refused}

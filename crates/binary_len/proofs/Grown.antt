@@ -9,9 +9,9 @@ use lib.Seq.{take-append-le, drop-append-le}
 use lib.Dec.{eqb, leb}
 use borrow.Author.Tests.{eqb-false, leb-true, leb-false}
 use Rattle.format.specs.Bytes.{starts}
-use Rattle.little.specs.Little.{ofLittle}
+use Rattle.format.specs.Little.{ofLittle}
 use Rattle.accepted.proofs.Bools.{eqb-sym, and-left, and-right}
-use Rattle.binary.specs.Binary.{magic}
+use Rattle.format.specs.Binary.{magic}
 use Rattle.binary_parts.proofs.Both.{start-long}
 use Rattle.binary_len.specs.declared.BinaryLen.{BinaryLen}
 use Rattle.binary_len.specs.declared.BinaryLen.the-variants.{Whole, More, Refused}

@@ -6,7 +6,7 @@ use mathlib.Core.List.{List, _++_}
 use native.Mathlib.Omega.{arith}
 use lib.ListN.{length}
 use Rattle.format.specs.Bytes.{starts}
-use Rattle.binary.specs.Binary.{magic}
+use Rattle.format.specs.Binary.{magic}
 use Rattle.binary_len.specs.declared.BinaryLen.{BinaryLen}
 use Rattle.binary_len.specs.declared.BinaryLen.the-variants as len
 use Rattle.binary_len.specs.BinaryLen.{onward, numberAt, referenceAt, referencesAt, binaryLen}

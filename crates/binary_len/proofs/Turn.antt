@@ -9,7 +9,7 @@ use lib.Dec.{leb}
 use borrow.Author.Tests.{eq-eqb, ne-eqb, le-leb, lt-leb, leb-true}
 use Rattle.format.specs.Bytes.{starts}
 use Rattle.accepted.proofs.Bools.{never}
-use Rattle.binary.specs.Binary.{magic}
+use Rattle.format.specs.Binary.{magic}
 use Rattle.binary_len.specs.declared.BinaryLen.{BinaryLen}
 use Rattle.binary_len.specs.declared.BinaryLen.the-variants.{Whole, More, Refused}
 use Rattle.binary_len.specs.BinaryLen.{part, onward, numberAt, closed, nameAt, referenceAt, referencesAt, start, binaryLen}

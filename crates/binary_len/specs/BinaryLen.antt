@@ -6,8 +6,8 @@ use mathlib.Core.List.{List}
 use lib.ListN.{length, take, drop, getD}
 use lib.Dec.{eqb, leb}
 use Rattle.format.specs.Bytes.{starts}
-use Rattle.little.specs.Little.{ofLittle}
-use Rattle.binary.specs.Binary.{magic}
+use Rattle.format.specs.Little.{ofLittle}
+use Rattle.format.specs.Binary.{magic}
 use Rattle.binary_len.specs.declared.BinaryLen.{BinaryLen}
 use Rattle.binary_len.specs.declared.BinaryLen.the-variants.{Whole, More, Refused}
 

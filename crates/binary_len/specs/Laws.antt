@@ -7,7 +7,7 @@ use mathlib.Core.Option.{Option, none, some}
 use lib.ListN.{length, take}
 use Rattle.format.specs.References.{Reference}
 use Rattle.format.specs.Calls.{refused}
-use Rattle.binary.specs.Binary.{binary, binaryParts, binaryIn}
+use Rattle.format.specs.Binary.{binary, binaryParts, binaryIn}
 use Rattle.binary.proofs.Parts.{AllSmall}
 use Rattle.binary_len.specs.declared.BinaryLen.{BinaryLen}
 use Rattle.binary_len.specs.declared.BinaryLen.the-variants.{Whole, More, Refused}

@@ -17,7 +17,7 @@ use Rattle.little.proofs.Little.{little-length}
 use Rattle.accepted.specs.Read.{isAccepted, recordsOf}
 use Rattle.accepted.proofs.Read.{accepted-reads}
 use Rattle.format.specs.References.{Reference, sqList}
-use Rattle.binary.specs.Binary.{magic, sized, listBytes, binary, binaryOut}
+use Rattle.format.specs.Binary.{magic, sized, listBytes, binary, binaryOut}
 use Rattle.references_out.proofs.Bytes.{behind}
 use Rattle.tidy.proofs.Writing.{write-bad, write-long, write-fits}
 use Rattle.binary_out.specs.Written.{binaryOf, writingBinary}

@@ -16,7 +16,7 @@ ghost use Rattle.format.specs.Tidy.{tidy};
 ghost use Rattle.text.specs.Over.{over};
 ghost use Rattle.accepted.specs.Read.{isAccepted, recordsOf};
 ghost use Rattle.format.specs.References.{sqList};
-ghost use Rattle.binary.specs.Binary.{magic, binaryOut};
+ghost use Rattle.format.specs.Binary.{magic, binaryOut};
 ghost use Rattle.parser.specs.Answers.{answerOf, outputOf};
 ghost use Rattle.tidy_text.specs.Sizes.{sizesOf};
 ghost use Rattle.binary_out.specs.Written.{binaryOf, writingBinary};

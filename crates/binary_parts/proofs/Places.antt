@@ -6,10 +6,10 @@ use mathlib.Core.List.{List}
 use lib.ListN.{length, take, drop}
 use lib.Dec.{eqb, leb}
 use borrow.Author.Tests.{lt-ltb, le-ltb, le-leb, lt-leb}
-use Rattle.little.specs.Little.{ofLittle}
+use Rattle.format.specs.Little.{ofLittle}
 use Rattle.format.specs.Bytes.{starts}
 use Rattle.format.specs.Programs.{lastOr}
-use Rattle.binary.specs.Binary.{takeList, magic}
+use Rattle.format.specs.Binary.{takeList, magic}
 use Rattle.binary_parts.specs.Parts.{isWhole}
 use Rattle.binary_parts.specs.declared.NumberAt.{NumberAt}
 use Rattle.binary_parts.specs.declared.RunAt.{RunAt}

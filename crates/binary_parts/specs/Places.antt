@@ -4,10 +4,10 @@ use mathlib.Core.Bool.{true, false, _&&_, cond}
 use mathlib.Core.List.{List}
 use lib.ListN.{length, take, drop}
 use lib.Dec.{eqb, leb, ltb}
-use Rattle.little.specs.Little.{ofLittle}
+use Rattle.format.specs.Little.{ofLittle}
 use Rattle.format.specs.Bytes.{starts}
 use Rattle.format.specs.Programs.{lastOr}
-use Rattle.binary.specs.Binary.{takeList, magic}
+use Rattle.format.specs.Binary.{takeList, magic}
 use Rattle.binary_parts.specs.Parts.{isWhole}
 use Rattle.binary_parts.specs.declared.NumberAt.{NumberAt}
 use Rattle.binary_parts.specs.declared.RunAt.{RunAt}

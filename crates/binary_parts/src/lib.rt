@@ -4,7 +4,7 @@ ghost use Prim.Native.Nat.{_+_, _≤_};
 ghost use lib.Dec.{eqb};
 ghost use lib.ListN.{length, drop};
 ghost use Rattle.format.specs.Programs.{lastOr};
-ghost use Rattle.binary.specs.Binary.{takeNumber, takeSized, takeReference, takeList, takeBoth, binaryParts, unpadded};
+ghost use Rattle.format.specs.Binary.{takeNumber, takeSized, takeReference, takeList, takeBoth, binaryParts, unpadded};
 ghost use Rattle.binary_parts.specs.Parts.{numberTaken, runFrom, referenceFrom, isWhole, partsFrom, PartsStand};
 ghost use Rattle.binary_parts.specs.Places.{numberAt, runAt, referenceAt, bothAt, partsAt};
 

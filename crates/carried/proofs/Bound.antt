@@ -12,7 +12,7 @@ use Rattle.format.specs.Reading.{longest}
 use Rattle.format.specs.Tidy.{tidy}
 use Rattle.format.specs.Calls.{Answer, refused, yes, then, fitting, writing}
 use Rattle.accepted.proofs.Bools.{never}
-use Rattle.carried.specs.Carrying.{keptOf, carriedLines, skips, rows, unwritableLine, carrying}
+use Rattle.format.specs.Carrying.{keptOf, carriedLines, skips, rows, unwritableLine, carrying}
 use Rattle.carried.proofs.Count.{rows-few}
 
 -- a text that is written is not too long

@@ -11,7 +11,7 @@ use Rattle.format.specs.Records.{Record, Line, refusedLine, read}
 use Rattle.format.specs.Reading.{isStrict, admitted}
 use Rattle.format.specs.declared.Version.{Version}
 use Rattle.accepted.proofs.Onward.{lines-count}
-use Rattle.carried.specs.Carrying.{keptOf, ruling, carriedFrom, carriedLines, Skip, skips, rows}
+use Rattle.format.specs.Carrying.{keptOf, ruling, carriedFrom, carriedLines, Skip, skips, rows}
 use Rattle.carried.specs.Judged.{judgedFrom}
 
 -- each line is one line

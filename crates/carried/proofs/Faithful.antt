@@ -22,7 +22,7 @@ use Rattle.roundtrip.proofs.Gathered.{gathered-writable}
 use Rattle.roundtrip.proofs.Total.{gathered-length}
 use Rattle.roundtrip.proofs.Tidy.{tidy-tells}
 use Rattle.roundtrip.proofs.Faithful.{holds}
-use Rattle.carried.specs.Carrying.{keptOf, carriedLines, Skip, skips, rows, carrying}
+use Rattle.format.specs.Carrying.{keptOf, carriedLines, Skip, skips, rows, carrying}
 use Rattle.carried.specs.Carried.{AllowedLines, Carried, unlessSkipped, CarriedFaithfully}
 use Rattle.carried.proofs.Skips.{reads}
 use Rattle.carried.proofs.Kept.{carried-gathered, kept-names, unskipped-names}

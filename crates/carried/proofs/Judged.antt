@@ -7,7 +7,7 @@ use Rattle.format.specs.Lines.{Piece}
 use Rattle.format.specs.Records.{Record, Line, refusedLine, read}
 use Rattle.format.specs.Reading.{isStrict, admitted}
 use Rattle.format.specs.declared.Version.{Version}
-use Rattle.carried.specs.Carrying.{keptOf, ruling, carriedFrom}
+use Rattle.format.specs.Carrying.{keptOf, ruling, carriedFrom}
 use Rattle.carried.specs.Judged.{judgedFrom}
 
 -- after a record, the rule stays

@@ -14,7 +14,7 @@ use Rattle.accepted.proofs.Bools.{never}
 use Rattle.accepted.proofs.Admits.{admitted-read}
 use Rattle.roundtrip.specs.Gathered as ga
 use Rattle.roundtrip.specs.Gathered.{From, Gathered}
-use Rattle.carried.specs.Carrying.{keptOf, ruling, carriedFrom, carriedLines, skips, unwritableLine}
+use Rattle.format.specs.Carrying.{keptOf, ruling, carriedFrom, carriedLines, skips, unwritableLine}
 
 -- ---- gathered
 

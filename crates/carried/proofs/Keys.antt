@@ -14,7 +14,7 @@ use Rattle.format.specs.Records.{Record, code, key, Line, refusedLine, read, li
 use Rattle.format.specs.Reading.{sameKeys, clash, barred, unless, following, admitted}
 use Rattle.text.proofs.Equal.{same-equal}
 use Rattle.accepted.proofs.Bools.{never, or-assoc, or-false, and-left, and-right, any-append}
-use Rattle.carried.specs.Carrying.{keptOf}
+use Rattle.format.specs.Carrying.{keptOf}
 use Rattle.carried.specs.Judged.{judgedFrom}
 use Rattle.carried.proofs.Judged.{kept-append, kept-more}
 

@@ -12,7 +12,7 @@ use Rattle.format.specs.Records.{Record, Line, refusedLine, read}
 use Rattle.format.specs.Reading.{announced, isStrict, admitted, readOn, readFrom, longest, readText}
 use Rattle.format.specs.Calls.{readAnswer, records}
 use Rattle.format.specs.declared.Version.{Version}
-use Rattle.carried.specs.Carrying.{keptOf, ruling, carriedFrom, carriedLines, skips}
+use Rattle.format.specs.Carrying.{keptOf, ruling, carriedFrom, carriedLines, skips}
 use Rattle.carried.specs.Judged.{judgedFrom}
 use Rattle.carried.specs.Carried.{unlessSkipped}
 use Rattle.carried.proofs.Judged.{steady, kept-more}

@@ -13,7 +13,7 @@ use Rattle.format.specs.Tidy.{tidy}
 use Rattle.format.specs.Calls.{Answer, refused, yes, then, records, fitting, tidying}
 use Rattle.roundtrip.specs.Bare.{Equal}
 use Rattle.roundtrip.specs.Faithful.{Holds}
-use Rattle.carried.specs.Carrying.{keptOf, carriedLines, Skip, skips, rows, unwritableLine, carrying}
+use Rattle.format.specs.Carrying.{keptOf, carriedLines, Skip, skips, rows, unwritableLine, carrying}
 
 -- such a text, whose lines are judged as `ls`
 pub record AllowedLines (t : List ℕ) (ls : List Line) : Type 0 where

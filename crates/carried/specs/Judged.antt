@@ -4,7 +4,7 @@ use mathlib.Core.List.{List, [], _∷_, _++_}
 use Rattle.format.specs.Lines.{Piece}
 use Rattle.format.specs.Records.{Record, Line}
 use Rattle.format.specs.Reading.{admitted}
-use Rattle.carried.specs.Carrying.{keptOf}
+use Rattle.format.specs.Carrying.{keptOf}
 
 -- each line judged, after the records `before`; `strict` forbids repeated tags
 unfoldable pub judgedFrom : Bool → List Record → List Piece → List Line

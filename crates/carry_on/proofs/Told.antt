@@ -12,7 +12,7 @@ use Rattle.format.specs.declared.LineNo.{LineNo}
 use Rattle.text.specs.Over.{over}
 use Rattle.parser.specs.Answers.{outputOf}
 use Rattle.parser.proofs.Told.{written-answer}
-use Rattle.carried.specs.Carrying.{keptOf, carriedLines, skips, rows, unwritableLine, carrying}
+use Rattle.format.specs.Carrying.{keptOf, carriedLines, skips, rows, unwritableLine, carrying}
 use Rattle.carry_on.specs.Answers.{carriedOf, textOf, tableOf}
 use Rattle.carry_on.specs.declared.Carried.the-variants.{Refused, Written}
 

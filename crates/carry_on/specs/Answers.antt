@@ -4,7 +4,7 @@ use mathlib.Core.List.{List}
 use lib.ListN.{length}
 use Rattle.format.specs.Calls.{Answer, refused, yes}
 use Rattle.parser.specs.Answers.{outputOf}
-use Rattle.carried.specs.Carrying.{carrying}
+use Rattle.format.specs.Carrying.{carrying}
 use Rattle.carry_on.specs.declared.Carried.{Carried}
 use Rattle.carry_on.specs.declared.Carried.the-variants.{Refused, Written}
 

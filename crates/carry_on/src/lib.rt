@@ -9,7 +9,7 @@ ghost use Prim.Native.Nat.{_≤_};
 ghost use lib.ListN.{length};
 ghost use Rattle.format.specs.Work.{allZeros};
 ghost use Rattle.tidy_text.specs.Sizes.{sizesOf};
-ghost use Rattle.carried.specs.Carrying.{carriedLines, unwritableLine};
+ghost use Rattle.format.specs.Carrying.{carriedLines, unwritableLine};
 ghost use Rattle.early_lines.specs.First.{First};
 ghost use Rattle.kept_from.specs.From.{keptFrom, skippedFrom};
 ghost use Rattle.kept_sizes.specs.Measured.{measuredFrom};

@@ -7,7 +7,7 @@ use lib.ListN.{length, drop, length-append}
 use lib.Seq.{drop-at, drop-drop}
 use borrow.Author.Tests.{le-leb}
 use Rattle.format.specs.Catalogue.{little}
-use Rattle.little.specs.Little.{ofLittle}
+use Rattle.format.specs.Little.{ofLittle}
 use Rattle.little.proofs.Little.{of-little}
 use Rattle.format.specs.declared.Version.{Version}
 use Rattle.entries.specs.declared.Place.{Place}

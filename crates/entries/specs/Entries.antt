@@ -8,7 +8,7 @@ use Rattle.format.specs.Lines.{Piece}
 use Rattle.format.specs.Fields as fields
 use Rattle.format.specs.Records.{Record, header, reference, group, program, comment, others}
 use Rattle.format.specs.Catalogue.{little}
-use Rattle.little.specs.Little.{ofLittle}
+use Rattle.format.specs.Little.{ofLittle}
 use Rattle.format.specs.declared.Version.{Version}
 use Rattle.entries.specs.declared.Place.{Place}
 use Rattle.entries.specs.declared.Entry.{Entry}

@@ -12,7 +12,7 @@ use lib.Dec.{eqb}
 use borrow.Author.Tests.{eqb-true, eqb-false, eq-eqb, ne-eqb}
 use Rattle.format.specs.Bytes.{starts}
 use Rattle.format.specs.Catalogue.{little}
-use Rattle.little.specs.Little.{ofLittle}
+use Rattle.format.specs.Little.{ofLittle}
 use Rattle.little.proofs.Little.{little-length}
 use Rattle.accepted.proofs.Bools.{never, and-right, split}
 

@@ -14,7 +14,7 @@ use Rattle.roots_and_leaves.specs.Answers.{leavesAnswerOf}
 use Rattle.roots_and_leaves.proofs.Bound.{hops-few, leaves-few}
 use Rattle.leaves_by_table.specs.Answers.{withoutTable}
 use Rattle.leaves_by_table.proofs.Same.{same-as-first}
-use Rattle.carried.specs.Carrying.{carrying}
+use Rattle.format.specs.Carrying.{carrying}
 use Rattle.carried.proofs.Bound.{carried-few}
 use Rattle.carry_on.specs.Answers.{carriedOf}
 use Rattle.words.specs.Words.{carriedWord, FitsHalves, leavesWord, pairWord, keyWord, fieldWord}

@@ -8,9 +8,9 @@ ghost use Rattle.format.specs.Calls.{reading, fresh, tidying, counting, keying,
 ghost use Rattle.format.specs.Work.{allZeros, readingWith};
 ghost use Rattle.format.specs.Prune.{pruning};
 ghost use Rattle.carry_on.specs.Answers.{carriedAnswer, textLeft, tableLeft};
-ghost use Rattle.faulty.specs.Faults.{faulting};
+ghost use Rattle.format.specs.Faults.{faulting};
 ghost use Rattle.faults.specs.Answers.{faultyLines};
-ghost use Rattle.names.specs.Batch.{batching};
+ghost use Rattle.format.specs.Batch.{batching};
 ghost use Rattle.names.specs.Answers.{namesOf, resultsOf, slotsOf};
 ghost use Rattle.parser.specs.Answers.{answerOf, outputOf, checkedOf};
 ghost use Rattle.calls.specs.Answers.{countOf, keyAnswerOf, lengthAnswerOf, lineAnswerOf, valuePlaceOf};
@@ -18,17 +18,17 @@ ghost use Rattle.roots_and_leaves.specs.Answers.{leavesAnswerOf, listOf};
 ghost use Rattle.leaves_by_table.specs.Answers.{seatedAnswer, seatedLeaves, nodesLeft};
 ghost use Rattle.format.specs.Merge.{judgingMerge};
 ghost use Rattle.merge_judge.specs.Judged.{verdictOf};
-ghost use Rattle.binary.specs.Binary.{binaryOut, binaryIn};
+ghost use Rattle.format.specs.Binary.{binaryOut, binaryIn};
 ghost use Rattle.words.specs.Words.{answerWord, checkedWord, carriedWord, leavesWord, keyWord, fieldWord, lengthWord, lineWord, lengthLeft};
 ghost use Rattle.words.specs.Words.{namesWord, namesLeft, verdictWord, lenWord};
-ghost use Rattle.text_len.specs.TextLen.{textLen};
+ghost use Rattle.format.specs.TextLen.{textLen};
 ghost use Rattle.binary_len.specs.BinaryLen.{binaryLen};
-ghost use Rattle.find.specs.Finding.{finding};
+ghost use Rattle.format.specs.Finding.{finding};
 ghost use Rattle.find.specs.Answers.{findAnswerOf};
-ghost use Rattle.references.specs.Referencing.{referencing};
+ghost use Rattle.format.specs.Referencing.{referencing};
 ghost use Rattle.references.specs.Answers.{rowCountOf, numbersOf};
 ghost use Rattle.words.specs.Words.{findWord};
-ghost use Rattle.seal.specs.Seal.{sealing, tidyingFresh, checkingSealed};
+ghost use Rattle.format.specs.Seal.{sealing, tidyingFresh, checkingSealed};
 ghost use Rattle.seal.specs.Answers.{sealLeft};
 
 #[no_mangle]

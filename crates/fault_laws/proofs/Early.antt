@@ -18,7 +18,7 @@ use Rattle.format.specs.Fields.{valueField, isTag, field, Scan, onward, scan, r
 use Rattle.format.specs.Records.{Record, code, Line, refusedLine, read, announcing, versioned, measured, keyed, made, stopped, judged}
 use Rattle.format.specs.Records.{fielded, remark, body, kindOf, bodied, kinded, prefixed, breaks, line}
 use Rattle.format.specs.Reading.{clash, ofKind, barred, unless, following, isStrict, admitted}
-use Rattle.carried.specs.Carrying.{keptOf, ruling, carriedFrom}
+use Rattle.format.specs.Carrying.{keptOf, ruling, carriedFrom}
 use Rattle.fault_laws.specs.First.{isLater}
 
 -- what holds either way

@@ -10,10 +10,10 @@ use Rattle.format.specs.Records.{Record, code, Line, refusedLine, read}
 use Rattle.format.specs.Programs.{Link, root, isDangling, reaches, links, programs}
 use Rattle.format.specs.Tidy.{isWritable}
 use Rattle.format.specs.Calls.{records}
-use Rattle.carried.specs.Carrying.{keptOf, carriedLines, Skip, skips}
+use Rattle.format.specs.Carrying.{keptOf, carriedLines, Skip, skips}
 use Rattle.carried.specs.Carried.{unlessSkipped}
 use Rattle.carried.proofs.Skips.{reads}
-use Rattle.faulty.specs.Faults.{linkFault, recordFault, nextProgram, ifFaulty, faultsFrom, faultsIn}
+use Rattle.format.specs.Faults.{linkFault, recordFault, nextProgram, ifFaulty, faultsFrom, faultsIn}
 use Rattle.fault_laws.specs.First.{isLater, ofReading, FirstFault}
 use Rattle.fault_laws.proofs.Early.{cond-both, Early, AllEarly, all-early}
 

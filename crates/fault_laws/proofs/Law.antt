@@ -20,11 +20,11 @@ use Rattle.text.proofs.Equal.{same-self}
 use Rattle.accepted.proofs.Bools.{never}
 use Rattle.roundtrip.proofs.Total.{gathered-length}
 use Rattle.parents.proofs.Numbers.{links-count}
-use Rattle.carried.specs.Carrying.{keptOf, carriedLines, Skip, skips}
+use Rattle.format.specs.Carrying.{keptOf, carriedLines, Skip, skips}
 use Rattle.carried.specs.Carried.{unlessSkipped}
 use Rattle.carried.proofs.Skips.{reads}
 use Rattle.carried.proofs.Kept.{carried-gathered}
-use Rattle.faulty.specs.Faults.{linkFault, faultsIn}
+use Rattle.format.specs.Faults.{linkFault, faultsIn}
 use Rattle.faulty.specs.Law.{AllAccept, FaultsTell}
 use Rattle.fault_laws.proofs.None.{Clear, clear, cleared, faults-untangled, untangled-faults}
 

@@ -15,8 +15,8 @@ use Rattle.format.specs.Tidy.{isWritable, unwritable}
 use Rattle.accepted.proofs.Bools.{never}
 use Rattle.chain_laws.proofs.Paths.{loops-at}
 use Rattle.merge_laws.proofs.Links.{linked-at, untangled-is}
-use Rattle.carried.specs.Carrying.{keptOf, Skip, skips}
-use Rattle.faulty.specs.Faults.{linkFault, recordFault, nextProgram, ifFaulty, faultsFrom}
+use Rattle.format.specs.Carrying.{keptOf, Skip, skips}
+use Rattle.format.specs.Faults.{linkFault, recordFault, nextProgram, ifFaulty, faultsFrom}
 
 -- ---- links
 

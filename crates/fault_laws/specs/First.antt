@@ -7,9 +7,9 @@ use mathlib.Core.List.{List, [], _∷_}
 use lib.ListN.{length}
 use lib.Dec.{eqb}
 use Rattle.format.specs.Calls.{records}
-use Rattle.carried.specs.Carrying.{keptOf, carriedLines, Skip}
+use Rattle.format.specs.Carrying.{keptOf, carriedLines, Skip}
 use Rattle.carried.specs.Carried.{unlessSkipped}
-use Rattle.faulty.specs.Faults.{faultsIn}
+use Rattle.format.specs.Faults.{faultsIn}
 
 -- a PP that names no program, a program that comes back to itself, a name that can't be written: reading accepts such lines
 unfoldable pub isLater : ℕ → Bool

@@ -15,7 +15,7 @@ use Rattle.chains.proofs.Walks.{map-at, reaches-root, reaches-none}
 use Rattle.chain_laws.proofs.Paths.{Below}
 use Rattle.parents.specs.Parents.{linkNumber}
 use Rattle.kept_programs.specs.Plain.{oneIf}
-use Rattle.faulty.specs.Faults.{linkFault}
+use Rattle.format.specs.Faults.{linkFault}
 use Rattle.fault_lines.specs.Links.{linkIn, linksIn, Within, linkCount, stepFault}
 
 -- ---- one number

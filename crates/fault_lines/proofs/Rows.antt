@@ -17,14 +17,14 @@ use Rattle.accepted.proofs.Bools.{never}
 use Rattle.text.specs.Over.{over}
 use Rattle.text.proofs.Over.{over-over}
 use Rattle.writer.specs.Line.{lineWritable}
-use Rattle.carried.specs.Carrying.{keptOf, Skip, rows}
+use Rattle.format.specs.Carrying.{keptOf, Skip, rows}
 use Rattle.carried.proofs.Count.{rows-length}
 use Rattle.kept_lines.specs.Going.{Going, judgedLines}
 use Rattle.kept_lines.specs.declared.Cursor.{Cursor}
 use Rattle.kept_from.specs.Turn.{lentTo, Turn}
 use Rattle.kept_programs.specs.Plain.{plainAt, oneIf, plainCount}
 use Rattle.kept_programs.proofs.Turns.{programsIn, programs-append, programs-done}
-use Rattle.faulty.specs.Faults.{linkFault, recordFault, nextProgram, ifFaulty, faultsFrom}
+use Rattle.format.specs.Faults.{linkFault, recordFault, nextProgram, ifFaulty, faultsFrom}
 use Rattle.fault_lines.specs.Links.{linkCount, stepFault}
 
 -- ---- one line

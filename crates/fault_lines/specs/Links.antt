@@ -6,7 +6,7 @@ use lib.ListN.{length, getD}
 use lib.Dec.{eqb, ltb}
 use Rattle.format.specs.Programs.{Link, root, dangling, child}
 use Rattle.kept_programs.specs.Plain.{oneIf}
-use Rattle.faulty.specs.Faults.{linkFault}
+use Rattle.format.specs.Faults.{linkFault}
 
 -- 4,294,967,294 is a stranger, and above it is nobody
 unfoldable pub linkIn : ℕ → Link

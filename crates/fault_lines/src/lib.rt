@@ -6,10 +6,10 @@ ghost use Prim.Native.Nat.{_≤_, _<_, _+_, _*_};
 ghost use lib.ListN.{length};
 ghost use Rattle.format.specs.Programs.{programs};
 ghost use Rattle.text.specs.Over.{over};
-ghost use Rattle.carried.specs.Carrying.{rows};
+ghost use Rattle.format.specs.Carrying.{rows};
 ghost use Rattle.early_lines.specs.First.{First};
 ghost use Rattle.kept_from.specs.From.{Fresh, linesKeptFrom, keptFrom};
-ghost use Rattle.faulty.specs.Faults.{linkFault, faultsFrom};
+ghost use Rattle.format.specs.Faults.{linkFault, faultsFrom};
 ghost use Rattle.fault_lines.specs.Links.{linksIn, Within, linkCount, stepFault};
 
 // 0, or why the program `i` is faulty: 22 where its parent is a stranger, 23 where it comes back to itself after 1 to n parent steps.

@@ -23,7 +23,7 @@ use Rattle.parser.specs.declared.CountAnswer.the-variants.{Refused, Count}
 use Rattle.parser.proofs.Told.{written-answer}
 use Rattle.parents.specs.Parents.{linkNumber}
 use Rattle.parents.proofs.Numbers.{numbers, numbers-count, links-count, link-below}
-use Rattle.carried.specs.Carrying.{keptOf, carriedLines, Skip, rows}
+use Rattle.format.specs.Carrying.{keptOf, carriedLines, Skip, rows}
 use Rattle.carried.proofs.Count.{rows-length, judged-length}
 use Rattle.carried.proofs.Kept.{carried-gathered}
 use Rattle.early_lines.specs.Early.{earlyOf, rowsFrom}
@@ -35,7 +35,7 @@ use Rattle.kept_lines.specs.Going.{judgedLines}
 use Rattle.kept_programs.specs.Plain.{plainAt, plainCount}
 use Rattle.kept_programs.proofs.Turns.{one-le}
 use Rattle.kept_programs.specs.declared.KeptLinks.{KeptLinks}
-use Rattle.faulty.specs.Faults.{linkFault, faultsFrom, faultsIn, faulting}
+use Rattle.format.specs.Faults.{linkFault, faultsFrom, faultsIn, faulting}
 use Rattle.fault_lines.specs.Links.{linksIn, Within, linkCount}
 use Rattle.fault_lines.proofs.Links.{same-links, all-within}
 use Rattle.fault_lines.proofs.Rows.{faults-count}

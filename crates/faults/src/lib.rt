@@ -9,7 +9,7 @@ ghost use Prim.Native.Nat.{_≤_};
 ghost use lib.ListN.{length};
 ghost use Rattle.parser.specs.Answers.{outputOf};
 ghost use Rattle.early_lines.specs.First.{First};
-ghost use Rattle.faulty.specs.Faults.{faulting};
+ghost use Rattle.format.specs.Faults.{faulting};
 ghost use Rattle.faults.specs.Answers.{IsLinks, faultyLines};
 
 // Once the programs are linked: 20 for a short table, or the rows are written.

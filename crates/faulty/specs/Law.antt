@@ -6,8 +6,8 @@ use mathlib.Core.Logic.{_↔_}
 use mathlib.Core.List.{List, []}
 use lib.ListN.{length}
 use Rattle.format.specs.Calls.{yes, reading, tidying, leafing}
-use Rattle.carried.specs.Carrying.{carriedLines}
-use Rattle.faulty.specs.Faults.{faultsIn}
+use Rattle.format.specs.Carrying.{carriedLines}
+use Rattle.format.specs.Faults.{faultsIn}
 
 -- the three calls accept in as much room as they want
 pub record AllAccept (t : List ℕ) : Type 0 where

@@ -23,7 +23,7 @@ use Rattle.accepted.proofs.OfKind.{ofKind-code, apart-ofKind}
 use Rattle.accepted.proofs.Text.{text-apart}
 use Rattle.parser.proofs.Fresh.{passed, goes-on}
 use Rattle.calls.proofs.Told.{there-some}
-use Rattle.find.specs.Finding.{isKey, keyOrdinalFrom, finding}
+use Rattle.format.specs.Finding.{isKey, keyOrdinalFrom, finding}
 use Rattle.find.proofs.Told.{finds}
 
 -- ---- a key stands once among the records of its kind

@@ -16,11 +16,11 @@ use Rattle.accepted.specs.Read.{recordsOf}
 use Rattle.accepted.proofs.Bools.{never}
 use Rattle.accepted.proofs.Text.{text-count, text-fits}
 use Rattle.parser.proofs.Fresh.{Current, refused-is-no-answer, passed, goes-on}
-use Rattle.asked_names.specs.Asked.{asked}
-use Rattle.name_index.specs.Index.{absent, nameOrdinalFrom, nameOrdinal, index, looks}
-use Rattle.name_search.specs.Summed.{summed}
-use Rattle.names.specs.Batch.{references, batched, batching}
-use Rattle.find.specs.Finding.{isKey, keyOrdinalFrom, finding}
+use Rattle.format.specs.Asked.{asked}
+use Rattle.format.specs.NameIndex.{absent, nameOrdinalFrom, nameOrdinal, index, looks}
+use Rattle.format.specs.Summed.{summed}
+use Rattle.format.specs.Batch.{references, batched, batching}
+use Rattle.format.specs.Finding.{isKey, keyOrdinalFrom, finding}
 use Rattle.find.specs.Laws.{orAbsent}
 use Rattle.find.proofs.Told.{kind-few, finds}
 

@@ -26,7 +26,7 @@ use Rattle.id_search.specs.Search.{idOrdinalFrom}
 use Rattle.lookup.proofs.Kept.{text-entries, text-counted}
 use Rattle.names.proofs.References.{stands-bytes}
 use Rattle.parser.proofs.Fresh.{Current, goes-on, stops}
-use Rattle.find.specs.Finding.{isKey, keyOrdinalFrom, finding}
+use Rattle.format.specs.Finding.{isKey, keyOrdinalFrom, finding}
 use Rattle.find.specs.declared.Found.the-variants.{Nothing, At}
 use Rattle.find.specs.Keys.{keyPlace, keysIn, KeysInText, foundOf}
 

@@ -3,7 +3,6 @@
 --   Answers   that answer in the code's types
 --   Keys      the keys that the entries of a catalogue say
 --   Laws      the answer as `names` tells it
-pub mod Finding
 pub mod Answers
 pub mod Keys
 pub mod Laws

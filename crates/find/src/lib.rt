@@ -6,7 +6,7 @@ use parser::Checked;
 ghost use mathlib.Core.Path.{_≡_};
 ghost use Rattle.entries.specs.Entries.{entriesIn};
 ghost use Rattle.id_search.specs.Search.{idOrdinalFrom};
-ghost use Rattle.find.specs.Finding.{finding};
+ghost use Rattle.format.specs.Finding.{finding};
 ghost use Rattle.find.specs.Answers.{findAnswerOf};
 ghost use Rattle.find.specs.Keys.{keyPlace, keysIn, KeysInText, foundOf};
 

@@ -8,7 +8,7 @@ use Rattle.format.specs.Slots.{Held}
 use Rattle.text.specs.Stands.{Each}
 use Rattle.key_index.specs.Told.{start}
 use Rattle.keys_held.specs.Keyed.{keyValuesOf}
-use Rattle.carried.specs.Carrying.{keptOf}
+use Rattle.format.specs.Carrying.{keptOf}
 use Rattle.carried.specs.Judged.{judgedFrom}
 use Rattle.early_lines.specs.First.{First}
 use Rattle.early_lines.specs.declared.Begin.{Begin}

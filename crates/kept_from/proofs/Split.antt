@@ -14,7 +14,7 @@ use Rattle.format.specs.declared.Version.{Version}
 use Rattle.repeat_rule.specs.Rule.{strictAfter}
 use Rattle.accepted.proofs.Onward.{lines-count}
 use Rattle.roundtrip.proofs.Total.{gathered-length}
-use Rattle.carried.specs.Carrying.{keptOf, ruling, carriedFrom, carriedLines, skips, rows, unwritableLine}
+use Rattle.format.specs.Carrying.{keptOf, ruling, carriedFrom, carriedLines, skips, rows, unwritableLine}
 use Rattle.carried.specs.Judged.{judgedFrom}
 use Rattle.carried.proofs.Judged.{steady}
 use Rattle.carried.proofs.Count.{judged-length, skips-kept, rows-length}

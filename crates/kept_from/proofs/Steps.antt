@@ -11,7 +11,7 @@ use Rattle.writer.specs.Line.{lineText}
 use Rattle.tidy_text.specs.Accepted.{withRecord}
 use Rattle.tidy_text.specs.Kinds.{lineKind, kindText}
 use Rattle.tidy_text.proofs.OfKind.{only, line-kind}
-use Rattle.carried.specs.Carrying.{keptOf}
+use Rattle.format.specs.Carrying.{keptOf}
 use Rattle.kept_lines.specs.Going.{judgedLines}
 use Rattle.kept_lines.specs.declared.Cursor.{Cursor}
 use Rattle.kept_from.specs.Turn.{lentTo, Turn}

@@ -16,7 +16,7 @@ use Rattle.accepted.specs.Read.{isRead}
 use Rattle.accepted.proofs.Ahead.{ahead, ahead-none, ahead-one, first-length, next-within, next-more}
 use Rattle.admission.specs.Admission.{lineRefusal}
 use Rattle.admission.proofs.Admission.{refusal-none, refusal-some}
-use Rattle.carried.specs.Carrying.{keptOf, skips}
+use Rattle.format.specs.Carrying.{keptOf, skips}
 use Rattle.carried.specs.Judged.{judgedFrom}
 use Rattle.carried.proofs.Judged.{kept-append, judged-append}
 use Rattle.carried.proofs.Count.{judged-length, skips-kept}

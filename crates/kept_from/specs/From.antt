@@ -7,7 +7,7 @@ use lib.ListN.{length}
 use Rattle.format.specs.Records.{Record, Line}
 use Rattle.format.specs.Slots.{Held}
 use Rattle.key_index.specs.Told.{start}
-use Rattle.carried.specs.Carrying.{keptOf, Skip, skips, rows, unwritableLine}
+use Rattle.format.specs.Carrying.{keptOf, Skip, skips, rows, unwritableLine}
 use Rattle.early_lines.specs.declared.Begin.{Begin}
 use Rattle.kept_lines.specs.Going.{judgedLines}
 

@@ -25,7 +25,7 @@ use Rattle.record.specs.declared.Head.the-variants as head
 use Rattle.admission.specs.Admission.{lineRefusal, isTaken, barring, programsOf}
 use Rattle.admission.proofs.Admission.{stood, used-is, barring-is, refusal-none, refusal-some}
 use Rattle.admission.proofs.Programs.{programs-one}
-use Rattle.carried.specs.Carrying.{keptOf}
+use Rattle.format.specs.Carrying.{keptOf}
 use Rattle.carried.specs.Judged.{judgedFrom}
 use Rattle.carried.proofs.Judged.{kept-append, judged-append}
 use Rattle.carried.proofs.Count.{judged-length, skips-kept}

@@ -10,7 +10,7 @@ use Rattle.format.specs.Reading.{ofKind}
 use Rattle.format.specs.Slots.{Held}
 use Rattle.text.specs.Stands.{Each}
 use Rattle.admission.specs.Admission.{lineRefusal}
-use Rattle.carried.specs.Carrying.{keptOf}
+use Rattle.format.specs.Carrying.{keptOf}
 use Rattle.carried.specs.Judged.{judgedFrom}
 use Rattle.key_index.specs.Told.{start}
 use Rattle.line_keys.specs.Ended.{Ended}

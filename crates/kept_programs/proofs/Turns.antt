@@ -37,7 +37,7 @@ use Rattle.parents.proofs.Says.{Before, Says}
 use Rattle.judging.proofs.Judging.{pairs-snoc}
 use Rattle.writer.specs.Line.{lineWritable, lineText, lineSize}
 use Rattle.writer.specs.declared.Size.the-variants.{Unwritable, Is}
-use Rattle.carried.specs.Carrying.{keptOf}
+use Rattle.format.specs.Carrying.{keptOf}
 use Rattle.carried.proofs.Judged.{kept-append}
 use Rattle.kept_lines.specs.Going.{Going, judgedLines}
 use Rattle.kept_lines.specs.declared.Cursor.{Cursor}

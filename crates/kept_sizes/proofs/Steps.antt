@@ -18,7 +18,7 @@ use Rattle.tidy_text.specs.declared.Grown.the-variants as grown
 use Rattle.tidy_text.proofs.Total.{size}
 use Rattle.tidy_text.proofs.Sizes.{size-turn, own-size, size-le}
 use Rattle.tidy_text.proofs.Names.{cond-is, grew-bad, grew-is}
-use Rattle.carried.specs.Carrying.{keptOf, unwritableLine}
+use Rattle.format.specs.Carrying.{keptOf, unwritableLine}
 use Rattle.kept_lines.specs.declared.Cursor.{Cursor}
 use Rattle.kept_from.specs.Turn.{Turn}
 use Rattle.kept_from.proofs.Steps as at

@@ -16,7 +16,7 @@ use Rattle.per_kind.specs.Numbers.{get, plus}
 use Rattle.per_kind.specs.declared.PerKind.{PerKind}
 use Rattle.tidy_text.specs.Placed.{withParts, parts, Apart}
 use Rattle.tidy_text.proofs.Parts.{split-turn}
-use Rattle.carried.specs.Carrying.{keptOf, skips, rows}
+use Rattle.format.specs.Carrying.{keptOf, skips, rows}
 use Rattle.kept_lines.specs.declared.Cursor.{Cursor}
 use Rattle.kept_from.specs.Turn.{Turn}
 use Rattle.kept_from.proofs.Steps as at

@@ -12,7 +12,7 @@ ghost use Rattle.text.specs.Over.{over};
 ghost use Rattle.per_kind.specs.Numbers.{kindStarts};
 ghost use Rattle.tidy_text.specs.Sizes.{sizesOf};
 ghost use Rattle.tidy_text.specs.Placed.{withParts, parts, Apart};
-ghost use Rattle.carried.specs.Carrying.{keptOf, carriedLines, skips, rows};
+ghost use Rattle.format.specs.Carrying.{keptOf, carriedLines, skips, rows};
 ghost use Rattle.early_lines.specs.First.{First};
 ghost use Rattle.kept_from.specs.From.{Fresh, keptFrom, rowsOf};
 ghost use Rattle.kept_from.specs.Turn.{Turn};

@@ -7,7 +7,7 @@ use native.Mathlib.Numerals.{add-one}
 use native.Mathlib.Nat.{mod-lt}
 use lib.ListN.{length, take, drop, getD, length-drop, drop-of-length-le}
 use lib.Seq.{drop-cons, drop-drop}
-use Rattle.little.specs.Little.{ofLittle}
+use Rattle.format.specs.Little.{ofLittle}
 use Rattle.key_hash.specs.Hash.{folded, mixed, wordsFrom, bytesFrom}
 
 pub mixed-lt : (h w : ℕ) → mixed h w < 4294967296

@@ -4,7 +4,7 @@
 use Prim.Native.Nat.{ℕ, _+_, _-_, _*_, _/_, _%_, _^_}
 use mathlib.Core.List.{List, [], _∷_}
 use lib.ListN.{length, drop}
-use Rattle.little.specs.Little.{ofLittle}
+use Rattle.format.specs.Little.{ofLittle}
 
 -- the two halves of a number below 2 ^ 64, added
 unfoldable pub folded : ℕ → ℕ

@@ -8,7 +8,7 @@ use native.Mathlib.Numerals.{add-one, add-two, add-three}
 use lib.ListN.{length, take, drop, getD, length-drop}
 use lib.Seq.{length-take-le, take-add, drop-drop, drop-cons}
 use Rattle.format.specs.Catalogue.{little}
-use Rattle.little.specs.Little.{ofLittle}
+use Rattle.format.specs.Little.{ofLittle}
 use Rattle.text.specs.Over.{over}
 use Rattle.text.proofs.Over.{over-part}
 

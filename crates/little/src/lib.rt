@@ -4,7 +4,7 @@ ghost use Prim.Native.Nat.{_≤_, _+_};
 ghost use lib.ListN.{length, take, drop};
 ghost use Rattle.format.specs.Catalogue.{little};
 ghost use Rattle.text.specs.Over.{over};
-ghost use Rattle.little.specs.Little.{ofLittle};
+ghost use Rattle.format.specs.Little.{ofLittle};
 
 // Writes `v` in four bytes at `at`, the lowest first.
 pub fn put_u32(out: &mut [u8], at: usize, v: u32)

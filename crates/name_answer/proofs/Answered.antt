@@ -9,14 +9,14 @@ use lib.Seq.{sets}
 use Rattle.text.specs.Over.{over}
 use Rattle.text.specs.Stands.{Each}
 use Rattle.entries.specs.Entries.{entriesIn}
-use Rattle.name_index.specs.Index.{nameOrdinal, slotCount, index, looks}
+use Rattle.format.specs.NameIndex.{nameOrdinal, slotCount, index, looks}
 use Rattle.sq_entries.specs.Names.{namesIn}
 use Rattle.sq_found.specs.Told.{Told}
 use Rattle.sq_slots.specs.Filled.{entering, seats}
 use Rattle.sq_index.specs.Looking.{slotOf, looksOf, ordinalAt}
 use Rattle.sq_found.proofs.Found.{filled-index, places-length, places-noted, found-ordinal, found-looks}
-use Rattle.asked_names.specs.Asked.{asked}
-use Rattle.name_search.specs.Summed.{summed}
+use Rattle.format.specs.Asked.{asked}
+use Rattle.format.specs.Summed.{summed}
 
 -- written over a list of the same length
 over-whole : (out xs : List ℕ) → length out ≡ length xs → over out 0 xs ≡ xs

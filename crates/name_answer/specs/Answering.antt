@@ -5,11 +5,11 @@ use mathlib.Core.List.{List, map}
 use lib.ListN.{length}
 use Rattle.text.specs.Stands.{Each}
 use Rattle.entries.specs.Entries.{entriesIn}
-use Rattle.asked_names.specs.Asked.{asked}
-use Rattle.name_index.specs.Index.{nameOrdinal, slotCount, index, looks}
+use Rattle.format.specs.Asked.{asked}
+use Rattle.format.specs.NameIndex.{nameOrdinal, slotCount, index, looks}
 use Rattle.sq_entries.specs.Names.{namesIn}
 use Rattle.sq_found.specs.Told.{Told}
-use Rattle.name_search.specs.Summed.{summed}
+use Rattle.format.specs.Summed.{summed}
 
 -- the names that the catalogue's SQ entries say
 abbrev pub namesOfSq : List ℕ → List ℕ → List (List ℕ)

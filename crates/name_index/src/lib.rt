@@ -3,7 +3,7 @@ ghost use mathlib.Core.Path.{_≡_};
 ghost use Prim.Native.Nat.{ℕ, _≤_, _<_, _+_, _*_, _%_, _^_};
 ghost use lib.ListN.{length, set};
 ghost use Rattle.format.specs.Slots.{seat};
-ghost use Rattle.name_index.specs.Index.{slotCount, hashFrom};
+ghost use Rattle.format.specs.NameIndex.{slotCount, hashFrom};
 
 // How many slots `m` names take: the smallest power of two that is not below twice `m`, at least 2.
 pub fn slot_count(m: u32) -> u32

@@ -4,9 +4,9 @@ ghost use mathlib.Core.List.{map};
 ghost use Prim.Native.Nat.{ℕ, _≤_, _^_};
 ghost use lib.ListN.{length};
 ghost use Rattle.text.specs.Over.{over};
-ghost use Rattle.asked_names.specs.Asked.{asked};
+ghost use Rattle.format.specs.Asked.{asked};
 ghost use Rattle.sq_index.specs.Looking.{slotOf, looksOf};
-ghost use Rattle.name_search.specs.Summed.{summed};
+ghost use Rattle.format.specs.Summed.{summed};
 
 // Looks for each name of a list: the slot with it goes into `out`, and the slots that were looked at are summed.
 pub fn find_slots(text: &[u8], slots: &[u32], list: &[u8], out: &mut [u32]) -> u64

@@ -14,14 +14,14 @@ use Rattle.entries.specs.Entries.{entriesIn, counted}
 use Rattle.parser.specs.Answers.{outputOf}
 use Rattle.parser.proofs.Fresh.{Current, goes-on, stops}
 use Rattle.parser.proofs.Told.{too-short, fits}
-use Rattle.name_index.specs.Index.{nameOrdinal, slotCount, index, looks}
+use Rattle.format.specs.NameIndex.{nameOrdinal, slotCount, index, looks}
 use Rattle.name_index.proofs.Indexed.{index-length}
 use Rattle.sq_entries.specs.Names.{namesIn}
 use Rattle.sq_found.specs.Told.{Told}
 use Rattle.sq_entries.proofs.Names.{names-counted}
-use Rattle.asked_names.specs.Asked.{asked}
-use Rattle.name_search.specs.Summed.{summed}
-use Rattle.names.specs.Batch.{references, batched, batching}
+use Rattle.format.specs.Asked.{asked}
+use Rattle.format.specs.Summed.{summed}
+use Rattle.format.specs.Batch.{references, batched, batching}
 use Rattle.names.specs.declared.NamesAnswer.the-variants.{Refused, Counted}
 use Rattle.names.specs.Answers.{namesOf, resultsOf, slotsOf}
 use Rattle.names.proofs.References.{text-names, few-names}

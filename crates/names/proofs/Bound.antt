@@ -12,12 +12,12 @@ use Rattle.format.specs.Reading.{longest}
 use Rattle.format.specs.Calls.{Answer, refused, yes, then, fitting}
 use Rattle.accepted.specs.Read.{recordsOf}
 use Rattle.parser.proofs.Fresh.{Current, refused-is-no-answer, passed, goes-on}
-use Rattle.name_index.specs.Index.{nameOrdinal, index, looks}
+use Rattle.format.specs.NameIndex.{nameOrdinal, index, looks}
 use Rattle.name_index.proofs.Indexed.{indexed}
-use Rattle.asked_names.specs.Asked.{asked}
+use Rattle.format.specs.Asked.{asked}
 use Rattle.asked_names.proofs.Asked.{asked-few}
-use Rattle.name_search.specs.Summed.{summed}
-use Rattle.names.specs.Batch.{references, batched, batching}
+use Rattle.format.specs.Summed.{summed}
+use Rattle.format.specs.Batch.{references, batched, batching}
 use Rattle.names.proofs.References.{few-names}
 
 -- ---- over a list of names

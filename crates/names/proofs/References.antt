@@ -19,7 +19,7 @@ use Rattle.entries.specs.declared.Entry.{Entry}
 use Rattle.entries.specs.Entries.{kindByte, pieceAt, headEntry, fieldEntry, entriesOn, entriesOf, entriesIn}
 use Rattle.lookup.proofs.Kept.{text-entries}
 use Rattle.sq_entries.specs.Names.{nameIn, namesIn}
-use Rattle.names.specs.Batch.{references}
+use Rattle.format.specs.Batch.{references}
 
 -- the entries of fields are passed
 names-fields : (t : List ℕ) (fs : List Field) (es : List Entry) → namesIn t (map fieldEntry fs ++ es) ≡ namesIn t es

@@ -4,7 +4,7 @@ use parser::Checked;
 ghost use mathlib.Core.Path.{_≡_};
 ghost use lib.ListN.{length};
 ghost use Rattle.parser.specs.Answers.{outputOf};
-ghost use Rattle.names.specs.Batch.{batching};
+ghost use Rattle.format.specs.Batch.{batching};
 ghost use Rattle.names.specs.Answers.{namesOf, resultsOf, slotsOf};
 
 // A refusal and its line, or how many names are answered, and the slots that were looked at.

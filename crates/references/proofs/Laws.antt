@@ -16,7 +16,7 @@ use Rattle.format.specs.Calls.{refused, yes, then, fitting, there, keyIfThere, 
 use Rattle.accepted.specs.Read.{recordsOf}
 use Rattle.parser.proofs.Fresh.{Current, refused-is-no-answer, passed, goes-on}
 use Rattle.calls.proofs.Told.{count-served}
-use Rattle.references.specs.Referencing.{row, rows, referencing}
+use Rattle.format.specs.Referencing.{row, rows, referencing}
 use Rattle.references.specs.Laws.{RowOf}
 use Rattle.references.proofs.Told.{count-is}
 

@@ -23,7 +23,7 @@ use Rattle.parser.specs.declared.CountAnswer.the-variants.{Refused, Count}
 use Rattle.parser.specs.Answers.{outputOf}
 use Rattle.parser.proofs.Fresh.{Current, goes-on, stops}
 use Rattle.parser.proofs.Told.{too-short, fits}
-use Rattle.references.specs.Referencing.{row, rows, referencing}
+use Rattle.format.specs.Referencing.{row, rows, referencing}
 use Rattle.references.specs.Answers.{rowCountOf, numbersOf}
 use Rattle.references.specs.Rows.{entryRow, rowsIn, ShortLength, RowsFit}
 

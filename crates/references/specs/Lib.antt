@@ -3,7 +3,6 @@
 --   Answers       that answer in the code's types
 --   Rows          the rows that the entries of a catalogue say
 --   Laws          what is promised of the rows
-pub mod Referencing
 pub mod Answers
 pub mod Rows
 pub mod Laws

@@ -11,7 +11,7 @@ ghost use lib.ListN.{length};
 ghost use Rattle.text.specs.Over.{over};
 ghost use Rattle.entries.specs.Entries.{entriesIn};
 ghost use Rattle.parser.specs.Answers.{outputOf};
-ghost use Rattle.references.specs.Referencing.{referencing};
+ghost use Rattle.format.specs.Referencing.{referencing};
 ghost use Rattle.references.specs.Answers.{rowCountOf, numbersOf};
 ghost use Rattle.references.specs.Rows.{rowsIn, RowsFit};
 

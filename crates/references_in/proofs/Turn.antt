@@ -5,7 +5,7 @@ use mathlib.Core.Bool.{Bool, true, false, not}
 use mathlib.Core.List.{List, [], _∷_}
 use lib.ListN.{drop}
 use Rattle.format.specs.References.{sameReference, sameReferences}
-use Rattle.binary.specs.Binary.{takeReference, takeList}
+use Rattle.format.specs.Binary.{takeReference, takeList}
 use Rattle.binary_parts.specs.declared.ReferenceAt.{ReferenceAt}
 use Rattle.binary_parts.specs.Parts.{referenceIn, referenceFrom, isWhole, listed}
 use Rattle.binary_parts.proofs.Listed.{list-whole, list-on, list-first, listed-done}

@@ -6,7 +6,7 @@ ghost use mathlib.Core.Bool.{true};
 ghost use Prim.Native.Nat.{_≤_, _+_};
 ghost use lib.ListN.{length, drop};
 ghost use Rattle.format.specs.References.{sameReference, sameReferences};
-ghost use Rattle.binary.specs.Binary.{takeList};
+ghost use Rattle.format.specs.Binary.{takeList};
 ghost use Rattle.binary_parts.specs.Parts.{referenceIn, isWhole, listed};
 ghost use Rattle.sq_list.specs.Next.{sqFrom, toldReference};
 

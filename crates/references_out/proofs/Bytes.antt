@@ -10,7 +10,7 @@ use Rattle.text.specs.Over.{over}
 use Rattle.little.proofs.Little.{little-length}
 use Rattle.text.proofs.Over.{over-length, over-over}
 use Rattle.format.specs.References.{Reference}
-use Rattle.binary.specs.Binary.{sized, referenceBytes}
+use Rattle.format.specs.Binary.{sized, referenceBytes}
 
 -- ---- a reference written part by part
 

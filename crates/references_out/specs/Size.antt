@@ -2,7 +2,7 @@
 use mathlib.Core.List.{List}
 use lib.ListN.{length}
 use Rattle.format.specs.References.{Reference}
-use Rattle.binary.specs.Binary.{listBytes}
+use Rattle.format.specs.Binary.{listBytes}
 use Rattle.references_out.specs.declared.ListSize.{ListSize}
 
 unfoldable pub listSize : List Reference → ListSize

@@ -3,7 +3,7 @@ ghost use mathlib.Core.Path.{_≡_};
 ghost use Prim.Native.Nat.{_≤_, _+_, _*_};
 ghost use lib.ListN.{length};
 ghost use Rattle.text.specs.Over.{over};
-ghost use Rattle.binary.specs.Binary.{referenceBytes, listBytes};
+ghost use Rattle.format.specs.Binary.{referenceBytes, listBytes};
 ghost use Rattle.sq_list.specs.Next.{sqFrom};
 ghost use Rattle.references_out.specs.Size.{listSize};
 

@@ -20,9 +20,9 @@ use Rattle.format.specs.Prune.{pruned, pruning}
 use Rattle.format.specs.Table.{leafingTable}
 use Rattle.format.specs.Merge.{Verdict, merged, unfit, unmerged, judgingMerge}
 use Rattle.format.specs.declared.Node.{Node}
-use Rattle.carried.specs.Carrying.{carrying}
-use Rattle.binary.specs.Binary.{binary, binaryOut, binaryIn, wellFormed, binaryParts, unpadded, listedAlike}
-use Rattle.names.specs.Batch.{batching}
+use Rattle.format.specs.Carrying.{carrying}
+use Rattle.format.specs.Binary.{binary, binaryOut, binaryIn, wellFormed, binaryParts, unpadded, listedAlike}
+use Rattle.format.specs.Batch.{batching}
 use Rattle.names.specs.Answers.{namesOf}
 use Rattle.names.proofs.Bound.{batch-few}
 use Rattle.parser.specs.Answers.{answerOf, checkedOf}

@@ -6,9 +6,9 @@ use Rattle.format.specs.Calls.{Answer, refused, yes, reading, fresh, tidying, c
 use Rattle.format.specs.Prune.{pruning}
 use Rattle.format.specs.Table.{leafingTable}
 use Rattle.format.specs.Merge.{merged, judgingMerge}
-use Rattle.carried.specs.Carrying.{carrying}
-use Rattle.binary.specs.Binary.{binaryOut, binaryIn}
-use Rattle.names.specs.Batch.{batching}
+use Rattle.format.specs.Carrying.{carrying}
+use Rattle.format.specs.Binary.{binaryOut, binaryIn}
+use Rattle.format.specs.Batch.{batching}
 use Rattle.names.specs.Answers.{namesOf}
 use Rattle.parser.specs.Answers.{answerOf, checkedOf}
 use Rattle.calls.specs.Answers.{countOf, keyAnswerOf, lengthAnswerOf, lineAnswerOf}

@@ -17,8 +17,8 @@ use Rattle.parser.specs.declared.Checked.{Checked}
 use Rattle.parser.specs.declared.Checked.the-variants as checked
 use Rattle.parser.specs.Answers.{answerOf, outputOf, checkedOf}
 use Rattle.parser.proofs.Fresh.{refused-is-no-answer}
-use Rattle.sha256.specs.Sha256.{sha256}
-use Rattle.seal.specs.Seal.{sealing, tidyingFresh, ownSeal, checkingSealed}
+use Rattle.format.specs.Sha256.{sha256}
+use Rattle.format.specs.Seal.{sealing, tidyingFresh, ownSeal, checkingSealed}
 
 -- ---- by the word of a call that writes
 

@@ -1,2 +1,1 @@
-pub mod Seal
 pub mod Answers

@@ -7,8 +7,8 @@ ghost use lib.ListN.{length};
 ghost use Rattle.format.specs.Bytes.{same};
 ghost use Rattle.format.specs.Calls.{tidying};
 ghost use Rattle.parser.specs.Answers.{answerOf, outputOf, checkedOf};
-ghost use Rattle.sha256.specs.Sha256.{sha256};
-ghost use Rattle.seal.specs.Seal.{sealing, tidyingFresh, checkingSealed};
+ghost use Rattle.format.specs.Sha256.{sha256};
+ghost use Rattle.format.specs.Seal.{sealing, tidyingFresh, checkingSealed};
 ghost use Rattle.seal.specs.Answers.{sealLeft};
 
 // Seals `text`: its tidy text at the front of `work`, as tidying writes it, and the SHA-256 of that in `seal`; or tidying's refusal,

@@ -6,8 +6,8 @@ use Rattle.format.specs.Calls.{Answer, yes, refused, reading, fresh}
 use Rattle.parser.specs.declared.Checked.the-variants.{Fresh}
 use Rattle.parser.specs.Answers.{checkedOf}
 use Rattle.roundtrip.proofs.Example.{ascii}
-use Rattle.sha256.specs.Sha256.{sha256}
-use Rattle.seal.specs.Seal.{sealing, checkingSealed}
+use Rattle.format.specs.Sha256.{sha256}
+use Rattle.format.specs.Seal.{sealing, checkingSealed}
 
 -- the header that was planned with, its catalogue, and the edited one
 unfoldable pub planned : List ℕ

@@ -22,9 +22,9 @@ use Rattle.roundtrip.proofs.Tidy.{tidy-tells}
 use Rattle.roundtrip.proofs.Bare.{tidy-equal}
 use Rattle.roundtrip.proofs.Faithful.{faithful}
 use Rattle.parser.proofs.Told.{fits}
-use Rattle.sha256.specs.Sha256.{sha256}
+use Rattle.format.specs.Sha256.{sha256}
 use Rattle.sha256.proofs.Laws.{digest-length}
-use Rattle.seal.specs.Seal.{sealing, ownSeal, checkingSealed}
+use Rattle.format.specs.Seal.{sealing, ownSeal, checkingSealed}
 use Rattle.seal_laws.specs.Sealed.{EqualOrCollision, sealed, Sealed}
 
 -- ---- what has been sealed

@@ -9,8 +9,8 @@ use Rattle.format.specs.Tidy.{tidy}
 use Rattle.format.specs.Calls.{Answer, yes, records}
 use Rattle.roundtrip.specs.Bare.{Equal}
 use Rattle.roundtrip.specs.Faithful.{Allowed}
-use Rattle.sha256.specs.Sha256.{sha256}
-use Rattle.seal.specs.Seal.{sealing, checkingSealed}
+use Rattle.format.specs.Sha256.{sha256}
+use Rattle.format.specs.Seal.{sealing, checkingSealed}
 
 -- two different messages with one digest
 pub record Collision (x y : List ℕ) : Type 0 where

@@ -7,7 +7,7 @@ use native.Mathlib.Nat.{div-one, div-div-eq-div-mul}
 use lib.ListN.{length, replicate}
 use Rattle.text.specs.Over.{over}
 use Rattle.text.proofs.Over.{over-over}
-use Rattle.sha256.specs.Sha256.{HashValue, big, digest}
+use Rattle.format.specs.Sha256.{HashValue, big, digest}
 
 pub big-length : (n v : ℕ) → length (big n v) ≡ n
 unfolding big

@@ -6,7 +6,7 @@ use native.Mathlib.Omega.{arith}
 use native.Mathlib.Nat.{zero-add, suc-add}
 use lib.ListN.{length, take, drop, length-append, length-drop}
 use lib.Seq.{drop-drop, take-append-le, drop-append-le}
-use Rattle.sha256.specs.Sha256.{HashValue, H0, compress, padding, pad, parse, hashed, digest, sha256}
+use Rattle.format.specs.Sha256.{HashValue, H0, compress, padding, pad, parse, hashed, digest, sha256}
 use Rattle.sha256.specs.Parts.{lastBlocks}
 
 -- ---- the whole blocks

@@ -1,7 +1,7 @@
 -- Worked examples, by computing: the empty message, and the standard's own of one block and of two.
 use mathlib.Core.Path.{_≡_, refl}
 use mathlib.Core.List.{[], _∷_}
-use Rattle.sha256.specs.Sha256.{sum32, complement, shr, rotr, Ch, Maj, Σ0, Σ1, σ0, σ1, K, H0, fromBig, words, back, next, extend, schedule, round, rounds, sum, compress, big, zeros, padding, pad, parse, hashed, digest, sha256}
+use Rattle.format.specs.Sha256.{sum32, complement, shr, rotr, Ch, Maj, Σ0, Σ1, σ0, σ1, K, H0, fromBig, words, back, next, extend, schedule, round, rounds, sum, compress, big, zeros, padding, pad, parse, hashed, digest, sha256}
 
 -- no byte
 pub empty : sha256 []

@@ -5,7 +5,7 @@ use mathlib.Core.List.{List, [], _∷_, _++_}
 use native.Mathlib.Omega.{arith}
 use lib.ListN.{length, length-append}
 use Rattle.text.specs.Stands.{Each}
-use Rattle.sha256.specs.Sha256.{HashValue, H0, big, zeros, padding, pad, parse, hashed, digest, sha256}
+use Rattle.format.specs.Sha256.{HashValue, H0, big, zeros, padding, pad, parse, hashed, digest, sha256}
 use Rattle.sha256.proofs.Padded.{padding-length}
 
 -- section 5.1.1, in bytes: n + 1 + k ≡ 56 modulo 64, and `zeros n` is the least such k

@@ -7,7 +7,7 @@ use lib.ListN.{length, take, drop, set, replicate, length-append, length-drop, l
 use lib.Seq.{drop-at, take-at, set-at, take-append-add, take-all}
 use Rattle.text.specs.Over.{over}
 use Rattle.text.proofs.Over.{over-take}
-use Rattle.sha256.specs.Sha256.{HashValue, H0, compress, big, zeros, padding, parse, hashed, digest, sha256}
+use Rattle.format.specs.Sha256.{HashValue, H0, compress, big, zeros, padding, parse, hashed, digest, sha256}
 use Rattle.sha256.specs.Parts.{lastBlocks}
 use Rattle.sha256.proofs.Big.{big-length}
 use Rattle.sha256.proofs.Blocks.{in-two}

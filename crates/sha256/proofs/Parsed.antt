@@ -7,7 +7,7 @@ use native.Mathlib.Nat.{add-assoc}
 use native.Mathlib.Numerals.{add-one, add-two, add-three}
 use lib.ListN.{length, take, drop, getD, set, length-drop, drop-of-length-le}
 use lib.Seq.{drop-cons, getD-take, getD-drop, take-suc-set, append-snoc, length-take-le}
-use Rattle.sha256.specs.Sha256.{words}
+use Rattle.format.specs.Sha256.{words}
 use Rattle.sha256.specs.Parts.{wordAt}
 
 words-turn : (b : List ℕ) (j : ℕ) → j + 4 ≤ length b → words (drop j b) ≡ wordAt b j ∷ words (drop (j + 4) b)

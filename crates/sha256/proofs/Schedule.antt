@@ -6,7 +6,7 @@ use native.Mathlib.Omega.{arith}
 use native.Mathlib.Numerals.{add-one}
 use lib.ListN.{length, take, getD, set}
 use lib.Seq.{getD-take, length-take-le, take-suc-set, take-all}
-use Rattle.sha256.specs.Sha256.{sum32, σ0, σ1, back, next, extend}
+use Rattle.format.specs.Sha256.{sum32, σ0, σ1, back, next, extend}
 
 back-at : (w : List ℕ) (t j : ℕ) → 0 < j → j ≤ t → t ≤ length w → back j (take t w) ≡ getD w (t - j) 0
 unfolding back

@@ -6,7 +6,7 @@ use native.Mathlib.Omega.{arith}
 use native.Mathlib.Numerals.{add-one}
 use lib.ListN.{length, take, drop, getD, drop-of-length-le}
 use lib.Seq.{drop-cons}
-use Rattle.sha256.specs.Sha256.{K, HashValue, words, extend, schedule, round, rounds, sum, compress}
+use Rattle.format.specs.Sha256.{K, HashValue, words, extend, schedule, round, rounds, sum, compress}
 
 K-length : length K ≡ 64
 unfolding K

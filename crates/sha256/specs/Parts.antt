@@ -2,7 +2,7 @@
 use Prim.Native.Nat.{ℕ, _+_, _*_, _/_}
 use mathlib.Core.List.{List, _++_}
 use lib.ListN.{length, drop, getD}
-use Rattle.sha256.specs.Sha256.{HashValue, fromBig, padding}
+use Rattle.format.specs.Sha256.{HashValue, fromBig, padding}
 use Rattle.sha256.specs.declared.State.{State}
 
 -- the hash value that the code's words are

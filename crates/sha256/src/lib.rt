@@ -2,8 +2,8 @@
 ghost use mathlib.Core.Path.{_≡_};
 ghost use Prim.Native.Nat.{_+_, _*_, _/_, _<_, _≤_};
 ghost use lib.ListN.{length, take, drop};
-ghost use Rattle.sha256.specs.Sha256.{sum32, Ch, Maj, Σ0, Σ1, σ0, σ1, K, H0, words, next, extend, round, rounds, sum, compress};
-ghost use Rattle.sha256.specs.Sha256.{big, parse, hashed, digest, sha256};
+ghost use Rattle.format.specs.Sha256.{sum32, Ch, Maj, Σ0, Σ1, σ0, σ1, K, H0, words, next, extend, round, rounds, sum, compress};
+ghost use Rattle.format.specs.Sha256.{big, parse, hashed, digest, sha256};
 ghost use Rattle.sha256.specs.Parts.{valueOf, wordAt, lastBlocks};
 ghost use Rattle.text.specs.Over.{over};
 

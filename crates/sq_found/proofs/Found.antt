@@ -9,7 +9,7 @@ use lib.ListN.{length, take, drop, replicate, length-map}
 use lib.Seq.{sets, sets-eq, length-sets, take-append-seam}
 use Rattle.text.specs.Stands.{Each}
 use Rattle.entries.specs.Entries.{entriesIn}
-use Rattle.name_index.specs.Index.{absent, nameOrdinal, slotCount, path, index, tellsName, looked, looks}
+use Rattle.format.specs.NameIndex.{absent, nameOrdinal, slotCount, path, index, tellsName, looked, looks}
 use Rattle.sq_entries.specs.Names.{namesIn}
 use Rattle.sq_entries.proofs.Names.{names-counted}
 use Rattle.sq_slots.specs.Filled.{entering, seats}

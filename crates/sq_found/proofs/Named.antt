@@ -18,7 +18,7 @@ use Rattle.entries.specs.declared.Entry.{Entry}
 use Rattle.entries.specs.declared.Entry.the-variants.{End, Header, ReferenceSequence, ReadGroup, Program, Comment, Field}
 use Rattle.entries.specs.Entries.{kindByte, entriesIn}
 use Rattle.lookup.specs.Lookup.{entriesFrom, firstEntry}
-use Rattle.name_index.specs.Index.{hashFrom, first, enter, enterFrom, nameOf, tellsName}
+use Rattle.format.specs.NameIndex.{hashFrom, first, enter, enterFrom, nameOf, tellsName}
 use Rattle.sq_entries.specs.Names.{nameIn, namesIn}
 use Rattle.sq_entries.proofs.Names.{name-from}
 use Rattle.sq_slots.specs.Filled.{startIn, markOf, valueOf, entering, seats}

@@ -6,7 +6,7 @@ use mathlib.Core.List.{List, [], _∷_, _++_, map, map-append}
 use native.Mathlib.Omega.{arith}
 use lib.ListN.{length, getD, take, drop, set, replicate, length-map, List·getD-eq-default}
 use Rattle.format.specs.Slots.{around, full, seat, seek}
-use Rattle.name_index.specs.Index.{absent, first, path, enter, ordinalOf, looked}
+use Rattle.format.specs.NameIndex.{absent, first, path, enter, ordinalOf, looked}
 use Rattle.sq_index.specs.Looking.{landing, landed, ordinalAt}
 use Rattle.name_index.proofs.Path.{path-length, path-at}
 

@@ -5,7 +5,7 @@ use mathlib.Core.Bool.{Bool, true, false, cond}
 use mathlib.Core.List.{List, [], _∷_}
 use native.Mathlib.Omega.{arith}
 use lib.ListN.{length, getD, drop, drop-of-length-le}
-use Rattle.name_index.specs.Index.{absent, path, looked}
+use Rattle.format.specs.NameIndex.{absent, path, looked}
 use Rattle.name_index.proofs.Passing.{opened}
 use Rattle.name_index.proofs.Path.{path-length}
 use Rattle.sq_index.specs.Looking.{says, landing, looksOf}

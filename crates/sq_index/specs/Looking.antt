@@ -6,7 +6,7 @@ use lib.ListN.{length, getD, drop}
 use lib.Dec.{eqb}
 use Rattle.format.specs.Bytes.{same}
 use Rattle.key_at.specs.Word.{word}
-use Rattle.name_index.specs.Index.{absent, hashFrom, first, path, ordinalOf, looked}
+use Rattle.format.specs.NameIndex.{absent, hashFrom, first, path, ordinalOf, looked}
 use Rattle.sq_slots.specs.Filled.{markOf}
 
 -- ---- looking

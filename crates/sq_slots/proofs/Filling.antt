@@ -12,7 +12,7 @@ use Rattle.format.specs.Slots.{seat}
 use Rattle.entries.specs.declared.Entry.{Entry}
 use Rattle.entries.specs.Entries.{kindByte, entryOf, entriesIn}
 use Rattle.lookup.specs.Lookup.{entriesFrom}
-use Rattle.name_index.specs.Index.{hashFrom, first, enter}
+use Rattle.format.specs.NameIndex.{hashFrom, first, enter}
 use Rattle.sq_entries.specs.Next.{nextSq}
 use Rattle.sq_entries.specs.Names.{nameIn}
 use Rattle.sq_entries.proofs.Turns.{no-more, one-more}

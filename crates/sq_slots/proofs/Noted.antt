@@ -10,7 +10,7 @@ use lib.Dec.{eqb}
 use Rattle.format.specs.Slots.{seat}
 use Rattle.entries.specs.declared.Entry.{Entry}
 use Rattle.entries.specs.Entries.{kindByte, counted}
-use Rattle.name_index.specs.Index.{hashFrom, first, enter}
+use Rattle.format.specs.NameIndex.{hashFrom, first, enter}
 use Rattle.name_index.proofs.Passing.{opened}
 use Rattle.sq_entries.specs.Names.{nameIn}
 use Rattle.sq_slots.specs.Filled.{startIn, valueOf, entering, seats, withOrdinals}

@@ -11,7 +11,7 @@ use Rattle.entries.specs.declared.Entry.{Entry}
 use Rattle.entries.specs.declared.Entry.the-variants.{End, Header, ReferenceSequence, ReadGroup, Program, Comment, Field}
 use Rattle.entries.specs.declared.Place.{Place}
 use Rattle.entries.specs.Entries.{kindByte, entriesIn}
-use Rattle.name_index.specs.Index.{hashFrom, first, enter}
+use Rattle.format.specs.NameIndex.{hashFrom, first, enter}
 use Rattle.sq_entries.specs.Names.{nameAt, nameIn}
 
 -- ---- what a slot is to hold

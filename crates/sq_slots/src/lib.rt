@@ -8,7 +8,7 @@ ghost use Prim.Native.Nat.{ℕ, _≤_, _<_, _^_};
 ghost use lib.ListN.{length, take};
 ghost use lib.Dec.{ltb};
 ghost use Rattle.format.specs.Slots.{seat};
-ghost use Rattle.name_index.specs.Index.{first};
+ghost use Rattle.format.specs.NameIndex.{first};
 ghost use Rattle.sq_entries.specs.Names.{nameAt};
 ghost use Rattle.sq_slots.specs.Filled.{markOf, valueOf, withOrdinals, nameEntered, namesEntered, seatsNoted, filledAnew, seatsAnew, notedAnew};
 

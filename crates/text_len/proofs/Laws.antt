@@ -19,7 +19,7 @@ use Rattle.accepted.specs.Admits.{strictly}
 use Rattle.accepted.proofs.Bools.{never}
 use Rattle.accepted.proofs.Pairs.{pairs-left}
 use Rattle.accepted.proofs.Text.{text-lines}
-use Rattle.text_len.specs.TextLen.{headed, otherLine, textLen}
+use Rattle.format.specs.TextLen.{headed, otherLine, textLen}
 use Rattle.text_len.specs.Laws.{AcceptedIsHeader, AllHeaded, CutBehind, AcceptedIsCut, Within}
 use Rattle.text_len.proofs.Turn.{headed-first}
 use Rattle.text_len.proofs.Behind.{lines-behind}

@@ -12,7 +12,7 @@ use Rattle.format.specs.Lines.{chomp, linesFrom}
 use Rattle.text.specs.Upto.{upto}
 use Rattle.text.specs.First.{firstLine}
 use Rattle.text.proofs.First.{chomp-front, lines-first}
-use Rattle.text_len.specs.TextLen.{headed, otherLine}
+use Rattle.format.specs.TextLen.{headed, otherLine}
 
 -- ---- an `@` belongs to no ending
 

@@ -9,7 +9,7 @@ use Rattle.format.specs.Records.{Record}
 use Rattle.format.specs.Reading.{readText, accept}
 use Rattle.format.specs.Programs.{lastOr}
 use Rattle.text.specs.Stands.{Each}
-use Rattle.text_len.specs.TextLen.{headed, textLen}
+use Rattle.format.specs.TextLen.{headed, textLen}
 
 -- a text that reading accepts is header from its front to its end
 unfoldable pub AcceptedIsHeader : Type 0

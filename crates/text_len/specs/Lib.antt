@@ -1,2 +1,1 @@
-pub mod TextLen
 pub mod Laws

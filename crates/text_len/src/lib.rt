@@ -1,6 +1,6 @@
 // How much of a SAM file is its header.
 ghost use mathlib.Core.Path.{_≡_};
-ghost use Rattle.text_len.specs.TextLen.{textLen};
+ghost use Rattle.format.specs.TextLen.{textLen};
 
 // How many bytes at the front of `bytes` are lines that start with `@`, their endings included. It judges nothing else and never refuses.
 pub fn text_len(bytes: &[u8]) -> usize

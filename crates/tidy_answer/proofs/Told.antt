@@ -18,7 +18,7 @@ use Rattle.text.specs.Over.{over}
 use Rattle.text.proofs.Over.{over-length}
 use Rattle.accepted.proofs.Bools.{never}
 use Rattle.roundtrip.proofs.Total.{tidy-length}
-use Rattle.tidy_answer.specs.Program.{refusal, said, program}
+use Rattle.format.specs.Program.{refusal, said, program}
 use Rattle.tidy_answer.proofs.Refusal.{refusal-fits}
 
 -- ---- the limit

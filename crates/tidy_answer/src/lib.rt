@@ -5,7 +5,7 @@ ghost use mathlib.Core.Path.{_≡_};
 ghost use Prim.Native.Nat.{_≤_};
 ghost use lib.ListN.{length};
 ghost use Rattle.text.specs.Over.{over};
-ghost use Rattle.tidy_answer.specs.Program.{refusal, program};
+ghost use Rattle.format.specs.Program.{refusal, program};
 
 // Writes `refused N line L` and LF to the front of `out`, and answers how many bytes that is.
 fn put_refusal(out: &mut [u8], n: u32, line: LineNo) -> usize

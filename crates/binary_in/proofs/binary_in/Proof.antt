@@ -9,7 +9,7 @@ use Rattle.format.specs.Reading.{accept, readText}
 use Rattle.accepted.specs.Read.{isAccepted, recordsOf}
 use Rattle.accepted.proofs.Text.{text-fits}
 use Rattle.format.specs.References.{sqList, sameReferences}
-use Rattle.binary.specs.Binary.{takeList, unpadded, binaryIn}
+use Rattle.format.specs.Binary.{takeList, unpadded, binaryIn}
 use Rattle.binary_parts.specs.Parts.{listed}
 use Rattle.sq_list.proofs.Next.{sq-all}
 use Rattle.judging.proofs.Whole.{text-refused, text-accepted}

@@ -7,7 +7,7 @@ use native.Mathlib.Omega.{arith}
 use borrow.Author.Tests.{not-true, not-false}
 use borrow.Author.Needs.{needs}
 use Rattle.format.specs.Bytes.{starts}
-use Rattle.binary.specs.Binary.{magic}
+use Rattle.format.specs.Binary.{magic}
 use Rattle.binary_len.specs.BinaryLen.{numberAt, referencesAt}
 use Rattle.binary_len.proofs.Turn.{start-cut, start-other, text-length-cut, text-cut, count-cut, list-at}
 use Rattle.binary_len.proofs.Grown.{longer}

@@ -3,7 +3,7 @@ use mathlib.Core.Path.{_≡_, sym, ap, _∙_}
 use mathlib.Core.Bool.{true}
 use lib.ListN.{length}
 use Rattle.format.specs.Reading.{readText}
-use Rattle.binary.specs.Binary.{binaryOut}
+use Rattle.format.specs.Binary.{binaryOut}
 use Rattle.accepted.specs.Read.{isAccepted}
 use Rattle.parser.specs.Answers.{answerOf, outputOf}
 use Rattle.judging.proofs.Whole.{text-refused, text-accepted}

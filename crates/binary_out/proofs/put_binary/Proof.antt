@@ -10,7 +10,7 @@ use Rattle.accepted.specs.Read.{recordsOf}
 use Rattle.accepted.proofs.Read.{accepted-reads}
 use Rattle.accepted.proofs.Text.{text-fits}
 use Rattle.format.specs.References.{sqList}
-use Rattle.binary.specs.Binary.{listBytes}
+use Rattle.format.specs.Binary.{listBytes}
 use Rattle.sq_list.specs.Next.{sqFrom}
 use Rattle.sq_list.proofs.Next.{sq-all}
 use Rattle.binary_out.proofs.Whole.{binary-length, binary-over}

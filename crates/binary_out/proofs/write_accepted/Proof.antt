@@ -9,7 +9,7 @@ use Rattle.accepted.specs.Read.{recordsOf}
 use Rattle.accepted.proofs.Read.{accepted-reads}
 use Rattle.accepted.proofs.Text.{text-fits}
 use Rattle.format.specs.References.{sqList}
-use Rattle.binary.specs.Binary.{listBytes}
+use Rattle.format.specs.Binary.{listBytes}
 use Rattle.sq_list.proofs.Next.{sq-all}
 use Rattle.references_out.specs.Size.{listSize}
 use Rattle.per_kind.specs.Numbers.{total}

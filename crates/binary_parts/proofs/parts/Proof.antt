@@ -4,7 +4,7 @@ use mathlib.Core.Bool.{true, false≢true}
 use native.Mathlib.Omega.{arith}
 use borrow.Author.Needs.{needs}
 use Rattle.format.specs.Bytes.{starts}
-use Rattle.binary.specs.Binary.{magic}
+use Rattle.format.specs.Binary.{magic}
 use Rattle.binary_parts.specs.Parts.{partsFrom}
 use Rattle.binary_parts.proofs.Both.{started, other-start, start-long}
 use Rattle.binary_parts.proofs.Places.{parts-started, parts-other}

@@ -8,7 +8,7 @@ use Rattle.format.specs.Tidy.{tidy}
 use Rattle.per_kind.specs.Numbers.{total, front, kindStarts}
 use Rattle.tidy_text.proofs.Sizes.{total-size}
 use Rattle.tidy.proofs.Writing.{write-long, write-short, write-fits}
-use Rattle.carried.specs.Carrying.{keptOf, carriedLines, skips, rows, unwritableLine, carrying}
+use Rattle.format.specs.Carrying.{keptOf, carriedLines, skips, rows, unwritableLine, carrying}
 use Rattle.early_lines.specs.Early.{earlyOf, rowsFrom}
 use Rattle.kept_from.specs.From.{keptFrom, rowsOf}
 use Rattle.kept_from.proofs.Split.{first-kept, first-small, first-count, skips-few, first-rows, early-rows}

@@ -4,7 +4,7 @@ use lib.ListN.{length}
 use Rattle.format.specs.Tidy.{tidy}
 use Rattle.tidy_text.specs.Sizes.{sizesOf}
 use Rattle.tidy.proofs.Writing.{write-bad}
-use Rattle.carried.specs.Carrying.{keptOf, carriedLines, unwritableLine, carrying}
+use Rattle.format.specs.Carrying.{keptOf, carriedLines, unwritableLine, carrying}
 use Rattle.kept_from.specs.From.{keptFrom, skippedFrom, unwritableFrom}
 use Rattle.kept_from.proofs.Split.{first-names}
 use Rattle.kept_sizes.proofs.Told.{measured-bad, measured-is}

@@ -8,7 +8,7 @@ use lib.ListN.{take, drop, getD}
 use lib.Seq.{drop-drop, getD-drop}
 use Rattle.entries.specs.declared.Entry.the-variants.{Header, ReferenceSequence, ReadGroup, Program, Comment, Field}
 use Rattle.entries.specs.Entries.{kindSize, versionFrom, placeFrom, lineFrom, entryWith}
-use Rattle.little.specs.Little.{ofLittle}
+use Rattle.format.specs.Little.{ofLittle}
 use Rattle.entries.proofs.Walk.{no-kind, no-body}
 use Rattle.entries.proofs.body_at.Statement.{statement}
 use Rattle.entries.proofs.body_at.Tie as tie

@@ -11,7 +11,7 @@ use borrow.Author.Needs.{needs}
 use borrow.Author.Tests.{eq-eqb, ne-eqb, not-true, not-false}
 use Rattle.format.specs.Bytes.{starts}
 use Rattle.format.specs.Catalogue.{little}
-use Rattle.little.specs.Little.{ofLittle}
+use Rattle.format.specs.Little.{ofLittle}
 use Rattle.entries.specs.declared.Entry.the-variants as entry
 use Rattle.entries.specs.Entries.{placeBytes, entryBytes}
 use Rattle.entries_same.proofs.Starts.{starts-number, starts-then}

@@ -4,7 +4,7 @@ use mathlib.Core.Path.{_≡_, ap, _∙_}
 use native.Mathlib.Omega.{arith}
 use lib.ListN.{length}
 use Rattle.kept_programs.proofs.Turns.{one-le}
-use Rattle.faulty.specs.Faults.{linkFault}
+use Rattle.format.specs.Faults.{linkFault}
 use Rattle.fault_lines.specs.Links.{linksIn, linkCount}
 use Rattle.fault_lines.proofs.Links.{count-more, count-none, one-by}
 use Rattle.fault_lines.proofs.count_links.Statement.{statement}

@@ -7,7 +7,7 @@ use lib.ListN.{length, drop}
 use Rattle.format.specs.Programs.{Link}
 use Rattle.text.specs.Over.{over}
 use Rattle.text.proofs.Over.{over-none}
-use Rattle.carried.specs.Carrying.{rows}
+use Rattle.format.specs.Carrying.{rows}
 use Rattle.early_lines.specs.declared.Begin.{Begin}
 use Rattle.kept_lines.specs.Going.{Going}
 use Rattle.kept_lines.specs.declared.Cursor.{Cursor}
@@ -16,7 +16,7 @@ use Rattle.kept_from.specs.Turn.{Turn}
 use Rattle.kept_from.proofs.Begun.{begun}
 use Rattle.kept_from.proofs.Turn.{turn, none-left}
 use Rattle.kept_from.proofs.Steps.{turn-read}
-use Rattle.faulty.specs.Faults.{ifFaulty, faultsFrom}
+use Rattle.format.specs.Faults.{ifFaulty, faultsFrom}
 use Rattle.fault_lines.specs.Links.{linksIn}
 use Rattle.fault_lines.proofs.Rows.{with-line, turn-rows, programs-within, row-none, row-one, row-over}
 use Rattle.fault_lines.proofs.put_lines.Statement.{statement}

@@ -1,7 +1,7 @@
 -- `faults::faults` meets its contract: 1 first, then by the text's length.
 use lib.ListN.{length}
 use borrow.Author.Needs.{needs}
-use Rattle.faulty.specs.Faults.{faulting}
+use Rattle.format.specs.Faults.{faulting}
 use Rattle.faults.proofs.Told.{told-long, refused-all}
 use Rattle.faults.proofs.faults.Statement.{statement}
 use Rattle.faults.proofs.faults.Tie as tie

@@ -10,7 +10,7 @@ use borrow.Author.Needs.{needs}
 use Rattle.format.specs.Records.{Line}
 use Rattle.format.specs.Reading.{ofKind}
 use Rattle.format.specs.Programs.{programs, programOf}
-use Rattle.carried.specs.Carrying.{keptOf}
+use Rattle.format.specs.Carrying.{keptOf}
 use Rattle.program_lines.proofs.Accepted.{fielded}
 use Rattle.program_lines.specs.Found.{notesOf}
 use Rattle.early_lines.specs.declared.Begin.{Begin}

@@ -9,7 +9,7 @@ use Rattle.per_kind.specs.Numbers.{get}
 use Rattle.tidy_text.specs.Sizes.{sizesOf}
 use Rattle.tidy_text.proofs.Total.{size}
 use Rattle.tidy_text.proofs.Sizes.{get-none, size-none, each-get}
-use Rattle.carried.specs.Carrying.{keptOf, unwritableLine}
+use Rattle.format.specs.Carrying.{keptOf, unwritableLine}
 use Rattle.kept_lines.specs.Going.{Going}
 use Rattle.kept_from.specs.From.{linesKeptFrom, keptFrom, skippedFrom}
 use Rattle.kept_from.specs.Turn.{Turn}

@@ -9,7 +9,7 @@ use Rattle.text.specs.Over.{over}
 use Rattle.text.proofs.Over.{over-none}
 use Rattle.tidy_text.specs.Placed.{withParts, parts, Apart}
 use Rattle.tidy_text.proofs.Parts.{placed-none}
-use Rattle.carried.specs.Carrying.{keptOf, skips, rows}
+use Rattle.format.specs.Carrying.{keptOf, skips, rows}
 use Rattle.early_lines.specs.declared.Begin.{Begin}
 use Rattle.kept_lines.specs.Going.{Going}
 use Rattle.kept_from.specs.From.{linesKeptFrom, keptFrom, rowsOf}

@@ -3,7 +3,7 @@ use Prim.Native.Nat.{ℕ, _+_, _-_, _≤_, _<_}
 use mathlib.Core.Path.{_≡_, refl, sym, ap, _∙_}
 use native.Mathlib.Omega.{arith}
 use lib.ListN.{length, take, drop}
-use Rattle.little.specs.Little.{ofLittle}
+use Rattle.format.specs.Little.{ofLittle}
 use Rattle.key_hash.specs.Hash.{mixed, wordsFrom}
 use Rattle.key_hash.proofs.Mixing.{mixed-lt, words-on, words-end}
 use borrow.Author.Needs.{needs}

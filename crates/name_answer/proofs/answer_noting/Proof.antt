@@ -3,11 +3,11 @@ use Prim.Native.Nat.{ℕ, suc, _^_, _≤_}
 use mathlib.Core.Path.{_≡_, _∙_}
 use native.Mathlib.Omega.{arith}
 use lib.ListN.{length}
-use Rattle.name_index.specs.Index.{slotCount}
+use Rattle.format.specs.NameIndex.{slotCount}
 use Rattle.entries.specs.Entries.{entriesIn}
 use Rattle.sq_entries.specs.Names.{namesIn}
 use Rattle.name_index.proofs.SlotCount.{slots-power, slots-few}
-use Rattle.asked_names.specs.Asked.{asked}
+use Rattle.format.specs.Asked.{asked}
 use Rattle.name_answer.proofs.Answered.{long₁, notes-told, looks-told, index-told, found-told}
 use borrow.Author.Needs.{needs}
 use Rattle.name_answer.proofs.answer_noting.Statement.{statement}

@@ -7,7 +7,7 @@ use native.Mathlib.Numerals.{add-one}
 use lib.ListN.{length, getD, drop, drop-of-length-le}
 use lib.Seq.{drop-cons}
 use borrow.Author.Needs.{needs}
-use Rattle.name_index.specs.Index.{hashFrom}
+use Rattle.format.specs.NameIndex.{hashFrom}
 use Rattle.name_index.proofs.hash.Statement.{statement}
 use Rattle.name_index.proofs.hash.Tie as tie
 

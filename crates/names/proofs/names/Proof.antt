@@ -8,12 +8,12 @@ use lib.Seq.{length-take-le}
 use Rattle.entries.specs.Entries.{entriesIn}
 use Rattle.format.specs.Calls.{Answer}
 use Rattle.parser.proofs.Fresh.{Current, refused-by, check-fresh}
-use Rattle.name_index.specs.Index.{nameOrdinal, slotCount, index, looks}
+use Rattle.format.specs.NameIndex.{nameOrdinal, slotCount, index, looks}
 use Rattle.name_index.proofs.Indexed.{index-length}
 use Rattle.sq_entries.specs.Names.{namesIn}
-use Rattle.asked_names.specs.Asked.{asked}
-use Rattle.name_search.specs.Summed.{summed}
-use Rattle.names.specs.Batch.{batching}
+use Rattle.format.specs.Asked.{asked}
+use Rattle.format.specs.Summed.{summed}
+use Rattle.format.specs.Batch.{batching}
 use Rattle.names.proofs.Batched.{batch-refused, batch-long, batch-work, batch-room, batch-all, few, short, many, told, told-refusal, told-answer}
 use borrow.Author.Needs.{needs}
 use Rattle.names.proofs.names.Statement.{statement}

@@ -11,7 +11,7 @@ use Rattle.text.specs.Over.{over}
 use Rattle.accepted.specs.Read.{recordsOf}
 use Rattle.entries.specs.Entries.{entriesIn, counted}
 use Rattle.parser.proofs.Fresh.{Current, refused-by, fresh-by}
-use Rattle.references.specs.Referencing.{rows, referencing}
+use Rattle.format.specs.Referencing.{rows, referencing}
 use Rattle.references.proofs.Told.{rows-refused, rows-are, count-is, few, rows-fit, rows-short, rows-all, told-refusal, told-answer}
 use Rattle.references.proofs.references.Statement.{statement}
 use Rattle.references.proofs.references.Tie as tie

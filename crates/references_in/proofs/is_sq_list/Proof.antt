@@ -6,7 +6,7 @@ use native.Mathlib.Omega.{arith}
 use lib.ListN.{length, drop}
 use borrow.Author.Tests.{not-true, not-false}
 use Rattle.format.specs.References.{sameReference}
-use Rattle.binary.specs.Binary.{takeList}
+use Rattle.format.specs.Binary.{takeList}
 use Rattle.binary_parts.specs.Parts.{referenceIn, isWhole}
 use Rattle.sq_list.specs.Next.{toldReference}
 use Rattle.references_in.proofs.Turn.{alikeFrom, list-ends, still-whole, text-ends, one-differs, one-alike}

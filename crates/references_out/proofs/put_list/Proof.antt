@@ -7,7 +7,7 @@ use lib.ListN.{length, take, drop, length-append}
 use borrow.Author.Tests.{not-true, not-false}
 use Rattle.text.specs.Over.{over}
 use Rattle.text.proofs.Over.{over-none}
-use Rattle.binary.specs.Binary.{referenceBytes, listBytes}
+use Rattle.format.specs.Binary.{referenceBytes, listBytes}
 use Rattle.sq_list.specs.Next.{sqFrom, toldReference}
 use Rattle.sq_list.proofs.Next.{told-one, told-none, told-length}
 use Rattle.binary.proofs.Room.{reference-length}

@@ -5,8 +5,8 @@ use lib.ListN.{length}
 use Rattle.format.specs.Bytes.{same}
 use Rattle.parser.specs.declared.Checked.the-variants.{Refused, Fresh}
 use Rattle.parser.specs.Answers.{checkedOf}
-use Rattle.sha256.specs.Sha256.{sha256}
-use Rattle.seal.specs.Seal.{tidyingFresh, checkingSealed}
+use Rattle.format.specs.Sha256.{sha256}
+use Rattle.format.specs.Seal.{tidyingFresh, checkingSealed}
 use Rattle.seal.proofs.Sealing.{Written, written-by, refused-by, check-refused, check-told}
 use borrow.Author.Needs.{needs}
 use Rattle.seal.proofs.check_sealed.Statement.{statement}

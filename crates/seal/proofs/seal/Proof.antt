@@ -2,7 +2,7 @@
 use mathlib.Core.Path.{sym, ap, _∙_}
 use lib.ListN.{length}
 use Rattle.format.specs.Calls.{tidying}
-use Rattle.sha256.specs.Sha256.{sha256}
+use Rattle.format.specs.Sha256.{sha256}
 use Rattle.seal.specs.Answers.{sealLeft}
 use Rattle.seal.proofs.Sealing.{Written, written-by, refused-by, seal-refused, seal-yes}
 use borrow.Author.Needs.{needs}

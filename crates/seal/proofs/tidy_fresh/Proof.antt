@@ -10,7 +10,7 @@ use Rattle.parser.proofs.Told.{refused-answer}
 use Rattle.parser.proofs.Fresh.{Current, refused-by, fresh-by, goes-on, stops}
 use Rattle.tidy.specs.Written.{writingTidy}
 use Rattle.tidy.proofs.Writing.{tidy-accepted}
-use Rattle.seal.specs.Seal.{tidyingFresh}
+use Rattle.format.specs.Seal.{tidyingFresh}
 use borrow.Author.Needs.{needs}
 use Rattle.seal.proofs.tidy_fresh.Statement.{statement}
 use Rattle.seal.proofs.tidy_fresh.Tie as tie

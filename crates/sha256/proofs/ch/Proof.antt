@@ -1,6 +1,6 @@
 -- `sha256::ch` meets its contract: the machine's operations are the definition's.
 use mathlib.Core.Path.{refl}
-use Rattle.sha256.specs.Sha256.{complement, Ch}
+use Rattle.format.specs.Sha256.{complement, Ch}
 use Rattle.sha256.proofs.ch.Statement.{statement}
 use Rattle.sha256.proofs.ch.Tie as tie
 

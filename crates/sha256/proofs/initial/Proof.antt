@@ -1,6 +1,6 @@
 -- `sha256::initial` meets its contract.
 use mathlib.Core.Path.{refl}
-use Rattle.sha256.specs.Sha256.{H0}
+use Rattle.format.specs.Sha256.{H0}
 use Rattle.sha256.proofs.initial.Statement.{statement}
 use Rattle.sha256.proofs.initial.Tie as tie
 

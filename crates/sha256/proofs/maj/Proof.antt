@@ -1,6 +1,6 @@
 -- `sha256::maj` meets its contract: the machine's operations are the definition's.
 use mathlib.Core.Path.{refl}
-use Rattle.sha256.specs.Sha256.{Maj}
+use Rattle.format.specs.Sha256.{Maj}
 use Rattle.sha256.proofs.maj.Statement.{statement}
 use Rattle.sha256.proofs.maj.Tie as tie
 

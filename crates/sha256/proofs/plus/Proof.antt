@@ -1,7 +1,7 @@
 -- `sha256::plus` meets its contract: the sum of two words fits 64 bits.
 use borrow.Author.Needs.{needs}
 use mathlib.Core.Path.{refl}
-use Rattle.sha256.specs.Sha256.{sum32}
+use Rattle.format.specs.Sha256.{sum32}
 use Rattle.sha256.proofs.plus.Statement.{statement}
 use Rattle.sha256.proofs.plus.Tie as tie
 

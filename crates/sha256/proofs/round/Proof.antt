@@ -1,5 +1,5 @@
 -- `sha256::round` meets its contract: each call is a part of the definition.
-use Rattle.sha256.specs.Sha256.{round}
+use Rattle.format.specs.Sha256.{round}
 use borrow.Author.Needs.{needs}
 use Rattle.sha256.proofs.round.Statement.{statement}
 use Rattle.sha256.proofs.round.Tie as tie

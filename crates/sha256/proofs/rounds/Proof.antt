@@ -4,7 +4,7 @@ use Prim.Native.Nat.{_-_, _%_, _≤_}
 use mathlib.Core.Path.{_≡_}
 use lib.ListN.{length}
 use native.Mathlib.Omega.{arith}
-use Rattle.sha256.specs.Sha256.{K}
+use Rattle.format.specs.Sha256.{K}
 use Rattle.sha256.specs.Parts.{valueOf}
 use Rattle.sha256.proofs.Turns.{Left, left-none, left-four, left-all}
 use Rattle.sha256.proofs.rounds.Statement.{statement}

@@ -1,5 +1,5 @@
 -- `sha256::sum` meets its contract: a sum for each word.
-use Rattle.sha256.specs.Sha256.{sum}
+use Rattle.format.specs.Sha256.{sum}
 use borrow.Author.Needs.{needs}
 use Rattle.sha256.proofs.sum.Statement.{statement}
 use Rattle.sha256.proofs.sum.Tie as tie

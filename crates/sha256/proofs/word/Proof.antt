@@ -3,7 +3,7 @@ use Prim.Native.Nat.{ℕ, _+_, _<_}
 use mathlib.Core.Path.{refl}
 use native.Mathlib.Omega.{arith}
 use lib.ListN.{getD}
-use Rattle.sha256.specs.Sha256.{fromBig}
+use Rattle.format.specs.Sha256.{fromBig}
 use Rattle.sha256.specs.Parts.{wordAt}
 use borrow.Author.Needs.{needs}
 use Rattle.sha256.proofs.word.Statement.{statement}

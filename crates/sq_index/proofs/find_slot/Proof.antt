@@ -10,7 +10,7 @@ use lib.ListN.{length, getD, drop}
 use lib.Dec.{eqb}
 use Rattle.format.specs.Bytes.{same}
 use Rattle.key_at.specs.Word.{word}
-use Rattle.name_index.specs.Index.{absent, first, path, looked}
+use Rattle.format.specs.NameIndex.{absent, first, path, looked}
 use Rattle.sq_slots.specs.Filled.{markOf}
 use Rattle.sq_index.specs.Looking.{says, landing, landed, slotOf, looksOf}
 use Rattle.name_index.proofs.Path.{first-lt, path-length, path-at}

@@ -7,7 +7,7 @@ use native.Mathlib.Nat.{mod-lt}
 use lib.ListN.{length, take, drop, set}
 use borrow.Author.Needs.{needs}
 use Rattle.format.specs.Slots.{seat}
-use Rattle.name_index.specs.Index.{hashFrom, first, enter}
+use Rattle.format.specs.NameIndex.{hashFrom, first, enter}
 use Rattle.name_index.proofs.SlotCount.{power-some}
 use Rattle.sq_slots.specs.Filled.{valueOf}
 use Rattle.sq_slots.proofs.put_name.Statement.{statement}

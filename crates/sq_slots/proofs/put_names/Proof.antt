@@ -14,7 +14,7 @@ use Rattle.entries.specs.declared.Entry.{Entry}
 use Rattle.entries.specs.declared.Entry.the-variants.{End, Header, ReferenceSequence, ReadGroup, Program, Comment, Field}
 use Rattle.entries.specs.Entries.{kindByte, entryOf, entriesIn}
 use Rattle.format.specs.Slots.{seat}
-use Rattle.name_index.specs.Index.{first}
+use Rattle.format.specs.NameIndex.{first}
 use Rattle.name_index.proofs.SlotCount.{power-some}
 use Rattle.name_index.proofs.Path.{seat-lt}
 use Rattle.name_index.proofs.Indexed.{enter-length}

@@ -10,7 +10,7 @@ use Rattle.text.specs.First.{firstLine}
 use Rattle.text.proofs.Before.{rest}
 use Rattle.text.proofs.Lines.{lines-none}
 use Rattle.text.proofs.First.{first-within, first-some}
-use Rattle.text_len.specs.TextLen.{otherLine, textLen}
+use Rattle.format.specs.TextLen.{otherLine, textLen}
 use Rattle.text_len.proofs.Turn.{line-passed, line-other}
 use Rattle.text_len.proofs.text_len.Statement.{statement}
 use Rattle.text_len.proofs.text_len.Tie as tie

@@ -6,12 +6,12 @@ use mathlib.Core.Bool.{cond}
 use mathlib.Core.List.{List, [], _∷_}
 use lib.ListN.{length, getD}
 use lib.Dec.{eqb, ltb}
 use Rattle.format.specs.Records.{Record, code, Line, refusedLine, read}
 use Rattle.format.specs.Reading.{longest}
 use Rattle.format.specs.Programs.{Link, root, isDangling, reaches, links, programs}
 use Rattle.format.specs.Tidy.{isWritable}
 use Rattle.format.specs.Calls.{Answer, refused, fitting}
-use Rattle.carried.specs.Carrying.{keptOf, carriedLines, Skip, rows}
+use Rattle.format.specs.Carrying.{keptOf, carriedLines, Skip, rows}
 
 -- ---- one line that is kept
 

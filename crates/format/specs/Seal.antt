@@ -2,10 +2,10 @@
 use Prim.Native.Nat.{ℕ}
 use mathlib.Core.Bool.{cond}
 use mathlib.Core.List.{List}
 use Rattle.format.specs.Bytes.{same}
 use Rattle.format.specs.Records.{Record}
 use Rattle.format.specs.Calls.{Answer, refused, yes, then, fresh, tidying}
-use Rattle.sha256.specs.Sha256.{sha256}
+use Rattle.format.specs.Sha256.{sha256}
 
 -- sealing: refused as tidying is. The work area takes the tidy text, and `room` is what it takes
 unfoldable pub sealing : List ℕ → ℕ → Answer (List ℕ)

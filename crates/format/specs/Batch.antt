@@ -6,13 +6,13 @@ use mathlib.Core.Bool.{cond}
 use mathlib.Core.List.{List, map}
 use lib.ListN.{length}
 use lib.Dec.{ltb}
 use Rattle.format.specs.Records.{Record, key}
 use Rattle.format.specs.Reading.{ofKind, longest}
 use Rattle.format.specs.Programs.{bytesOf}
 use Rattle.format.specs.Calls.{Answer, refused, yes, then, fresh, fitting}
-use Rattle.asked_names.specs.Asked.{asked}
-use Rattle.name_index.specs.Index.{nameOrdinal, index, looks}
-use Rattle.name_search.specs.Summed.{summed}
+use Rattle.format.specs.Asked.{asked}
+use Rattle.format.specs.NameIndex.{nameOrdinal, index, looks}
+use Rattle.format.specs.Summed.{summed}
 
 -- the names of the SQ records, in order: a name's place here is its ordinal
 unfoldable pub references : List Record → List (List ℕ)

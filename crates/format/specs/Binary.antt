@@ -7,15 +7,15 @@ use mathlib.Core.List.{List, [], _∷_, _++_}
 use mathlib.Core.Option.{Option, none, some}
 use lib.ListN.{length, take, drop}
 use lib.Dec.{eqb, leb}
 use Rattle.format.specs.Bytes.{all, none?, starts}
 use Rattle.format.specs.Records.{Record}
 use Rattle.format.specs.Reading.{longest}
 use Rattle.format.specs.Catalogue.{little}
 use Rattle.format.specs.Programs.{lastOr, butLast}
 use Rattle.format.specs.Tidy.{tidy, unwritable}
 use Rattle.format.specs.Calls.{Answer, refused, yes, then, records, fitting, writing}
-use Rattle.little.specs.Little.{ofLittle}
+use Rattle.format.specs.Little.{ofLittle}
 use Rattle.format.specs.References.{Reference, sqList, sameReferences}
 
 -- ---- the bytes
 
