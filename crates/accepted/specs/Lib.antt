@@ -5,3 +5,4 @@ pub mod Clean
 pub mod Admits
 pub mod Read
 pub mod First
+pub mod Ended

@@ -19,7 +19,7 @@ pub enum Given {
 fn is_value(src: &[u8]) -> bool
     ensures { λ r. ⌜ r ≡ isValue (now (src .entry)) ⌝ }
 {
-    let len = field_value::value_len(src);
+    let len = field::value::value_len(src);
     if len == 0 {
         return false;
     }

@@ -16,8 +16,8 @@ use Rattle.chains.specs.Parents.{indexIn}
 use Rattle.chains.proofs.Times.{hit, times, Once, hit-same, hit-other, times-none, swap-times}
 use Rattle.chains.proofs.Swaps.{place-any, swap-shorter}
 use Rattle.chains.proofs.Leaf.{swap-keeps, leaves-times, leaves-exactly, leaves-distinct}
-use Rattle.chain_laws.proofs.Paths.{Below, below-at, depth-less}
-use Rattle.chain_laws.proofs.Some.{leaves-some}
+use Rattle.chains.proofs.Paths.{Below, below-at, depth-less}
+use Rattle.chains.proofs.Some.{leaves-some}
 use Rattle.add_laws.specs.Grown.{depthAt, children, OldStay, Grown, GrownUnder}
 
 -- ---- lists

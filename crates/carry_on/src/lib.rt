@@ -1,7 +1,7 @@
 // Carrying on after refused lines: they are skipped and listed in a table, and the tidy text of the rest is written.
 use early_lines::Begin;
 use format::LineNo;
-use kept_sizes::KeptSizes;
+use carry_passes::KeptSizes;
 use per_kind::PerKind;
 ghost use mathlib.Core.Path.{_≡_};
 ghost use mathlib.Core.Option.{none};
@@ -11,8 +11,8 @@ ghost use Rattle.format.specs.Work.{allZeros};
 ghost use Rattle.tidy_text.specs.Sizes.{sizesOf};
 ghost use Rattle.format.specs.Carrying.{carriedLines, unwritableLine};
 ghost use Rattle.early_lines.specs.First.{First};
-ghost use Rattle.kept_from.specs.From.{keptFrom, skippedFrom};
-ghost use Rattle.kept_sizes.specs.Measured.{measuredFrom};
+ghost use Rattle.carry_passes.specs.From.{keptFrom, skippedFrom};
+ghost use Rattle.carry_passes.specs.Measured.{measuredFrom};
 ghost use Rattle.carry_on.specs.Answers.{carriedAnswer, textLeft, tableLeft};
 
 // A refusal and its line, or how many bytes are written and how many lines are skipped.
@@ -52,7 +52,7 @@ fn write_kept(
     if table.len() < lines * 2 {
         return Carried::Refused(20, LineNo(0));
     }
-    kept_text::put_all(text, b, area, sizes.starts(0), out, table);
+    carry_passes::writing::put_all(text, b, area, sizes.starts(0), out, table);
     Carried::Written(n, lines)
 }
 
@@ -88,7 +88,7 @@ fn carry_indexed(text: &[u8], area: &mut [u32], out: &mut [u8], table: &mut [u32
     ensures listed { λ _. ⌜ now (table .exit) ≡ tableLeft (now (text .entry)) (now (out .entry)) (now (table .entry)) ⌝ }
 {
     let b = early_lines::find_first(text);
-    let measured = kept_sizes::measure(text, b, area);
+    let measured = carry_passes::measure(text, b, area);
     write_measured(text, b, area, measured, out, table)
 }
 
@@ -138,7 +138,7 @@ fn carry_long(text: &[u8], b: Begin, out: &mut [u8], table: &mut [u32], more: us
     ensures listed { λ _. ⌜ now (table .exit) ≡ tableLeft (now (text .entry)) (now (out .entry)) (now (table .entry)) ⌝ }
 {
     let mut area = [0u32; 196608];
-    let measured = kept_sizes::measure(text, b, &mut area);
+    let measured = carry_passes::measure(text, b, &mut area);
     if 0 < more {
         return match carry_long(text, b, out, table, more - 1) {
             Carried::Refused(n, line) => Carried::Refused(n, line),

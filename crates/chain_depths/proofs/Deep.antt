@@ -11,8 +11,8 @@ use borrow.Author.Tests.{eqb-true}
 use Rattle.format.specs.Programs.{Link, root, dangling, child, reaches, loopsFrom, depth}
 use Rattle.chains.specs.Parents.{linkOf, linksOf, areParents}
 use Rattle.chains.proofs.Walks.{within-at, link-at, link-none, depth-step, depth-root, depth-le}
-use Rattle.chain_laws.proofs.Paths.{depth-less}
-use Rattle.chain_laws.proofs.Bound.{within-below}
+use Rattle.chains.proofs.Paths.{depth-less}
+use Rattle.chains.proofs.Bound.{within-below}
 use Rattle.chain_depths.specs.Depths.{deep}
 
 -- ---- fuel

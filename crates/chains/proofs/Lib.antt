@@ -5,3 +5,8 @@ pub mod Places
 pub mod Swaps
 pub mod Times
 pub mod Walks
+pub mod Bound
+pub mod Leafed
+pub mod Pairs
+pub mod Paths
+pub mod Some

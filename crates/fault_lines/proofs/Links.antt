@@ -12,7 +12,7 @@ use Rattle.format.specs.Programs.{Program, Link, root, dangling, child, isDangl
 use Rattle.text.specs.Stands.{Each}
 use Rattle.accepted.proofs.Pairs.{each-at}
 use Rattle.chains.proofs.Walks.{map-at, reaches-root, reaches-none}
-use Rattle.chain_laws.proofs.Paths.{Below}
+use Rattle.chains.proofs.Paths.{Below}
 use Rattle.parents.specs.Parents.{linkNumber}
 use Rattle.kept_programs.specs.Plain.{oneIf}
 use Rattle.format.specs.Faults.{linkFault}

@@ -21,7 +21,7 @@ use Rattle.format.specs.Carrying.{keptOf, Skip, rows}
 use Rattle.carried.proofs.Count.{rows-length}
 use Rattle.kept_lines.specs.Going.{Going, judgedLines}
 use Rattle.kept_lines.specs.declared.Cursor.{Cursor}
-use Rattle.kept_from.specs.Turn.{lentTo, Turn}
+use Rattle.carry_passes.specs.Turn.{lentTo, Turn}
 use Rattle.kept_programs.specs.Plain.{plainAt, oneIf, plainCount}
 use Rattle.kept_programs.proofs.Turns.{programsIn, programs-append, programs-done}
 use Rattle.format.specs.Faults.{linkFault, recordFault, nextProgram, ifFaulty, faultsFrom}

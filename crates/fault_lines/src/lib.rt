@@ -8,7 +8,7 @@ ghost use Rattle.format.specs.Programs.{programs};
 ghost use Rattle.text.specs.Over.{over};
 ghost use Rattle.format.specs.Carrying.{rows};
 ghost use Rattle.early_lines.specs.First.{First};
-ghost use Rattle.kept_from.specs.From.{Fresh, linesKeptFrom, keptFrom};
+ghost use Rattle.carry_passes.specs.From.{Fresh, linesKeptFrom, keptFrom};
 ghost use Rattle.format.specs.Faults.{linkFault, faultsFrom};
 ghost use Rattle.fault_lines.specs.Links.{linksIn, Within, linkCount, stepFault};
 

@@ -17,7 +17,7 @@ use Rattle.accepted.proofs.Onward.{lines-count}
 use Rattle.accepted.proofs.Apart.{unbarred-programs}
 use Rattle.chains.specs.Parents.{inArray}
 use Rattle.chains.proofs.Arrays.{front, front-inside}
-use Rattle.chain_laws.proofs.Paths.{Below}
+use Rattle.chains.proofs.Paths.{Below}
 use Rattle.parser.specs.Answers.{outputOf}
 use Rattle.parser.specs.declared.CountAnswer.the-variants.{Refused, Count}
 use Rattle.parser.proofs.Told.{written-answer}
@@ -29,8 +29,8 @@ use Rattle.carried.proofs.Kept.{carried-gathered}
 use Rattle.early_lines.specs.Early.{earlyOf, rowsFrom}
 use Rattle.early_lines.specs.First.{First}
 use Rattle.early_lines.specs.declared.Begin.{Begin}
-use Rattle.kept_from.specs.From.{linesKeptFrom, keptFrom}
-use Rattle.kept_from.proofs.Split.{lined, first-kept, early-rows}
+use Rattle.carry_passes.specs.From.{linesKeptFrom, keptFrom}
+use Rattle.carry_passes.proofs.Split.{lined, first-kept, early-rows}
 use Rattle.kept_lines.specs.Going.{judgedLines}
 use Rattle.kept_programs.specs.Plain.{plainAt, plainCount}
 use Rattle.kept_programs.proofs.Turns.{one-le}

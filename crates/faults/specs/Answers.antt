@@ -10,7 +10,7 @@ use Rattle.parser.specs.declared.CountAnswer.{CountAnswer}
 use Rattle.parser.specs.declared.CountAnswer.the-variants.{Refused, Count}
 use Rattle.parents.specs.Parents.{linkNumber}
 use Rattle.early_lines.specs.declared.Begin.{Begin}
-use Rattle.kept_from.specs.From.{linesKeptFrom, keptFrom}
+use Rattle.carry_passes.specs.From.{linesKeptFrom, keptFrom}
 use Rattle.kept_programs.specs.Plain.{plainCount}
 use Rattle.kept_programs.specs.declared.KeptLinks.{KeptLinks}
 

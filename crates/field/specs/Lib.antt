@@ -1,1 +1,3 @@
 pub mod Parsed
+pub mod Taken
+pub mod Spelled

@@ -1,4 +1,6 @@
 // One field of a header line: tag, colon and value, and the numbers that VN of HD and LN of SQ spell.
+pub mod version;
+pub mod value;
 use format::Kind;
 use length::ParsedLength;
 use version::ParsedVersion;
@@ -98,7 +100,7 @@ fn parse_field_value(kind: Kind, a: u8, b: u8, src: &[u8]) -> ParsedField
     if field_tag::is_length(kind, a, b) {
         return parse_length_value(src);
     }
-    let len = field_value::allowed_len(kind, a, b, src);
+    let len = value::allowed_len(kind, a, b, src);
     if len == 0 {
         return ParsedField::refused(10);
     }

@@ -17,11 +17,11 @@ use Rattle.record.specs.Head.{headOf, recordHead, stretchOf}
 use Rattle.key_at.specs.Word.{word}
 use Rattle.key_look.specs.Sought.{mark, tellsKey, sought}
 use Rattle.key_index.specs.Told.{value, start, saysKnown, isMet, afterMeeting}
-use Rattle.line_keys.specs.Ended.{Ended}
-use Rattle.keys_held.specs.Keyed.{valuesOf, keyValuesOf}
-use Rattle.keys_held.proofs.Held.{sought-known, found}
-use Rattle.keys_held.proofs.Keyed.{value-some, keys-snoc, meeting-length, meeting-met, meeting-holds}
-use Rattle.keys_held.proofs.Pointing.{toldBy, tells-one, tells-own}
+use Rattle.accepted.specs.Ended.{Ended}
+use Rattle.key_index.specs.HeldKeys.{valuesOf, keyValuesOf}
+use Rattle.key_index.proofs.Held.{sought-known, found}
+use Rattle.key_index.proofs.HeldKeys.{value-some, keys-snoc, meeting-length, meeting-met, meeting-holds}
+use Rattle.key_index.proofs.Pointing.{toldBy, tells-one, tells-own}
 use Rattle.first_keys.specs.Blocks.{recordIfRead, readIn, entered}
 use Rattle.first_keys.proofs.Lines.{Sits, sits-stand, sits-ended}
 

@@ -24,11 +24,11 @@ use Rattle.admission.proofs.Admission.{taken-clash}
 use Rattle.key_at.specs.Word.{word}
 use Rattle.key_index.specs.Told.{value, pointed, isOwn, soughtOf, offsetOf, afterPointing, isFirstKey}
 use Rattle.key_look.specs.Sought.{mark, tellsKey, sought}
-use Rattle.keys_held.specs.Keyed.{valuesOf, keyValuesOf}
-use Rattle.line_keys.specs.Ended.{Ended}
-use Rattle.keys_held.proofs.Held.{value-place}
-use Rattle.keys_held.proofs.Keyed.{value-some, values-few, toldIn, told-taken, pick-append, pointing-length}
-use Rattle.keys_held.proofs.Pointing.{toldBy, own-told, tells-own, latest, pointing-told}
+use Rattle.key_index.specs.HeldKeys.{valuesOf, keyValuesOf}
+use Rattle.accepted.specs.Ended.{Ended}
+use Rattle.key_index.proofs.Held.{value-place}
+use Rattle.key_index.proofs.HeldKeys.{value-some, values-few, toldIn, told-taken, pick-append, pointing-length}
+use Rattle.key_index.proofs.Pointing.{toldBy, own-told, tells-own, latest, pointing-told}
 use Rattle.first_keys.specs.Blocks.{headKeys, keyedFront, keyedBehind, earlier, recordIfRead, readIn, entered, pointedBack, filledFor}
 use Rattle.first_keys.proofs.Walk.{front-none, front-behind}
 use Rattle.first_keys.proofs.Lines.{each-left, each-right, Sits, lines-sit, sits-stand, sits-ended, reads-ended, lines-before, earlier-all, Low, lines-low}

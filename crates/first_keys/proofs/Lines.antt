@@ -24,10 +24,10 @@ use Rattle.accepted.proofs.Ahead.{ahead-none, ahead-one, next-more, ahead-stand
 use Rattle.admission.proofs.Admission.{stood}
 use Rattle.key_index.specs.Told.{value}
 use Rattle.key_look.specs.Sought.{mark}
-use Rattle.keys_held.specs.Keyed.{valuesOf, keyValuesOf}
-use Rattle.line_keys.specs.Ended.{Ended}
-use Rattle.keys_held.proofs.Held.{value-place}
-use Rattle.line_keys.proofs.LineKeys.{line-ended}
+use Rattle.key_index.specs.HeldKeys.{valuesOf, keyValuesOf}
+use Rattle.accepted.specs.Ended.{Ended}
+use Rattle.key_index.proofs.Held.{value-place}
+use Rattle.accepted.proofs.LineKeys.{line-ended}
 use Rattle.first_keys.specs.Blocks.{earlier, recordIfRead, readIn}
 
 -- ---- each of a list

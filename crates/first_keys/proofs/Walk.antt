@@ -17,7 +17,7 @@ use Rattle.record.specs.declared.Head.{Head}
 use Rattle.record.specs.declared.Head.the-variants as head
 use Rattle.key_index.specs.Told.{afterMeeting, afterPointing}
 use Rattle.key_index.specs.Keyed.{KeyInText}
-use Rattle.keys_held.proofs.Keyed.{head-placed}
+use Rattle.key_index.proofs.HeldKeys.{head-placed}
 use Rattle.first_keys.specs.Blocks.{headKeys, keyedFront, keyedBehind, startOf, afterKeyed, earlier, entered, pointedBack}
 
 -- the key of the line at an offset stands in the text

@@ -27,10 +27,10 @@ use Rattle.record.specs.Head.{headOf, recordHead}
 use Rattle.admission.proofs.Admission.{stood}
 use Rattle.admission.specs.Admission.{isTaken, programsOf}
 use Rattle.key_index.specs.Told.{start, isMet, afterMeeting}
-use Rattle.keys_held.specs.Keyed.{valuesOf, keyValuesOf}
-use Rattle.line_keys.specs.Ended.{Ended}
-use Rattle.line_keys.proofs.LineKeys.{line-ended}
-use Rattle.keys_held.proofs.Keyed.{toldIn, told-none, told-append, told-taken, met-told, keys-snoc, ended-snoc, meeting-length, meeting-holds, values-few}
+use Rattle.key_index.specs.HeldKeys.{valuesOf, keyValuesOf}
+use Rattle.accepted.specs.Ended.{Ended}
+use Rattle.accepted.proofs.LineKeys.{line-ended}
+use Rattle.key_index.proofs.HeldKeys.{toldIn, told-none, told-append, told-taken, met-told, keys-snoc, ended-snoc, meeting-length, meeting-holds, values-few}
 use Rattle.judging.specs.declared.Block.{Block}
 use Rattle.judging.specs.Blocks.{clashOf, turned, emptied}
 use Rattle.judging.proofs.Judging.{Judging, judging-start, judging-on, passed-are, line-stands}

@@ -32,10 +32,10 @@ use Rattle.carried.proofs.Count.{judged-length, skips-kept}
 use Rattle.carried.proofs.Keys.{key-lines}
 use Rattle.format.specs.Slots.{Held}
 use Rattle.key_index.specs.Told.{start, isFirstKey}
-use Rattle.keys_held.specs.Keyed.{keyValuesOf}
-use Rattle.line_keys.specs.Ended.{Ended}
-use Rattle.keys_held.proofs.Keyed.{meeting-length}
-use Rattle.line_keys.proofs.LineKeys.{line-ended}
+use Rattle.key_index.specs.HeldKeys.{keyValuesOf}
+use Rattle.accepted.specs.Ended.{Ended}
+use Rattle.key_index.proofs.HeldKeys.{meeting-length}
+use Rattle.accepted.proofs.LineKeys.{line-ended}
 use Rattle.first_keys.specs.Blocks.{headKeys, keyedFront, startOf, afterKeyed, recordIfRead, readIn, filledFor}
 use Rattle.first_keys.proofs.Walk.{front-one, start-ahead, block-split}
 use Rattle.first_keys.proofs.Firsts.{firsts}

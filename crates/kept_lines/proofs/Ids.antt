@@ -24,9 +24,9 @@ use Rattle.key_look.specs.Sought.{mark, sought}
 use Rattle.key_index.specs.Told.{value, start, isMet, saysKnown, afterLooking, afterMeeting}
 use Rattle.key_look.specs.declared.Sought.{Sought}
 use Rattle.key_look.specs.declared.Sought.the-variants.{Known, Free, Full}
-use Rattle.line_keys.specs.Ended.{Ended}
-use Rattle.keys_held.specs.Keyed.{keyValuesOf, valuesOf}
-use Rattle.keys_held.proofs.Keyed.{met-told, told-taken, keys-snoc, ended-snoc, meeting-holds, meeting-none, values-few}
+use Rattle.accepted.specs.Ended.{Ended}
+use Rattle.key_index.specs.HeldKeys.{keyValuesOf, valuesOf}
+use Rattle.key_index.proofs.HeldKeys.{met-told, told-taken, keys-snoc, ended-snoc, meeting-holds, meeting-none, values-few}
 use Rattle.kept_lines.specs.Kept.{idsAfter}
 
 -- an ID is looked for among the programs, or among all records

@@ -12,7 +12,7 @@ use Rattle.record.specs.Head.{headOf}
 use Rattle.record.specs.declared.Head.{Head}
 use Rattle.admission.specs.Admission.{programsOf}
 use Rattle.key_index.specs.Told.{afterMeeting, afterPointing}
-use Rattle.keys_held.proofs.Keyed.{meeting-length, pointing-length}
+use Rattle.key_index.proofs.HeldKeys.{meeting-length, pointing-length}
 use Rattle.first_keys.specs.Blocks.{keyedFront, afterKeyed, earlier, entered, pointedBack, filledFor}
 use Rattle.kept_lines.specs.Kept.{untilAt, filledAt, advanced}
 use Rattle.kept_lines.specs.declared.Cursor.{Cursor}

@@ -13,8 +13,8 @@ use Rattle.admission.specs.Admission.{lineRefusal}
 use Rattle.format.specs.Carrying.{keptOf}
 use Rattle.carried.specs.Judged.{judgedFrom}
 use Rattle.key_index.specs.Told.{start}
-use Rattle.line_keys.specs.Ended.{Ended}
-use Rattle.keys_held.specs.Keyed.{keyValuesOf}
+use Rattle.accepted.specs.Ended.{Ended}
+use Rattle.key_index.specs.HeldKeys.{keyValuesOf}
 use Rattle.first_keys.specs.Blocks.{keyedFront, filledFor}
 use Rattle.kept_lines.specs.declared.Cursor.{Cursor}
 

@@ -41,8 +41,8 @@ use Rattle.format.specs.Carrying.{keptOf}
 use Rattle.carried.proofs.Judged.{kept-append}
 use Rattle.kept_lines.specs.Going.{Going, judgedLines}
 use Rattle.kept_lines.specs.declared.Cursor.{Cursor}
-use Rattle.kept_from.specs.Turn.{lentTo, Turn}
-use Rattle.kept_from.proofs.Turn.{before}
+use Rattle.carry_passes.specs.Turn.{lentTo, Turn}
+use Rattle.carry_passes.proofs.Turn.{before}
 use Rattle.kept_programs.specs.Plain.{plainAt, oneIf, plainCount}
 use Rattle.kept_programs.specs.Placed.{PlacesOf}
 

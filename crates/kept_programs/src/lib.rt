@@ -15,7 +15,7 @@ ghost use Rattle.format.specs.Programs.{links, programs};
 ghost use Rattle.accepted.specs.Read.{isRead};
 ghost use Rattle.chains.specs.Parents.{inArray};
 ghost use Rattle.early_lines.specs.First.{First};
-ghost use Rattle.kept_from.specs.From.{Fresh, linesKeptFrom, keptFrom};
+ghost use Rattle.carry_passes.specs.From.{Fresh, linesKeptFrom, keptFrom};
 ghost use Rattle.parents.specs.Parents.{linkNumber};
 ghost use Rattle.kept_programs.specs.Plain.{plainAt, oneIf, plainCount};
 ghost use Rattle.kept_programs.specs.Placed.{PlacesOf};

@@ -16,8 +16,8 @@ use Rattle.accepted.specs.Read.{recordsOf}
 use Rattle.chains.specs.Listed.{named}
 use Rattle.chains.proofs.Bools.{both-false}
 use Rattle.chains.proofs.Walks.{map-at, depth-root}
-use Rattle.chain_laws.proofs.Paths.{depth-less}
-use Rattle.chain_laws.proofs.Bound.{depth-next}
+use Rattle.chains.proofs.Paths.{depth-less}
+use Rattle.chains.proofs.Bound.{depth-next}
 use Rattle.parents.proofs.Numbers.{links-count, links-named}
 use Rattle.parents.proofs.Opened.{opened}
 use Rattle.parents.proofs.Road.{none-dangles, none-loops}

@@ -17,8 +17,8 @@ use Rattle.accepted.specs.Spelled.{AcceptedLine}
 use Rattle.accepted.proofs.Spelled.{line-accepted}
 use Rattle.record.specs.Head.{recordHead, headOf}
 use Rattle.tags.specs.Others.{latest, firsts}
-use Rattle.other_fields.specs.Run.{fieldsFrom}
-use Rattle.other_fields.proofs.Start.{accepted-start, accepted-others}
+use Rattle.accepted_line.specs.Run.{fieldsFrom}
+use Rattle.accepted_line.proofs.fields.Start.{accepted-start, accepted-others}
 use Rattle.entries.specs.Entries.{kindSize}
 use Rattle.line_entries.specs.Line.{recordBytes}
 use Rattle.line_entries.specs.Parts.{ownEntry, othersOf, sizeOfHead}

@@ -18,10 +18,10 @@ use Rattle.accepted.proofs.Spelled.{line-accepted}
 use Rattle.record.specs.Head.{recordHead, headOf}
 use Rattle.record.specs.declared.Head.{Head}
 use Rattle.record.specs.declared.Head.the-variants as heads
-use Rattle.other_fields.specs.Run.{fieldsOf}
-use Rattle.other_fields.proofs.Start.{accepted-others}
-use Rattle.heads.specs.Found.{kindBy, isComment, uncounted}
-use Rattle.heads.proofs.Finds.{accepted-byte, by-record}
+use Rattle.accepted_line.specs.Run.{fieldsOf}
+use Rattle.accepted_line.proofs.fields.Start.{accepted-others}
+use Rattle.accepted_line.specs.Found.{kindBy, isComment, uncounted}
+use Rattle.accepted_line.proofs.Finds.{accepted-byte, by-record}
 use Rattle.entries.specs.declared.Entry.{Entry}
 use Rattle.entries.specs.Entries.{kindByte, kindSize, entrySize, entryBytes, FitsEntry}
 use Rattle.line_entries.specs.Line.{recordBytes, lineBytes}

@@ -11,16 +11,16 @@ use Rattle.format.specs.declared.Kind.{Kind}
 use Rattle.text.specs.Upto.{upto}
 use Rattle.accepted.specs.Sound.{isKey}
 use Rattle.tags.specs.Others.{firsts}
-use Rattle.other_fields.specs.Run.{fieldsTo, fieldsFrom, AtField}
-use Rattle.other_fields.specs.Next.{isFirst, valueAt, keptAt}
-use Rattle.other_fields.specs.Tables.{Walkable}
-use Rattle.other_fields.specs.declared.Value.{Value}
-use Rattle.other_fields.proofs.Here.{ended}
-use Rattle.other_fields.proofs.Walked.{Taken}
-use Rattle.other_fields.proofs.Place.{next-at, passed-at, taken-at}
-use Rattle.heads.specs.Keys.{keysFrom, keysIn, noKeyValues, withKey}
-use Rattle.heads.specs.declared.KeyValues.{KeyValues}
-use Rattle.heads.proofs.MetKeys.{keys-none, keys-past, keys-met}
+use Rattle.accepted_line.specs.Run.{fieldsTo, fieldsFrom, AtField}
+use Rattle.accepted_line.specs.Next.{isFirst, valueAt, keptAt}
+use Rattle.accepted_line.specs.Tables.{Walkable}
+use Rattle.accepted_line.specs.declared.fields.Value.{Value}
+use Rattle.accepted_line.proofs.fields.Here.{ended}
+use Rattle.accepted_line.proofs.fields.Walked.{Taken}
+use Rattle.accepted_line.proofs.fields.Place.{next-at, passed-at, taken-at}
+use Rattle.accepted_line.specs.Keys.{keysFrom, keysIn, noKeyValues, withKey}
+use Rattle.accepted_line.specs.declared.KeyValues.{KeyValues}
+use Rattle.accepted_line.proofs.MetKeys.{keys-none, keys-past, keys-met}
 use Rattle.entries.specs.declared.Place.{Place}
 use Rattle.entries.specs.declared.Entry.the-variants as entry
 use Rattle.entries.specs.Entries.{entryBytes, pieceAt, fieldEntry}

@@ -8,8 +8,8 @@ use Rattle.format.specs.Bytes.{starts}
 use Rattle.format.specs.Records.{Record}
 use Rattle.format.specs.Catalogue.{catalogue}
 use Rattle.format.specs.declared.Kind.{Kind}
-use Rattle.other_fields.specs.Run.{fieldsOf, fieldsFrom}
-use Rattle.heads.specs.Keys.{keysIn}
+use Rattle.accepted_line.specs.Run.{fieldsOf, fieldsFrom}
+use Rattle.accepted_line.specs.Keys.{keysIn}
 use Rattle.line_entries.specs.Parts.{fieldBytes}
 use Rattle.line_entries.specs.declared.Met.{Met}
 use Rattle.line_entries.specs.declared.Compared.{Compared}

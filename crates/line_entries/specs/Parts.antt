@@ -8,7 +8,7 @@ use Rattle.record.specs.declared.Stretch as record′
 use Rattle.record.specs.declared.Head.{Head}
 use Rattle.record.specs.declared.Head.the-variants.{Refused, Header, ReferenceSequence, ReadGroup, Program, Comment}
 use Rattle.tags.specs.Others.{firsts}
-use Rattle.other_fields.specs.Run.{fieldsTo, fieldsFrom}
+use Rattle.accepted_line.specs.Run.{fieldsTo, fieldsFrom}
 use Rattle.entries.specs.declared.Place.{Place}
 use Rattle.entries.specs.declared.Entry.{Entry}
 use Rattle.entries.specs.declared.Entry.the-variants as entry

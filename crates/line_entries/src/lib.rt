@@ -2,8 +2,8 @@
 use entries::Entry;
 use entries::Place;
 use format::Kind;
-use heads::Form;
-use heads::KeyValues;
+use accepted_line::Form;
+use accepted_line::KeyValues;
 use record::Head;
 ghost use mathlib.Core.Path.{_≡_};
 ghost use mathlib.Core.Bool.{true, false};
@@ -15,11 +15,11 @@ ghost use Rattle.format.specs.declared.Kind.the-variants.{Comment};
 ghost use Rattle.text.specs.Over.{over};
 ghost use Rattle.accepted.specs.Read.{isRead};
 ghost use Rattle.record.specs.Head.{headOf};
-ghost use Rattle.other_fields.specs.Run.{fieldsFrom};
-ghost use Rattle.other_fields.specs.Tables.{Walkable};
-ghost use Rattle.heads.specs.Found.{isComment};
-ghost use Rattle.heads.specs.Form.{LineOf};
-ghost use Rattle.heads.specs.Keys.{keysIn};
+ghost use Rattle.accepted_line.specs.Run.{fieldsFrom};
+ghost use Rattle.accepted_line.specs.Tables.{Walkable};
+ghost use Rattle.accepted_line.specs.Found.{isComment};
+ghost use Rattle.accepted_line.specs.Form.{LineOf};
+ghost use Rattle.accepted_line.specs.Keys.{keysIn};
 ghost use Rattle.entries.specs.Entries.{entrySize, entryBytes, FitsEntry};
 ghost use Rattle.line_entries.specs.Line.{lineBytes};
 ghost use Rattle.line_entries.specs.Parts.{ownEntry, othersOf, sizeOfHead, ownSize, fieldBytes};
@@ -129,7 +129,7 @@ fn line_entry(kind: Kind, src: &[u8], at: usize, number: u32, keys: KeyValues) -
     requires { ⌜ keys ≡ keysIn kind (fieldsFrom at (now src) 3) ⌝ }
     ensures { λ r. ⌜ r ≡ ownEntry number (headOf (line false (record { at = at; bytes = now (src .entry) }))) ⌝ }
 {
-    own_entry(heads::head_of(kind, src, at, keys), number)
+    own_entry(accepted_line::head_of(kind, src, at, keys), number)
 }
 
 // The entry of a comment.
@@ -160,13 +160,13 @@ fn put_fields(
     let mut next = o;
     let mut i: usize = 3;
     while i < src.len() {
-        let end = other_fields::field_end(src, i);
+        let end = accepted_line::fields::field_end(src, i);
         let a = src[i + 1];
         let b = src[i + 2];
         if tags::is_key(kind, a, b) {
-            keys = keys.with(a, other_fields::value_at(at, i, end));
-        } else if other_fields::is_first(src, at, i, once, tables) {
-            let v = other_fields::kept_value(src, at, i, end, once, tables);
+            keys = keys.with(a, accepted_line::fields::value_at(at, i, end));
+        } else if accepted_line::fields::is_first(src, at, i, once, tables) {
+            let v = accepted_line::fields::kept_value(src, at, i, end, once, tables);
             entries_out::put_field(out, next, a, b, narrow(v.at, v.len));
             next += 11;
         }
@@ -213,12 +213,12 @@ pub fn put_record(
     ensures next { λ r. ⌜ r ≡ o + length (lineBytes strict number at (now (src .entry))) ⌝ }
     ensures wrote { λ _. ⌜ now (out .exit) ≡ over (now (out .entry)) o (lineBytes strict number at (now (src .entry))) ⌝ }
 {
-    match heads::form_of(src, at, strict) {
+    match accepted_line::form_of(src, at, strict) {
         Form::Comment => entries_out::put_entry(out, o, comment_entry(src, at, number)),
         Form::Once(kind) => put_line(out, o, kind, src, at, number, true, &[]),
         Form::Repeating(kind) => {
             let mut tables = [0u32; 6448];
-            other_fields::note_tags(src, at, &mut tables);
+            accepted_line::fields::note_tags(src, at, &mut tables);
             put_line(out, o, kind, src, at, number, false, &tables)
         }
     }
@@ -244,13 +244,13 @@ fn same_fields(
     let mut next = o;
     let mut i: usize = 3;
     while i < src.len() {
-        let end = other_fields::field_end(src, i);
+        let end = accepted_line::fields::field_end(src, i);
         let a = src[i + 1];
         let b = src[i + 2];
         if tags::is_key(kind, a, b) {
-            keys = keys.with(a, other_fields::value_at(at, i, end));
-        } else if other_fields::is_first(src, at, i, once, tables) {
-            let v = other_fields::kept_value(src, at, i, end, once, tables);
+            keys = keys.with(a, accepted_line::fields::value_at(at, i, end));
+        } else if accepted_line::fields::is_first(src, at, i, once, tables) {
+            let v = accepted_line::fields::kept_value(src, at, i, end, once, tables);
             if !entries_same::same_field(catalogue, next, a, b, narrow(v.at, v.len)) {
                 return Compared::Differs;
             }
@@ -306,7 +306,7 @@ pub fn same_record(
     requires { ⌜ o ≤ length (now catalogue) ⌝ }
     ensures { λ r. ⌜ r ≡ matched o (drop o (now (catalogue .entry))) (lineBytes strict number at (now (src .entry))) ⌝ }
 {
-    match heads::form_of(src, at, strict) {
+    match accepted_line::form_of(src, at, strict) {
         Form::Comment => {
             if entries_same::same_entry(catalogue, o, comment_entry(src, at, number)) {
                 return Matched::Upto(o + 13);
@@ -316,7 +316,7 @@ pub fn same_record(
         Form::Once(kind) => same_line(catalogue, o, kind, src, at, number, true, &[]),
         Form::Repeating(kind) => {
             let mut tables = [0u32; 6448];
-            other_fields::note_tags(src, at, &mut tables);
+            accepted_line::fields::note_tags(src, at, &mut tables);
             same_line(catalogue, o, kind, src, at, number, false, &tables)
         }
     }

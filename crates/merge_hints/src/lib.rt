@@ -9,7 +9,7 @@ ghost use Prim.Native.Nat.{ℕ, _≤_, _<_, _+_, _*_};
 ghost use lib.ListN.{length};
 ghost use Rattle.format.specs.References.{Reference};
 ghost use Rattle.sq_list.specs.Next.{sqFrom, toldReference};
-ghost use Rattle.key_hash.specs.Hash.{keyHash};
+ghost use Rattle.key_look.specs.Hash.{keyHash};
 ghost use Rattle.merge_references.specs.Joining.{Apart};
 ghost use Rattle.merge_hints.specs.Hints.{Agreed, Known, Placed, Marked};
 
@@ -26,7 +26,7 @@ fn number(text: &[u8], r: NextReference) -> usize
 {
     let from = r.name.at;
     let to = from + r.name.len;
-    key_hash::hash(2, &text[from..to])
+    key_look::hash::hash(2, &text[from..to])
 }
 
 // The bits of a name's number that a slot keeps, at their place.

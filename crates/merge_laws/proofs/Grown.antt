@@ -14,7 +14,7 @@ use Rattle.format.specs.Programs.{Link, root, dangling, child, links, isDanglin
 use Rattle.text.specs.Stands.{Each}
 use Rattle.accepted.proofs.Bools.{any-append, split}
 use Rattle.accepted.proofs.Pairs.{each-at}
-use Rattle.chain_laws.proofs.Paths.{Below, no-return, depth-less}
+use Rattle.chains.proofs.Paths.{Below, no-return, depth-less}
 use Rattle.chains.specs.Listed.{named}
 use Rattle.merge_laws.specs.Rewritten.{FollowsOld}
 

@@ -20,7 +20,7 @@ use Rattle.accepted.specs.Read.{recordsOf}
 use Rattle.accepted.proofs.Bools.{or-left, or-right, never}
 use Rattle.accepted.proofs.Text.{text-apart}
 use Rattle.chains.proofs.Leaf.{counting-length}
-use Rattle.chain_laws.proofs.Paths.{Below}
+use Rattle.chains.proofs.Paths.{Below}
 use Rattle.roundtrip.proofs.Answered.{read-of}
 use Rattle.merge_laws.specs.IsMerge.{Joins, imageIn, Hits, Assigns, parentAt, fieldsAt, Images}
 use Rattle.merge_laws.proofs.Joins.{lacking-own}

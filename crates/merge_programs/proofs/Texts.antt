@@ -26,8 +26,8 @@ use Rattle.accepted.proofs.Read.{accepted-reads}
 use Rattle.accepted.proofs.Text.{text-fits}
 use Rattle.accepted.proofs.Pairs.{each-at, pairs-at, pairs-length}
 use Rattle.tags.specs.Others.{firsts}
-use Rattle.other_fields.specs.Run.{fieldsFrom}
-use Rattle.other_fields.proofs.Start.{start-none, accepted-others}
+use Rattle.accepted_line.specs.Run.{fieldsFrom}
+use Rattle.accepted_line.proofs.fields.Start.{start-none, accepted-others}
 use Rattle.chains.specs.Parents.{nobody, linkOf, linksOf, areParents, inArray}
 use Rattle.chains.proofs.Arrays.{front-inside, front-at}
 use Rattle.chains.proofs.Walks.{map-at}

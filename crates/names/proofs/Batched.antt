@@ -17,7 +17,7 @@ use Rattle.parser.proofs.Told.{too-short, fits}
 use Rattle.format.specs.NameIndex.{nameOrdinal, slotCount, index, looks}
 use Rattle.name_index.proofs.Indexed.{index-length}
 use Rattle.sq_entries.specs.Names.{namesIn}
-use Rattle.sq_found.specs.Told.{Told}
+use Rattle.names.specs.Told.{Told}
 use Rattle.sq_entries.proofs.Names.{names-counted}
 use Rattle.format.specs.Asked.{asked}
 use Rattle.format.specs.Summed.{summed}

@@ -20,12 +20,12 @@ use Rattle.text.proofs.First.{lines-first}
 use Rattle.accepted.specs.Admits.{strictly}
 use Rattle.accepted.specs.Pieces.{Pairs, pieces}
 use Rattle.accepted.proofs.Text.{text-lines, text-stand, text-fits}
-use Rattle.line_keys.specs.Ended.{Ended}
-use Rattle.line_keys.proofs.LineKeys.{line-ended}
+use Rattle.accepted.specs.Ended.{Ended}
+use Rattle.accepted.proofs.LineKeys.{line-ended}
 use Rattle.entries.specs.declared.Entry.{Entry}
 use Rattle.entries.specs.Entries.{pieceAt, headEntry, fieldEntry, entriesOn, entriesOf, entriesIn}
 use Rattle.lookup.proofs.Kept.{text-entries}
-use Rattle.sq_found.specs.Told.{Told}
+use Rattle.names.specs.Told.{Told}
 use Rattle.names.proofs.References.{stands-bytes}
 
 -- ---- each record's key ends where its line says

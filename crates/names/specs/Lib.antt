@@ -2,3 +2,5 @@
 --   Batch     what the call answers, for every argument
 --   Answers   that answer in the code's types
 pub mod Answers
+pub mod Answering
+pub mod Told

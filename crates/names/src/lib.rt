@@ -1,4 +1,5 @@
 // Many names at once: an index of the SQ names in a lent work area, by it the ordinal of each name of a list, and how much was looked at.
+pub mod answer;
 use format::LineNo;
 use parser::Checked;
 ghost use mathlib.Core.Path.{_≡_};
@@ -48,7 +49,7 @@ pub fn names(
             if out.len() < count {
                 return NamesAnswer::Refused(20, LineNo(0));
             }
-            let looks = name_answer::answer(text, catalogue, m, list, &mut work[..n], &mut out[..count]);
+            let looks = answer::answer(text, catalogue, m, list, &mut work[..n], &mut out[..count]);
             NamesAnswer::Counted(count, looks)
         }
     }

@@ -14,12 +14,12 @@ use Rattle.accepted.specs.Sound.{isKey}
 use Rattle.accepted.proofs.Bools.{never, and-left, and-right}
 use Rattle.tags.specs.Others.{unkeyed, firsts}
 use Rattle.tags.proofs.Firsts.{settled-firsts}
-use Rattle.other_fields.specs.Run.{fieldsOf, fieldsTo, fieldsFrom, AtField}
-use Rattle.other_fields.specs.Next.{isFirst, keptAt}
-use Rattle.other_fields.specs.declared.Value.{Value}
-use Rattle.other_fields.proofs.Here.{ended}
-use Rattle.other_fields.proofs.Walked.{Taken}
-use Rattle.other_fields.proofs.Place.{passed-at, taken-at}
+use Rattle.accepted_line.specs.Run.{fieldsOf, fieldsTo, fieldsFrom, AtField}
+use Rattle.accepted_line.specs.Next.{isFirst, keptAt}
+use Rattle.accepted_line.specs.declared.fields.Value.{Value}
+use Rattle.accepted_line.proofs.fields.Here.{ended}
+use Rattle.accepted_line.proofs.fields.Walked.{Taken}
+use Rattle.accepted_line.proofs.fields.Place.{passed-at, taken-at}
 use Rattle.roundtrip.proofs.Length.{one-more, settled-length}
 use Rattle.other_fields_out.specs.Others.{othersText}
 

@@ -4,7 +4,7 @@ use mathlib.Core.List.{List, []}
 use Rattle.format.specs.Tidy.{fieldsText}
 use Rattle.format.specs.declared.Kind.{Kind}
 use Rattle.tags.specs.Others.{firsts}
-use Rattle.other_fields.specs.Run.{fieldsFrom}
+use Rattle.accepted_line.specs.Run.{fieldsFrom}
 
 -- the other fields of the accepted line `s` at the offset `at`
 unfoldable pub othersText : Kind → ℕ → List ℕ → List ℕ

@@ -7,9 +7,9 @@ ghost use Prim.Native.Nat.{_≤_, _<_, _+_};
 ghost use lib.ListN.{length, getD};
 ghost use Rattle.text.specs.Over.{over};
 ghost use Rattle.accepted.specs.Sound.{isKey};
-ghost use Rattle.other_fields.specs.Run.{AtField};
-ghost use Rattle.other_fields.specs.Next.{isFirst};
-ghost use Rattle.other_fields.specs.Tables.{Walkable};
+ghost use Rattle.accepted_line.specs.Run.{AtField};
+ghost use Rattle.accepted_line.specs.Next.{isFirst};
+ghost use Rattle.accepted_line.specs.Tables.{Walkable};
 ghost use Rattle.other_fields_out.specs.Others.{othersText};
 
 // Whether the field at `i` is no key and stands at its tag's first place.
@@ -23,7 +23,7 @@ fn is_other(kind: Kind, line: &[u8], at: usize, i: usize, once: bool, tables: &[
     if tags::is_key(kind, line[i + 1], line[i + 2]) {
         return false;
     }
-    other_fields::is_first(line, at, i, once, tables)
+    accepted_line::fields::is_first(line, at, i, once, tables)
 }
 
 // Writes the fields of an accepted line that are no keys, each tag at its first place with its last value, and the LF that ends its record.
@@ -45,11 +45,11 @@ pub fn put_rest(
     let mut n = o;
     let mut i: usize = 3;
     while i < line.len() {
-        let end = other_fields::field_end(line, i);
+        let end = accepted_line::fields::field_end(line, i);
         let a = line[i + 1];
         let b = line[i + 2];
         if is_other(kind, line, at, i, once, tables) {
-            let v = other_fields::kept_value(line, at, i, end, once, tables);
+            let v = accepted_line::fields::kept_value(line, at, i, end, once, tables);
             n = parts::put_field(out, n, a, b, line, v.at - at, v.len);
         }
         i = end;
@@ -67,9 +67,9 @@ pub fn other_fields_len(kind: Kind, line: &[u8], at: usize, tables: &[u32]) -> u
     let mut n: usize = 0;
     let mut i: usize = 3;
     while i < line.len() {
-        let end = other_fields::field_end(line, i);
+        let end = accepted_line::fields::field_end(line, i);
         if is_other(kind, line, at, i, false, tables) {
-            let v = other_fields::kept_value(line, at, i, end, false, tables);
+            let v = accepted_line::fields::kept_value(line, at, i, end, false, tables);
             n = n + 4 + v.len;
         }
         i = end;

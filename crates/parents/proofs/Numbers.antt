@@ -19,8 +19,8 @@ use Rattle.accepted.proofs.Pairs.{each-at}
 use Rattle.chains.specs.Parents.{nobody, linksOf, areParents, inArray}
 use Rattle.chains.specs.Listed.{named}
 use Rattle.chains.proofs.Arrays.{array-push}
-use Rattle.chain_laws.proofs.Paths.{Below}
-use Rattle.chain_laws.proofs.Bound.{within-below}
+use Rattle.chains.proofs.Paths.{Below}
+use Rattle.chains.proofs.Bound.{within-below}
 use Rattle.chains.proofs.Walks.{map-at, link-none, link-some}
 use Rattle.parents.specs.declared.Parents.{Parents}
 use Rattle.parents.specs.Parents.{stranger, linkNumber, parentsOf}

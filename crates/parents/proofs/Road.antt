@@ -11,7 +11,7 @@ use Rattle.format.specs.Bytes.{any}
 use Rattle.format.specs.Programs.{Program, Link, links, isDangling, loopsFrom, tangled, roots, leaves}
 use Rattle.chains.specs.declared.Ordinals.{Ordinals}
 use Rattle.chains.proofs.Arrays.{front, front-count, front-inside}
-use Rattle.chain_laws.proofs.Some.{leaves-some}
+use Rattle.chains.proofs.Some.{leaves-some}
 use Rattle.chains.specs.Parents.{linksOf, areParents, inArray}
 use Rattle.parents.specs.declared.Parents.{Parents}
 use Rattle.parents.specs.declared.Graph.{Graph}

@@ -20,7 +20,7 @@ use Rattle.accepted.proofs.Bools.{never, split}
 use Rattle.accepted.proofs.Spelled.{line-accepted}
 use Rattle.accepted.proofs.Text.{text-lines}
 use Rattle.accepted.proofs.Pairs.{pairs-left}
-use Rattle.other_fields.proofs.Start.{accepted-start, accepted-tags}
+use Rattle.accepted_line.proofs.fields.Start.{accepted-start, accepted-tags}
 use Rattle.sq_list.proofs.Next.{second-byte}
 use Rattle.program_lines.specs.Line.{FieldsOf}
 use Rattle.program_lines.specs.Found.{mayBeProgram, programLines, pgFrom}

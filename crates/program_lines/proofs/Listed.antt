@@ -17,7 +17,7 @@ use Rattle.accepted.proofs.Pairs.{pairs-left, pairs-length}
 use Rattle.chains.specs.Parents.{inArray}
 use Rattle.chains.proofs.Arrays.{array-push}
 use Rattle.entries.specs.declared.Place.{Place}
-use Rattle.other_fields.specs.Next.{lastIn}
+use Rattle.accepted_line.specs.Next.{lastIn}
 use Rattle.programs.specs.declared.Places.{Places}
 use Rattle.programs.specs.declared.Programs.{Programs}
 use Rattle.programs.proofs.Noting.{map-snoc}

@@ -31,9 +31,9 @@ use Rattle.lookup.specs.Lookup.{foundOf, valueIn}
 use Rattle.lookup.proofs.Kept.{text-entries}
 use Rattle.lookup.proofs.Answers.{last-none, later-none, value-fields}
 use Rattle.id_search.specs.Places.{nowhere}
-use Rattle.other_fields.specs.Run.{AtField, fieldsFrom}
-use Rattle.other_fields.specs.Next.{lastIn, orValue}
-use Rattle.other_fields.proofs.Start.{accepted-fields, accepted-start}
+use Rattle.accepted_line.specs.Run.{AtField, fieldsFrom}
+use Rattle.accepted_line.specs.Next.{lastIn, orValue}
+use Rattle.accepted_line.proofs.fields.Start.{accepted-fields, accepted-start}
 use Rattle.programs.specs.Gathered.{ProgramPlaces, orNowhere, notedIn, gatheredOf}
 use Rattle.program_lines.specs.Found.{pgFrom, placeOf, previousOf, notesOf}
 use Rattle.program_lines.proofs.Accepted.{IsProgram, spelled, text-program-lines}

@@ -9,8 +9,8 @@ use Rattle.format.specs.Lines.{Piece, linesFrom}
 use Rattle.chains.specs.Parents.{inArray}
 use Rattle.entries.specs.declared.Place.{Place}
 use Rattle.id_search.specs.Places.{nowhere}
-use Rattle.other_fields.specs.declared.Value.{Value}
-use Rattle.other_fields.specs.Next.{lastIn}
+use Rattle.accepted_line.specs.declared.fields.Value.{Value}
+use Rattle.accepted_line.specs.Next.{lastIn}
 use Rattle.programs.specs.declared.Places.{Places}
 use Rattle.programs.specs.Gathered.{ProgramPlaces}
 use Rattle.program_lines.specs.declared.NextLine.{NextLine}

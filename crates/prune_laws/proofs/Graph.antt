@@ -15,8 +15,8 @@ use Rattle.accepted.proofs.Bools.{never, split, or-split, or-true, or-left, or-
 use Rattle.chains.specs.Listed.{named}
 use Rattle.chains.proofs.Walks.{map-at, reaches-root}
 use Rattle.chains.proofs.Leaf.{leaves-exactly}
-use Rattle.chain_laws.proofs.Paths.{reaches-fewer, no-return}
-use Rattle.chain_laws.proofs.Some.{named-at}
+use Rattle.chains.proofs.Paths.{reaches-fewer, no-return}
+use Rattle.chains.proofs.Some.{named-at}
 use Rattle.format.specs.Prune.{isNeeded, chosen}
 use Rattle.prune_marks.proofs.Steps.{reach-step, reaches-dangling}
 use Rattle.prune_laws.proofs.Ranks.{rank, chosen-at, chosen-inside, Was, chosen-was, rank-one, chosen-le}

@@ -1,4 +1,6 @@
 // One line of a header: the record that it is, or the refusal that it gets.
+pub mod fields;
+pub mod marks;
 use format::Kind;
 use kind::ParsedKind;
 use record::Head;
@@ -48,7 +50,7 @@ fn parse_value(kind: Kind, src: &[u8], at: usize, strict: bool) -> Head
     match kind {
         Kind::Comment => parse_comment(src, at),
         Kind::Header | Kind::ReferenceSequence | Kind::ReadGroup | Kind::Program =>
-            record_fields::parse_fields(kind, src, at, strict),
+            fields::parse_fields(kind, src, at, strict),
     }
 }
 

@@ -1,12 +1,12 @@
 // The rule for repeated tags: a header that announces 1.6 or a later version may not repeat a tag in a line, and any other header may.
 use format::Version;
-use version::ParsedVersion;
+use field::version::ParsedVersion;
 ghost use mathlib.Core.Path.{_≡_};
 ghost use mathlib.Core.List.{[], _∷_};
 ghost use Rattle.format.specs.Bytes.{starts};
 ghost use Rattle.format.specs.Lines.{lines, cut};
 ghost use Rattle.format.specs.Reading.{firstVersion, announced, isStrict};
-ghost use Rattle.version.specs.Spelled.{parsedVersionOf};
+ghost use Rattle.field.specs.Spelled.{parsedVersionOf};
 ghost use Rattle.repeat_rule.specs.Rule.{strictAfter};
 
 // Whether a piece starts `VN:`.
@@ -34,7 +34,7 @@ fn first_version(src: &[u8]) -> ParsedVersion
         }
         at = end + 1;
     }
-    version::parse_version(&src[from..stop])
+    field::version::parse_version(&src[from..stop])
 }
 
 // The version that line 0, without its ending, announces.

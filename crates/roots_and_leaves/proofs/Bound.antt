@@ -11,7 +11,7 @@ use Rattle.format.specs.Programs.{Program, Link, programs, links, hops, leaves,
 use Rattle.format.specs.Calls.{Answer, refused, yes, then, fitting, leafing}
 use Rattle.accepted.proofs.Bools.{split}
 use Rattle.accepted.specs.Read.{recordsOf}
-use Rattle.chain_laws.proofs.Bound.{hops-bound}
+use Rattle.chains.proofs.Bound.{hops-bound}
 use Rattle.chains.proofs.Leaf.{leaves-length}
 use Rattle.parents.proofs.Numbers.{links-count, links-named}
 use Rattle.parents.proofs.Road.{none-dangles, none-loops}

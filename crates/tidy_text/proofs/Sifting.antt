@@ -14,7 +14,7 @@ use Rattle.format.specs.declared.Kind.the-variants.{Program}
 use Rattle.text.specs.Over.{over}
 use Rattle.accepted.specs.Read.{isRead}
 use Rattle.accepted.proofs.Bools.{never, split}
-use Rattle.heads.specs.Found.{kindBy}
+use Rattle.accepted_line.specs.Found.{kindBy}
 use Rattle.writer.specs.Line.{lineText, lineWritable}
 use Rattle.per_kind.specs.Numbers.{kindNumber, get, plus}
 use Rattle.per_kind.specs.declared.PerKind.{PerKind}

@@ -75,7 +75,7 @@ fn with_line_if(sizes: PerKind, src: &[u8], at: usize, strict: bool, stays: bool
     let Size::Is(n) = size else {
         return Grown::Unwritable;
     };
-    Grown::Is(sizes.plus(heads::kind_of(src), n))
+    Grown::Is(sizes.plus(accepted_line::kind_of(src), n))
 }
 
 // The same of a line that stays.
@@ -144,7 +144,7 @@ fn put_line_if(
     if !stays {
         return places;
     }
-    let kind = heads::kind_of(src);
+    let kind = accepted_line::kind_of(src);
     let o = places.get(kind);
     let n = writer::put_record(out, o, src, at, strict);
     places.plus(kind, n - o)

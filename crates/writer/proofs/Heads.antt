@@ -21,9 +21,9 @@ use Rattle.accepted.proofs.Spelled.{line-accepted}
 use Rattle.accepted.proofs.Stands.{line-stand}
 use Rattle.record.specs.Head.{stretchOf, recordHead, headOf}
 use Rattle.record.specs.declared.Head.{Head}
-use Rattle.other_fields.proofs.Start.{accepted-others}
-use Rattle.heads.specs.Found.{kindBy, isComment, uncounted}
-use Rattle.heads.proofs.Finds.{accepted-byte, by-record}
+use Rattle.accepted_line.proofs.fields.Start.{accepted-others}
+use Rattle.accepted_line.specs.Found.{kindBy, isComment, uncounted}
+use Rattle.accepted_line.proofs.Finds.{accepted-byte, by-record}
 use Rattle.writer.specs.Line.{lineText, lineWritable}
 use Rattle.parts.specs.Parts.{prefixText, versionText}
 use Rattle.other_fields_out.specs.Others.{othersText}

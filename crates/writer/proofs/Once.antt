@@ -21,12 +21,12 @@ use Rattle.accepted.specs.Spelled.{Made, Spelled, AcceptedLine}
 use Rattle.accepted.proofs.Bools.{never, or-left, or-right, and-left, and-right}
 use Rattle.accepted.proofs.Sound.{made-kind}
 use Rattle.accepted.proofs.Spelled.{line-accepted}
-use Rattle.other_fields.specs.Run.{fieldsOf, fieldsFrom, AtField}
-use Rattle.other_fields.specs.Next.{orValue}
-use Rattle.other_fields.proofs.Start.{accepted-fields, accepted-others}
-use Rattle.heads.specs.Found.{kindBy, isComment}
-use Rattle.heads.specs.Keys.{lastKey, lastNumber, keysFrom, keysIn}
-use Rattle.heads.proofs.Finds.{accepted-byte, by-record}
+use Rattle.accepted_line.specs.Run.{fieldsOf, fieldsFrom, AtField}
+use Rattle.accepted_line.specs.Next.{orValue}
+use Rattle.accepted_line.proofs.fields.Start.{accepted-fields, accepted-others}
+use Rattle.accepted_line.specs.Found.{kindBy, isComment}
+use Rattle.accepted_line.specs.Keys.{lastKey, lastNumber, keysFrom, keysIn}
+use Rattle.accepted_line.proofs.Finds.{accepted-byte, by-record}
 use Rattle.roundtrip.proofs.Once.{without-absent, last-absent, settled-once}
 use Rattle.roundtrip.proofs.Length.{one-more, last-without}
 use Rattle.other_fields_out.specs.Others.{othersText}

@@ -15,12 +15,12 @@ use Rattle.accepted.specs.Spelled.{Made, Spelled, AcceptedLine}
 use Rattle.accepted.specs.Sound.{kind}
 use Rattle.accepted.proofs.Bools.{never}
 use Rattle.accepted.proofs.Spelled.{line-accepted}
-use Rattle.other_fields.specs.Run.{fieldsOf, fieldsFrom, AtField}
-use Rattle.other_fields.proofs.Start.{accepted-fields}
-use Rattle.heads.specs.Found.{kindBy}
-use Rattle.heads.proofs.Finds.{accepted-byte, by-record}
-use Rattle.neat.specs.Neat.{neat}
-use Rattle.neat.proofs.Text.{neat-text}
+use Rattle.accepted_line.specs.Run.{fieldsOf, fieldsFrom, AtField}
+use Rattle.accepted_line.proofs.fields.Start.{accepted-fields}
+use Rattle.accepted_line.specs.Found.{kindBy}
+use Rattle.accepted_line.proofs.Finds.{accepted-byte, by-record}
+use Rattle.writer.specs.Neat.{neat}
+use Rattle.writer.proofs.already.Text.{neat-text}
 use Rattle.writer.specs.Line.{lineText, lineWritable}
 
 -- where no tag stands twice, the line is accepted where that is forbidden

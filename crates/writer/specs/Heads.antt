@@ -9,7 +9,7 @@ use Rattle.format.specs.declared.Kind.{Kind}
 use Rattle.format.specs.declared.Kind.the-variants as kind
 use Rattle.record.specs.declared.Head.{Head}
 use Rattle.record.specs.declared.Head.the-variants.{Refused, Header, ReferenceSequence, ReadGroup, Program, Comment}
-use Rattle.heads.specs.declared.KeyValues.{KeyValues}
+use Rattle.accepted_line.specs.declared.KeyValues.{KeyValues}
 use Rattle.parts.specs.Parts.{versionText}
 use Rattle.writer.specs.Texts.{InsideLine, placeText, headerText, sequenceText, mapText}
 

@@ -1,8 +1,9 @@
 // One record of the tidy text: written from its accepted line, or measured.
+pub mod already;
 use format::Kind;
 use format::Version;
-use heads::Form;
-use heads::KeyValues;
+use accepted_line::Form;
+use accepted_line::KeyValues;
 use record::Head;
 use record::Stretch;
 ghost use mathlib.Core.Path.{_≡_};
@@ -13,11 +14,11 @@ ghost use lib.ListN.{length};
 ghost use Rattle.format.specs.Records.{line};
 ghost use Rattle.text.specs.Over.{over};
 ghost use Rattle.accepted.specs.Read.{isRead};
-ghost use Rattle.other_fields.specs.Run.{AtField, fieldsFrom};
-ghost use Rattle.other_fields.specs.Tables.{Walkable};
-ghost use Rattle.heads.specs.Found.{isComment};
-ghost use Rattle.heads.specs.Form.{LineOf};
-ghost use Rattle.heads.specs.Keys.{keysIn};
+ghost use Rattle.accepted_line.specs.Run.{AtField, fieldsFrom};
+ghost use Rattle.accepted_line.specs.Tables.{Walkable};
+ghost use Rattle.accepted_line.specs.Found.{isComment};
+ghost use Rattle.accepted_line.specs.Form.{LineOf};
+ghost use Rattle.accepted_line.specs.Keys.{keysIn};
 ghost use Rattle.writer.specs.Line.{lineText, lineWritable, lineSize};
 ghost use Rattle.other_fields_out.specs.Others.{othersText};
 ghost use Rattle.writer.specs.Heads.{placeLength, headLength, keysLength};
@@ -120,8 +121,8 @@ fn put_parts(
     ensures next { λ r. ⌜ r ≡ o + length (lineText (line false (record { at = at; bytes = now (src .entry) }))) ⌝ }
     ensures wrote { λ _. ⌜ now (out .exit) ≡ over (now (out .entry)) o (lineText (line false (record { at = at; bytes = now (src .entry) }))) ⌝ }
 {
-    let keys = heads::find_keys(kind, src, at, once, tables);
-    let head = heads::head_of(kind, src, at, keys);
+    let keys = accepted_line::find_keys(kind, src, at, once, tables);
+    let head = accepted_line::head_of(kind, src, at, keys);
     match head {
         Head::Refused(_) => o,
         Head::Header(v, _) => put_header(out, o, v, src, at, once, tables),
@@ -155,7 +156,7 @@ fn put_once(out: &mut [u8], o: usize, kind: Kind, src: &[u8], at: usize) -> usiz
     ensures next { λ r. ⌜ r ≡ o + length (lineText (line false (record { at = at; bytes = now (src .entry) }))) ⌝ }
     ensures wrote { λ _. ⌜ now (out .exit) ≡ over (now (out .entry)) o (lineText (line false (record { at = at; bytes = now (src .entry) }))) ⌝ }
 {
-    if neat::is_neat(kind, src) {
+    if already::is_neat(kind, src) {
         return put_whole(out, o, src);
     }
     put_parts(out, o, kind, src, at, true, &[])
@@ -169,12 +170,12 @@ pub fn put_record(out: &mut [u8], o: usize, src: &[u8], at: usize, strict: bool)
     ensures next { λ r. ⌜ r ≡ o + length (lineText (line strict (record { at = at; bytes = now (src .entry) }))) ⌝ }
     ensures wrote { λ _. ⌜ now (out .exit) ≡ over (now (out .entry)) o (lineText (line strict (record { at = at; bytes = now (src .entry) }))) ⌝ }
 {
-    match heads::form_of(src, at, strict) {
+    match accepted_line::form_of(src, at, strict) {
         Form::Comment => put_whole(out, o, src),
         Form::Once(kind) => put_once(out, o, kind, src, at),
         Form::Repeating(kind) => {
             let mut tables = [0u32; 6448];
-            other_fields::note_tags(src, at, &mut tables);
+            accepted_line::fields::note_tags(src, at, &mut tables);
             put_parts(out, o, kind, src, at, false, &tables)
         }
     }
@@ -229,7 +230,7 @@ fn is_writable(kind: Kind, src: &[u8], at: usize, once: bool, tables: &[u32]) ->
 {
     match kind {
         Kind::ReferenceSequence => {
-            let name = other_fields::find_value(src, at, b'S', b'N', once, tables);
+            let name = accepted_line::fields::find_value(src, at, b'S', b'N', once, tables);
             let from = name.at - at;
             let len = name.len;
             name::is_name(&src[from..from + len])
@@ -246,7 +247,7 @@ fn parts_len(kind: Kind, src: &[u8], at: usize, keys: KeyValues, others: usize) 
     requires { ⌜ others ≡ length (othersText kind at (now src)) ⌝ }
     ensures { λ r. ⌜ r ≡ length (lineText (line false (record { at = at; bytes = now (src .entry) }))) ⌝ }
 {
-    head_len(heads::head_of(kind, src, at, keys), others)
+    head_len(accepted_line::head_of(kind, src, at, keys), others)
 }
 
 // How many bytes the record of a line in which no tag stands twice has: none of its fields but the keys is looked at.
@@ -259,10 +260,10 @@ fn once_size(kind: Kind, src: &[u8], at: usize) -> Size
     if !is_writable(kind, src, at, true, &[]) {
         return Size::Unwritable;
     }
-    if neat::is_neat(kind, src) {
+    if already::is_neat(kind, src) {
         return Size::Is(src.len() + 1);
     }
-    let keys = heads::find_keys(kind, src, at, true, &[]);
+    let keys = accepted_line::find_keys(kind, src, at, true, &[]);
     let others = src.len() - 3 - keys_len(kind, keys);
     Size::Is(parts_len(kind, src, at, keys, others))
 }
@@ -274,11 +275,11 @@ fn noted_size(kind: Kind, src: &[u8], at: usize) -> Size
     ensures { λ r. ⌜ r ≡ lineSize (line false (record { at = at; bytes = now (src .entry) })) ⌝ }
 {
     let mut tables = [0u32; 6448];
-    other_fields::note_tags(src, at, &mut tables);
+    accepted_line::fields::note_tags(src, at, &mut tables);
     if !is_writable(kind, src, at, false, &tables) {
         return Size::Unwritable;
     }
-    let keys = heads::find_keys(kind, src, at, false, &tables);
+    let keys = accepted_line::find_keys(kind, src, at, false, &tables);
     let others = other_fields_out::other_fields_len(kind, src, at, &tables);
     Size::Is(parts_len(kind, src, at, keys, others))
 }
@@ -289,7 +290,7 @@ pub fn record_size(src: &[u8], at: usize, strict: bool) -> Size
     requires { ⌜ at + length (now src) ≤ 16777216 ⌝ }
     ensures { λ r. ⌜ r ≡ lineSize (line strict (record { at = at; bytes = now (src .entry) })) ⌝ }
 {
-    match heads::form_of(src, at, strict) {
+    match accepted_line::form_of(src, at, strict) {
         Form::Comment => Size::Is(src.len() + 1),
         Form::Once(kind) => once_size(kind, src, at),
         Form::Repeating(kind) => noted_size(kind, src, at),

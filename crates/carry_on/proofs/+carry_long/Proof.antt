@@ -10,7 +10,7 @@ use Rattle.carry_on.proofs.carry_long.Reads as carry-long
 use Rattle.carry_on.proofs.carry_long.Kinds as carry-long-kinds
 use Rattle.carry_on.proofs.+carry_long.Lts-carry_long as carry-long-lts
 use Rattle.carry_on.proofs.write_measured.Reads as write-measured-reads
-use Rattle.kept_sizes.proofs.measure.Reads as measure-reads
+use Rattle.carry_passes.proofs.measure.Reads as measure-reads
 use Rattle.carry_on.proofs.+carry_long.{statement}
 use Rattle.carry_on.proofs.+carry_long.Tie.{close}
 

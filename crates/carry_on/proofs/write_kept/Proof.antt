@@ -10,8 +10,8 @@ use Rattle.tidy_text.proofs.Sizes.{total-size}
 use Rattle.tidy.proofs.Writing.{write-long, write-short, write-fits}
 use Rattle.format.specs.Carrying.{keptOf, carriedLines, skips, rows, unwritableLine, carrying}
 use Rattle.early_lines.specs.Early.{earlyOf, rowsFrom}
-use Rattle.kept_from.specs.From.{keptFrom, rowsOf}
-use Rattle.kept_from.proofs.Split.{first-kept, first-small, first-count, skips-few, first-rows, early-rows}
+use Rattle.carry_passes.specs.From.{keptFrom, rowsOf}
+use Rattle.carry_passes.proofs.Split.{first-kept, first-small, first-count, skips-few, first-rows, early-rows}
 use Rattle.carry_on.proofs.Told.{told-refused, told-short, told-fits, refused-all, written-all}
 use borrow.Author.Needs.{needs}
 use Rattle.carry_on.proofs.write_kept.Statement.{statement}

@@ -11,11 +11,11 @@ use Rattle.format.specs.Carrying.{rows}
 use Rattle.early_lines.specs.declared.Begin.{Begin}
 use Rattle.kept_lines.specs.Going.{Going}
 use Rattle.kept_lines.specs.declared.Cursor.{Cursor}
-use Rattle.kept_from.specs.From.{linesKeptFrom, keptFrom}
-use Rattle.kept_from.specs.Turn.{Turn}
-use Rattle.kept_from.proofs.Begun.{begun}
-use Rattle.kept_from.proofs.Turn.{turn, none-left}
-use Rattle.kept_from.proofs.Steps.{turn-read}
+use Rattle.carry_passes.specs.From.{linesKeptFrom, keptFrom}
+use Rattle.carry_passes.specs.Turn.{Turn}
+use Rattle.carry_passes.proofs.Begun.{begun}
+use Rattle.carry_passes.proofs.Turn.{turn, none-left}
+use Rattle.carry_passes.proofs.Steps.{turn-read}
 use Rattle.format.specs.Faults.{ifFaulty, faultsFrom}
 use Rattle.fault_lines.specs.Links.{linksIn}
 use Rattle.fault_lines.proofs.Rows.{with-line, turn-rows, programs-within, row-none, row-one, row-over}

@@ -10,7 +10,7 @@ use Rattle.text.proofs.Over.{over-over}
 use Rattle.key_index.specs.Told.{start}
 use Rattle.format.specs.Carrying.{carriedLines, rows}
 use Rattle.early_lines.specs.Early.{earlyOf, rowsFrom}
-use Rattle.kept_from.proofs.Split.{early-rows}
+use Rattle.carry_passes.proofs.Split.{early-rows}
 use Rattle.format.specs.Faults.{faultsIn, faulting}
 use Rattle.fault_lines.specs.Links.{linksIn}
 use Rattle.faults.proofs.Told.{told-short, told-fits, refused-all, written-all, counts-small, left, all-rows, few, inside, count-length, front-length, within, left-is, all-count}

@@ -10,8 +10,8 @@ use borrow.Author.Needs.{needs}
 use Rattle.format.specs.Version.{version}
 use Rattle.text.proofs.Lines.{upto-le}
 use Rattle.text.specs.Upto.{upto, before}
-use Rattle.field_value.specs.Taken.{takenOf}
-use Rattle.field_value.proofs.Taken.{a-value}
+use Rattle.field.specs.Taken.{takenOf}
+use Rattle.field.proofs.value.Taken.{a-value}
 use Rattle.field.specs.Parsed.{keptBy, versionedBy}
 use Rattle.text.proofs.Before.{before-length}
 use Rattle.field.proofs.Judged.{value-length, value-none, value-version, value-kept}

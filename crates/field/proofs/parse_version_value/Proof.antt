@@ -5,9 +5,9 @@ use mathlib.Core.Option.{Option, none, some}
 use borrow.Author.Needs.{needs}
 use Rattle.format.specs.Version.{version}
 use Rattle.format.specs.declared.Version.{Version}
-use Rattle.version.specs.Spelled.{parsedVersionOf}
-use Rattle.version.specs.declared.ParsedVersion.{ParsedVersion}
-use Rattle.version.specs.declared.ParsedVersion.the-variants.{Is, Invalid}
+use Rattle.field.specs.Spelled.{parsedVersionOf}
+use Rattle.field.specs.declared.version.ParsedVersion.{ParsedVersion}
+use Rattle.field.specs.declared.version.ParsedVersion.the-variants.{Is, Invalid}
 use Rattle.field.specs.Parsed.{versionedBy, refusedBy}
 use Rattle.field.specs.declared.ParsedField.{ParsedField}
 use Rattle.field.proofs.parse_version_value.Statement.{statement}

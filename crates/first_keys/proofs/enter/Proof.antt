@@ -12,7 +12,7 @@ use Rattle.accepted.proofs.Ahead.{next-more, next-within}
 use Rattle.record.specs.Head.{headOf}
 use Rattle.key_index.specs.Told.{afterMeeting}
 use Rattle.key_index.specs.Keyed.{KeyInText}
-use Rattle.keys_held.proofs.Keyed.{meeting-length}
+use Rattle.key_index.proofs.HeldKeys.{meeting-length}
 use Rattle.first_keys.specs.Blocks.{headKeys, keyedFront, afterKeyed, entered}
 use Rattle.first_keys.proofs.Walk.{keys-most, after-end, after-none, after-on, entered-end, entered-none, entered-on, placed-at}
 use borrow.Author.Needs.{needs}

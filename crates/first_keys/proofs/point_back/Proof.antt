@@ -11,7 +11,7 @@ use Rattle.accepted.proofs.Ahead.{next-more}
 use Rattle.record.specs.Head.{headOf}
 use Rattle.key_index.specs.Told.{afterPointing}
 use Rattle.key_index.specs.Keyed.{KeyInText}
-use Rattle.keys_held.proofs.Keyed.{pointing-length}
+use Rattle.key_index.proofs.HeldKeys.{pointing-length}
 use Rattle.first_keys.specs.Blocks.{earlier, pointedBack}
 use Rattle.first_keys.proofs.Walk.{pointed-end, pointed-on, placed-at}
 use Rattle.first_keys.proofs.point_back.Statement.{statement}

@@ -16,7 +16,7 @@ use Rattle.accepted.proofs.Ahead.{ahead-stands}
 use Rattle.record.specs.Head.{headOf}
 use Rattle.key_index.specs.Told.{isMet}
 use Rattle.key_index.specs.Keyed.{KeyInText}
-use Rattle.keys_held.proofs.Keyed.{head-placed, meeting-none}
+use Rattle.key_index.proofs.HeldKeys.{head-placed, meeting-none}
 use Rattle.judging.specs.Blocks.{clashOf}
 use Rattle.judging.proofs.Blocks.{clash-none, clash-here, clash-met, clash-on}
 use Rattle.judging.proofs.first_met.Statement.{statement}

@@ -24,7 +24,7 @@ use Rattle.admission.proofs.Few.{others-few}
 use Rattle.admission.proofs.Programs.{programs-most}
 use Rattle.key_index.specs.Told.{isMet}
 use Rattle.key_index.specs.Keyed.{KeyInText}
-use Rattle.keys_held.proofs.Keyed.{head-placed, meeting-length}
+use Rattle.key_index.proofs.HeldKeys.{head-placed, meeting-length}
 use Rattle.line_entries.specs.Line.{recordBytes}
 use Rattle.line_entries.specs.Parts.{sizeOfHead, othersOf, ownEntry}
 use Rattle.line_entries.proofs.Records.{catalogue-length, own-others, size-length}

@@ -14,7 +14,7 @@ use Rattle.accepted.proofs.Ahead.{ahead-stands}
 use Rattle.record.specs.Head.{headOf}
 use Rattle.admission.specs.Admission.{lineRefusal, barring}
 use Rattle.key_index.specs.Keyed.{KeyInText}
-use Rattle.keys_held.proofs.Keyed.{head-placed}
+use Rattle.key_index.proofs.HeldKeys.{head-placed}
 use Rattle.kept_lines.specs.Kept.{usedBy, idsAfter, untilAt, filledAt, advanced}
 use Rattle.kept_lines.proofs.Kept.{advanced-to}
 use Rattle.kept_lines.proofs.Going.{filled-long, judged, refusal-here, going-on, ids-length, kept-lines, before}

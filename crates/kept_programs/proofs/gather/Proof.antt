@@ -15,11 +15,11 @@ use Rattle.program_lines.proofs.Accepted.{fielded}
 use Rattle.program_lines.specs.Found.{notesOf}
 use Rattle.early_lines.specs.declared.Begin.{Begin}
 use Rattle.kept_lines.specs.Going.{Going}
-use Rattle.kept_from.specs.From.{linesKeptFrom, keptFrom}
-use Rattle.kept_from.specs.Turn.{lentTo, Turn}
-use Rattle.kept_from.proofs.Begun.{begun}
-use Rattle.kept_from.proofs.Turn.{turn, none-left}
-use Rattle.kept_from.proofs.Steps.{turn-read}
+use Rattle.carry_passes.specs.From.{linesKeptFrom, keptFrom}
+use Rattle.carry_passes.specs.Turn.{lentTo, Turn}
+use Rattle.carry_passes.proofs.Begun.{begun}
+use Rattle.carry_passes.proofs.Turn.{turn, none-left}
+use Rattle.carry_passes.proofs.Steps.{turn-read}
 use Rattle.kept_programs.specs.Plain.{plainCount, oneIf}
 use Rattle.kept_programs.proofs.Turns.{plain-judged, one-le, programsIn, programs-done, programs-same, programs-one, programs-more, programs-room, ReadProgram, is-program, line-says, turn-stands, Noting, noting-none, noting-more, noting-all, all-taken}
 use Rattle.kept_programs.proofs.gather.Statement.{statement}

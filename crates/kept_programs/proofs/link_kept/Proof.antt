@@ -8,7 +8,7 @@ use borrow.Author.Needs.{needs}
 use Rattle.format.specs.Programs.{Program, programs}
 use Rattle.format.proofs.Slots.{held-none}
 use Rattle.key_index.specs.Told.{start}
-use Rattle.kept_from.specs.From.{keptFrom}
+use Rattle.carry_passes.specs.From.{keptFrom}
 use Rattle.kept_programs.specs.Placed.{PlacesOf}
 use Rattle.kept_programs.proofs.Placed.{own-count, own-few, own-ats, own-lens, ats-inside, lens-inside, own-placed, own-somewhere, own-parent, Found, found-none, found-all, found-more}
 use Rattle.kept_programs.proofs.link_kept.Statement.{statement}

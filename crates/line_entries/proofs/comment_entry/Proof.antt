@@ -2,8 +2,8 @@
 use mathlib.Core.Path.{_≡_, sym, ap, _∙_}
 use mathlib.Core.List.{append-nil}
 use borrow.Author.Needs.{needs}
-use Rattle.other_fields.specs.Next.{orValue}
-use Rattle.heads.specs.Keys.{lastKey, lastNumber, keysFrom, keysIn}
+use Rattle.accepted_line.specs.Next.{orValue}
+use Rattle.accepted_line.specs.Keys.{lastKey, lastNumber, keysFrom, keysIn}
 use Rattle.entries.specs.Entries.{entryBytes}
 use Rattle.line_entries.proofs.Told.{comment-bytes}
 use Rattle.line_entries.proofs.comment_entry.Statement.{statement}

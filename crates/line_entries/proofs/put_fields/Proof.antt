@@ -5,8 +5,8 @@ use mathlib.Core.Bool.{not, _||_}
 use mathlib.Core.List.{_++_}
 use native.Mathlib.Omega.{arith}
 use lib.ListN.{length, getD}
-use Rattle.other_fields.specs.Next.{isFirst}
-use Rattle.other_fields.proofs.Place.{bounds}
+use Rattle.accepted_line.specs.Next.{isFirst}
+use Rattle.accepted_line.proofs.fields.Place.{bounds}
 use Rattle.entries.specs.declared.Entry.the-variants as entry
 use Rattle.entries.specs.Entries.{kindByte, kindSize, entrySize, entryBytes}
 use Rattle.line_entries.specs.Parts.{fieldBytes}

@@ -6,8 +6,8 @@ use native.Mathlib.Omega.{arith}
 use lib.ListN.{length, drop, getD}
 use borrow.Author.Tests.{not-true, not-false}
 use Rattle.format.specs.Bytes.{starts}
-use Rattle.other_fields.specs.Next.{isFirst}
-use Rattle.other_fields.proofs.Place.{bounds}
+use Rattle.accepted_line.specs.Next.{isFirst}
+use Rattle.accepted_line.proofs.fields.Place.{bounds}
 use Rattle.entries.specs.declared.Entry.the-variants as entry
 use Rattle.entries.specs.Entries.{kindByte, kindSize, entrySize, entryBytes}
 use Rattle.entries.proofs.Written.{entry-length}

@@ -6,11 +6,11 @@ use native.Mathlib.Omega.{arith}
 use lib.ListN.{length, drop}
 use borrow.Author.Needs.{needs}
 use Rattle.format.specs.Bytes.{starts}
-use Rattle.other_fields.proofs.Start.{once-walkable}
-use Rattle.heads.specs.Form.{IsForm}
-use Rattle.heads.specs.declared.Form.{Form}
-use Rattle.heads.proofs.Lax.{line-lax}
-use Rattle.heads.proofs.Noting.{noting, noted-line}
+use Rattle.accepted_line.proofs.fields.Start.{once-walkable}
+use Rattle.accepted_line.specs.Form.{IsForm}
+use Rattle.accepted_line.specs.declared.Form.{Form}
+use Rattle.accepted_line.proofs.Lax.{line-lax}
+use Rattle.accepted_line.proofs.Noting.{noting, noted-line}
 use Rattle.line_entries.specs.Line.{recordBytes, lineBytes}
 use Rattle.line_entries.specs.Matched.{matched}
 use Rattle.line_entries.proofs.Starts.{match-there, match-gone}

@@ -5,8 +5,8 @@ use mathlib.Core.Bool.{not, _&&_}
 use native.Mathlib.Omega.{arith}
 use lib.ListN.{length}
 use borrow.Author.Needs.{needs}
-use Rattle.other_fields.specs.Next.{isFirst}
-use Rattle.other_fields.proofs.Place.{bounds}
+use Rattle.accepted_line.specs.Next.{isFirst}
+use Rattle.accepted_line.proofs.fields.Place.{bounds}
 use Rattle.other_fields_out.proofs.is_other.Statement.{statement}
 use Rattle.other_fields_out.proofs.is_other.Tie as tie
 

@@ -4,8 +4,8 @@ use mathlib.Core.Path.{_≡_, sym, ap, _∙_}
 use mathlib.Core.Bool.{false}
 use native.Mathlib.Omega.{arith}
 use lib.ListN.{length}
-use Rattle.other_fields.specs.Run.{AtField}
-use Rattle.other_fields.proofs.Place.{next-at, bounds}
+use Rattle.accepted_line.specs.Run.{AtField}
+use Rattle.accepted_line.proofs.fields.Place.{next-at, bounds}
 use Rattle.other_fields_out.specs.Others.{othersText}
 use Rattle.other_fields_out.proofs.Others.{restText, rest-all, rest-none, rest-past, rest-size, others-short}
 use Rattle.other_fields_out.proofs.other_fields_len.Statement.{statement}

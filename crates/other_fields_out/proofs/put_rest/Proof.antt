@@ -8,8 +8,8 @@ use borrow.Author.Needs.{needs}
 use Rattle.format.specs.Tidy.{fieldText}
 use Rattle.text.specs.Over.{over}
 use Rattle.text.proofs.Over.{over-none}
-use Rattle.other_fields.specs.Run.{AtField}
-use Rattle.other_fields.proofs.Place.{next-at, bounds}
+use Rattle.accepted_line.specs.Run.{AtField}
+use Rattle.accepted_line.proofs.fields.Place.{next-at, bounds}
 use Rattle.other_fields_out.specs.Others.{othersText}
 use Rattle.parts.proofs.Wrote.{Wrote, wrote-onward, wrote-then, wrote-one}
 use Rattle.other_fields_out.proofs.Others.{restText, rest-all, rest-none, rest-past, rest-more, rest-size, value-inside}

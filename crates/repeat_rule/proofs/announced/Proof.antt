@@ -5,7 +5,7 @@ use Prim.Native.Nat.{_≤_}
 use borrow.Author.Needs.{needs}
 use lib.ListN.{length}
 use Rattle.format.specs.Reading.{announced}
-use Rattle.version.specs.Spelled.{parsedVersionOf}
+use Rattle.field.specs.Spelled.{parsedVersionOf}
 use Rattle.text.proofs.Before.{rest}
 use Rattle.repeat_rule.proofs.First.{starts-long}
 use Rattle.repeat_rule.proofs.announced.Statement.{statement}

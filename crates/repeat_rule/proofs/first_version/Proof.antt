@@ -13,7 +13,7 @@ use Rattle.format.specs.Bytes.{starts}
 use Rattle.format.specs.Lines.{cut}
 use Rattle.format.specs.Reading.{firstVersion}
 use Rattle.format.specs.Version.{version}
-use Rattle.version.specs.Spelled.{parsedVersionOf}
+use Rattle.field.specs.Spelled.{parsedVersionOf}
 use Rattle.text.proofs.Before.{rest}
 use Rattle.text.specs.Upto.{upto, before}
 use Rattle.text.proofs.Lines.{upto-le}

@@ -6,8 +6,8 @@ use borrow.Author.Needs.{needs}
 use Rattle.format.specs.Reading.{isStrict}
 use Rattle.format.specs.Version.{isBelow}
 use Rattle.format.specs.declared.Version.{Version}
-use Rattle.version.specs.Spelled.{parsedVersionOf}
-use Rattle.version.specs.declared.ParsedVersion.the-variants.{Is, Invalid}
+use Rattle.field.specs.Spelled.{parsedVersionOf}
+use Rattle.field.specs.declared.version.ParsedVersion.the-variants.{Is, Invalid}
 use Rattle.repeat_rule.specs.Rule.{strictAfter}
 use Rattle.repeat_rule.proofs.is_strict_after.Statement.{statement}
 use Rattle.repeat_rule.proofs.is_strict_after.Tie as tie

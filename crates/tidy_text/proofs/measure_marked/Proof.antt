@@ -17,7 +17,7 @@ use Rattle.tidy_text.specs.Accepted.{withRecord, measuredOf, allRead, re
 use Rattle.tidy_text.specs.Kinds.{kindText}
 use Rattle.per_kind.specs.Numbers.{get}
 use Rattle.tidy_text.specs.Sizes.{sizesOf}
-use Rattle.heads.specs.Found.{kindBy}
+use Rattle.accepted_line.specs.Found.{kindBy}
 use Rattle.tidy_text.specs.declared.Measured.the-variants as measured
 use Rattle.tidy_text.proofs.Lines.{Opened, opened, Turn, turn, ended}
 use Rattle.tidy_text.proofs.OfKind.{only, three, line-kind}

@@ -8,7 +8,7 @@ use Rattle.format.specs.declared.Kind.{Kind}
 use Rattle.writer.specs.Line.{lineText, lineSize}
 use Rattle.writer.specs.declared.Size.the-variants.{Is}
 use Rattle.per_kind.specs.Numbers.{get, plus}
-use Rattle.heads.specs.Found.{kindBy}
+use Rattle.accepted_line.specs.Found.{kindBy}
 use Rattle.tidy_text.specs.declared.Grown.the-variants as grown
 use Rattle.tidy_text.proofs.OfKind.{three}
 use Rattle.tidy_text.proofs.Names.{size-is, grown-bad, grown-is}

@@ -19,10 +19,10 @@ use Rattle.format.proofs.Kind
 use Rattle.record.specs.Head.{headOf}
 use Rattle.record.specs.declared.Head.{Head}
 use Rattle.record.specs.declared.Head.the-variants as head
-use Rattle.other_fields.specs.Run.{fieldsFrom}
-use Rattle.other_fields.specs.Next.{orValue, noValue, lastIn}
-use Rattle.heads.specs.Found.{isComment, uncounted}
-use Rattle.heads.proofs.Finds.{OfReference, Held, held, found-place, value-within, value-bytes}
+use Rattle.accepted_line.specs.Run.{fieldsFrom}
+use Rattle.accepted_line.specs.Next.{orValue, noValue, lastIn}
+use Rattle.accepted_line.specs.Found.{isComment, uncounted}
+use Rattle.accepted_line.proofs.Finds.{OfReference, Held, held, found-place, value-within, value-bytes}
 use Rattle.writer.specs.Line.{lineWritable}
 use Rattle.writer.specs.Heads.{headWritable}
 use Rattle.writer.specs.Texts.{placeText}

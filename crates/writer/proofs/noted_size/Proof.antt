@@ -4,8 +4,8 @@ use mathlib.Core.Bool.{false}
 use native.Mathlib.Omega.{arith}
 use borrow.Author.Needs.{needs}
 use borrow.Author.Tests.{not-true, not-false}
-use Rattle.other_fields.specs.Tables.{Walkable}
-use Rattle.heads.proofs.Noting.{noting, noted-line}
+use Rattle.accepted_line.specs.Tables.{Walkable}
+use Rattle.accepted_line.proofs.Noting.{noting, noted-line}
 use Rattle.writer.specs.Line.{lineSize}
 use Rattle.writer.specs.declared.Size.the-variants.{Is}
 use Rattle.writer.proofs.noted_size.Statement.{statement}

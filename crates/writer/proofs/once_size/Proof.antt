@@ -8,10 +8,10 @@ use lib.ListN.{length, length-append}
 use borrow.Author.Needs.{needs}
 use borrow.Author.Tests.{not-true, not-false}
 use Rattle.format.specs.Records.{line}
-use Rattle.other_fields.specs.Run.{fieldsFrom}
-use Rattle.other_fields.proofs.Start.{once-walkable}
-use Rattle.heads.specs.Keys.{keysIn}
-use Rattle.heads.proofs.Finds.{three}
+use Rattle.accepted_line.specs.Run.{fieldsFrom}
+use Rattle.accepted_line.proofs.fields.Start.{once-walkable}
+use Rattle.accepted_line.specs.Keys.{keysIn}
+use Rattle.accepted_line.proofs.Finds.{three}
 use Rattle.writer.specs.Line.{lineText, lineWritable, lineSize}
 use Rattle.other_fields_out.specs.Others.{othersText}
 use Rattle.writer.specs.Heads.{keysLength}

@@ -3,8 +3,8 @@ use Prim.Native.Nat.{_+_, _≤_}
 use mathlib.Core.Path.{_≡_, refl, sym, ap, _∙_}
 use native.Mathlib.Omega.{arith}
 use lib.ListN.{length}
-use Rattle.other_fields.specs.Run.{AtField}
-use Rattle.heads.proofs.Noting.{of-fields}
+use Rattle.accepted_line.specs.Run.{AtField}
+use Rattle.accepted_line.proofs.Noting.{of-fields}
 use Rattle.writer.specs.Heads.{headLength}
 use Rattle.writer.proofs.Heads.{Told, told}
 use Rattle.other_fields_out.proofs.Others.{others-short}

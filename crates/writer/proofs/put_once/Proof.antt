@@ -7,8 +7,8 @@ use native.Mathlib.Omega.{arith}
 use lib.ListN.{length, length-append}
 use borrow.Author.Needs.{needs}
 use Rattle.format.specs.Records.{line}
-use Rattle.other_fields.proofs.Start.{once-walkable}
-use Rattle.heads.proofs.Finds.{three}
+use Rattle.accepted_line.proofs.fields.Start.{once-walkable}
+use Rattle.accepted_line.proofs.Finds.{three}
 use Rattle.writer.specs.Line.{lineText}
 use Rattle.parts.proofs.Wrote.{Wrote}
 use Rattle.writer.proofs.Whole.{whole-text}

@@ -7,9 +7,9 @@ use native.Mathlib.Omega.{arith}
 use lib.ListN.{length, length-append}
 use borrow.Author.Needs.{needs}
 use Rattle.format.specs.Records.{line}
-use Rattle.heads.specs.Form.{IsForm}
-use Rattle.heads.specs.declared.Form.{Form}
-use Rattle.heads.proofs.Lax.{line-lax}
+use Rattle.accepted_line.specs.Form.{IsForm}
+use Rattle.accepted_line.specs.declared.Form.{Form}
+use Rattle.accepted_line.proofs.Lax.{line-lax}
 use Rattle.writer.specs.Line.{lineSize}
 use Rattle.writer.specs.declared.Size.the-variants.{Is}
 use Rattle.writer.proofs.Whole.{comment-text}

@@ -1,0 +1,7 @@
+pub mod Found
+pub mod Keys
+pub mod Form
+pub mod Number
+pub mod Next
+pub mod Run
+pub mod Tables

@@ -1,0 +1,4 @@
+pub mod Measured
+pub mod From
+pub mod Turn
+pub mod Steps
