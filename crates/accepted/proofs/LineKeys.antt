@@ -15,12 +15,12 @@ use Rattle.format.specs.Lines.{Piece, chomp, cut, placed}
 use Rattle.format.specs.Fields.{Field, isValue, lastOf}
 use Rattle.format.specs.Records.{Record, header, reference, group, program, comment, key, read, line}
 use Rattle.format.specs.declared.Kind.{Kind}
-use Rattle.text.specs.Upto.{upto, before}
-use Rattle.text.specs.First.{firstLine}
-use Rattle.text.specs.Stands.{Stands, Each}
-use Rattle.text.proofs.Before.{upto-cases, upto-at}
-use Rattle.text.proofs.First.{first-whole, first-more, first-le, first-within, chomp-one, chomp-at}
-use Rattle.text.proofs.Stands.{each-piece}
+use Rattle.byte_slices.specs.Upto.{upto, before}
+use Rattle.byte_slices.specs.First.{firstLine}
+use Rattle.byte_slices.specs.Stands.{Stands, Each}
+use Rattle.byte_slices.proofs.Before.{upto-cases, upto-at}
+use Rattle.byte_slices.proofs.First.{first-whole, first-more, first-le, first-within, chomp-one, chomp-at}
+use Rattle.byte_slices.proofs.Stands.{each-piece}
 use Rattle.accepted.specs.Sound.{KeyIsValue}
 use Rattle.accepted.specs.Spelled as sp
 use Rattle.accepted.specs.Spelled.{Good, Made, Spelled, AcceptedLine, kind₀, kind₁}

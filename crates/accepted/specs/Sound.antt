@@ -9,7 +9,7 @@ use Rattle.format.specs.Fields.{Field, isValue, allows, isTag, repeats}
 use Rattle.format.specs.Records.{Record, header, reference, group, program, comment, key, others}
 use Rattle.format.specs.declared.Kind.{Kind}
 use Rattle.format.specs.declared.Kind.the-variants.{Header, ReferenceSequence, ReadGroup, Program, Comment}
-use Rattle.text.specs.Stands.{Each}
+use Rattle.byte_slices.specs.Stands.{Each}
 
 -- VN of HD, SN and LN of SQ, ID of RG and PG
 unfoldable pub isKey : Kind → ℕ → ℕ → Bool

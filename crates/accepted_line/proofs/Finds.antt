@@ -14,7 +14,7 @@ use Rattle.format.specs.Version.{version}
 use Rattle.format.specs.declared.Version.{Version}
 use Rattle.format.specs.declared.Kind.{Kind}
 use Rattle.format.specs.declared.Kind.the-variants.{Header, ReferenceSequence, ReadGroup, Program, Comment}
-use Rattle.text.specs.Stands.{Stands, Each}
+use Rattle.byte_slices.specs.Stands.{Stands, Each}
 use Rattle.accepted.specs.Sound.{kind}
 use Rattle.accepted.specs.Spelled as sp
 use Rattle.accepted.specs.Spelled.{LengthInRange, Good, Made, Spelled, AcceptedLine, kind₀, kind₁}
@@ -25,7 +25,7 @@ use Rattle.accepted.proofs.Pairs.{pairs-right}
 use Rattle.accepted.proofs.Sound.{made-kind}
 use Rattle.accepted.proofs.Spelled.{line-accepted}
 use Rattle.accepted.proofs.Stands.{fields-stand}
-use Rattle.text.proofs.Stands.{pieces-stand}
+use Rattle.byte_slices.proofs.Stands.{pieces-stand}
 use Rattle.record.specs.Head.{stretchOf, recordHead, headOf}
 use Rattle.record.specs.declared.Stretch.{Stretch}
 use Rattle.record.specs.declared.Head.{Head}

@@ -6,7 +6,7 @@ use mathlib.Core.List.{List}
 use native.Mathlib.Omega.{arith}
 use lib.ListN.{length, replicate, length-replicate}
 use Rattle.format.specs.declared.Kind.{Kind}
-use Rattle.text.specs.Stands.{Each}
+use Rattle.byte_slices.specs.Stands.{Each}
 use Rattle.accepted_line.specs.Run.{AtField, fieldsFrom}
 use Rattle.accepted_line.specs.Tables.{HasTag, noted, Walkable}
 use Rattle.accepted_line.proofs.fields.Start.{blank-tables, noted-walkable}

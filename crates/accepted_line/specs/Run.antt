@@ -7,8 +7,8 @@ use lib.ListN.{length, take, drop, getD}
 use Rattle.format.specs.Lines.{Piece, cut, placed}
 use Rattle.format.specs.Fields.{Field, repeats}
 use Rattle.format.specs.Tidy.{fieldsText}
-use Rattle.text.specs.Stands.{Each}
-use Rattle.tags.proofs.Region.{Clean}
+use Rattle.byte_slices.specs.Stands.{Each}
+use Rattle.record_tags.proofs.Region.{Clean}
 
 -- a piece between tabs: two tag bytes, a colon, a value. Nothing is judged
 unfoldable pub fieldOf : Piece → Field

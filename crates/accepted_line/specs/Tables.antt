@@ -6,7 +6,7 @@ use mathlib.Core.List.{List, [], _∷_}
 use lib.ListN.{length, getD, set}
 use lib.Dec.{eqb}
 use Rattle.format.specs.Fields.{Field, isTag}
-use Rattle.text.specs.Stands.{Each}
+use Rattle.byte_slices.specs.Stands.{Each}
 use Rattle.accepted_line.specs.Number.{tagNumber}
 use Rattle.accepted_line.specs.Run.{fieldsOf, fieldsFrom, AtField}
 use Rattle.accepted_line.specs.Next.{fieldLength}

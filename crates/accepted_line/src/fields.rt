@@ -5,8 +5,8 @@ ghost use mathlib.Core.List.{List};
 ghost use Prim.Native.Nat.{_≤_, _<_, _+_};
 ghost use lib.ListN.{length, drop, replicate};
 ghost use Rattle.format.specs.Fields.{isTag};
-ghost use Rattle.text.specs.Stands.{Each};
-ghost use Rattle.text.specs.Upto.{upto};
+ghost use Rattle.byte_slices.specs.Stands.{Each};
+ghost use Rattle.byte_slices.specs.Upto.{upto};
 ghost use Rattle.accepted_line.specs.Run.{AtField, fieldsFrom};
 ghost use Rattle.accepted_line.specs.Next.{isFirst, valueAt, keptAt, lastIn};
 ghost use Rattle.accepted_line.specs.Tables.{HasTag, spread, marked, noted, Noted, Walkable};
@@ -22,7 +22,7 @@ pub fn field_end(line: &[u8], i: usize) -> usize
     requires { ⌜ i < length (now line) ⌝ }
     ensures { λ r. ⌜ r ≡ i + 1 + upto 9 (drop (i + 1) (now (line .entry))) ⌝ }
 {
-    i + 1 + text::upto(&line[i + 1..], b'\t')
+    i + 1 + byte_slices::upto(&line[i + 1..], b'\t')
 }
 
 // The value of the field from the tab at `i` up to `end`, in a line at the offset `at`.

@@ -12,9 +12,9 @@ use Rattle.format.specs.Fields.{Field, field}
 use Rattle.format.specs.Adding.{given}
 use Rattle.format.specs.Tidy.{fieldText}
 use Rattle.format.specs.declared.Kind.the-variants.{Program}
-use Rattle.text.specs.Upto.{upto, before}
-use Rattle.text.specs.Stands.{Stands}
-use Rattle.text.proofs.Lines.{upto-le}
+use Rattle.byte_slices.specs.Upto.{upto, before}
+use Rattle.byte_slices.specs.Stands.{Stands}
+use Rattle.byte_slices.proofs.Lines.{upto-le}
 use Rattle.field.specs.declared.ParsedField as code
 use Rattle.field.specs.Parsed.{parsedOf}
 use Rattle.accepted.proofs.Bools.{split}

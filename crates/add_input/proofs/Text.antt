@@ -10,9 +10,9 @@ use Rattle.format.specs.Fields.{lastOf}
 use Rattle.format.specs.Adding.{given}
 use Rattle.format.specs.Tidy.{fieldsText}
 use Rattle.format.specs.declared.Kind.the-variants.{Program}
-use Rattle.text.specs.Stands.{Stands, Each}
-use Rattle.text.proofs.Stands.{by-parts, each-map, stands-onward}
-use Rattle.text.proofs.Lines.{upto-le}
+use Rattle.byte_slices.specs.Stands.{Stands, Each}
+use Rattle.byte_slices.proofs.Stands.{by-parts, each-map, stands-onward}
+use Rattle.byte_slices.proofs.Lines.{upto-le}
 use Rattle.accepted.proofs.Fields.{Of, lastOf-of}
 use Rattle.record_parser.proofs.Turn.{tailScan, prepend}
 use Rattle.accepted_line.specs.Run.{Runs}

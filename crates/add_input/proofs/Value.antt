@@ -11,8 +11,8 @@ use lib.Dec.{eqb}
 use borrow.Author.Tests.{eqb-true, eq-eqb, ne-eqb}
 use Rattle.format.specs.Bytes.{printable, all, none?}
 use Rattle.format.specs.Fields.{isValue}
-use Rattle.text.specs.Upto.{upto, before}
-use Rattle.text.proofs.Before.{upto-cases, before-length}
+use Rattle.byte_slices.specs.Upto.{upto, before}
+use Rattle.byte_slices.proofs.Before.{upto-cases, before-length}
 use Rattle.field.specs.Taken.{takenOf}
 use Rattle.field.proofs.value.Taken.{a-value, no-value}
 

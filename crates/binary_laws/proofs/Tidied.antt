@@ -9,7 +9,7 @@ use Rattle.format.specs.Reading.{Reading, refusedText, accept, readText}
 use Rattle.format.specs.Tidy.{tidy, unwritable}
 use Rattle.format.specs.References.{Reference, sqList, sameReference, sameReferences}
 use Rattle.format.specs.Calls.{then, readAnswer, records, writing, tidying}
-use Rattle.text.proofs.Equal.{same-self}
+use Rattle.byte_slices.proofs.Equal.{same-self}
 use Rattle.format.specs.Binary.{unpadded, wellFormed, listedAlike, binaryIn}
 use Rattle.binary_laws.specs.Exact.{Agrees, BinaryIsTakenApart, InIsTidying}
 use Rattle.binary_laws.proofs.Apart.{binary-is-taken-apart}

@@ -8,9 +8,9 @@ use Rattle.format.specs.Records.{Record}
 use Rattle.format.specs.Reading.{readText, accept}
 use Rattle.format.specs.References.{Reference, sqList}
 use Rattle.format.specs.Calls.{refused, tidying}
-use Rattle.text.specs.Stands.{Each}
+use Rattle.byte_slices.specs.Stands.{Each}
 use Rattle.format.specs.Binary.{binary, binaryParts, unpadded, binaryIn}
-use Rattle.binary.proofs.Parts.{AllSmall}
+use Rattle.binary_bytes.proofs.Parts.{AllSmall}
 
 -- each of these numbers is a byte
 unfoldable pub AllBytes : List ℕ → Type 0

@@ -10,7 +10,7 @@ use lib.Seq.{length-take-le, take-append-seam, take-all}
 use borrow.Author.Tests.{eq-eqb, eqb-true}
 use Rattle.accepted.proofs.Bools.{never}
 use Rattle.format.specs.Binary.{binary, binaryParts}
-use Rattle.binary.proofs.Parts.{parts-back}
+use Rattle.binary_bytes.proofs.Parts.{parts-back}
 use Rattle.binary_laws.proofs.Refusal.{taken-apart}
 use Rattle.binary_len.specs.declared.BinaryLen.{BinaryLen}
 use Rattle.binary_len.specs.declared.BinaryLen.the-variants.{Whole, More, Refused}

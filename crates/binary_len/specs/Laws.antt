@@ -8,7 +8,7 @@ use lib.ListN.{length, take}
 use Rattle.format.specs.References.{Reference}
 use Rattle.format.specs.Calls.{refused}
 use Rattle.format.specs.Binary.{binary, binaryParts, binaryIn}
-use Rattle.binary.proofs.Parts.{AllSmall}
+use Rattle.binary_bytes.proofs.Parts.{AllSmall}
 use Rattle.binary_len.specs.declared.BinaryLen.{BinaryLen}
 use Rattle.binary_len.specs.declared.BinaryLen.the-variants.{Whole, More, Refused}
 use Rattle.binary_len.specs.declared.Cursor.{Cursor}

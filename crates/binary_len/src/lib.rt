@@ -35,7 +35,7 @@ fn pass_reference(bytes: &[u8], at: usize) -> BinaryLen
     if len - at < 4 {
         return BinaryLen::More(at + 4);
     }
-    let n = little::get_u32(bytes, at) as usize;
+    let n = little_endian::get_u32(bytes, at) as usize;
     if n == 0 {
         return BinaryLen::Refused(28);
     }
@@ -98,8 +98,8 @@ pub fn binary_len_from(bytes: &[u8], from: Cursor) -> Step
         }
         return pass_references(bytes, at, from.left);
     }
-    if !text::starts(b"BAM\x01", bytes) {
-        if text::starts(bytes, b"BAM\x01") {
+    if !byte_slices::starts(b"BAM\x01", bytes) {
+        if byte_slices::starts(bytes, b"BAM\x01") {
             return Step::More(4, from);
         }
         return Step::Refused(28);
@@ -107,14 +107,14 @@ pub fn binary_len_from(bytes: &[u8], from: Cursor) -> Step
     if len < 8 {
         return Step::More(8, from);
     }
-    let end = 8 + little::get_u32(bytes, 4) as usize;
+    let end = 8 + little_endian::get_u32(bytes, 4) as usize;
     if len < end {
         return Step::More(end, from);
     }
     if len - end < 4 {
         return Step::More(end + 4, from);
     }
-    let count = little::get_u32(bytes, end);
+    let count = little_endian::get_u32(bytes, end);
     pass_references(bytes, end + 4, count)
 }
 

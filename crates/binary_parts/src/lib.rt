@@ -54,7 +54,7 @@ fn take_number(bytes: &[u8], at: usize) -> NumberAt
             next: at,
         };
     }
-    let value = little::get_u32(bytes, at);
+    let value = little_endian::get_u32(bytes, at);
     NumberAt {
         ok: true,
         value,
@@ -186,7 +186,7 @@ pub fn parts(bytes: &[u8]) -> PartsAt
     ensures stands { λ r. ⌜ PartsStand (now (bytes .entry)) r ⌝ }
     ensures is { λ r. ⌜ r ≡ partsAt (now (bytes .entry)) ⌝ }
 {
-    if text::starts(b"BAM\x01", bytes) {
+    if byte_slices::starts(b"BAM\x01", bytes) {
         return take_both(bytes, 4);
     }
     PartsAt {

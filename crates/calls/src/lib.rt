@@ -1,10 +1,10 @@
 // The calls that look up a record over a text and its catalogue: counts, keys, lengths, lines and fields. Each judges the text and the catalogue first.
 use format::LineNo;
-use lookup::Found;
-use lookup::Located;
-use lookup::Sized;
-use parser::Checked;
-use parser::CountAnswer;
+use catalogue_lookup::Found;
+use catalogue_lookup::Located;
+use catalogue_lookup::Sized;
+use read::Checked;
+use read::CountAnswer;
 ghost use mathlib.Core.Path.{_≡_};
 ghost use Rattle.format.specs.Calls.{counting, keying, sizing, locating, valuing, looking};
 ghost use Rattle.calls.specs.Answers.{countOf, keyAnswerOf, lengthAnswerOf, lineAnswerOf, valuePlaceOf, partStanding};
@@ -37,7 +37,7 @@ pub enum ValuePlace {
 pub fn count(text: &[u8], catalogue: &[u8], kind: u8) -> CountAnswer
     ensures { λ r. ⌜ r ≡ countOf (counting (now (text .entry)) (now (catalogue .entry)) kind) ⌝ }
 {
-    match parser::check(text, catalogue) {
+    match read::check(text, catalogue) {
         Checked::Refused(n, line) => CountAnswer::Refused(n, line),
         Checked::Fresh => {
             if kind < 1 {
@@ -46,7 +46,7 @@ pub fn count(text: &[u8], catalogue: &[u8], kind: u8) -> CountAnswer
             if 5 < kind {
                 return CountAnswer::Refused(25, LineNo(0));
             }
-            CountAnswer::Count(record_entries::count_kind(catalogue, kind))
+            CountAnswer::Count(catalogue_kinds::count_kind(catalogue, kind))
         }
     }
 }
@@ -55,9 +55,9 @@ pub fn count(text: &[u8], catalogue: &[u8], kind: u8) -> CountAnswer
 pub fn key(text: &[u8], catalogue: &[u8], kind: u8, ordinal: u32) -> KeyAnswer
     ensures { λ r. ⌜ r ≡ keyAnswerOf (keying (now (text .entry)) (now (catalogue .entry)) kind ordinal) ⌝ }
 {
-    match parser::check(text, catalogue) {
+    match read::check(text, catalogue) {
         Checked::Refused(n, line) => KeyAnswer::Refused(n, line),
-        Checked::Fresh => match lookup::find_key(catalogue, kind, ordinal) {
+        Checked::Fresh => match catalogue_lookup::find_key(catalogue, kind, ordinal) {
             Found::Nothing => KeyAnswer::Refused(25, LineNo(0)),
             Found::At(p) => KeyAnswer::At(p.at, p.len),
         },
@@ -68,9 +68,9 @@ pub fn key(text: &[u8], catalogue: &[u8], kind: u8, ordinal: u32) -> KeyAnswer
 pub fn length(text: &[u8], catalogue: &[u8], ordinal: u32) -> LengthAnswer
     ensures { λ r. ⌜ r ≡ lengthAnswerOf (sizing (now (text .entry)) (now (catalogue .entry)) ordinal) ⌝ }
 {
-    match parser::check(text, catalogue) {
+    match read::check(text, catalogue) {
         Checked::Refused(n, line) => LengthAnswer::Refused(n, line),
-        Checked::Fresh => match lookup::find_length(catalogue, ordinal) {
+        Checked::Fresh => match catalogue_lookup::find_length(catalogue, ordinal) {
             Sized::Nothing => LengthAnswer::Refused(25, LineNo(0)),
             Sized::Is(n) => LengthAnswer::Is(n),
         },
@@ -81,9 +81,9 @@ pub fn length(text: &[u8], catalogue: &[u8], ordinal: u32) -> LengthAnswer
 pub fn line(text: &[u8], catalogue: &[u8], kind: u8, ordinal: u32) -> LineAnswer
     ensures { λ r. ⌜ r ≡ lineAnswerOf (locating (now (text .entry)) (now (catalogue .entry)) kind ordinal) ⌝ }
 {
-    match parser::check(text, catalogue) {
+    match read::check(text, catalogue) {
         Checked::Refused(n, line) => LineAnswer::Refused(n, line),
-        Checked::Fresh => match lookup::find_line(catalogue, kind, ordinal) {
+        Checked::Fresh => match catalogue_lookup::find_line(catalogue, kind, ordinal) {
             Located::Nothing => LineAnswer::Refused(25, LineNo(0)),
             Located::On(line) => LineAnswer::Is(line),
         },
@@ -94,9 +94,9 @@ pub fn line(text: &[u8], catalogue: &[u8], kind: u8, ordinal: u32) -> LineAnswer
 pub fn place(text: &[u8], catalogue: &[u8], kind: u8, ordinal: u32, a: u8, b: u8) -> ValuePlace
     ensures { λ r. ⌜ r ≡ valuePlaceOf (valuing (now (text .entry)) (now (catalogue .entry)) kind ordinal a b) ⌝ }
 {
-    match parser::check(text, catalogue) {
+    match read::check(text, catalogue) {
         Checked::Refused(_, _) => ValuePlace::StandIn,
-        Checked::Fresh => match lookup::find_field(catalogue, kind, ordinal, a, b) {
+        Checked::Fresh => match catalogue_lookup::find_field(catalogue, kind, ordinal, a, b) {
             Found::Nothing => ValuePlace::StandIn,
             Found::At(p) => ValuePlace::At(p.at, p.len),
         },

@@ -9,9 +9,9 @@ use Rattle.format.specs.Tidy.{tidy}
 use Rattle.format.specs.Calls.{Answer, refused, yes, then, fitting, writing}
 use Rattle.format.specs.Work.{allZeros}
 use Rattle.format.specs.declared.LineNo.{LineNo}
-use Rattle.text.specs.Over.{over}
-use Rattle.parser.specs.Answers.{outputOf}
-use Rattle.parser.proofs.Told.{written-answer}
+use Rattle.byte_slices.specs.Over.{over}
+use Rattle.read.specs.Answers.{outputOf}
+use Rattle.read.proofs.Told.{written-answer}
 use Rattle.format.specs.Carrying.{keptOf, carriedLines, skips, rows, unwritableLine, carrying}
 use Rattle.carry_on.specs.Answers.{carriedOf, textOf, tableOf}
 use Rattle.carry_on.specs.declared.Carried.the-variants.{Refused, Written}

@@ -1,8 +1,8 @@
 // Carrying on after refused lines: they are skipped and listed in a table, and the tidy text of the rest is written.
-use early_lines::Begin;
+use carry_early::Begin;
 use format::LineNo;
 use carry_passes::KeptSizes;
-use per_kind::PerKind;
+use tidy_sizes::PerKind;
 ghost use mathlib.Core.Path.{_≡_};
 ghost use mathlib.Core.Option.{none};
 ghost use Prim.Native.Nat.{_≤_};
@@ -10,7 +10,7 @@ ghost use lib.ListN.{length};
 ghost use Rattle.format.specs.Work.{allZeros};
 ghost use Rattle.tidy_text.specs.Sizes.{sizesOf};
 ghost use Rattle.format.specs.Carrying.{carriedLines, unwritableLine};
-ghost use Rattle.early_lines.specs.First.{First};
+ghost use Rattle.carry_early.specs.First.{First};
 ghost use Rattle.carry_passes.specs.From.{keptFrom, skippedFrom};
 ghost use Rattle.carry_passes.specs.Measured.{measuredFrom};
 ghost use Rattle.carry_on.specs.Answers.{carriedAnswer, textLeft, tableLeft};
@@ -87,7 +87,7 @@ fn carry_indexed(text: &[u8], area: &mut [u32], out: &mut [u8], table: &mut [u32
     ensures wrote { λ _. ⌜ now (out .exit) ≡ textLeft (now (text .entry)) (now (out .entry)) (now (table .entry)) ⌝ }
     ensures listed { λ _. ⌜ now (table .exit) ≡ tableLeft (now (text .entry)) (now (out .entry)) (now (table .entry)) ⌝ }
 {
-    let b = early_lines::find_first(text);
+    let b = carry_early::find_first(text);
     let measured = carry_passes::measure(text, b, area);
     write_measured(text, b, area, measured, out, table)
 }
@@ -110,7 +110,7 @@ fn carry_middle(text: &[u8], out: &mut [u8], table: &mut [u32]) -> Carried
     ensures wrote { λ _. ⌜ now (out .exit) ≡ textLeft (now (text .entry)) (now (out .entry)) (now (table .entry)) ⌝ }
     ensures listed { λ _. ⌜ now (table .exit) ≡ tableLeft (now (text .entry)) (now (out .entry)) (now (table .entry)) ⌝ }
 {
-    let mut area = [0u32; judging::OWN_SLOTS];
+    let mut area = [0u32; read_judge::OWN_SLOTS];
     carry_indexed(text, &mut area, out, table)
 }
 
@@ -121,7 +121,7 @@ fn carry_small(text: &[u8], out: &mut [u8], table: &mut [u32]) -> Carried
     ensures wrote { λ _. ⌜ now (out .exit) ≡ textLeft (now (text .entry)) (now (out .entry)) (now (table .entry)) ⌝ }
     ensures listed { λ _. ⌜ now (table .exit) ≡ tableLeft (now (text .entry)) (now (out .entry)) (now (table .entry)) ⌝ }
 {
-    if text.len() <= judging::SHORT {
+    if text.len() <= read_judge::SHORT {
         return carry_short(text, out, table);
     }
     carry_middle(text, out, table)
@@ -156,10 +156,10 @@ fn carry_lines(text: &[u8], out: &mut [u8], table: &mut [u32]) -> Carried
     ensures wrote { λ _. ⌜ now (out .exit) ≡ textLeft (now (text .entry)) (now (out .entry)) (now (table .entry)) ⌝ }
     ensures listed { λ _. ⌜ now (table .exit) ≡ tableLeft (now (text .entry)) (now (out .entry)) (now (table .entry)) ⌝ }
 {
-    if text.len() <= judging::MIDDLE {
+    if text.len() <= read_judge::MIDDLE {
         return carry_small(text, out, table);
     }
-    let b = early_lines::find_first(text);
+    let b = carry_early::find_first(text);
     carry_long(text, b, out, table, b.line as usize / (format::LONGEST + 1))
 }
 
@@ -186,11 +186,11 @@ fn carry_lent(text: &[u8], out: &mut [u8], table: &mut [u32], area: &mut [u32]) 
     ensures listed { λ _. ⌜ now (table .exit) ≡ tableLeft (now (text .entry)) (now (out .entry)) (now (table .entry)) ⌝ }
     ensures room { λ _. ⌜ length (now (area .exit)) ≡ length (now (area .entry)) ⌝ }
 {
-    if text.len() <= judging::MIDDLE {
+    if text.len() <= read_judge::MIDDLE {
         return carry_small(text, out, table);
     }
-    let n = judging::least(area.len(), text.len() / 8);
-    if n <= judging::OWN_SLOTS {
+    let n = read_judge::least(area.len(), text.len() / 8);
+    if n <= read_judge::OWN_SLOTS {
         return carry_small(text, out, table);
     }
     let front = &mut area[..n];

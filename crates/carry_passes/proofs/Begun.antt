@@ -5,14 +5,14 @@ use mathlib.Core.List.{List, []}
 use native.Mathlib.Omega.{arith}
 use Rattle.format.specs.Reading.{ofKind}
 use Rattle.format.specs.Slots.{Held}
-use Rattle.text.specs.Stands.{Each}
+use Rattle.byte_slices.specs.Stands.{Each}
 use Rattle.key_index.specs.Told.{start}
 use Rattle.key_index.specs.HeldKeys.{keyValuesOf}
 use Rattle.format.specs.Carrying.{keptOf}
-use Rattle.carried.specs.Judged.{judgedFrom}
-use Rattle.early_lines.specs.First.{First}
-use Rattle.early_lines.specs.declared.Begin.{Begin}
-use Rattle.kept_lines.specs.Going.{Going}
+use Rattle.carry_laws.specs.Judged.{judgedFrom}
+use Rattle.carry_early.specs.First.{First}
+use Rattle.carry_early.specs.declared.Begin.{Begin}
+use Rattle.carry_lines.specs.Going.{Going}
 use Rattle.carry_passes.specs.From.{Fresh}
 
 pub begun : (t : List ℕ) (b : Begin) (area ids : List ℕ) → First t b → Fresh t area ids

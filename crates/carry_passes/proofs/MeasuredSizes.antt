@@ -5,10 +5,10 @@ use mathlib.Core.List.{List}
 use mathlib.Core.Option.{Option, none, some}
 use Rattle.format.specs.declared.LineNo.{LineNo}
 use Rattle.format.specs.Calls.{Answer, refused, yes, writing}
-use Rattle.early_lines.specs.declared.Begin.{Begin}
+use Rattle.carry_early.specs.declared.Begin.{Begin}
 use Rattle.carry_passes.specs.From.{unwritableFrom}
 use Rattle.accepted.proofs.Bools.{never}
-use Rattle.per_kind.specs.declared.PerKind.{PerKind}
+use Rattle.tidy_sizes.specs.declared.PerKind.{PerKind}
 use Rattle.carry_passes.specs.Measured.{keptMeasured, measuredFrom, keptAnswer, KeptTold}
 use Rattle.carry_passes.specs.declared.KeptSizes.{KeptSizes}
 use Rattle.carry_passes.specs.declared.KeptSizes.the-variants as measured

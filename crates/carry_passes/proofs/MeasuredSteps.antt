@@ -10,16 +10,16 @@ use Rattle.format.specs.Records.{Record, Line, refusedLine, read}
 use Rattle.format.specs.Tidy.{tidy}
 use Rattle.format.specs.declared.Kind.{Kind}
 use Rattle.accepted.proofs.Bools.{never}
-use Rattle.writer.specs.Line.{lineText, lineWritable}
-use Rattle.per_kind.specs.Numbers.{get}
-use Rattle.per_kind.specs.declared.PerKind.{PerKind}
+use Rattle.tidy_line.specs.Line.{lineText, lineWritable}
+use Rattle.tidy_sizes.specs.Numbers.{get}
+use Rattle.tidy_sizes.specs.declared.PerKind.{PerKind}
 use Rattle.tidy_text.specs.Sizes.{grownBy}
 use Rattle.tidy_text.specs.declared.Grown.the-variants as grown
 use Rattle.tidy_text.proofs.Total.{size}
 use Rattle.tidy_text.proofs.Sizes.{size-turn, own-size, size-le}
 use Rattle.tidy_text.proofs.Names.{cond-is, grew-bad, grew-is}
 use Rattle.format.specs.Carrying.{keptOf, unwritableLine}
-use Rattle.kept_lines.specs.declared.Cursor.{Cursor}
+use Rattle.carry_lines.specs.declared.Cursor.{Cursor}
 use Rattle.carry_passes.specs.Turn.{Turn}
 use Rattle.carry_passes.proofs.Steps as at
 use Rattle.carry_passes.proofs.Steps.{goes, left-kept, left-skipped, records-kept, records-skipped}

@@ -11,18 +11,18 @@ use Rattle.format.specs.Records.{Line, refusedLine, read}
 use Rattle.format.specs.Reading.{announced, isStrict, admitted}
 use Rattle.format.specs.Tidy.{tidy}
 use Rattle.format.specs.declared.Version.{Version}
-use Rattle.repeat_rule.specs.Rule.{strictAfter}
+use Rattle.read_repeat_rule.specs.Rule.{strictAfter}
 use Rattle.accepted.proofs.Onward.{lines-count}
-use Rattle.roundtrip.proofs.Total.{gathered-length}
+use Rattle.tidy_laws.proofs.Total.{gathered-length}
 use Rattle.format.specs.Carrying.{keptOf, ruling, carriedFrom, carriedLines, skips, rows, unwritableLine}
-use Rattle.carried.specs.Judged.{judgedFrom}
-use Rattle.carried.proofs.Judged.{steady}
-use Rattle.carried.proofs.Count.{judged-length, skips-kept, rows-length}
-use Rattle.carried.proofs.Kept.{carried-gathered}
-use Rattle.early_lines.specs.Early.{Early, withLine, earlyFrom, earlyOf, rowsFrom}
-use Rattle.early_lines.specs.First.{First}
-use Rattle.early_lines.specs.declared.Begin.{Begin}
-use Rattle.kept_lines.specs.Going.{judgedLines}
+use Rattle.carry_laws.specs.Judged.{judgedFrom}
+use Rattle.carry_laws.proofs.Judged.{steady}
+use Rattle.carry_laws.proofs.Count.{judged-length, skips-kept, rows-length}
+use Rattle.carry_laws.proofs.Kept.{carried-gathered}
+use Rattle.carry_early.specs.Early.{Early, withLine, earlyFrom, earlyOf, rowsFrom}
+use Rattle.carry_early.specs.First.{First}
+use Rattle.carry_early.specs.declared.Begin.{Begin}
+use Rattle.carry_lines.specs.Going.{judgedLines}
 use Rattle.carry_passes.specs.From.{linesKeptFrom, keptFrom, skippedFrom, rowsOf, unwritableFrom}
 
 -- the rule by the version, a line further

@@ -7,13 +7,13 @@ use lib.ListN.{drop}
 use Rattle.format.specs.Records.{Line, refusedLine, read, line}
 use Rattle.format.specs.declared.Kind.{Kind}
 use Rattle.accepted.specs.Read.{isRead}
-use Rattle.writer.specs.Line.{lineText}
+use Rattle.tidy_line.specs.Line.{lineText}
 use Rattle.tidy_text.specs.Accepted.{withRecord}
 use Rattle.tidy_text.specs.Kinds.{lineKind, kindText}
 use Rattle.tidy_text.proofs.OfKind.{only, line-kind}
 use Rattle.format.specs.Carrying.{keptOf}
-use Rattle.kept_lines.specs.Going.{judgedLines}
-use Rattle.kept_lines.specs.declared.Cursor.{Cursor}
+use Rattle.carry_lines.specs.Going.{judgedLines}
+use Rattle.carry_lines.specs.declared.Cursor.{Cursor}
 use Rattle.carry_passes.specs.Turn.{lentTo, Turn}
 
 kept-onto : (l : Line) (ls : List Line) → keptOf (l ∷ ls) ≡ withRecord l (keptOf ls)

@@ -9,19 +9,19 @@ use lib.Seq.{take-at, drop-at, drop-drop, take-add}
 use Rattle.format.specs.Lines.{Piece}
 use Rattle.format.specs.Records.{Line, line}
 use Rattle.format.specs.Reading.{admitted}
-use Rattle.text.specs.First.{firstLine}
-use Rattle.text.proofs.First.{first-le}
+use Rattle.byte_slices.specs.First.{firstLine}
+use Rattle.byte_slices.proofs.First.{first-le}
 use Rattle.accepted.specs.First.{firstAt}
 use Rattle.accepted.specs.Read.{isRead}
 use Rattle.accepted.proofs.Ahead.{ahead, ahead-none, ahead-one, first-length, next-within, next-more}
-use Rattle.admission.specs.Admission.{lineRefusal}
-use Rattle.admission.proofs.Admission.{refusal-none, refusal-some}
+use Rattle.read_admission.specs.Admission.{lineRefusal}
+use Rattle.read_admission.proofs.Admission.{refusal-none, refusal-some}
 use Rattle.format.specs.Carrying.{keptOf, skips}
-use Rattle.carried.specs.Judged.{judgedFrom}
-use Rattle.carried.proofs.Judged.{kept-append, judged-append}
-use Rattle.carried.proofs.Count.{judged-length, skips-kept}
-use Rattle.kept_lines.specs.Going.{Going, judgedLines, refusalAt, refusalFirst}
-use Rattle.kept_lines.specs.declared.Cursor.{Cursor}
+use Rattle.carry_laws.specs.Judged.{judgedFrom}
+use Rattle.carry_laws.proofs.Judged.{kept-append, judged-append}
+use Rattle.carry_laws.proofs.Count.{judged-length, skips-kept}
+use Rattle.carry_lines.specs.Going.{Going, judgedLines, refusalAt, refusalFirst}
+use Rattle.carry_lines.specs.declared.Cursor.{Cursor}
 use Rattle.carry_passes.specs.Turn.{lentTo, Turn}
 
 -- what stands behind the first of some lines

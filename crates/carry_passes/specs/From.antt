@@ -8,8 +8,8 @@ use Rattle.format.specs.Records.{Record, Line}
 use Rattle.format.specs.Slots.{Held}
 use Rattle.key_index.specs.Told.{start}
 use Rattle.format.specs.Carrying.{keptOf, Skip, skips, rows, unwritableLine}
-use Rattle.early_lines.specs.declared.Begin.{Begin}
-use Rattle.kept_lines.specs.Going.{judgedLines}
+use Rattle.carry_early.specs.declared.Begin.{Begin}
+use Rattle.carry_lines.specs.Going.{judgedLines}
 
 -- before a pass: room for the keys of a block of lines, and no program is in the slots `ids`
 pub record Fresh (t area ids : List ℕ) : Type 0 where

@@ -7,11 +7,11 @@ use lib.ListN.{length}
 use Rattle.format.specs.Records.{Line}
 use Rattle.format.specs.Calls.{Answer, refused, yes, writing}
 use Rattle.format.specs.declared.Kind.{Kind}
-use Rattle.per_kind.specs.declared.PerKind.{PerKind}
+use Rattle.tidy_sizes.specs.declared.PerKind.{PerKind}
 use Rattle.tidy_text.specs.Sizes.{grownBy, sizesOf}
 use Rattle.tidy_text.specs.declared.Grown.{Grown}
 use Rattle.tidy_text.specs.declared.Grown.the-variants as grown
-use Rattle.early_lines.specs.declared.Begin.{Begin}
+use Rattle.carry_early.specs.declared.Begin.{Begin}
 use Rattle.carry_passes.specs.From.{keptFrom, skippedFrom, unwritableFrom}
 use Rattle.carry_passes.specs.declared.KeptSizes.{KeptSizes}
 use Rattle.carry_passes.specs.declared.KeptSizes.the-variants as measured

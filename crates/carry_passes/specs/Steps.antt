@@ -5,14 +5,14 @@ use mathlib.Core.List.{List, [], _∷_}
 use lib.ListN.{length}
 use Rattle.format.specs.Records.{Line, line}
 use Rattle.format.specs.declared.Kind.{Kind}
-use Rattle.text.specs.Over.{over}
-use Rattle.writer.specs.Line.{lineText}
-use Rattle.per_kind.specs.Numbers.{get, plus}
-use Rattle.per_kind.specs.declared.PerKind.{PerKind}
+use Rattle.byte_slices.specs.Over.{over}
+use Rattle.tidy_line.specs.Line.{lineText}
+use Rattle.tidy_sizes.specs.Numbers.{get, plus}
+use Rattle.tidy_sizes.specs.declared.PerKind.{PerKind}
 use Rattle.tidy_text.specs.Kinds.{lineKind}
-use Rattle.early_lines.specs.declared.Begin.{Begin}
-use Rattle.kept_lines.specs.declared.Cursor.{Cursor}
-use Rattle.kept_lines.specs.declared.Step.{Step}
+use Rattle.carry_early.specs.declared.Begin.{Begin}
+use Rattle.carry_lines.specs.declared.Cursor.{Cursor}
+use Rattle.carry_lines.specs.declared.Step.{Step}
 use Rattle.carry_passes.specs.Turn.{lentTo}
 
 -- ---- by the line and its kind: `n` is 0 where it is kept, and else why it is skipped

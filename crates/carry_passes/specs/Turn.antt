@@ -5,10 +5,10 @@ use mathlib.Core.Bool.{Bool, true}
 use mathlib.Core.List.{List, _∷_}
 use lib.ListN.{length, take, drop}
 use Rattle.format.specs.Records.{Line, refusedLine, line}
-use Rattle.text.specs.First.{firstLine}
+use Rattle.byte_slices.specs.First.{firstLine}
 use Rattle.accepted.specs.Read.{isRead}
-use Rattle.kept_lines.specs.Going.{judgedLines}
-use Rattle.kept_lines.specs.declared.Cursor.{Cursor}
+use Rattle.carry_lines.specs.Going.{judgedLines}
+use Rattle.carry_lines.specs.declared.Cursor.{Cursor}
 
 -- the part of the text that a line is lent as
 abbrev pub lentTo : List ℕ → ℕ → ℕ → List ℕ

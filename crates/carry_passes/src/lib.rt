@@ -1,9 +1,9 @@
 // Carrying on, the pass that measures: how long the tidy text is of the lines that are kept, and how many lines are skipped.
 pub mod writing;
-use early_lines::Begin;
+use carry_early::Begin;
 use format::LineNo;
-use kept_lines::Cursor;
-use per_kind::PerKind;
+use carry_lines::Cursor;
+use tidy_sizes::PerKind;
 use tidy_text::Grown;
 ghost use mathlib.Core.Path.{_≡_};
 ghost use mathlib.Core.Bool.{true};
@@ -12,9 +12,9 @@ ghost use lib.ListN.{length};
 ghost use Rattle.format.specs.Records.{line};
 ghost use Rattle.format.specs.Work.{allZeros};
 ghost use Rattle.accepted.specs.Read.{isRead};
-ghost use Rattle.per_kind.specs.Numbers.{get};
+ghost use Rattle.tidy_sizes.specs.Numbers.{get};
 ghost use Rattle.tidy_text.specs.Kinds.{lineKind, tidyLine};
-ghost use Rattle.early_lines.specs.First.{First};
+ghost use Rattle.carry_early.specs.First.{First};
 ghost use Rattle.carry_passes.specs.From.{Fresh};
 ghost use Rattle.carry_passes.specs.Measured.{grownAt, measuredFrom, KeptTold};
 
@@ -55,7 +55,7 @@ fn measure_lines(text: &[u8], b: Begin, area: &mut [u32], ids: &mut [u32]) -> Ke
         programs: 0,
     };
     while c.at < text.len() {
-        let step = kept_lines::next_line(text, b.strict, b.at, area, ids, c);
+        let step = carry_lines::next_line(text, b.strict, b.at, area, ids, c);
         let at = c.at;
         let end = step.end;
         let grown = with_step(sizes, &text[at..end], at, b.strict, step.refusal);

@@ -1,19 +1,19 @@
 // Carrying on, the pass that writes: the tidy text of the lines that are kept, and the table of those that are skipped.
-use early_lines::Begin;
-use kept_lines::Cursor;
-use kept_lines::Step;
-use per_kind::PerKind;
+use carry_early::Begin;
+use carry_lines::Cursor;
+use carry_lines::Step;
+use tidy_sizes::PerKind;
 ghost use mathlib.Core.Path.{_≡_};
 ghost use Prim.Native.Nat.{_≤_, _+_, _*_};
 ghost use lib.ListN.{length};
 ghost use Rattle.format.specs.Tidy.{tidy};
 ghost use Rattle.format.specs.Work.{allZeros};
-ghost use Rattle.text.specs.Over.{over};
-ghost use Rattle.per_kind.specs.Numbers.{kindStarts};
+ghost use Rattle.byte_slices.specs.Over.{over};
+ghost use Rattle.tidy_sizes.specs.Numbers.{kindStarts};
 ghost use Rattle.tidy_text.specs.Sizes.{sizesOf};
 ghost use Rattle.tidy_text.specs.Placed.{withParts, parts, Apart};
 ghost use Rattle.format.specs.Carrying.{keptOf, carriedLines, skips, rows};
-ghost use Rattle.early_lines.specs.First.{First};
+ghost use Rattle.carry_early.specs.First.{First};
 ghost use Rattle.carry_passes.specs.From.{Fresh, keptFrom, rowsOf};
 ghost use Rattle.carry_passes.specs.Turn.{Turn};
 ghost use Rattle.carry_passes.specs.Steps.{RoomFor, placesAfter, outAfter, tableAfter};
@@ -39,7 +39,7 @@ fn put_step(
     let n = step.refusal;
     if n != 0 {
         let row = b.line as usize + (c.line - c.kept);
-        early_lines::put_row(table, row, b.line + c.line as u32, n);
+        carry_early::put_row(table, row, b.line + c.line as u32, n);
         return places;
     }
     let at = c.at;
@@ -74,7 +74,7 @@ fn put_lines(
         programs: 0,
     };
     while c.at < text.len() {
-        let step = kept_lines::next_line(text, b.strict, b.at, area, ids, c);
+        let step = carry_lines::next_line(text, b.strict, b.at, area, ids, c);
         next = put_step(text, b, c, step, next, out, table);
         c = step.next;
     }
@@ -99,7 +99,7 @@ pub fn put_all(
     ensures listed { λ _. ⌜ now (table .exit) ≡ over (now (table .entry)) 0 (rows (skips 0 (carriedLines (now (text .entry))))) ⌝ }
     ensures zeros { λ _. ⌜ now (area .exit) ≡ allZeros (now (area .entry)) ⌝ }
 {
-    early_lines::put_early(text, b.line, table);
+    carry_early::put_early(text, b.line, table);
     let mut ids = [0u32; 2048];
     put_lines(text, b, area, &mut ids, places, out, table);
     key_index::clear(area);

@@ -3,7 +3,7 @@ ghost use mathlib.Core.Path.{_≡_};
 ghost use Prim.Native.Nat.{suc, _≤_, _+_, _^_};
 ghost use lib.ListN.{length};
 ghost use Rattle.format.specs.Decimal.{written};
-ghost use Rattle.text.specs.Over.{over};
+ghost use Rattle.byte_slices.specs.Over.{over};
 ghost use Rattle.decimal.specs.Number.{numberAtFront, NumberTold};
 
 // What stands at the front of a slice: its worth and how many digits it has.

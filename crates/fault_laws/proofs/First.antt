@@ -11,8 +11,8 @@ use Rattle.format.specs.Programs.{Link, root, isDangling, reaches, links, progr
 use Rattle.format.specs.Tidy.{isWritable}
 use Rattle.format.specs.Calls.{records}
 use Rattle.format.specs.Carrying.{keptOf, carriedLines, Skip, skips}
-use Rattle.carried.specs.Carried.{unlessSkipped}
-use Rattle.carried.proofs.Skips.{reads}
+use Rattle.carry_laws.specs.Carried.{unlessSkipped}
+use Rattle.carry_laws.proofs.Skips.{reads}
 use Rattle.format.specs.Faults.{linkFault, recordFault, nextProgram, ifFaulty, faultsFrom, faultsIn}
 use Rattle.fault_laws.specs.First.{isLater, ofReading, FirstFault}
 use Rattle.fault_laws.proofs.Early.{cond-both, Early, AllEarly, all-early}

@@ -16,16 +16,16 @@ use Rattle.format.specs.Catalogue.{catalogue}
 use Rattle.format.specs.Programs.{links, programs, leaves, hops, tangled}
 use Rattle.format.specs.Tidy.{tidy, unwritable}
 use Rattle.format.specs.Calls.{Answer, refused, yes, then, records, reading, fitting, writing, tidying, current, fresh, untangled, leafing}
-use Rattle.text.proofs.Equal.{same-self}
+use Rattle.byte_slices.proofs.Equal.{same-self}
 use Rattle.accepted.proofs.Bools.{never}
-use Rattle.roundtrip.proofs.Total.{gathered-length}
-use Rattle.parents.proofs.Numbers.{links-count}
+use Rattle.tidy_laws.proofs.Total.{gathered-length}
+use Rattle.program_parents.proofs.Numbers.{links-count}
 use Rattle.format.specs.Carrying.{keptOf, carriedLines, Skip, skips}
-use Rattle.carried.specs.Carried.{unlessSkipped}
-use Rattle.carried.proofs.Skips.{reads}
-use Rattle.carried.proofs.Kept.{carried-gathered}
+use Rattle.carry_laws.specs.Carried.{unlessSkipped}
+use Rattle.carry_laws.proofs.Skips.{reads}
+use Rattle.carry_laws.proofs.Kept.{carried-gathered}
 use Rattle.format.specs.Faults.{linkFault, faultsIn}
-use Rattle.faulty.specs.Law.{AllAccept, FaultsTell}
+use Rattle.fault_rules.specs.Law.{AllAccept, FaultsTell}
 use Rattle.fault_laws.proofs.None.{Clear, clear, cleared, faults-untangled, untangled-faults}
 
 -- what fits

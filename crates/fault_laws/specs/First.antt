@@ -8,7 +8,7 @@ use lib.ListN.{length}
 use lib.Dec.{eqb}
 use Rattle.format.specs.Calls.{records}
 use Rattle.format.specs.Carrying.{keptOf, carriedLines, Skip}
-use Rattle.carried.specs.Carried.{unlessSkipped}
+use Rattle.carry_laws.specs.Carried.{unlessSkipped}
 use Rattle.format.specs.Faults.{faultsIn}
 
 -- a PP that names no program, a program that comes back to itself, a name that can't be written: reading accepts such lines

@@ -9,12 +9,12 @@ use lib.ListN.{length, getD, length-map}
 use lib.Dec.{eqb, ltb}
 use borrow.Author.Tests.{eq-eqb, ne-eqb, lt-ltb, le-ltb}
 use Rattle.format.specs.Programs.{Program, Link, root, dangling, child, isDangling, reaches, links, programs}
-use Rattle.text.specs.Stands.{Each}
+use Rattle.byte_slices.specs.Stands.{Each}
 use Rattle.accepted.proofs.Pairs.{each-at}
-use Rattle.chains.proofs.Walks.{map-at, reaches-root, reaches-none}
-use Rattle.chains.proofs.Paths.{Below}
-use Rattle.parents.specs.Parents.{linkNumber}
-use Rattle.kept_programs.specs.Plain.{oneIf}
+use Rattle.program_chains.proofs.Walks.{map-at, reaches-root, reaches-none}
+use Rattle.program_chains.proofs.Paths.{Below}
+use Rattle.program_parents.specs.Parents.{linkNumber}
+use Rattle.fault_programs.specs.Plain.{oneIf}
 use Rattle.format.specs.Faults.{linkFault}
 use Rattle.fault_lines.specs.Links.{linkIn, linksIn, Within, linkCount, stepFault}
 

@@ -14,16 +14,16 @@ use Rattle.format.specs.Programs.{Link, programs}
 use Rattle.format.specs.Tidy.{isWritable}
 use Rattle.accepted.specs.Read.{isRead}
 use Rattle.accepted.proofs.Bools.{never}
-use Rattle.text.specs.Over.{over}
-use Rattle.text.proofs.Over.{over-over}
-use Rattle.writer.specs.Line.{lineWritable}
+use Rattle.byte_slices.specs.Over.{over}
+use Rattle.byte_slices.proofs.Over.{over-over}
+use Rattle.tidy_line.specs.Line.{lineWritable}
 use Rattle.format.specs.Carrying.{keptOf, Skip, rows}
-use Rattle.carried.proofs.Count.{rows-length}
-use Rattle.kept_lines.specs.Going.{Going, judgedLines}
-use Rattle.kept_lines.specs.declared.Cursor.{Cursor}
+use Rattle.carry_laws.proofs.Count.{rows-length}
+use Rattle.carry_lines.specs.Going.{Going, judgedLines}
+use Rattle.carry_lines.specs.declared.Cursor.{Cursor}
 use Rattle.carry_passes.specs.Turn.{lentTo, Turn}
-use Rattle.kept_programs.specs.Plain.{plainAt, oneIf, plainCount}
-use Rattle.kept_programs.proofs.Turns.{programsIn, programs-append, programs-done}
+use Rattle.fault_programs.specs.Plain.{plainAt, oneIf, plainCount}
+use Rattle.fault_programs.proofs.Turns.{programsIn, programs-append, programs-done}
 use Rattle.format.specs.Faults.{linkFault, recordFault, nextProgram, ifFaulty, faultsFrom}
 use Rattle.fault_lines.specs.Links.{linkCount, stepFault}
 

@@ -5,7 +5,7 @@ use mathlib.Core.List.{List, map}
 use lib.ListN.{length, getD}
 use lib.Dec.{eqb, ltb}
 use Rattle.format.specs.Programs.{Link, root, dangling, child}
-use Rattle.kept_programs.specs.Plain.{oneIf}
+use Rattle.fault_programs.specs.Plain.{oneIf}
 use Rattle.format.specs.Faults.{linkFault}
 
 -- 4,294,967,294 is a stranger, and above it is nobody

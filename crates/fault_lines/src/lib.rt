@@ -1,13 +1,13 @@
 // The faulty lines of a text from the first that is kept on: how many programs are faulty by their parents, and the rows of all in one pass.
-use early_lines::Begin;
-use kept_lines::Cursor;
+use carry_early::Begin;
+use carry_lines::Cursor;
 ghost use mathlib.Core.Path.{_≡_};
 ghost use Prim.Native.Nat.{_≤_, _<_, _+_, _*_};
 ghost use lib.ListN.{length};
 ghost use Rattle.format.specs.Programs.{programs};
-ghost use Rattle.text.specs.Over.{over};
+ghost use Rattle.byte_slices.specs.Over.{over};
 ghost use Rattle.format.specs.Carrying.{rows};
-ghost use Rattle.early_lines.specs.First.{First};
+ghost use Rattle.carry_early.specs.First.{First};
 ghost use Rattle.carry_passes.specs.From.{Fresh, linesKeptFrom, keptFrom};
 ghost use Rattle.format.specs.Faults.{linkFault, faultsFrom};
 ghost use Rattle.fault_lines.specs.Links.{linksIn, Within, linkCount, stepFault};
@@ -19,12 +19,12 @@ fn link_fault(parents: &[u32], i: usize) -> u8
     ensures { λ r. ⌜ r ≡ linkFault (linksIn (now (parents .entry))) i ⌝ }
 {
     let mut at: u32 = parents[i];
-    if at == parents::STRANGER {
+    if at == program_parents::STRANGER {
         return 22;
     }
     let mut left: usize = parents.len();
     while 0 < left {
-        if parents::STRANGER <= at {
+        if program_parents::STRANGER <= at {
             return 0;
         }
         let k = at as usize;
@@ -46,7 +46,7 @@ pub fn count_links(parents: &[u32]) -> usize
     let mut n: usize = 0;
     let mut i: usize = 0;
     while i < parents.len() {
-        n += kept_programs::one_if(link_fault(parents, i));
+        n += fault_programs::one_if(link_fault(parents, i));
         i += 1;
     }
     n
@@ -94,18 +94,18 @@ pub fn put_lines(
         programs: 0,
     };
     while c.at < text.len() {
-        let step = kept_lines::next_line(text, b.strict, b.at, area, ids, c);
+        let step = carry_lines::next_line(text, b.strict, b.at, area, ids, c);
         let at = c.at;
         let end = step.end;
         let i = c.programs;
         let line = b.line + c.line as u32;
-        let plain = kept_programs::plain_fault(&text[at..end], at, b.strict, step.refusal);
+        let plain = fault_programs::plain_fault(&text[at..end], at, b.strict, step.refusal);
         c = step.next;
         let n = step_fault(parents, i, c.programs, plain);
         if n == 0 {
             continue;
         }
-        early_lines::put_row(table, row, line, n);
+        carry_early::put_row(table, row, line, n);
         row += 1;
     }
 }

@@ -11,30 +11,30 @@ use Rattle.format.specs.Reading.{longest, ofKind}
 use Rattle.format.specs.Programs.{Link, links, programs, programOf}
 use Rattle.format.specs.Calls.{Answer, refused, yes, fitting}
 use Rattle.format.specs.declared.LineNo.{LineNo}
-use Rattle.text.specs.Over.{over}
-use Rattle.text.specs.Stands.{Each}
+use Rattle.byte_slices.specs.Over.{over}
+use Rattle.byte_slices.specs.Stands.{Each}
 use Rattle.accepted.proofs.Onward.{lines-count}
 use Rattle.accepted.proofs.Apart.{unbarred-programs}
-use Rattle.chains.specs.Parents.{inArray}
-use Rattle.chains.proofs.Arrays.{front, front-inside}
-use Rattle.chains.proofs.Paths.{Below}
-use Rattle.parser.specs.Answers.{outputOf}
-use Rattle.parser.specs.declared.CountAnswer.the-variants.{Refused, Count}
-use Rattle.parser.proofs.Told.{written-answer}
-use Rattle.parents.specs.Parents.{linkNumber}
-use Rattle.parents.proofs.Numbers.{numbers, numbers-count, links-count, link-below}
+use Rattle.program_chains.specs.Parents.{inArray}
+use Rattle.program_chains.proofs.Arrays.{front, front-inside}
+use Rattle.program_chains.proofs.Paths.{Below}
+use Rattle.read.specs.Answers.{outputOf}
+use Rattle.read.specs.declared.CountAnswer.the-variants.{Refused, Count}
+use Rattle.read.proofs.Told.{written-answer}
+use Rattle.program_parents.specs.Parents.{linkNumber}
+use Rattle.program_parents.proofs.Numbers.{numbers, numbers-count, links-count, link-below}
 use Rattle.format.specs.Carrying.{keptOf, carriedLines, Skip, rows}
-use Rattle.carried.proofs.Count.{rows-length, judged-length}
-use Rattle.carried.proofs.Kept.{carried-gathered}
-use Rattle.early_lines.specs.Early.{earlyOf, rowsFrom}
-use Rattle.early_lines.specs.First.{First}
-use Rattle.early_lines.specs.declared.Begin.{Begin}
+use Rattle.carry_laws.proofs.Count.{rows-length, judged-length}
+use Rattle.carry_laws.proofs.Kept.{carried-gathered}
+use Rattle.carry_early.specs.Early.{earlyOf, rowsFrom}
+use Rattle.carry_early.specs.First.{First}
+use Rattle.carry_early.specs.declared.Begin.{Begin}
 use Rattle.carry_passes.specs.From.{linesKeptFrom, keptFrom}
 use Rattle.carry_passes.proofs.Split.{lined, first-kept, early-rows}
-use Rattle.kept_lines.specs.Going.{judgedLines}
-use Rattle.kept_programs.specs.Plain.{plainAt, plainCount}
-use Rattle.kept_programs.proofs.Turns.{one-le}
-use Rattle.kept_programs.specs.declared.KeptLinks.{KeptLinks}
+use Rattle.carry_lines.specs.Going.{judgedLines}
+use Rattle.fault_programs.specs.Plain.{plainAt, plainCount}
+use Rattle.fault_programs.proofs.Turns.{one-le}
+use Rattle.fault_programs.specs.declared.KeptLinks.{KeptLinks}
 use Rattle.format.specs.Faults.{linkFault, faultsFrom, faultsIn, faulting}
 use Rattle.fault_lines.specs.Links.{linksIn, Within, linkCount}
 use Rattle.fault_lines.proofs.Links.{same-links, all-within}

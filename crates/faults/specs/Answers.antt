@@ -5,14 +5,14 @@ use mathlib.Core.List.{List, map}
 use lib.ListN.{length}
 use Rattle.format.specs.Programs.{links, programs}
 use Rattle.format.specs.Calls.{Answer, refused, yes}
-use Rattle.chains.specs.Parents.{inArray}
-use Rattle.parser.specs.declared.CountAnswer.{CountAnswer}
-use Rattle.parser.specs.declared.CountAnswer.the-variants.{Refused, Count}
-use Rattle.parents.specs.Parents.{linkNumber}
-use Rattle.early_lines.specs.declared.Begin.{Begin}
+use Rattle.program_chains.specs.Parents.{inArray}
+use Rattle.read.specs.declared.CountAnswer.{CountAnswer}
+use Rattle.read.specs.declared.CountAnswer.the-variants.{Refused, Count}
+use Rattle.program_parents.specs.Parents.{linkNumber}
+use Rattle.carry_early.specs.declared.Begin.{Begin}
 use Rattle.carry_passes.specs.From.{linesKeptFrom, keptFrom}
-use Rattle.kept_programs.specs.Plain.{plainCount}
-use Rattle.kept_programs.specs.declared.KeptLinks.{KeptLinks}
+use Rattle.fault_programs.specs.Plain.{plainCount}
+use Rattle.fault_programs.specs.declared.KeptLinks.{KeptLinks}
 
 -- a refusal and its line; or how many lines are faulty, of which each has two numbers in the table
 unfoldable pub faultyLines : Answer (List ℕ) → CountAnswer

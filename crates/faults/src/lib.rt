@@ -1,14 +1,14 @@
 // The faults of a text: for each faulty line its number and why, in a table.
-use early_lines::Begin;
+use carry_early::Begin;
 use format::LineNo;
-use kept_programs::KeptLinks;
-use parser::CountAnswer;
+use fault_programs::KeptLinks;
+use read::CountAnswer;
 ghost use mathlib.Core.Path.{_≡_};
 ghost use mathlib.Core.List.{map};
 ghost use Prim.Native.Nat.{_≤_};
 ghost use lib.ListN.{length};
-ghost use Rattle.parser.specs.Answers.{outputOf};
-ghost use Rattle.early_lines.specs.First.{First};
+ghost use Rattle.read.specs.Answers.{outputOf};
+ghost use Rattle.carry_early.specs.First.{First};
 ghost use Rattle.format.specs.Faults.{faulting};
 ghost use Rattle.faults.specs.Answers.{IsLinks, faultyLines};
 
@@ -33,7 +33,7 @@ fn write_faults(
     if table.len() < lines * 2 {
         return CountAnswer::Refused(20, LineNo(0));
     }
-    early_lines::put_early(text, b.line, table);
+    carry_early::put_early(text, b.line, table);
     let mut ids = [0u32; 2048];
     fault_lines::put_lines(text, b, area, &mut ids, &parents[..count], table);
     CountAnswer::Count(lines)
@@ -46,8 +46,8 @@ fn faults_indexed(text: &[u8], area: &mut [u32], table: &mut [u32]) -> CountAnsw
     ensures answer { λ r. ⌜ r ≡ faultyLines (faulting (now (text .entry)) (length (now (table .entry)))) ⌝ }
     ensures listed { λ _. ⌜ now (table .exit) ≡ outputOf (faulting (now (text .entry)) (length (now (table .entry)))) (now (table .entry)) ⌝ }
 {
-    let b = early_lines::find_first(text);
-    let links = kept_programs::link_kept(text, b, area);
+    let b = carry_early::find_first(text);
+    let links = fault_programs::link_kept(text, b, area);
     write_faults(text, b, area, links, table)
 }
 
@@ -67,7 +67,7 @@ fn faults_middle(text: &[u8], table: &mut [u32]) -> CountAnswer
     ensures answer { λ r. ⌜ r ≡ faultyLines (faulting (now (text .entry)) (length (now (table .entry)))) ⌝ }
     ensures listed { λ _. ⌜ now (table .exit) ≡ outputOf (faulting (now (text .entry)) (length (now (table .entry)))) (now (table .entry)) ⌝ }
 {
-    let mut area = [0u32; judging::OWN_SLOTS];
+    let mut area = [0u32; read_judge::OWN_SLOTS];
     faults_indexed(text, &mut area, table)
 }
 
@@ -80,7 +80,7 @@ fn faults_long(text: &[u8], b: Begin, table: &mut [u32], more: usize) -> CountAn
     ensures listed { λ _. ⌜ now (table .exit) ≡ outputOf (faulting (now (text .entry)) (length (now (table .entry)))) (now (table .entry)) ⌝ }
 {
     let mut area = [0u32; 196608];
-    let links = kept_programs::link_kept(text, b, &mut area);
+    let links = fault_programs::link_kept(text, b, &mut area);
     if 0 < more {
         return match faults_long(text, b, table, more - 1) {
             CountAnswer::Refused(n, line) => CountAnswer::Refused(n, line),
@@ -96,13 +96,13 @@ fn faults_by_length(text: &[u8], table: &mut [u32]) -> CountAnswer
     ensures answer { λ r. ⌜ r ≡ faultyLines (faulting (now (text .entry)) (length (now (table .entry)))) ⌝ }
     ensures listed { λ _. ⌜ now (table .exit) ≡ outputOf (faulting (now (text .entry)) (length (now (table .entry)))) (now (table .entry)) ⌝ }
 {
-    if text.len() <= judging::SHORT {
+    if text.len() <= read_judge::SHORT {
         return faults_short(text, table);
     }
-    if text.len() <= judging::MIDDLE {
+    if text.len() <= read_judge::MIDDLE {
         return faults_middle(text, table);
     }
-    let b = early_lines::find_first(text);
+    let b = carry_early::find_first(text);
     faults_long(text, b, table, b.line as usize / (format::LONGEST + 1))
 }
 

@@ -18,7 +18,7 @@ use Rattle.format.specs.Version.{version}
 use Rattle.format.specs.declared.Version.{Version}
 use Rattle.format.specs.declared.Kind.{Kind}
 use Rattle.format.specs.declared.Kind.the-variants.{Header, ReferenceSequence}
-use Rattle.text.specs.Upto.{before}
+use Rattle.byte_slices.specs.Upto.{before}
 use Rattle.field_tag.specs.Numbers.{isVersion, isLength}
 use Rattle.field.proofs.value.Taken.{some-value, none-allowed}
 use Rattle.field.specs.Parsed.{parsedOf, fieldNumbers}

@@ -17,7 +17,7 @@ use Rattle.format.specs.declared.Kind.the-variants.{Header, ReferenceSequence, 
 use Rattle.field_tag.specs.Numbers.{isVersion, isLength}
 use Rattle.field.specs.Taken.{takenOf}
 use Rattle.field.proofs.value.Taken.{a-value, no-value, none-allowed}
-use Rattle.length.specs.Parsed.{parsedLengthOf}
+use Rattle.field_length.specs.Parsed.{parsedLengthOf}
 use Rattle.field.specs.Parsed.{refusedBy, keptBy, versionedBy, lengthFieldBy, parsedOf, fieldNumbers}
 
 -- in HD no value is in UTF-8

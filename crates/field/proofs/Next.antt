@@ -17,8 +17,8 @@ use Rattle.format.specs.Version.{version}
 use Rattle.format.specs.declared.Version.{Version}
 use Rattle.format.specs.declared.Kind.{Kind}
 use Rattle.format.specs.declared.Kind.the-variants.{Header, ReferenceSequence, ReadGroup, Program, Comment}
-use Rattle.text.specs.Upto.{upto, before}
-use Rattle.text.proofs.Before.{before-length}
+use Rattle.byte_slices.specs.Upto.{upto, before}
+use Rattle.byte_slices.proofs.Before.{before-length}
 use Rattle.field.proofs.Place.{inPlace, field-in-place, upto-value}
 
 -- ---- a value among the bytes `p`

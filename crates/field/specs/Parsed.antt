@@ -10,9 +10,9 @@ use Rattle.format.specs.Fields.{JudgedPiece, refusedPiece, good, goodThen}
 use Rattle.format.specs.Fields as fields
 use Rattle.format.specs.Version.{version}
 use Rattle.field_tag.specs.Numbers.{isVersion, isLength}
-use Rattle.length.specs.declared.ParsedLength.{ParsedLength}
-use Rattle.length.specs.declared.ParsedLength.the-variants.{Invalid, Zero, Long, Is}
-use Rattle.length.specs.Parsed.{lengthRefusal}
+use Rattle.field_length.specs.declared.ParsedLength.{ParsedLength}
+use Rattle.field_length.specs.declared.ParsedLength.the-variants.{Invalid, Zero, Long, Is}
+use Rattle.field_length.specs.Parsed.{lengthRefusal}
 use Rattle.field.specs.declared.ParsedField.{ParsedField}
 
 -- the refusal `n`

@@ -6,8 +6,8 @@ ghost use lib.ListN.{length, drop};
 ghost use Rattle.format.specs.Bytes.{printable};
 ghost use Rattle.format.specs.Fields.{isValue, isWideValue, allows};
 ghost use Prim.Native.Nat.{_+_, _*_, _/_, _≤_};
-ghost use Rattle.text.specs.Upto.{before};
-ghost use Rattle.text.specs.Run.{run};
+ghost use Rattle.byte_slices.specs.Upto.{before};
+ghost use Rattle.byte_slices.specs.Run.{run};
 ghost use Rattle.field.specs.Taken.{takenOf};
 
 // What may stand in a value: space to tilde.
@@ -70,7 +70,7 @@ fn wide_value_len(src: &[u8]) -> usize
     ensures { λ r. ⌜ r ≡ takenOf isWideValue (before 9 (now (src .entry))) ⌝ }
 {
     let start = pass_printable(src);
-    let end = start + text::upto(&src[start..], b'\t');
+    let end = start + byte_slices::upto(&src[start..], b'\t');
     if utf8::is_whole(&src[start..end]) {
         return end;
     }

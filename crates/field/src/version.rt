@@ -41,7 +41,7 @@ pub fn parse_version(src: &[u8]) -> ParsedVersion
     ensures is { λ r. ⌜ r ≡ parsedVersionOf (version (now (src .entry))) ⌝ }
     ensures refusal { λ r. ⌜ VersionTold (now (src .entry)) r ⌝ }
 {
-    let dot = text::upto(src, b'.');
+    let dot = byte_slices::upto(src, b'.');
     if dot == src.len() {
         return ParsedVersion::Invalid;
     }

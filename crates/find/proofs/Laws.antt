@@ -13,15 +13,15 @@ use Rattle.format.specs.Lines.{Piece}
 use Rattle.format.specs.Records.{Record, code, key}
 use Rattle.format.specs.Reading.{sameKeys, clash, ofKind}
 use Rattle.format.specs.Calls.{yes, there, keyIfThere, keying}
-use Rattle.text.specs.Stands.{Each}
-use Rattle.text.proofs.Equal.{same-self}
+use Rattle.byte_slices.specs.Stands.{Each}
+use Rattle.byte_slices.proofs.Equal.{same-self}
 use Rattle.accepted.specs.Admits.{KeysDiffer}
 use Rattle.accepted.specs.Read.{recordsOf}
 use Rattle.accepted.proofs.Bools.{never, or-left, or-right}
 use Rattle.accepted.proofs.Apart.{same-sym}
 use Rattle.accepted.proofs.OfKind.{ofKind-code, apart-ofKind}
 use Rattle.accepted.proofs.Text.{text-apart}
-use Rattle.parser.proofs.Fresh.{passed, goes-on}
+use Rattle.read.proofs.Fresh.{passed, goes-on}
 use Rattle.calls.proofs.Told.{there-some}
 use Rattle.format.specs.Finding.{isKey, keyOrdinalFrom, finding}
 use Rattle.find.proofs.Told.{finds}

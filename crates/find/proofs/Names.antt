@@ -15,7 +15,7 @@ use Rattle.format.specs.Calls.{refused, yes, then, fitting, there}
 use Rattle.accepted.specs.Read.{recordsOf}
 use Rattle.accepted.proofs.Bools.{never}
 use Rattle.accepted.proofs.Text.{text-count, text-fits}
-use Rattle.parser.proofs.Fresh.{Current, refused-is-no-answer, passed, goes-on}
+use Rattle.read.proofs.Fresh.{Current, refused-is-no-answer, passed, goes-on}
 use Rattle.format.specs.Asked.{asked}
 use Rattle.format.specs.NameIndex.{absent, nameOrdinalFrom, nameOrdinal, index, looks}
 use Rattle.format.specs.Summed.{summed}

@@ -14,18 +14,18 @@ use Rattle.format.specs.Records.{Record, header, reference, group, program, com
 use Rattle.format.specs.Reading.{ofKind}
 use Rattle.format.specs.Catalogue.{catalogue}
 use Rattle.format.specs.Calls.{refused, yes, there, fresh}
-use Rattle.text.specs.Stands.{Each, Stands}
+use Rattle.byte_slices.specs.Stands.{Each, Stands}
 use Rattle.accepted.specs.Pieces.{pieces}
 use Rattle.accepted.specs.Read.{recordsOf}
 use Rattle.accepted.proofs.Bools.{never}
 use Rattle.accepted.proofs.Text.{text-stand, text-count, text-fits}
-use Rattle.entries.specs.declared.Entry.{Entry}
-use Rattle.entries.specs.Entries.{kindByte, pieceAt, headEntry, fieldEntry, entriesOn, entriesOf, entriesIn, counted}
-use Rattle.id_search.specs.Places.{InsideText, bytesAt}
-use Rattle.id_search.specs.Search.{idOrdinalFrom}
-use Rattle.lookup.proofs.Kept.{text-entries, text-counted}
+use Rattle.catalogue_entries.specs.declared.Entry.{Entry}
+use Rattle.catalogue_entries.specs.Entries.{kindByte, pieceAt, headEntry, fieldEntry, entriesOn, entriesOf, entriesIn, counted}
+use Rattle.program_ids.specs.Places.{InsideText, bytesAt}
+use Rattle.program_ids.specs.Search.{idOrdinalFrom}
+use Rattle.catalogue_lookup.proofs.Kept.{text-entries, text-counted}
 use Rattle.names.proofs.References.{stands-bytes}
-use Rattle.parser.proofs.Fresh.{Current, goes-on, stops}
+use Rattle.read.proofs.Fresh.{Current, goes-on, stops}
 use Rattle.format.specs.Finding.{isKey, keyOrdinalFrom, finding}
 use Rattle.find.specs.declared.Found.the-variants.{Nothing, At}
 use Rattle.find.specs.Keys.{keyPlace, keysIn, KeysInText, foundOf}

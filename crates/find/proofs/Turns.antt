@@ -9,13 +9,13 @@ use borrow.Author.Tests.{eq-eqb, ne-eqb}
 use lib.ListN.{length, take, drop, length-drop}
 use lib.Seq.{length-take-le}
 use Rattle.format.specs.Bytes.{same}
-use Rattle.text.specs.Stands.{Each}
-use Rattle.text.proofs.Equal.{same-other}
-use Rattle.entries.specs.declared.Entry.{Entry}
-use Rattle.entries.specs.Entries.{kindByte, entrySize, entryOf, entriesIn, counted}
-use Rattle.entries.proofs.Walk.{turn-end, turn-within, turn-on}
-use Rattle.id_search.specs.Places.{InsideText, bytesAt}
-use Rattle.id_search.specs.Search.{idOrdinalFrom}
+use Rattle.byte_slices.specs.Stands.{Each}
+use Rattle.byte_slices.proofs.Equal.{same-other}
+use Rattle.catalogue_entries.specs.declared.Entry.{Entry}
+use Rattle.catalogue_entries.specs.Entries.{kindByte, entrySize, entryOf, entriesIn, counted}
+use Rattle.catalogue_entries.proofs.Walk.{turn-end, turn-within, turn-on}
+use Rattle.program_ids.specs.Places.{InsideText, bytesAt}
+use Rattle.program_ids.specs.Search.{idOrdinalFrom}
 use Rattle.find.specs.Keys.{keyPlace, keysIn, KeysInText}
 
 -- what the search still has to look at, from `at` on with `n` of the kind passed, decides

@@ -5,12 +5,12 @@ use mathlib.Core.List.{List, [], _∷_}
 use mathlib.Core.Option.{Option, none, some}
 use lib.ListN.{length}
 use lib.Dec.{eqb}
-use Rattle.text.specs.Stands.{Each}
-use Rattle.entries.specs.declared.Place.{Place}
-use Rattle.entries.specs.declared.Entry.{Entry}
-use Rattle.entries.specs.declared.Entry.the-variants.{End, Header, ReferenceSequence, ReadGroup, Program, Comment, Field}
-use Rattle.entries.specs.Entries.{kindByte, counted}
-use Rattle.id_search.specs.Places.{InsideText, bytesAt}
+use Rattle.byte_slices.specs.Stands.{Each}
+use Rattle.catalogue_entries.specs.declared.Place.{Place}
+use Rattle.catalogue_entries.specs.declared.Entry.{Entry}
+use Rattle.catalogue_entries.specs.declared.Entry.the-variants.{End, Header, ReferenceSequence, ReadGroup, Program, Comment, Field}
+use Rattle.catalogue_entries.specs.Entries.{kindByte, counted}
+use Rattle.program_ids.specs.Places.{InsideText, bytesAt}
 use Rattle.find.specs.declared.Found.{Found}
 use Rattle.find.specs.declared.Found.the-variants.{Nothing, At}
 

@@ -1,11 +1,11 @@
 // The search for a record by its key, over a text and its catalogue: the inverse of `calls::key`.
-use entries::Entry;
-use entries::Place;
+use catalogue_entries::Entry;
+use catalogue_entries::Place;
 use format::LineNo;
-use parser::Checked;
+use read::Checked;
 ghost use mathlib.Core.Path.{_≡_};
-ghost use Rattle.entries.specs.Entries.{entriesIn};
-ghost use Rattle.id_search.specs.Search.{idOrdinalFrom};
+ghost use Rattle.catalogue_entries.specs.Entries.{entriesIn};
+ghost use Rattle.program_ids.specs.Search.{idOrdinalFrom};
 ghost use Rattle.format.specs.Finding.{finding};
 ghost use Rattle.find.specs.Answers.{findAnswerOf};
 ghost use Rattle.find.specs.Keys.{keyPlace, keysIn, KeysInText, foundOf};
@@ -43,12 +43,12 @@ fn search(text: &[u8], catalogue: &[u8], kind: u8, key: &[u8]) -> Found
     let mut at: usize = 0;
     let mut ordinal: u32 = 0;
     let found = 'search: loop {
-        let e = entries::entry_at(catalogue, at);
-        let len = entries::size(e);
+        let e = catalogue_entries::entry_at(catalogue, at);
+        let len = catalogue_entries::size(e);
         if len == 0 {
             break 'search Found::Nothing;
         }
-        if entries::kind_of(e) == kind { // no other record takes an ordinal
+        if catalogue_entries::kind_of(e) == kind { // no other record takes an ordinal
             let place = key_place(e);
             if place.len as usize == key.len() {
                 let start = place.at as usize;
@@ -74,7 +74,7 @@ fn search(text: &[u8], catalogue: &[u8], kind: u8, key: &[u8]) -> Found
 pub fn find(text: &[u8], catalogue: &[u8], kind: u8, key: &[u8]) -> FindAnswer
     ensures { λ r. ⌜ r ≡ findAnswerOf (finding (now (text .entry)) (now (catalogue .entry)) kind (now (key .entry))) ⌝ }
 {
-    match parser::check(text, catalogue) {
+    match read::check(text, catalogue) {
         Checked::Refused(n, line) => FindAnswer::Refused(n, line),
         Checked::Fresh => {
             if kind < format::REFERENCE_SEQUENCE {

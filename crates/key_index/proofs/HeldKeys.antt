@@ -12,15 +12,15 @@ use Rattle.format.specs.Lines.{Piece, lines}
 use Rattle.format.specs.Records as records
 use Rattle.format.specs.Records.{Record, header, reference, group, program, comment, code, key, Line, refusedLine, read}
 use Rattle.format.specs.Slots.{pick, Held}
-use Rattle.text.specs.First.{firstLine}
-use Rattle.text.specs.Stands.{Stands, Each}
+use Rattle.byte_slices.specs.First.{firstLine}
+use Rattle.byte_slices.specs.Stands.{Stands, Each}
 use Rattle.accepted.specs.Pieces.{pieces, Pairs}
 use Rattle.accepted.proofs.Bools.{or-assoc}
 use Rattle.record.specs.Head.{headOf, recordHead, stretchOf}
 use Rattle.record.specs.declared.Head.{Head}
 use Rattle.record.specs.declared.Head.the-variants as head
-use Rattle.admission.specs.Admission.{isKeyed, hasKey, isUsed, isTaken}
-use Rattle.admission.proofs.Admission.{stood}
+use Rattle.read_admission.specs.Admission.{isKeyed, hasKey, isUsed, isTaken}
+use Rattle.read_admission.proofs.Admission.{stood}
 use Rattle.key_look.specs.declared.Sought.{Sought}
 use Rattle.key_look.specs.declared.Sought.the-variants.{Known, Free, Full}
 use Rattle.key_at.specs.Word.{word}

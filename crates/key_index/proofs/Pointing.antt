@@ -13,8 +13,8 @@ use Rattle.format.specs.Lines.{Piece}
 use Rattle.format.specs.Records.{Record, header, reference, group, program, comment}
 use Rattle.format.specs.Slots.{around, seek}
 use Rattle.format.proofs.Slots.{around-length, around-at, around-put, seek-replaced}
-use Rattle.text.specs.Stands.{Stands, Each}
-use Rattle.text.proofs.Equal.{same-equal, same-self}
+use Rattle.byte_slices.specs.Stands.{Stands, Each}
+use Rattle.byte_slices.proofs.Equal.{same-equal, same-self}
 use Rattle.accepted.specs.Pieces.{pieces}
 use Rattle.accepted.proofs.Bools.{and-left, and-right}
 use Rattle.record.specs.Head.{recordHead, stretchOf}

@@ -19,7 +19,7 @@ fn hash_words(kind: u8, id: &[u8]) -> usize
     let mut h: usize = kind as usize;
     let mut i: usize = 0;
     while 4 <= id.len() - i {
-        h = mix(h, little::get_u32(id, i) as usize);
+        h = mix(h, little_endian::get_u32(id, i) as usize);
         i += 4;
     }
     h

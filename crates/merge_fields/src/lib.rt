@@ -79,7 +79,7 @@ fn same_field(a: &[u8], f: NextField, b: &[u8], g: NextField) -> bool
     let to = from + f.len;
     let start = g.from;
     let end = start + g.len;
-    text::same(&a[from..to], &b[start..end])
+    byte_slices::same(&a[from..to], &b[start..end])
 }
 
 // Where a line starts in its text, and whether no tag stands twice in it.

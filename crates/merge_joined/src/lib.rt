@@ -2,13 +2,13 @@
 // tools keep the order, so that a reference of B that A has is looked for behind the one that was found before it. From the first that is not found there
 // on, B goes in blocks: the references of a block are in slots, and a walk over A marks those that A has.
 use merge_references::Met;
-use sq_list::NextReference;
+use binary_references::NextReference;
 ghost use mathlib.Core.Path.{_≡_};
 ghost use mathlib.Core.Bool.{true, false};
 ghost use Prim.Native.Nat.{_≤_, _<_};
 ghost use lib.ListN.{length};
 ghost use Rattle.format.specs.Merge.{isJoined};
-ghost use Rattle.sq_list.specs.Next.{sqFrom};
+ghost use Rattle.binary_references.specs.Next.{sqFrom};
 ghost use Rattle.merge_references.specs.Joining.{Apart, From};
 ghost use Rattle.merge_hints.specs.Hints.{Placed, Marked};
 ghost use Rattle.merge_joined.specs.Passing.{Readable, Ahead, Reached, Passed, IsNext};
@@ -45,7 +45,7 @@ fn pass_new(b: &[u8], m: &[u8], of: Rules, left: Left) -> Turn
     requires { ⌜ Apart (sqFrom (of .merged) (now m) 0) ⌝ }
     ensures { λ x. ⌜ IsNext (of .b) (now (b .entry)) (of .merged) (now (m .entry)) left x ⌝ }
 {
-    let q = sq_list::next_reference(b, of.b, left.at);
+    let q = binary_references::next_reference(b, of.b, left.at);
     let n = left.ahead;
     if !q.found {
         let spent = Left {
@@ -62,7 +62,7 @@ fn pass_new(b: &[u8], m: &[u8], of: Rules, left: Left) -> Turn
     }
     if n.found {
         if merge_references::same_name(b, q, m, n) {
-            let ahead = sq_list::next_reference(m, of.merged, n.next);
+            let ahead = binary_references::next_reference(m, of.merged, n.next);
             let good = n.length == q.length;
             let passed = Left {
                 good,
@@ -244,7 +244,7 @@ fn pass_by(a: &[u8], b: &[u8], m: &[u8], of: Rules, from: Left, area: &mut [u32]
 }
 
 // A block of 18,432 references, and `more` times again. Nobody asks for more than once: a function that calls itself is compiled by itself, so that its
-// slots, of 96 KiB here, are on the stack only while it runs, and not in the frames of its callers (`judging::judge_long`).
+// slots, of 96 KiB here, are on the stack only while it runs, and not in the frames of its callers (`read_judge::judge_long`).
 fn pass_few(a: &[u8], b: &[u8], m: &[u8], of: Rules, from: Left, more: usize) -> Left
     requires { ⌜ Readable of (now a) (now b) (now m) ⌝ }
     requires { ⌜ Reached (sqFrom (of .a) (now a) 0) (now b) (of .merged) (now m) from ⌝ }
@@ -300,7 +300,7 @@ pub fn is_joined(a: &[u8], b: &[u8], m: &[u8], of: Rules) -> bool
     if !front.good {
         return false;
     }
-    let ahead = sq_list::next_reference(m, of.merged, front.next);
+    let ahead = binary_references::next_reference(m, of.merged, front.next);
     let start = Left {
         good: true,
         more: true,

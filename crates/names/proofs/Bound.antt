@@ -11,11 +11,11 @@ use borrow.Author.Tests.{ltb-false}
 use Rattle.format.specs.Reading.{longest}
 use Rattle.format.specs.Calls.{Answer, refused, yes, then, fitting}
 use Rattle.accepted.specs.Read.{recordsOf}
-use Rattle.parser.proofs.Fresh.{Current, refused-is-no-answer, passed, goes-on}
+use Rattle.read.proofs.Fresh.{Current, refused-is-no-answer, passed, goes-on}
 use Rattle.format.specs.NameIndex.{nameOrdinal, index, looks}
 use Rattle.name_index.proofs.Indexed.{indexed}
 use Rattle.format.specs.Asked.{asked}
-use Rattle.asked_names.proofs.Asked.{asked-few}
+use Rattle.name_list.proofs.Asked.{asked-few}
 use Rattle.format.specs.Summed.{summed}
 use Rattle.format.specs.Batch.{references, batched, batching}
 use Rattle.names.proofs.References.{few-names}

@@ -7,14 +7,14 @@ use mathlib.Core.List.{List, _++_, map}
 use native.Mathlib.Omega.{arith}
 use lib.ListN.{length, take, drop, replicate, length-map}
 use lib.Seq.{sets, sets-eq, length-sets, take-append-seam}
-use Rattle.text.specs.Stands.{Each}
-use Rattle.entries.specs.Entries.{entriesIn}
+use Rattle.byte_slices.specs.Stands.{Each}
+use Rattle.catalogue_entries.specs.Entries.{entriesIn}
 use Rattle.format.specs.NameIndex.{absent, nameOrdinal, slotCount, path, index, tellsName, looked, looks}
-use Rattle.sq_entries.specs.Names.{namesIn}
-use Rattle.sq_entries.proofs.Names.{names-counted}
-use Rattle.sq_slots.specs.Filled.{entering, seats}
-use Rattle.sq_slots.proofs.Noted.{seats-counted}
-use Rattle.sq_index.specs.Looking.{says, landed, slotOf, looksOf, ordinalAt}
+use Rattle.name_entries.specs.Names.{namesIn}
+use Rattle.name_entries.proofs.Names.{names-counted}
+use Rattle.name_slots.specs.Filled.{entering, seats}
+use Rattle.name_slots.proofs.Noted.{seats-counted}
+use Rattle.name_lookup.specs.Looking.{says, landed, slotOf, looksOf, ordinalAt}
 use Rattle.names.specs.Told.{Told}
 use Rattle.name_index.proofs.SlotCount.{slots-some, slots-few}
 use Rattle.name_index.proofs.Indexed.{indexed, index-length}

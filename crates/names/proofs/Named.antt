@@ -11,19 +11,19 @@ use lib.Dec.{eqb}
 use borrow.Author.Tests.{eq-eqb}
 use Rattle.format.specs.Bytes.{same}
 use Rattle.format.specs.Slots.{seat}
-use Rattle.text.specs.Stands.{Each}
-use Rattle.text.proofs.Equal.{same-equal}
+use Rattle.byte_slices.specs.Stands.{Each}
+use Rattle.byte_slices.proofs.Equal.{same-equal}
 use Rattle.key_at.specs.Word.{word}
-use Rattle.entries.specs.declared.Entry.{Entry}
-use Rattle.entries.specs.declared.Entry.the-variants.{End, Header, ReferenceSequence, ReadGroup, Program, Comment, Field}
-use Rattle.entries.specs.Entries.{kindByte, entriesIn}
-use Rattle.lookup.specs.Lookup.{entriesFrom, firstEntry}
+use Rattle.catalogue_entries.specs.declared.Entry.{Entry}
+use Rattle.catalogue_entries.specs.declared.Entry.the-variants.{End, Header, ReferenceSequence, ReadGroup, Program, Comment, Field}
+use Rattle.catalogue_entries.specs.Entries.{kindByte, entriesIn}
+use Rattle.catalogue_lookup.specs.Lookup.{entriesFrom, firstEntry}
 use Rattle.format.specs.NameIndex.{hashFrom, first, enter, enterFrom, nameOf, tellsName}
-use Rattle.sq_entries.specs.Names.{nameIn, namesIn}
-use Rattle.sq_entries.proofs.Names.{name-from}
-use Rattle.sq_slots.specs.Filled.{startIn, markOf, valueOf, entering, seats}
-use Rattle.sq_slots.proofs.Filling.{mark-lt}
-use Rattle.sq_index.specs.Looking.{says}
+use Rattle.name_entries.specs.Names.{nameIn, namesIn}
+use Rattle.name_entries.proofs.Names.{name-from}
+use Rattle.name_slots.specs.Filled.{startIn, markOf, valueOf, entering, seats}
+use Rattle.name_slots.proofs.Filling.{mark-lt}
+use Rattle.name_lookup.specs.Looking.{says}
 use Rattle.names.specs.Told.{Told}
 use Rattle.names.proofs.Recoded.{recode, enter-recode, place-recode}
 

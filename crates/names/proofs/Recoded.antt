@@ -7,7 +7,7 @@ use native.Mathlib.Omega.{arith}
 use lib.ListN.{length, getD, take, drop, set, replicate, length-map, List·getD-eq-default}
 use Rattle.format.specs.Slots.{around, full, seat, seek}
 use Rattle.format.specs.NameIndex.{absent, first, path, enter, ordinalOf, looked}
-use Rattle.sq_index.specs.Looking.{landing, landed, ordinalAt}
+use Rattle.name_lookup.specs.Looking.{landing, landed, ordinalAt}
 use Rattle.name_index.proofs.Path.{path-length, path-at}
 
 -- the value of the ordinal `k` is `f k`: each plus one, and an empty slot stays empty

@@ -3,11 +3,11 @@ use Prim.Native.Nat.{ℕ, _≤_}
 use mathlib.Core.Path.{_≡_}
 use mathlib.Core.List.{List, map}
 use lib.ListN.{length}
-use Rattle.text.specs.Stands.{Each}
-use Rattle.entries.specs.Entries.{entriesIn}
+use Rattle.byte_slices.specs.Stands.{Each}
+use Rattle.catalogue_entries.specs.Entries.{entriesIn}
 use Rattle.format.specs.Asked.{asked}
 use Rattle.format.specs.NameIndex.{nameOrdinal, slotCount, index, looks}
-use Rattle.sq_entries.specs.Names.{namesIn}
+use Rattle.name_entries.specs.Names.{namesIn}
 use Rattle.names.specs.Told.{Told}
 use Rattle.format.specs.Summed.{summed}
 

@@ -3,10 +3,10 @@ use Prim.Native.Nat.{ℕ, _<_}
 use mathlib.Core.Path.{_≡_}
 use mathlib.Core.List.{List}
 use lib.ListN.{drop}
-use Rattle.entries.specs.declared.Entry.{Entry}
-use Rattle.entries.specs.declared.Entry.the-variants.{End, Header, ReferenceSequence, ReadGroup, Program, Comment, Field}
+use Rattle.catalogue_entries.specs.declared.Entry.{Entry}
+use Rattle.catalogue_entries.specs.declared.Entry.the-variants.{End, Header, ReferenceSequence, ReadGroup, Program, Comment, Field}
 use Rattle.key_at.specs.Word.{word}
-use Rattle.sq_entries.specs.Names.{nameAt}
+use Rattle.name_entries.specs.Names.{nameAt}
 
 -- a name is told by its place: below 2 ^ 24, and it ends where the next byte is below 32
 unfoldable pub Told : List ℕ → Entry → Type 0

@@ -22,15 +22,15 @@ fn answer_noting(
     ensures found { λ _. ⌜ now (out .exit) ≡ ordinalsIn (now (text .entry)) (now (catalogue .entry)) (now (list .entry)) ⌝ }
     ensures looks { λ r. ⌜ r ≡ looksIn (now (text .entry)) (now (catalogue .entry)) (now (list .entry)) ⌝ }
 {
-    sq_slots::fill(text, catalogue, slots, notes, false);
+    name_slots::fill(text, catalogue, slots, notes, false);
     let looks = name_search::find_slots(text, slots, list, out);
-    sq_slots::refill(text, catalogue, m, slots, notes);
-    sq_index::to_ordinals(slots, out);
+    name_slots::refill(text, catalogue, m, slots, notes);
+    name_lookup::to_ordinals(slots, out);
     looks
 }
 
 // The same for a text of any length, with 65,536 notes, and `more` times again. Nobody asks for more than once: a function that calls itself is
-// compiled by itself, so that its 256 KiB are not in the frame of its caller, which serves short texts too (`judging::judge_long`).
+// compiled by itself, so that its 256 KiB are not in the frame of its caller, which serves short texts too (`read_judge::judge_long`).
 fn answer_long(
     text: &[u8],
     catalogue: &[u8],

@@ -1,10 +1,10 @@
 // Many names at once: an index of the SQ names in a lent work area, by it the ordinal of each name of a list, and how much was looked at.
 pub mod answer;
 use format::LineNo;
-use parser::Checked;
+use read::Checked;
 ghost use mathlib.Core.Path.{_≡_};
 ghost use lib.ListN.{length};
-ghost use Rattle.parser.specs.Answers.{outputOf};
+ghost use Rattle.read.specs.Answers.{outputOf};
 ghost use Rattle.format.specs.Batch.{batching};
 ghost use Rattle.names.specs.Answers.{namesOf, resultsOf, slotsOf};
 
@@ -33,19 +33,19 @@ pub fn names(
         (resultsOf (batching (now (text .entry)) (now (catalogue .entry)) (now (list .entry)) (length (now (work .entry))) (length (now (out .entry)))))
         (now (out .entry)) ⌝ }
 {
-    match parser::check(text, catalogue) {
+    match read::check(text, catalogue) {
         Checked::Refused(n, line) => NamesAnswer::Refused(n, line),
         Checked::Fresh => {
             if format::LONGEST < list.len() {
                 return NamesAnswer::Refused(1, LineNo(0));
             }
             let room = work.len();
-            let m = sq_entries::count(catalogue);
+            let m = name_entries::count(catalogue);
             let n = name_index::slot_count(m as u32) as usize;
             if room < n {
                 return NamesAnswer::Refused(20, LineNo(0));
             }
-            let count = asked_names::count_names(list);
+            let count = name_list::count_names(list);
             if out.len() < count {
                 return NamesAnswer::Refused(20, LineNo(0));
             }

@@ -8,7 +8,7 @@ use native.Mathlib.Omega.{arith}
 use lib.ListN.{length, drop, length-drop}
 use Rattle.format.specs.Lines.{Piece}
 use Rattle.format.specs.Fields.{Field, lastOf}
-use Rattle.text.specs.Stands.{Stands, Each}
+use Rattle.byte_slices.specs.Stands.{Stands, Each}
 use Rattle.accepted.proofs.Fields.{Of, lastOf-of}
 use Rattle.accepted_line.specs.Run.{AtField, fieldsFrom}
 use Rattle.accepted_line.specs.Next.{lastIn, orValue}

@@ -5,7 +5,7 @@ use mathlib.Core.Bool.{Bool, true, false, _||_}
 use mathlib.Core.List.{List}
 use native.Mathlib.Omega.{arith}
 use lib.ListN.{length, replicate, length-replicate}
-use Rattle.text.specs.Stands.{Each}
+use Rattle.byte_slices.specs.Stands.{Each}
 use Rattle.accepted_line.specs.Run.{AtField, fieldsFrom}
 use Rattle.accepted_line.specs.Tables.{HasTag, spread, noted, Walkable}
 use Rattle.accepted_line.proofs.fields.Here.{laxly}

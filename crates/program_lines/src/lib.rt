@@ -1,8 +1,8 @@
 // The programs of an accepted text, gathered from its PG lines: where each line stands, its ID and its PP.
-use entries::Place;
+use catalogue_entries::Place;
 use accepted_line::fields::Value;
-use programs::Places;
-use programs::Programs;
+use program_places::Places;
+use program_places::Programs;
 ghost use mathlib.Core.Path.{_≡_};
 ghost use mathlib.Core.Bool.{true};
 ghost use mathlib.Core.List.{map};
@@ -13,7 +13,7 @@ ghost use Rattle.format.specs.Reading.{announced, isStrict, readText};
 ghost use Rattle.accepted.specs.Read.{isAccepted};
 ghost use Rattle.accepted_line.specs.Next.{lastIn};
 ghost use Rattle.accepted_line.specs.Tables.{Walkable};
-ghost use Rattle.programs.specs.Gathered.{gatheredOf};
+ghost use Rattle.program_places.specs.Gathered.{gatheredOf};
 ghost use Rattle.program_lines.specs.Line.{FieldsOf};
 ghost use Rattle.program_lines.specs.Found.{mayBeProgram, pgFrom, toldLines, NextLineInText, placeOf, previousOf, notesOf, linesOf};
 
@@ -55,7 +55,7 @@ fn next_program(text: &[u8], start: usize) -> NextLine
 {
     let mut at = start;
     while at < text.len() {
-        let cut = text::first_line(&text[at..]);
+        let cut = byte_slices::first_line(&text[at..]);
         let end = at + cut.len;
         let next = at + cut.next;
         if may_be_program(&text[at..end]) {
@@ -94,7 +94,7 @@ fn narrow_previous(v: Value) -> Place
 {
     if v.at == 0 {
         return Place {
-            at: programs::NOWHERE,
+            at: program_places::NOWHERE,
             len: 0,
         };
     }

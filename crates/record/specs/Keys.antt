@@ -19,7 +19,7 @@ use Rattle.record.specs.declared.Keys.{Keys}
 use Rattle.record.specs.declared.Head.{Head}
 use Rattle.record.specs.declared.Head.the-variants as head
 use Rattle.accepted.specs.Sound.{isKey}
-use Rattle.tags.specs.Others.{unkeyed}
+use Rattle.record_tags.specs.Others.{unkeyed}
 
 -- ---- what the fields say
 

@@ -18,7 +18,7 @@ use Rattle.format.specs.Version.{version}
 use Rattle.format.specs.declared.Version.{Version}
 use Rattle.format.specs.declared.Kind.{Kind}
 use Rattle.format.specs.declared.Kind.the-variants.{Header, ReferenceSequence, ReadGroup, Program, Comment}
-use Rattle.text.specs.Stands.{Each}
+use Rattle.byte_slices.specs.Stands.{Each}
 use Rattle.field_tag.specs.Numbers.{isVersion, isLength}
 use Rattle.field.specs.Parsed.{fieldNumbers, versionedBy}
 use Rattle.field.proofs.Answer.{Told}
@@ -29,12 +29,12 @@ use Rattle.record.specs.declared.Head.{Head}
 use Rattle.record.specs.declared.Head.the-variants as head
 use Rattle.record.specs.Head.{stretchOf, headOf}
 use Rattle.accepted.specs.Sound.{isKey}
-use Rattle.tags.specs.Others.{unkeyed}
+use Rattle.record_tags.specs.Others.{unkeyed}
 use Rattle.record.specs.Keys.{keyAmong, spelt, versionAmong, worthIfThere, lengthAmong, stretchIfThere, isThere, numbers, plainly, keysOf, withField, headFrom, keyedHead}
 use Rattle.accepted.proofs.Bools.{or-true, split, and-left}
 use Rattle.accepted.proofs.Tags.{lastOf-snoc, settled-snoc, any-settled, length-put}
 use Rattle.accepted.proofs.Fields.{lastOf-of}
-use Rattle.tags.proofs.Firsts.{not-key}
+use Rattle.record_tags.proofs.Firsts.{not-key}
 
 -- ---- one field more
 

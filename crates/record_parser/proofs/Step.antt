@@ -15,19 +15,19 @@ use Rattle.format.specs.Records.{refusedLine, judged, fielded}
 use Rattle.format.specs.Tidy.{fieldText, fieldsText}
 use Rattle.format.specs.declared.Kind.{Kind}
 use Rattle.format.specs.declared.Kind.the-variants.{Header, ReferenceSequence, ReadGroup, Program, Comment}
-use Rattle.text.specs.Upto.{upto}
-use Rattle.text.specs.Stands.{Each}
-use Rattle.text.proofs.Lines.{upto-le}
-use Rattle.text.proofs.Before.{upto-take}
-use Rattle.text.proofs.Run.{upto-onward}
+use Rattle.byte_slices.specs.Upto.{upto}
+use Rattle.byte_slices.specs.Stands.{Each}
+use Rattle.byte_slices.proofs.Lines.{upto-le}
+use Rattle.byte_slices.proofs.Before.{upto-take}
+use Rattle.byte_slices.proofs.Run.{upto-onward}
 use Rattle.field.specs.declared.ParsedField as code
 use Rattle.field_tag.specs.Numbers.{isVersion, isLength}
 use Rattle.field.proofs.Answer.{Told}
 use Rattle.field.proofs.Shown.{Shown, shown}
 use Rattle.accepted.specs.Sound.{isKey}
 use Rattle.accepted.proofs.Tags.{repeats-snoc}
-use Rattle.tags.specs.Occurs.{occurs}
-use Rattle.tags.proofs.Region.{Clean, occurs-fields}
+use Rattle.record_tags.specs.Occurs.{occurs}
+use Rattle.record_tags.proofs.Region.{Clean, occurs-fields}
 use Rattle.record.specs.declared.Keys.{Keys}
 use Rattle.record.specs.Head.{headOf}
 use Rattle.record.specs.Keys.{keysOf, noKeys, withField, headFrom}

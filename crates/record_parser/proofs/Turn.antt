@@ -17,10 +17,10 @@ use Rattle.format.specs.Fields.{Field, tagged, repeats, JudgedPiece, refusedPie
 use Rattle.format.specs.Records.{Line, refusedLine, read, made, stopped, judged, fielded}
 use Rattle.format.specs.declared.Kind.{Kind}
 use Rattle.format.specs.declared.Kind.the-variants.{Header, ReferenceSequence, ReadGroup, Program, Comment}
-use Rattle.text.specs.Upto.{upto, before}
-use Rattle.text.proofs.Before.{upto-at, upto-cases}
-use Rattle.text.proofs.Lines.{upto-le}
-use Rattle.text.proofs.Pieces.{placed-last, placed-more}
+use Rattle.byte_slices.specs.Upto.{upto, before}
+use Rattle.byte_slices.proofs.Before.{upto-at, upto-cases}
+use Rattle.byte_slices.proofs.Lines.{upto-le}
+use Rattle.byte_slices.proofs.Pieces.{placed-last, placed-more}
 use Rattle.accepted.proofs.Tags.{repeats-snoc, repeats-more}
 
 -- the fields from a place on, where the line ends or a tab is due

@@ -12,9 +12,9 @@ use Rattle.format.specs.Fields.{Field, repeats, refusedPiece, good, goodThen, i
 use Rattle.format.specs.Records.{judged, fielded}
 use Rattle.format.specs.Tidy.{fieldsText}
 use Rattle.format.specs.declared.Kind.{Kind}
-use Rattle.text.specs.Upto.{upto, before}
-use Rattle.text.specs.Stands.{Each}
-use Rattle.text.proofs.Lines.{upto-le}
+use Rattle.byte_slices.specs.Upto.{upto, before}
+use Rattle.byte_slices.specs.Stands.{Each}
+use Rattle.byte_slices.proofs.Lines.{upto-le}
 use Rattle.field.specs.declared.ParsedField as code
 use Rattle.field.specs.Parsed.{parsedOf, fieldNumbers}
 use Rattle.field.proofs.Anywhere.{field-anywhere}
@@ -22,7 +22,7 @@ use Rattle.field.proofs.Answer.{Told, Found, parsed-bad, parsed-found}
 use Rattle.field.proofs.Next.{Kept, good-onward, then-onward}
 use Rattle.field.proofs.Place.{field-in-place, place-tag, place-colon, colon-other}
 use Rattle.accepted.proofs.Bools.{never, split}
-use Rattle.tags.proofs.Region.{Clean}
+use Rattle.record_tags.proofs.Region.{Clean}
 use Rattle.record.specs.declared.Keys.{Keys}
 use Rattle.record.specs.Keys.{keysOf}
 use Rattle.record_parser.proofs.marks.Marks.{Marked}

@@ -2,7 +2,7 @@
 pub mod fields;
 pub mod marks;
 use format::Kind;
-use kind::ParsedKind;
+use record_kind::ParsedKind;
 use record::Head;
 use record::Stretch;
 ghost use mathlib.Core.Path.{_≡_};
@@ -16,10 +16,10 @@ ghost use Rattle.record.specs.Head.{headOf, hasFields};
 fn has_break(src: &[u8]) -> bool
     ensures { λ r. ⌜ r ≡ any breaks (now (src .entry)) ⌝ }
 {
-    if text::upto(src, b'\n') < src.len() {
+    if byte_slices::upto(src, b'\n') < src.len() {
         return true;
     }
-    text::upto(src, b'\r') < src.len()
+    byte_slices::upto(src, b'\r') < src.len()
 }
 
 // CO: one tab, then any bytes, also none.
@@ -59,10 +59,10 @@ fn parse_bytes(src: &[u8], at: usize, strict: bool) -> Head
     requires { ⌜ at + length (now src) ≤ 4294967295 ⌝ }
     ensures { λ r. ⌜ r ≡ headOf (prefixed strict at (now (src .entry))) ⌝ }
 {
-    if !text::leads(src, b'@') {
+    if !byte_slices::leads(src, b'@') {
         return Head::Refused(3);
     }
-    match kind::parse_kind(&src[1..]) {
+    match record_kind::parse_kind(&src[1..]) {
         ParsedKind::Empty => Head::Refused(4),
         ParsedKind::Invalid => Head::Refused(5),
         ParsedKind::Is(k) => parse_value(k, src, at, strict),

@@ -2,7 +2,7 @@
 ghost use mathlib.Core.Path.{_≡_};
 ghost use mathlib.Core.Bool.{true, _&&_, _||_};
 ghost use Rattle.format.specs.Fields.{isTag};
-ghost use Rattle.tags.specs.Occurs.{occurs};
+ghost use Rattle.record_tags.specs.Occurs.{occurs};
 ghost use Rattle.record_parser.specs.Marks.{markPlace};
 
 // Where the mark of a tag stands. `exact`: each tag has a place of its own among 4,350, since its bytes are 65 to 122 and 48 to 122. Else it is one of
@@ -27,5 +27,5 @@ pub fn stands_again(src: &[u8], a: u8, b: u8, exact: bool, seen: bool) -> bool
     if exact {
         return true;
     }
-    tags::occurs(src, a, b)
+    record_tags::occurs(src, a, b)
 }

@@ -14,7 +14,7 @@ use Rattle.format.specs.Records.{Record, header, reference, group, program, com
 use Rattle.format.specs.Reading.{ofKind}
 use Rattle.format.specs.Calls.{refused, yes, then, fitting, there, keyIfThere, lengthIfThere, counting, keying, sizing}
 use Rattle.accepted.specs.Read.{recordsOf}
-use Rattle.parser.proofs.Fresh.{Current, refused-is-no-answer, passed, goes-on}
+use Rattle.read.proofs.Fresh.{Current, refused-is-no-answer, passed, goes-on}
 use Rattle.calls.proofs.Told.{count-served}
 use Rattle.format.specs.Referencing.{row, rows, referencing}
 use Rattle.references.specs.Laws.{RowOf}

@@ -11,17 +11,17 @@ use types.Run.{OneOf, miss}
 use lib.ListN.{length, drop, set}
 use lib.Seq.{sets-eq}
 use lib.Dec.{eqb}
-use Rattle.text.specs.Over.{over}
-use Rattle.text.specs.Stands.{Each}
-use Rattle.text.proofs.Over.{over-none, over-over}
-use Rattle.entries.proofs.Entry.{the-type}
-use Rattle.entries.specs.declared.Place.{Place}
-use Rattle.entries.specs.declared.Entry.{Entry}
-use Rattle.entries.specs.declared.Entry.the-variants.{End, Header, ReferenceSequence, ReadGroup, Program, Comment, Field}
-use Rattle.entries.specs.Entries.{kindByte, entryOf, entriesIn}
-use Rattle.lookup.specs.Lookup.{entriesFrom}
-use Rattle.sq_entries.specs.Next.{nextSq}
-use Rattle.sq_entries.proofs.Turns.{no-more, one-more, sq-within}
+use Rattle.byte_slices.specs.Over.{over}
+use Rattle.byte_slices.specs.Stands.{Each}
+use Rattle.byte_slices.proofs.Over.{over-none, over-over}
+use Rattle.catalogue_entries.proofs.Entry.{the-type}
+use Rattle.catalogue_entries.specs.declared.Place.{Place}
+use Rattle.catalogue_entries.specs.declared.Entry.{Entry}
+use Rattle.catalogue_entries.specs.declared.Entry.the-variants.{End, Header, ReferenceSequence, ReadGroup, Program, Comment, Field}
+use Rattle.catalogue_entries.specs.Entries.{kindByte, entryOf, entriesIn}
+use Rattle.catalogue_lookup.specs.Lookup.{entriesFrom}
+use Rattle.name_entries.specs.Next.{nextSq}
+use Rattle.name_entries.proofs.Turns.{no-more, one-more, sq-within}
 use Rattle.references.specs.Rows.{entryRow, rowsIn, ShortLength, RowsFit}
 
 -- three stores in a row

@@ -11,18 +11,18 @@ use Rattle.format.specs.Records.{Record, header, reference, group, program, com
 use Rattle.format.specs.Reading.{ofKind}
 use Rattle.format.specs.Calls.{Answer, refused, yes, then, fitting, fresh}
 use Rattle.format.specs.declared.LineNo.{LineNo}
-use Rattle.text.specs.Over.{over}
-use Rattle.text.specs.Stands.{Each}
+use Rattle.byte_slices.specs.Over.{over}
+use Rattle.byte_slices.specs.Stands.{Each}
 use Rattle.accepted.specs.Read.{recordsOf}
 use Rattle.accepted.specs.Sound.{Sound, FitsRecord}
 use Rattle.accepted.proofs.Text.{text-sound, text-count, text-fits}
-use Rattle.entries.specs.declared.Entry.{Entry}
-use Rattle.entries.specs.Entries.{pieceAt, headEntry, fieldEntry, entriesOn, entriesOf, entriesIn, counted}
-use Rattle.lookup.proofs.Kept.{text-entries, text-counted}
-use Rattle.parser.specs.declared.CountAnswer.the-variants.{Refused, Count}
-use Rattle.parser.specs.Answers.{outputOf}
-use Rattle.parser.proofs.Fresh.{Current, goes-on, stops}
-use Rattle.parser.proofs.Told.{too-short, fits}
+use Rattle.catalogue_entries.specs.declared.Entry.{Entry}
+use Rattle.catalogue_entries.specs.Entries.{pieceAt, headEntry, fieldEntry, entriesOn, entriesOf, entriesIn, counted}
+use Rattle.catalogue_lookup.proofs.Kept.{text-entries, text-counted}
+use Rattle.read.specs.declared.CountAnswer.the-variants.{Refused, Count}
+use Rattle.read.specs.Answers.{outputOf}
+use Rattle.read.proofs.Fresh.{Current, goes-on, stops}
+use Rattle.read.proofs.Told.{too-short, fits}
 use Rattle.format.specs.Referencing.{row, rows, referencing}
 use Rattle.references.specs.Answers.{rowCountOf, numbersOf}
 use Rattle.references.specs.Rows.{entryRow, rowsIn, ShortLength, RowsFit}

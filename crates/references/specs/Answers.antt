@@ -2,8 +2,8 @@
 use Prim.Native.Nat.{ℕ}
 use mathlib.Core.List.{List}
 use Rattle.format.specs.Calls.{Answer, refused, yes}
-use Rattle.parser.specs.declared.CountAnswer.{CountAnswer}
-use Rattle.parser.specs.declared.CountAnswer.the-variants.{Refused, Count}
+use Rattle.read.specs.declared.CountAnswer.{CountAnswer}
+use Rattle.read.specs.declared.CountAnswer.the-variants.{Refused, Count}
 
 -- a refusal and its line, or how many rows are written
 unfoldable pub rowCountOf : Answer (List ℕ × ℕ) → CountAnswer

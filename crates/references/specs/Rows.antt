@@ -2,9 +2,9 @@
 use Prim.Native.Nat.{ℕ, _≤_, _<_}
 use mathlib.Core.List.{List, [], _∷_, _++_}
 use lib.ListN.{length}
-use Rattle.text.specs.Stands.{Each}
-use Rattle.entries.specs.declared.Entry.{Entry}
-use Rattle.entries.specs.declared.Entry.the-variants.{End, Header, ReferenceSequence, ReadGroup, Program, Comment, Field}
+use Rattle.byte_slices.specs.Stands.{Each}
+use Rattle.catalogue_entries.specs.declared.Entry.{Entry}
+use Rattle.catalogue_entries.specs.declared.Entry.the-variants.{End, Header, ReferenceSequence, ReadGroup, Program, Comment, Field}
 
 -- the row of an SQ entry: where the name stands, how long it is, and LN
 unfoldable pub entryRow : Entry → List ℕ

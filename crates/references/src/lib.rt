@@ -1,16 +1,16 @@
 // The references of a header in one call, over a text and its catalogue: of each SQ where its SN stands, how long it is, and the LN.
-use entries::Entry;
-use entries::Place;
+use catalogue_entries::Entry;
+use catalogue_entries::Place;
 use format::LineNo;
-use parser::Checked;
-use parser::CountAnswer;
+use read::Checked;
+use read::CountAnswer;
 ghost use mathlib.Core.Path.{_≡_};
 ghost use mathlib.Core.List.{[], _∷_};
 ghost use Prim.Native.Nat.{_≤_, _+_};
 ghost use lib.ListN.{length};
-ghost use Rattle.text.specs.Over.{over};
-ghost use Rattle.entries.specs.Entries.{entriesIn};
-ghost use Rattle.parser.specs.Answers.{outputOf};
+ghost use Rattle.byte_slices.specs.Over.{over};
+ghost use Rattle.catalogue_entries.specs.Entries.{entriesIn};
+ghost use Rattle.read.specs.Answers.{outputOf};
 ghost use Rattle.format.specs.Referencing.{referencing};
 ghost use Rattle.references.specs.Answers.{rowCountOf, numbersOf};
 ghost use Rattle.references.specs.Rows.{rowsIn, RowsFit};
@@ -33,8 +33,8 @@ fn put_rows(catalogue: &[u8], table: &mut [u32])
     let mut at: usize = 0;
     let mut end: usize = 0;
     loop {
-        at = sq_entries::next_sq(catalogue, at);
-        match entries::entry_at(catalogue, at) {
+        at = name_entries::next_sq(catalogue, at);
+        match catalogue_entries::entry_at(catalogue, at) {
             Entry::ReferenceSequence(name, ln, _) => {
                 put_row(table, end, name, ln as u32);
                 end += 3;
@@ -52,10 +52,10 @@ pub fn references(text: &[u8], catalogue: &[u8], table: &mut [u32]) -> CountAnsw
     ensures wrote { λ _. ⌜ now (table .exit) ≡ outputOf
         (numbersOf (referencing (now (text .entry)) (now (catalogue .entry)) (length (now (table .entry))))) (now (table .entry)) ⌝ }
 {
-    match parser::check(text, catalogue) {
+    match read::check(text, catalogue) {
         Checked::Refused(n, line) => CountAnswer::Refused(n, line),
         Checked::Fresh => {
-            let count = sq_entries::count(catalogue);
+            let count = name_entries::count(catalogue);
             if table.len() < 3 * count {
                 return CountAnswer::Refused(20, LineNo(0));
             }

@@ -18,7 +18,7 @@
 // corners written by hand.
 //
 // Words are parted by one space; byte strings are in hex, `-` for none. A line is a call, its text, its catalogue (`=` for the one that
-// `parser::read` gives), its other arguments, and the answer:
+// `read::read` gives), its other arguments, and the answer:
 //     count TEXT KEPT KIND ok COUNT
 //     key TEXT KEPT KIND ORDINAL ok OFFSET LENGTH
 //     ln TEXT KEPT ORDINAL ok LN
@@ -119,18 +119,18 @@ fn is_call(line: &[u8], asked: usize, text: &[u8], kept: &[u8], out: &mut [u32])
 // Whether a call over text and catalogue answers as the line says.
 fn is_answer(line: &[u8], asked: usize, text: &[u8]) -> bool {
     let mut kept = io::large_buffer();
-    let n = replay_calls::keep(stored_cases::word(line, 2), text, &mut kept);
+    let n = replay_calls::keep(replay_cases::word(line, 2), text, &mut kept);
     if asked == ADDED {
-        let mut out = stored_answers::bytes();
+        let mut out = replay_answers::bytes();
         return replay_texts::is_added(line, text, &kept[..n], &mut out);
     }
     if asked == PRUNED {
-        let mut out = stored_answers::bytes();
+        let mut out = replay_answers::bytes();
         return replay_prune::is_pruned(line, text, &kept[..n], &mut out);
     }
-    let mut out = stored_answers::ordinals();
+    let mut out = replay_answers::ordinals();
     if asked == NAMES {
-        let mut work = stored_answers::ordinals();
+        let mut work = replay_answers::ordinals();
         return replay_names::is_names(line, text, &kept[..n], &mut work, &mut out);
     }
     is_call(line, asked, text, &kept[..n], &mut out)
@@ -141,17 +141,17 @@ fn is_written(line: &[u8], asked: usize, text: &[u8]) -> bool {
     if asked == PROGRAM {
         return replay_texts::is_program(line, text);
     }
-    let mut out = stored_answers::bytes();
+    let mut out = replay_answers::bytes();
     if asked == CARRIED {
-        let mut table = stored_answers::ordinals();
+        let mut table = replay_answers::ordinals();
         return replay_carried::is_carried(line, text, &mut out, &mut table);
     }
     if asked == FAULTS {
-        let mut table = stored_answers::ordinals();
+        let mut table = replay_answers::ordinals();
         return replay_faults::is_faults(line, text, &mut table);
     }
     if asked == READ_WITH {
-        let mut work = stored_answers::ordinals();
+        let mut work = replay_answers::ordinals();
         return replay_work::is_read_with(line, text, &mut out, &mut work);
     }
     match asked {
@@ -164,18 +164,18 @@ fn is_written(line: &[u8], asked: usize, text: &[u8]) -> bool {
 
 // Whether the library says of a text what the crate says.
 fn is_sample(line: &[u8], asked: usize, text: &[u8]) -> bool {
-    let mut kept = stored_answers::bytes();
-    let mut out = stored_answers::bytes();
+    let mut kept = replay_answers::bytes();
+    let mut out = replay_answers::bytes();
     match asked {
         REFUSED => replay_graphs::is_read_refused(line, text, &mut kept)
             && replay_texts::is_tidy_refused(line, text, &mut out),
         ACCEPTED => {
             replay_graphs::is_read(line, text, &mut kept)
-                && replay_texts::is_tidy(stored_cases::word(line, 2), text, &mut out)
+                && replay_texts::is_tidy(replay_cases::word(line, 2), text, &mut out)
         }
         UNWRITABLE => {
             replay_graphs::is_read(line, text, &mut kept)
-                && replay_texts::is_unwritable(stored_cases::word(line, 2), text, &mut out)
+                && replay_texts::is_unwritable(replay_cases::word(line, 2), text, &mut out)
         }
         _ => false,
     }
@@ -200,14 +200,14 @@ fn is_right(line: &[u8], asked: usize) -> bool {
     }
     let mut text = io::large_buffer();
     if asked < PROGRAM || asked == FIND || asked == REFERENCES {
-        let n = stored_cases::decode(stored_cases::word(line, 1), &mut text);
+        let n = replay_cases::decode(replay_cases::word(line, 1), &mut text);
         return is_answer(line, asked, &text[..n]);
     }
     if asked < REFUSED || asked == FAULTS {
-        let n = stored_cases::decode(stored_cases::word(line, 1), &mut text);
+        let n = replay_cases::decode(replay_cases::word(line, 1), &mut text);
         return is_written(line, asked, &text[..n]);
     }
-    let n = stored_cases::decode(stored_cases::word(line, 0), &mut text);
+    let n = replay_cases::decode(replay_cases::word(line, 0), &mut text);
     is_sample(line, asked, &text[..n])
 }
 
@@ -260,7 +260,7 @@ fn block(input: &[u8], tally: &mut [u32]) -> usize
 {
     let mut at: usize = 0;
     while at < input.len() {
-        let end = stored_cases::until(input, at, b'\n');
+        let end = replay_cases::until(input, at, b'\n');
         if end == input.len() {
             return at;
         }
@@ -277,7 +277,7 @@ fn next_block(fd: i32, at: usize, tally: &mut [u32]) -> usize
     ensures { λ r. ⌜ (r ≤ 131072) × (length (now (tally .exit)) ≡ length (now (tally .entry))) ⌝ }
 {
     libc::lseek(fd, at as i64, libc::SEEK_SET);
-    let mut input = stored_cases::space();
+    let mut input = replay_cases::space();
     let n = io::read_full(fd, &mut input);
     if n == 0 {
         return 0;

@@ -72,41 +72,41 @@ pub const FAULTS: usize = 32;
 
 // What a line asks: its first word is a call, or its second what the crate makes of the text.
 pub fn asked_by(line: &[u8]) -> usize {
-    let call = stored_cases::word(line, 0);
-    if text::same(call, b"count") {
+    let call = replay_cases::word(line, 0);
+    if byte_slices::same(call, b"count") {
         return COUNT;
     }
-    if text::same(call, b"key") {
+    if byte_slices::same(call, b"key") {
         return KEY;
     }
-    if text::same(call, b"ln") {
+    if byte_slices::same(call, b"ln") {
         return LENGTH;
     }
-    if text::same(call, b"line") {
+    if byte_slices::same(call, b"line") {
         return LINE;
     }
-    if text::same(call, b"field") {
+    if byte_slices::same(call, b"field") {
         return FIELD;
     }
-    if text::same(call, b"roots") {
+    if byte_slices::same(call, b"roots") {
         return ROOTS;
     }
-    if text::same(call, b"leaves") {
+    if byte_slices::same(call, b"leaves") {
         return LEAVES;
     }
-    if text::same(call, b"leaves_by_table") {
+    if byte_slices::same(call, b"leaves_by_table") {
         return BY_TABLE;
     }
-    if text::same(call, b"add") {
+    if byte_slices::same(call, b"add") {
         return ADDED;
     }
-    if text::same(call, b"names") {
+    if byte_slices::same(call, b"names") {
         return NAMES;
     }
-    if text::same(call, b"prune") {
+    if byte_slices::same(call, b"prune") {
         return PRUNED;
     }
-    if text::same(call, b"judge_merge") {
+    if byte_slices::same(call, b"judge_merge") {
         return MERGED;
     }
     found_by(line)
@@ -114,20 +114,20 @@ pub fn asked_by(line: &[u8]) -> usize {
 
 // What a line asks about a key, about all references, a seal or faults.
 fn found_by(line: &[u8]) -> usize {
-    let call = stored_cases::word(line, 0);
-    if text::same(call, b"find") {
+    let call = replay_cases::word(line, 0);
+    if byte_slices::same(call, b"find") {
         return FIND;
     }
-    if text::same(call, b"references") {
+    if byte_slices::same(call, b"references") {
         return REFERENCES;
     }
-    if text::same(call, b"seal") {
+    if byte_slices::same(call, b"seal") {
         return SEALED;
     }
-    if text::same(call, b"check_sealed") {
+    if byte_slices::same(call, b"check_sealed") {
         return CHECK_SEALED;
     }
-    if text::same(call, b"faults") {
+    if byte_slices::same(call, b"faults") {
         return FAULTS;
     }
     written_by(line)
@@ -135,46 +135,46 @@ fn found_by(line: &[u8]) -> usize {
 
 // What a line asks of a text alone, or of a binary header.
 fn written_by(line: &[u8]) -> usize {
-    let call = stored_cases::word(line, 0);
-    if text::same(call, b"program") {
+    let call = replay_cases::word(line, 0);
+    if byte_slices::same(call, b"program") {
         return PROGRAM;
     }
-    if text::same(call, b"tidy") {
+    if byte_slices::same(call, b"tidy") {
         return TIDIED;
     }
-    if text::same(call, b"carry_on") {
+    if byte_slices::same(call, b"carry_on") {
         return CARRIED;
     }
-    if text::same(call, b"read") {
+    if byte_slices::same(call, b"read") {
         return READ;
     }
-    if text::same(call, b"binary_out") {
+    if byte_slices::same(call, b"binary_out") {
         return BINARY_OUT;
     }
-    if text::same(call, b"binary_in") {
+    if byte_slices::same(call, b"binary_in") {
         return BINARY_IN;
     }
-    if text::same(call, b"read_with") {
+    if byte_slices::same(call, b"read_with") {
         return READ_WITH;
     }
-    if text::same(call, b"text_len") {
+    if byte_slices::same(call, b"text_len") {
         return TEXT_LEN;
     }
-    if text::same(call, b"binary_len") {
+    if byte_slices::same(call, b"binary_len") {
         return BINARY_LEN;
     }
-    judged_by(stored_cases::word(line, 1))
+    judged_by(replay_cases::word(line, 1))
 }
 
 // What the crate makes of a text, by its name.
 fn judged_by(word: &[u8]) -> usize {
-    if text::same(word, b"refused") {
+    if byte_slices::same(word, b"refused") {
         return REFUSED;
     }
-    if text::same(word, b"accepted") {
+    if byte_slices::same(word, b"accepted") {
         return ACCEPTED;
     }
-    if text::same(word, b"unwritable") {
+    if byte_slices::same(word, b"unwritable") {
         return UNWRITABLE;
     }
     UNKNOWN

@@ -1,5 +1,5 @@
 // The faults of a text: whether the call answers as a line of stored answers says (`replay` has the lines' form).
-use parser::CountAnswer;
+use read::CountAnswer;
 ghost use mathlib.Core.Path.{_≡_};
 ghost use lib.ListN.{length};
 
@@ -12,17 +12,17 @@ fn found(text: &[u8], table: &mut [u32]) -> CountAnswer
 
 // Whether the rows are the line's, in a table of as many numbers as it says.
 pub fn is_faults(line: &[u8], text: &[u8], table: &mut [u32]) -> bool {
-    let room = stored_answers::ordinal_room(stored_cases::word(line, 2), table);
+    let room = replay_answers::ordinal_room(replay_cases::word(line, 2), table);
     match found(text, &mut table[..room]) {
         CountAnswer::Refused(n, no) => {
-            stored_answers::is_refusal(line, 3, n, no) && stored_cases::is_unlisted(table)
+            replay_answers::is_refusal(line, 3, n, no) && replay_cases::is_unlisted(table)
         }
         CountAnswer::Count(lines) => {
             if format::LONGEST < lines {
                 return false;
             }
-            stored_answers::is_ok(line, 3, 1)
-                && stored_answers::is_list(stored_cases::word(line, 4), table, 2 * lines, 8)
+            replay_answers::is_ok(line, 3, 1)
+                && replay_answers::is_list(replay_cases::word(line, 4), table, 2 * lines, 8)
         }
     }
 }

@@ -7,25 +7,25 @@ use format::LineNo;
 // Whether the text header at the front of a line's bytes is as long as it says.
 pub fn is_text_len(line: &[u8]) -> bool {
     let mut bytes = io::large_buffer();
-    let n = stored_cases::decode(stored_cases::word(line, 1), &mut bytes);
-    stored_answers::is_ok(line, 2, 1)
-        && stored_answers::is_number(
-            stored_cases::word(line, 3),
+    let n = replay_cases::decode(replay_cases::word(line, 1), &mut bytes);
+    replay_answers::is_ok(line, 2, 1)
+        && replay_answers::is_number(
+            replay_cases::word(line, 3),
             text_len::text_len(&bytes[..n]) as u64,
         )
 }
 
 // Whether a line says this length of a binary header: `what` is `whole` or `more`.
 fn is_len(line: &[u8], what: &[u8], n: usize) -> bool {
-    stored_answers::is_ok(line, 2, 2)
-        && text::same(stored_cases::word(line, 3), what)
-        && stored_answers::is_number(stored_cases::word(line, 4), n as u64)
+    replay_answers::is_ok(line, 2, 2)
+        && byte_slices::same(replay_cases::word(line, 3), what)
+        && replay_answers::is_number(replay_cases::word(line, 4), n as u64)
 }
 
 // Whether a line says this of a binary header.
 fn is_told(line: &[u8], len: BinaryLen) -> bool {
     match len {
-        BinaryLen::Refused(n) => stored_answers::is_refusal(line, 2, n, LineNo(0)),
+        BinaryLen::Refused(n) => replay_answers::is_refusal(line, 2, n, LineNo(0)),
         BinaryLen::Whole(n) => is_len(line, b"whole", n),
         BinaryLen::More(n) => is_len(line, b"more", n),
     }
@@ -46,7 +46,7 @@ fn told_by_fronts(bytes: &[u8]) -> BinaryLen {
                     return BinaryLen::Refused(0);
                 }
                 from = next;
-                lent = stored_cases::least(n, bytes.len());
+                lent = replay_cases::least(n, bytes.len());
             }
             Step::Refused(n) => {
                 return BinaryLen::Refused(n);
@@ -59,6 +59,6 @@ fn told_by_fronts(bytes: &[u8]) -> BinaryLen {
 // Whether the binary header at the front of a line's bytes is as long as it says.
 pub fn is_binary_len(line: &[u8]) -> bool {
     let mut bytes = io::large_buffer();
-    let n = stored_cases::decode(stored_cases::word(line, 1), &mut bytes);
+    let n = replay_cases::decode(replay_cases::word(line, 1), &mut bytes);
     is_told(line, binary_len::binary_len(&bytes[..n])) && is_told(line, told_by_fronts(&bytes[..n]))
 }

@@ -8,10 +8,10 @@ use Rattle.format.specs.Records.{Record}
 use Rattle.format.specs.Reading.{accept, readText}
 use Rattle.format.specs.Catalogue.{catalogue}
 use Rattle.format.specs.Calls.{refused, yes, records, fitting, reading, fresh}
-use Rattle.text.proofs.Equal.{same-equal, same-self}
-use Rattle.roundtrip.proofs.Answered.{Gave, then-yes, fitting-yes, read-of}
-use Rattle.parser.proofs.Told.{fresh-reads}
-use Rattle.parser.proofs.Fresh.{refused-is-no-answer}
+use Rattle.byte_slices.proofs.Equal.{same-equal, same-self}
+use Rattle.tidy_laws.proofs.Answered.{Gave, then-yes, fitting-yes, read-of}
+use Rattle.read.proofs.Told.{fresh-reads}
+use Rattle.read.proofs.Fresh.{refused-is-no-answer}
 use Rattle.sam_header_laws.specs.Fresh.{FreshExactly, AllFreshExactly}
 
 module _ (text c : List ℕ) (rs : List Record) (reads : readText text ≡ accept rs) where

@@ -25,14 +25,14 @@ use Rattle.format.specs.Binary.{binary, binaryOut, binaryIn, wellFormed, binary
 use Rattle.format.specs.Batch.{batching}
 use Rattle.names.specs.Answers.{namesOf}
 use Rattle.names.proofs.Bound.{batch-few}
-use Rattle.parser.specs.Answers.{answerOf, checkedOf}
+use Rattle.read.specs.Answers.{answerOf, checkedOf}
 use Rattle.calls.specs.Answers.{countOf, keyAnswerOf, lengthAnswerOf, lineAnswerOf}
-use Rattle.roots_and_leaves.specs.Answers.{leavesAnswerOf}
-use Rattle.leaves_by_table.specs.Answers.{withoutTable}
+use Rattle.programs.specs.Answers.{leavesAnswerOf}
+use Rattle.programs_by_table.specs.Answers.{withoutTable}
 use Rattle.carry_on.specs.Answers.{carriedOf}
 use Rattle.merge_judge.specs.Judged.{whichOf, verdictOf}
-use Rattle.words.specs.Words.{refusalWord, answerWord, checkedWord, carriedWord, leavesWord, keyWord, lengthWord, lineWord, namesWord, unfitWord, verdictWord}
-use Rattle.exports.proofs.Clear.{carried-clear, leaves-clear, seated-clear, key-clear}
+use Rattle.sam_header_words.specs.Words.{refusalWord, answerWord, checkedWord, carriedWord, leavesWord, keyWord, lengthWord, lineWord, namesWord, unfitWord, verdictWord}
+use Rattle.sam_header.proofs.Clear.{carried-clear, leaves-clear, seated-clear, key-clear}
 use Rattle.sam_header_laws.specs.Tells.{Tells, WritingTells, NumbersTell, VerdictTells}
 use Rattle.sam_header_laws.proofs.Within.{Within, fitting-within, writing-within, then-within, cond-within, count-small, line-small}
 

@@ -16,8 +16,8 @@ use Rattle.accepted.specs.Read.{recordsOf}
 use Rattle.accepted.proofs.Bools.{never}
 use Rattle.accepted.proofs.Text.{text-count, text-fits}
 use Rattle.accepted.proofs.Onward.{lines-count}
-use Rattle.roundtrip.proofs.Answered.{Gave, then-yes, writing-yes}
-use Rattle.parser.proofs.Fresh.{Current, passed, goes-on}
+use Rattle.tidy_laws.proofs.Answered.{Gave, then-yes, writing-yes}
+use Rattle.read.proofs.Fresh.{Current, passed, goes-on}
 use Rattle.calls.proofs.Located.{line-on}
 
 -- ---- what is written

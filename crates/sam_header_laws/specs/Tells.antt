@@ -10,13 +10,13 @@ use Rattle.format.specs.Carrying.{carrying}
 use Rattle.format.specs.Binary.{binaryOut, binaryIn}
 use Rattle.format.specs.Batch.{batching}
 use Rattle.names.specs.Answers.{namesOf}
-use Rattle.parser.specs.Answers.{answerOf, checkedOf}
+use Rattle.read.specs.Answers.{answerOf, checkedOf}
 use Rattle.calls.specs.Answers.{countOf, keyAnswerOf, lengthAnswerOf, lineAnswerOf}
-use Rattle.roots_and_leaves.specs.Answers.{leavesAnswerOf}
-use Rattle.leaves_by_table.specs.Answers.{withoutTable}
+use Rattle.programs.specs.Answers.{leavesAnswerOf}
+use Rattle.programs_by_table.specs.Answers.{withoutTable}
 use Rattle.carry_on.specs.Answers.{carriedOf}
 use Rattle.merge_judge.specs.Judged.{verdictOf}
-use Rattle.words.specs.Words.{answerWord, checkedWord, carriedWord, leavesWord, keyWord, lengthWord, lineWord, namesWord, verdictWord}
+use Rattle.sam_header_words.specs.Words.{answerWord, checkedWord, carriedWord, leavesWord, keyWord, lengthWord, lineWord, namesWord, verdictWord}
 
 -- the number of an answer tells whether it is a refusal
 pub record Tells {A : Type 0} (a : Answer A) (word : ℕ) : Type 0 where

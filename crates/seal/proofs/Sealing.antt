@@ -11,12 +11,12 @@ use Rattle.format.specs.Records.{Record}
 use Rattle.format.specs.Calls.{Answer, refused, yes, then, fresh, tidying}
 use Rattle.format.specs.declared.LineNo.{LineNo}
 use Rattle.accepted.proofs.Bools.{never}
-use Rattle.parser.specs.declared.CountAnswer.{CountAnswer}
-use Rattle.parser.specs.declared.CountAnswer.the-variants as answer
-use Rattle.parser.specs.declared.Checked.{Checked}
-use Rattle.parser.specs.declared.Checked.the-variants as checked
-use Rattle.parser.specs.Answers.{answerOf, outputOf, checkedOf}
-use Rattle.parser.proofs.Fresh.{refused-is-no-answer}
+use Rattle.read.specs.declared.CountAnswer.{CountAnswer}
+use Rattle.read.specs.declared.CountAnswer.the-variants as answer
+use Rattle.read.specs.declared.Checked.{Checked}
+use Rattle.read.specs.declared.Checked.the-variants as checked
+use Rattle.read.specs.Answers.{answerOf, outputOf, checkedOf}
+use Rattle.read.proofs.Fresh.{refused-is-no-answer}
 use Rattle.format.specs.Sha256.{sha256}
 use Rattle.format.specs.Seal.{sealing, tidyingFresh, ownSeal, checkingSealed}
 

@@ -1,12 +1,12 @@
 // Seals: the SHA-256 of a header's tidy text, which a plan keeps beside the catalogue so that an edit of a name is seen too.
 use format::LineNo;
-use parser::Checked;
-use parser::CountAnswer;
+use read::Checked;
+use read::CountAnswer;
 ghost use mathlib.Core.Path.{_≡_};
 ghost use lib.ListN.{length};
 ghost use Rattle.format.specs.Bytes.{same};
 ghost use Rattle.format.specs.Calls.{tidying};
-ghost use Rattle.parser.specs.Answers.{answerOf, outputOf, checkedOf};
+ghost use Rattle.read.specs.Answers.{answerOf, outputOf, checkedOf};
 ghost use Rattle.format.specs.Sha256.{sha256};
 ghost use Rattle.format.specs.Seal.{sealing, tidyingFresh, checkingSealed};
 ghost use Rattle.seal.specs.Answers.{sealLeft};
@@ -34,9 +34,9 @@ fn tidy_fresh(text: &[u8], catalogue: &[u8], work: &mut [u8]) -> CountAnswer
     ensures wrote { λ _. ⌜ now (work .exit)
         ≡ outputOf (tidyingFresh (now (text .entry)) (now (catalogue .entry)) (length (now (work .entry)))) (now (work .entry)) ⌝ }
 {
-    match parser::check(text, catalogue) {
+    match read::check(text, catalogue) {
         Checked::Refused(n, line) => CountAnswer::Refused(n, line),
-        Checked::Fresh => tidy::write_accepted(text, repeat_rule::is_strict(text), work),
+        Checked::Fresh => tidy::write_accepted(text, read_repeat_rule::is_strict(text), work),
     }
 }
 
@@ -45,7 +45,7 @@ fn is_seal(seal: &[u8; 32], text: &[u8]) -> bool
     ensures { λ r. ⌜ r ≡ same (now (seal .entry)) (sha256 (now (text .entry))) ⌝ }
 {
     let own = sha256::hash(text);
-    text::same(&seal[..32], &own[..32])
+    byte_slices::same(&seal[..32], &own[..32])
 }
 
 // Whether `catalogue` and `seal` are those of `text`: reading's refusals, 21, then as tidying into `work`, then 33 where the seal is

@@ -3,9 +3,9 @@ use Prim.Native.Nat.{ℕ}
 use mathlib.Core.Path.{_≡_, refl}
 use mathlib.Core.List.{List, [], _∷_}
 use Rattle.format.specs.Calls.{Answer, yes, refused, reading, fresh}
-use Rattle.parser.specs.declared.Checked.the-variants.{Fresh}
-use Rattle.parser.specs.Answers.{checkedOf}
-use Rattle.roundtrip.proofs.Example.{ascii}
+use Rattle.read.specs.declared.Checked.the-variants.{Fresh}
+use Rattle.read.specs.Answers.{checkedOf}
+use Rattle.tidy_laws.proofs.Example.{ascii}
 use Rattle.format.specs.Sha256.{sha256}
 use Rattle.format.specs.Seal.{sealing, checkingSealed}
 

@@ -11,17 +11,17 @@ use Rattle.format.specs.Records.{Record}
 use Rattle.format.specs.Reading.{accept, readText}
 use Rattle.format.specs.Tidy.{tidy, unwritable}
 use Rattle.format.specs.Calls.{Answer, refused, yes, then, readAnswer, records, fresh, fitting, writing, tidying}
-use Rattle.text.proofs.Equal.{same-equal, same-self}
+use Rattle.byte_slices.proofs.Equal.{same-equal, same-self}
 use Rattle.accepted.proofs.Bools.{never}
-use Rattle.roundtrip.specs.Bare.{Equal}
-use Rattle.roundtrip.specs.Writable.{Writable}
-use Rattle.roundtrip.specs.Faithful.{Allowed, Kept, Holds, Faithful}
-use Rattle.roundtrip.proofs.Answered.{then-yes, read-of, fresh-yes, writing-yes}
-use Rattle.roundtrip.proofs.Gathered.{text-gathered, gathered-writable}
-use Rattle.roundtrip.proofs.Tidy.{tidy-tells}
-use Rattle.roundtrip.proofs.Bare.{tidy-equal}
-use Rattle.roundtrip.proofs.Faithful.{faithful}
-use Rattle.parser.proofs.Told.{fits}
+use Rattle.tidy_laws.specs.Bare.{Equal}
+use Rattle.tidy_laws.specs.Writable.{Writable}
+use Rattle.tidy_laws.specs.Faithful.{Allowed, Kept, Holds, Faithful}
+use Rattle.tidy_laws.proofs.Answered.{then-yes, read-of, fresh-yes, writing-yes}
+use Rattle.tidy_laws.proofs.Gathered.{text-gathered, gathered-writable}
+use Rattle.tidy_laws.proofs.Tidy.{tidy-tells}
+use Rattle.tidy_laws.proofs.Bare.{tidy-equal}
+use Rattle.tidy_laws.proofs.Faithful.{faithful}
+use Rattle.read.proofs.Told.{fits}
 use Rattle.format.specs.Sha256.{sha256}
 use Rattle.sha256.proofs.Laws.{digest-length}
 use Rattle.format.specs.Seal.{sealing, ownSeal, checkingSealed}

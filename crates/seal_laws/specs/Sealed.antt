@@ -7,8 +7,8 @@ use lib.ListN.{length}
 use Rattle.format.specs.Records.{Record}
 use Rattle.format.specs.Tidy.{tidy}
 use Rattle.format.specs.Calls.{Answer, yes, records}
-use Rattle.roundtrip.specs.Bare.{Equal}
-use Rattle.roundtrip.specs.Faithful.{Allowed}
+use Rattle.tidy_laws.specs.Bare.{Equal}
+use Rattle.tidy_laws.specs.Faithful.{Allowed}
 use Rattle.format.specs.Sha256.{sha256}
 use Rattle.format.specs.Seal.{sealing, checkingSealed}
 

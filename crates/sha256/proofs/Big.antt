@@ -5,8 +5,8 @@ use mathlib.Core.List.{List, [], _∷_, _++_}
 use native.Mathlib.Omega.{arith}
 use native.Mathlib.Nat.{div-one, div-div-eq-div-mul}
 use lib.ListN.{length, replicate}
-use Rattle.text.specs.Over.{over}
-use Rattle.text.proofs.Over.{over-over}
+use Rattle.byte_slices.specs.Over.{over}
+use Rattle.byte_slices.proofs.Over.{over-over}
 use Rattle.format.specs.Sha256.{HashValue, big, digest}
 
 pub big-length : (n v : ℕ) → length (big n v) ≡ n

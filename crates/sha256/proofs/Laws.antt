@@ -4,7 +4,7 @@ use mathlib.Core.Path.{_≡_, refl}
 use mathlib.Core.List.{List, [], _∷_, _++_}
 use native.Mathlib.Omega.{arith}
 use lib.ListN.{length, length-append}
-use Rattle.text.specs.Stands.{Each}
+use Rattle.byte_slices.specs.Stands.{Each}
 use Rattle.format.specs.Sha256.{HashValue, H0, big, zeros, padding, pad, parse, hashed, digest, sha256}
 use Rattle.sha256.proofs.Padded.{padding-length}
 

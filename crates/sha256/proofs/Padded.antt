@@ -5,8 +5,8 @@ use mathlib.Core.List.{List, _∷_, _++_, append-assoc}
 use native.Mathlib.Omega.{arith}
 use lib.ListN.{length, take, drop, set, replicate, length-append, length-drop, length-replicate, replicate-append-replicate}
 use lib.Seq.{drop-at, take-at, set-at, take-append-add, take-all}
-use Rattle.text.specs.Over.{over}
-use Rattle.text.proofs.Over.{over-take}
+use Rattle.byte_slices.specs.Over.{over}
+use Rattle.byte_slices.proofs.Over.{over-take}
 use Rattle.format.specs.Sha256.{HashValue, H0, compress, big, zeros, padding, parse, hashed, digest, sha256}
 use Rattle.sha256.specs.Parts.{lastBlocks}
 use Rattle.sha256.proofs.Big.{big-length}

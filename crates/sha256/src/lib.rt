@@ -5,7 +5,7 @@ ghost use lib.ListN.{length, take, drop};
 ghost use Rattle.format.specs.Sha256.{sum32, Ch, Maj, Σ0, Σ1, σ0, σ1, K, H0, words, next, extend, round, rounds, sum, compress};
 ghost use Rattle.format.specs.Sha256.{big, parse, hashed, digest, sha256};
 ghost use Rattle.sha256.specs.Parts.{valueOf, wordAt, lastBlocks};
-ghost use Rattle.text.specs.Over.{over};
+ghost use Rattle.byte_slices.specs.Over.{over};
 
 // A hash value, and the working variables of the rounds: eight words.
 pub struct State {
@@ -302,7 +302,7 @@ fn ending(s: &[u8]) -> [u8; 128]
     let rest = n % 64;
     let start = n - rest;
     let mut out: [u8; 128] = [0; 128];
-    text::put_bytes(&mut out, 0, &s[start..]);
+    byte_slices::put_bytes(&mut out, 0, &s[start..]);
     out[rest] = 0x80;
     if rest < 56 {
         put_bits(&mut out, 56, n);

@@ -11,10 +11,10 @@ use Rattle.format.specs.Bytes.{any}
 use Rattle.format.specs.Lines.{Piece, lines, linesFrom}
 use Rattle.format.specs.Records.{Record, refusedLine, read, breaks, kinded, prefixed, line}
 use Rattle.format.specs.Reading.{readText, accept}
-use Rattle.text.specs.Stands.{Stands, Each}
-use Rattle.text.proofs.First.{lines-first}
-use Rattle.text.proofs.Lines.{lines-none}
-use Rattle.text.proofs.Stands.{each-map, lines-stand}
+use Rattle.byte_slices.specs.Stands.{Stands, Each}
+use Rattle.byte_slices.proofs.First.{lines-first}
+use Rattle.byte_slices.proofs.Lines.{lines-none}
+use Rattle.byte_slices.proofs.Stands.{each-map, lines-stand}
 use Rattle.accepted.specs.Admits.{strictly}
 use Rattle.accepted.proofs.Bools.{never}
 use Rattle.accepted.proofs.Pairs.{pairs-left}

@@ -9,9 +9,9 @@ use lib.Seq.{take-take, drop-drop, drop-cons}
 use lib.Dec.{eqb}
 use borrow.Author.Tests.{eqb-true, eq-eqb, ne-eqb}
 use Rattle.format.specs.Lines.{chomp, linesFrom}
-use Rattle.text.specs.Upto.{upto}
-use Rattle.text.specs.First.{firstLine}
-use Rattle.text.proofs.First.{chomp-front, lines-first}
+use Rattle.byte_slices.specs.Upto.{upto}
+use Rattle.byte_slices.specs.First.{firstLine}
+use Rattle.byte_slices.proofs.First.{chomp-front, lines-first}
 use Rattle.format.specs.TextLen.{headed, otherLine}
 
 -- ---- an `@` belongs to no ending

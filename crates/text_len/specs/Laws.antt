@@ -8,7 +8,7 @@ use Rattle.format.specs.Lines.{lines}
 use Rattle.format.specs.Records.{Record}
 use Rattle.format.specs.Reading.{readText, accept}
 use Rattle.format.specs.Programs.{lastOr}
-use Rattle.text.specs.Stands.{Each}
+use Rattle.byte_slices.specs.Stands.{Each}
 use Rattle.format.specs.TextLen.{headed, textLen}
 
 -- a text that reading accepts is header from its front to its end

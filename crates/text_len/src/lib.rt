@@ -11,7 +11,7 @@ pub fn text_len(bytes: &[u8]) -> usize
         if bytes[at] != b'@' {
             return at;
         }
-        let cut = text::first_line(&bytes[at..]);
+        let cut = byte_slices::first_line(&bytes[at..]);
         at += cut.next;
     }
     at

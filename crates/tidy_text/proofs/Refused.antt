@@ -5,7 +5,7 @@ use mathlib.Core.List.{List}
 use mathlib.Core.Option.{Option, none, some}
 use Rattle.format.specs.Calls.{Answer, refused, yes, writing}
 use Rattle.accepted.proofs.Bools.{never}
-use Rattle.per_kind.specs.declared.PerKind.{PerKind}
+use Rattle.tidy_sizes.specs.declared.PerKind.{PerKind}
 use Rattle.tidy_text.specs.declared.Measured.{Measured}
 use Rattle.tidy_text.specs.Accepted.{measuredOf, measuredAnswer, MeasuredTold}
 

@@ -9,7 +9,7 @@ use lib.Seq.{drop-append-seam, take-append-seam, drop-drop, take-add, getD-drop,
 use lib.Dec.{eqb}
 use Rattle.format.specs.Fields.{Field, repeats}
 use Rattle.format.specs.Tidy.{fieldText, fieldsText}
-use Rattle.text.specs.Upto.{upto}
+use Rattle.byte_slices.specs.Upto.{upto}
 use Rattle.accepted_line.specs.Run.{fieldsOf, Runs, fieldsTo, fieldsFrom, AtField}
 use Rattle.accepted_line.specs.Next.{fieldLength}
 use Rattle.accepted_line.proofs.fields.Runs.{bytesOf, piece, piece-free, Opened, runs-open, runs-none, runs-more, runs-append}

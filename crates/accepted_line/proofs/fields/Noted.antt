@@ -14,8 +14,8 @@ use Rattle.format.specs.Bytes.{any}
 use Rattle.format.specs.Lines.{Piece}
 use Rattle.format.specs.Fields.{Field, isTag, tagged, later, lastOf}
 use Rattle.format.specs.Tidy.{fieldText, fieldsText}
-use Rattle.text.specs.Upto.{upto}
-use Rattle.text.specs.Stands.{Each}
+use Rattle.byte_slices.specs.Upto.{upto}
+use Rattle.byte_slices.specs.Stands.{Each}
 use Rattle.accepted_line.specs.Number.{tagNumber}
 use Rattle.accepted_line.proofs.tag_number.Apart.{tag-below, tag-apart}
 use Rattle.accepted.proofs.Bools.{never, or-left, or-right, split}

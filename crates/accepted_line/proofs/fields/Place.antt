@@ -8,11 +8,11 @@ use lib.ListN.{length, drop, getD, set}
 use lib.Dec.{eqb}
 use Rattle.format.specs.Fields.{tagged, isTag, lastOf}
 use Rattle.format.specs.declared.Kind.{Kind}
-use Rattle.text.specs.Upto.{upto}
-use Rattle.text.specs.Stands.{Each}
+use Rattle.byte_slices.specs.Upto.{upto}
+use Rattle.byte_slices.specs.Stands.{Each}
 use Rattle.accepted_line.specs.Number.{tagNumber}
 use Rattle.accepted.specs.Sound.{isKey}
-use Rattle.tags.specs.Others.{firsts}
+use Rattle.record_tags.specs.Others.{firsts}
 use Rattle.accepted_line.specs.Run.{fieldsTo, fieldsFrom, AtField}
 use Rattle.accepted_line.specs.Next.{isFirst, orValue, lastIn, valueAt, keptAt, fieldLength}
 use Rattle.accepted_line.specs.Tables.{fieldNumber, HasTag, spread, marked, noted, Noted}

@@ -11,10 +11,10 @@ use borrow.Author.Tests.{ne-eqb}
 use Rattle.format.specs.Lines.{onto, cut, placed}
 use Rattle.format.specs.Fields.{Field}
 use Rattle.format.specs.Tidy.{fieldText, fieldsText}
-use Rattle.text.specs.Upto.{upto}
-use Rattle.text.specs.Stands.{Stands, Each}
-use Rattle.text.proofs.Stands.{each-map, stands-onward}
-use Rattle.tags.proofs.Region.{Clean}
+use Rattle.byte_slices.specs.Upto.{upto}
+use Rattle.byte_slices.specs.Stands.{Stands, Each}
+use Rattle.byte_slices.proofs.Stands.{each-map, stands-onward}
+use Rattle.record_tags.proofs.Region.{Clean}
 use Rattle.accepted_line.specs.Run.{fieldOf, fieldsOf, Runs}
 use Rattle.accepted_line.specs.Next.{fieldLength}
 

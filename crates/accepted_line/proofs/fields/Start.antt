@@ -13,9 +13,9 @@ use Rattle.format.specs.Records.{Record, others}
 use Rattle.format.specs.Tidy.{fieldText, fieldsText}
 use Rattle.format.specs.declared.Kind.{Kind}
 use Rattle.format.specs.declared.Kind.the-variants.{Header, ReferenceSequence, ReadGroup, Program}
-use Rattle.text.specs.Upto.{upto}
-use Rattle.text.specs.Stands.{Each}
-use Rattle.text.proofs.Stands.{pieces-free}
+use Rattle.byte_slices.specs.Upto.{upto}
+use Rattle.byte_slices.specs.Stands.{Each}
+use Rattle.byte_slices.proofs.Stands.{pieces-free}
 use Rattle.accepted.specs.Pieces.{Pairs}
 use Rattle.accepted.specs.Sound.{isKey, kind}
 use Rattle.accepted.specs.Spelled as sp
@@ -23,9 +23,9 @@ use Rattle.accepted.specs.Spelled.{Good, Made, Spelled}
 use Rattle.accepted.proofs.Bools.{never, split, or-split}
 use Rattle.accepted.proofs.Pairs.{pairs-right}
 use Rattle.accepted.proofs.Sound.{made-kind}
-use Rattle.tags.specs.Others.{unkeyed, firsts}
-use Rattle.tags.proofs.Firsts.{settled-firsts}
-use Rattle.tags.proofs.Region.{Clean}
+use Rattle.record_tags.specs.Others.{unkeyed, firsts}
+use Rattle.record_tags.proofs.Firsts.{settled-firsts}
+use Rattle.record_tags.proofs.Region.{Clean}
 use Rattle.accepted_line.specs.Run.{fieldOf, fieldsOf, Runs, fieldsTo, fieldsFrom, AtField}
 use Rattle.accepted_line.specs.Tables.{HasTag, spread, noted, Blank, Walkable}
 use Rattle.accepted_line.proofs.fields.Runs.{runs-none}

@@ -13,7 +13,7 @@ use Rattle.format.specs.declared.Kind.{Kind}
 use Rattle.accepted.specs.Sound.{isKey}
 use Rattle.accepted.proofs.Bools.{or-left, or-right, any-append}
 use Rattle.accepted.proofs.Tags.{tagged-sym}
-use Rattle.tags.specs.Others.{orLast, latest, firsts}
+use Rattle.record_tags.specs.Others.{orLast, latest, firsts}
 use Rattle.accepted_line.specs.Run.{fieldsTo, fieldsFrom, AtField}
 use Rattle.accepted_line.specs.Next.{isFirst, valueOfPiece, orValue, valueAt, keptAt, fieldLength}
 use Rattle.accepted_line.specs.declared.fields.Value.{Value}

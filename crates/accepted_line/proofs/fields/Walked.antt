@@ -10,12 +10,12 @@ use Rattle.format.specs.Bytes.{any}
 use Rattle.format.specs.Lines.{Piece}
 use Rattle.format.specs.Fields.{Field, tagged, lastOf}
 use Rattle.format.specs.declared.Kind.{Kind}
-use Rattle.text.specs.Stands.{Stands, Each}
-use Rattle.text.proofs.Stands.{each-map, stands-onward}
+use Rattle.byte_slices.specs.Stands.{Stands, Each}
+use Rattle.byte_slices.proofs.Stands.{each-map, stands-onward}
 use Rattle.accepted.specs.Sound.{isKey}
 use Rattle.accepted.proofs.Bools.{or-true}
 use Rattle.accepted.proofs.Fields.{Of, lastOf-of}
-use Rattle.tags.specs.Others.{orLast, latest, firsts}
+use Rattle.record_tags.specs.Others.{orLast, latest, firsts}
 use Rattle.accepted_line.specs.Run.{fieldsTo, fieldsFrom, AtField}
 use Rattle.accepted_line.specs.Next.{isFirst, keptAt, fieldLength}
 use Rattle.accepted_line.specs.declared.fields.Value.{Value}

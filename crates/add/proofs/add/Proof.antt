@@ -14,20 +14,20 @@ use Rattle.format.specs.Programs.{Program, programs, links, leaves, tangled}
 use Rattle.format.specs.Adding.{given, misformed}
 use Rattle.format.specs.Calls.{adding}
 use Rattle.accepted.specs.Read.{isAccepted, recordsOf}
-use Rattle.chains.specs.Parents.{inArray}
-use Rattle.chains.proofs.Arrays.{front, front-count, front-inside}
-use Rattle.entries.specs.Entries.{entriesIn}
-use Rattle.programs.specs.declared.Programs.{Programs}
-use Rattle.programs.specs.Gathered.{notedIn, programsIn, gatheredOf}
-use Rattle.id_search.specs.Places.{idsAt}
-use Rattle.id_search.specs.Search.{idsOf}
-use Rattle.parents.specs.Parents.{graphOf}
-use Rattle.parents.proofs.Own.{own-count, own-ats, own-lens, ats-inside, lens-inside, own-placed, own-ids}
-use Rattle.parents.proofs.Road.{graph-refusal, graph-list, graph-count, some-leaf}
-use Rattle.parser.specs.Answers.{answerOf, outputOf}
-use Rattle.parser.proofs.Told.{refused-answer}
-use Rattle.parser.proofs.Fresh.{Current, refused-by, fresh-by}
-use Rattle.parents.proofs.Opened.{Opened, opened}
+use Rattle.program_chains.specs.Parents.{inArray}
+use Rattle.program_chains.proofs.Arrays.{front, front-count, front-inside}
+use Rattle.catalogue_entries.specs.Entries.{entriesIn}
+use Rattle.program_places.specs.declared.Programs.{Programs}
+use Rattle.program_places.specs.Gathered.{notedIn, programsIn, gatheredOf}
+use Rattle.program_ids.specs.Places.{idsAt}
+use Rattle.program_ids.specs.Search.{idsOf}
+use Rattle.program_parents.specs.Parents.{graphOf}
+use Rattle.program_parents.proofs.Own.{own-count, own-ats, own-lens, ats-inside, lens-inside, own-placed, own-ids}
+use Rattle.program_parents.proofs.Road.{graph-refusal, graph-list, graph-count, some-leaf}
+use Rattle.read.specs.Answers.{answerOf, outputOf}
+use Rattle.read.proofs.Told.{refused-answer}
+use Rattle.read.proofs.Fresh.{Current, refused-by, fresh-by}
+use Rattle.program_parents.proofs.Opened.{Opened, opened}
 use Rattle.add_input.proofs.InForm.{in-form}
 use Rattle.add.specs.Added.{isNothing, stray, leavesOf, addingOn}
 use Rattle.add.proofs.Prior.{nothing-none}

@@ -11,8 +11,8 @@ use Rattle.format.specs.Records.{Record}
 use Rattle.format.specs.Reading.{announced, isStrict}
 use Rattle.format.specs.Tidy.{tidy, unwritable}
 use Rattle.accepted.specs.Read.{recordsOf}
-use Rattle.id_search.specs.Places.{idsAt}
-use Rattle.per_kind.specs.Numbers.{total}
+use Rattle.program_ids.specs.Places.{idsAt}
+use Rattle.tidy_sizes.specs.Numbers.{total}
 use Rattle.tidy_text.specs.Sizes.{sizesOf}
 use Rattle.tidy_text.proofs.Lines.{opened}
 use Rattle.tidy_text.proofs.Total.{tidy-small}

@@ -11,10 +11,10 @@ use Rattle.accepted.proofs.Text.{text-fits}
 use Rattle.format.specs.References.{sqList, sameReferences}
 use Rattle.format.specs.Binary.{takeList, unpadded, binaryIn}
 use Rattle.binary_parts.specs.Parts.{listed}
-use Rattle.sq_list.proofs.Next.{sq-all}
-use Rattle.judging.proofs.Whole.{text-refused, text-accepted}
-use Rattle.parser.specs.Answers.{answerOf, outputOf}
-use Rattle.parser.proofs.Told.{refused-answer}
+use Rattle.binary_references.proofs.Next.{sq-all}
+use Rattle.read_judge.proofs.Whole.{text-refused, text-accepted}
+use Rattle.read.specs.Answers.{answerOf, outputOf}
+use Rattle.read.proofs.Told.{refused-answer}
 use Rattle.binary_in.proofs.Kept.{kept-within, kept-is}
 use Rattle.binary_in.proofs.Reading.{in-none, in-refused, in-other, in-same}
 use borrow.Author.Needs.{needs}

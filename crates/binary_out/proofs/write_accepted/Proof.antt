@@ -10,14 +10,14 @@ use Rattle.accepted.proofs.Read.{accepted-reads}
 use Rattle.accepted.proofs.Text.{text-fits}
 use Rattle.format.specs.References.{sqList}
 use Rattle.format.specs.Binary.{listBytes}
-use Rattle.sq_list.proofs.Next.{sq-all}
-use Rattle.references_out.specs.Size.{listSize}
-use Rattle.per_kind.specs.Numbers.{total}
+use Rattle.binary_references.proofs.Next.{sq-all}
+use Rattle.binary_put.specs.Size.{listSize}
+use Rattle.tidy_sizes.specs.Numbers.{total}
 use Rattle.tidy_text.specs.Sizes.{sizesOf}
 use Rattle.tidy_text.proofs.Lines.{opened}
 use Rattle.tidy_text.proofs.Total.{tidy-small}
 use Rattle.tidy_text.proofs.Sizes.{total-size}
-use Rattle.parser.proofs.Told.{refused-answer, written-answer}
+use Rattle.read.proofs.Told.{refused-answer, written-answer}
 use Rattle.tidy.proofs.Writing.{measured-bad, measured-is}
 use Rattle.binary_out.specs.Written.{binaryOf, writingBinary}
 use Rattle.binary_out.proofs.Whole.{binary-length, out-bad, out-long, out-short, out-written}

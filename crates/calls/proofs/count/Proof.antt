@@ -1,8 +1,8 @@
 -- `calls::count` meets its contract: reading, 21, then 25 outside 1 to 5, then the entries are counted.
 use mathlib.Core.Path.{sym, ap, _∙_}
-use Rattle.parser.specs.declared.CountAnswer.the-variants.{Count}
+use Rattle.read.specs.declared.CountAnswer.the-variants.{Count}
 use Rattle.calls.specs.Answers.{countOf}
-use Rattle.parser.proofs.Fresh.{refused-by, fresh-by}
+use Rattle.read.proofs.Fresh.{refused-by, fresh-by}
 use Rattle.calls.proofs.Told.{count-refused, count-below, count-above, count-served}
 use borrow.Author.Needs.{needs}
 use Rattle.calls.proofs.count.Statement.{statement}

@@ -1,7 +1,7 @@
 -- `calls::key` meets its contract: reading, 21, then 25 where the catalogue has no such key.
 use mathlib.Core.Path.{sym, ap, _∙_}
 use Rattle.calls.specs.Answers.{keyAnswerOf}
-use Rattle.parser.proofs.Fresh.{refused-by, fresh-by}
+use Rattle.read.proofs.Fresh.{refused-by, fresh-by}
 use Rattle.calls.proofs.Told.{key-refused, key-none, key-found}
 use borrow.Author.Needs.{needs}
 use Rattle.calls.proofs.key.Statement.{statement}

@@ -1,7 +1,7 @@
 -- `calls::length` meets its contract: reading, 21, then 25 where the catalogue has no such SQ.
 use mathlib.Core.Path.{sym, ap, _∙_}
 use Rattle.calls.specs.Answers.{lengthAnswerOf}
-use Rattle.parser.proofs.Fresh.{refused-by, fresh-by}
+use Rattle.read.proofs.Fresh.{refused-by, fresh-by}
 use Rattle.calls.proofs.Told.{length-refused, length-none, length-found}
 use borrow.Author.Needs.{needs}
 use Rattle.calls.proofs.length.Statement.{statement}

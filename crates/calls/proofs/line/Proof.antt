@@ -1,7 +1,7 @@
 -- `calls::line` meets its contract: reading, 21, then 25 where the catalogue has no such record.
 use mathlib.Core.Path.{sym, ap, _∙_}
 use Rattle.calls.specs.Answers.{lineAnswerOf}
-use Rattle.parser.proofs.Fresh.{refused-by, fresh-by}
+use Rattle.read.proofs.Fresh.{refused-by, fresh-by}
 use Rattle.calls.proofs.Told.{line-refused, line-none, line-found}
 use borrow.Author.Needs.{needs}
 use Rattle.calls.proofs.line.Statement.{statement}

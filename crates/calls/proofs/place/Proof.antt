@@ -1,7 +1,7 @@
 -- `calls::place` meets its contract: nowhere after a refusal of the check or where the catalogue has no such field.
 use mathlib.Core.Path.{sym, ap, _∙_}
 use Rattle.calls.specs.Answers.{valuePlaceOf}
-use Rattle.parser.proofs.Fresh.{refused-by, fresh-by}
+use Rattle.read.proofs.Fresh.{refused-by, fresh-by}
 use Rattle.calls.proofs.Told.{field-refused, field-none, field-found}
 use borrow.Author.Needs.{needs}
 use Rattle.calls.proofs.place.Statement.{statement}

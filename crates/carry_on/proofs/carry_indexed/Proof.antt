@@ -7,7 +7,7 @@ use Rattle.carry_on.proofs.carry_indexed.Tie as tie
 use Rattle.carry_on.proofs.carry_indexed.Reads as reads
 use Rattle.carry_on.proofs.carry_indexed.Lts as lts
 use Rattle.carry_on.proofs.write_measured.Reads as write-measured-reads
-use Rattle.early_lines.proofs.find_first.Reads as find-first-reads
+use Rattle.carry_early.proofs.find_first.Reads as find-first-reads
 use Rattle.carry_passes.proofs.measure.Reads as measure-reads
 
 find-first-requires : tie.Need-find-first-requires

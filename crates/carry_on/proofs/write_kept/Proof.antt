@@ -5,11 +5,11 @@ use mathlib.Core.List.{List}
 use native.Mathlib.Omega.{arith}
 use lib.ListN.{length, length-append}
 use Rattle.format.specs.Tidy.{tidy}
-use Rattle.per_kind.specs.Numbers.{total, front, kindStarts}
+use Rattle.tidy_sizes.specs.Numbers.{total, front, kindStarts}
 use Rattle.tidy_text.proofs.Sizes.{total-size}
 use Rattle.tidy.proofs.Writing.{write-long, write-short, write-fits}
 use Rattle.format.specs.Carrying.{keptOf, carriedLines, skips, rows, unwritableLine, carrying}
-use Rattle.early_lines.specs.Early.{earlyOf, rowsFrom}
+use Rattle.carry_early.specs.Early.{earlyOf, rowsFrom}
 use Rattle.carry_passes.specs.From.{keptFrom, rowsOf}
 use Rattle.carry_passes.proofs.Split.{first-kept, first-small, first-count, skips-few, first-rows, early-rows}
 use Rattle.carry_on.proofs.Told.{told-refused, told-short, told-fits, refused-all, written-all}

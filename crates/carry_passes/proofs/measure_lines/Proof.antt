@@ -5,12 +5,12 @@ use native.Mathlib.Omega.{arith}
 use lib.ListN.{length, drop}
 use Rattle.format.specs.Tidy.{tidy}
 use Rattle.format.specs.declared.Kind.{Kind}
-use Rattle.per_kind.specs.Numbers.{get}
+use Rattle.tidy_sizes.specs.Numbers.{get}
 use Rattle.tidy_text.specs.Sizes.{sizesOf}
 use Rattle.tidy_text.proofs.Total.{size}
 use Rattle.tidy_text.proofs.Sizes.{get-none, size-none, each-get}
 use Rattle.format.specs.Carrying.{keptOf, unwritableLine}
-use Rattle.kept_lines.specs.Going.{Going}
+use Rattle.carry_lines.specs.Going.{Going}
 use Rattle.carry_passes.specs.From.{linesKeptFrom, keptFrom, skippedFrom}
 use Rattle.carry_passes.specs.Turn.{Turn}
 use Rattle.carry_passes.proofs.Split.{first-small}

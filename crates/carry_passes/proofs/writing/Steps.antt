@@ -7,17 +7,17 @@ use native.Mathlib.Omega.{arith}
 use lib.ListN.{length}
 use Rattle.format.specs.Records.{Line, refusedLine, read}
 use Rattle.format.specs.declared.Kind.{Kind}
-use Rattle.text.specs.Over.{over}
-use Rattle.text.proofs.Over.{over-over}
+use Rattle.byte_slices.specs.Over.{over}
+use Rattle.byte_slices.proofs.Over.{over-over}
 use Rattle.accepted.specs.Read.{isRead}
 use Rattle.accepted.proofs.Bools.{never}
-use Rattle.writer.specs.Line.{lineText}
-use Rattle.per_kind.specs.Numbers.{get, plus}
-use Rattle.per_kind.specs.declared.PerKind.{PerKind}
+use Rattle.tidy_line.specs.Line.{lineText}
+use Rattle.tidy_sizes.specs.Numbers.{get, plus}
+use Rattle.tidy_sizes.specs.declared.PerKind.{PerKind}
 use Rattle.tidy_text.specs.Placed.{withParts, parts, Apart}
 use Rattle.tidy_text.proofs.Parts.{split-turn}
 use Rattle.format.specs.Carrying.{keptOf, skips, rows}
-use Rattle.kept_lines.specs.declared.Cursor.{Cursor}
+use Rattle.carry_lines.specs.declared.Cursor.{Cursor}
 use Rattle.carry_passes.specs.Turn.{Turn}
 use Rattle.carry_passes.proofs.Steps as at
 use Rattle.carry_passes.proofs.Steps.{turn-read, goes, left-kept, left-skipped, records-kept, records-skipped}

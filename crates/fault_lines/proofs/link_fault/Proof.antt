@@ -5,7 +5,7 @@ use mathlib.Core.Bool.{true, false}
 use native.Mathlib.Omega.{arith}
 use lib.ListN.{length, getD}
 use Rattle.format.specs.Programs.{reaches}
-use Rattle.chains.proofs.Walks.{reaches-none}
+use Rattle.program_chains.proofs.Walks.{reaches-none}
 use Rattle.fault_lines.specs.Links.{linkIn, linksIn}
 use Rattle.fault_lines.proofs.Links.{reaches-end, reaches-here, reaches-on, fault-stranger, fault-walked}
 use Rattle.fault_lines.proofs.link_fault.Statement.{statement}

@@ -10,7 +10,7 @@ use Rattle.faults.proofs.faults_long.Reads as faults-long
 use Rattle.faults.proofs.faults_long.Kinds as faults-long-kinds
 use Rattle.faults.proofs.+faults_long.Lts-faults_long as faults-long-lts
 use Rattle.faults.proofs.write_faults.Reads as write-faults-reads
-use Rattle.kept_programs.proofs.link_kept.Reads as link-kept-reads
+use Rattle.fault_programs.proofs.link_kept.Reads as link-kept-reads
 use Rattle.faults.proofs.+faults_long.{statement}
 use Rattle.faults.proofs.+faults_long.Tie.{close}
 

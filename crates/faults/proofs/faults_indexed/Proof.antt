@@ -5,9 +5,9 @@ use Rattle.faults.proofs.faults_indexed.Statement.{statement}
 use Rattle.faults.proofs.faults_indexed.Tie as tie
 use Rattle.faults.proofs.faults_indexed.Reads as reads
 use Rattle.faults.proofs.faults_indexed.Lts as lts
-use Rattle.early_lines.proofs.find_first.Reads as find-first-reads
+use Rattle.carry_early.proofs.find_first.Reads as find-first-reads
 use Rattle.faults.proofs.write_faults.Reads as write-faults-reads
-use Rattle.kept_programs.proofs.link_kept.Reads as link-kept-reads
+use Rattle.fault_programs.proofs.link_kept.Reads as link-kept-reads
 
 find-first-requires : tie.Need-find-first-requires
 find-first-requires c κs = search needs

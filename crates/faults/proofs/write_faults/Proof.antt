@@ -5,11 +5,11 @@ use native.Mathlib.Omega.{arith}
 use lib.ListN.{length, take, length-append}
 use borrow.Author.Needs.{needs}
 use Rattle.format.proofs.Slots.{held-none}
-use Rattle.text.specs.Over.{over}
-use Rattle.text.proofs.Over.{over-over}
+use Rattle.byte_slices.specs.Over.{over}
+use Rattle.byte_slices.proofs.Over.{over-over}
 use Rattle.key_index.specs.Told.{start}
 use Rattle.format.specs.Carrying.{carriedLines, rows}
-use Rattle.early_lines.specs.Early.{earlyOf, rowsFrom}
+use Rattle.carry_early.specs.Early.{earlyOf, rowsFrom}
 use Rattle.carry_passes.proofs.Split.{early-rows}
 use Rattle.format.specs.Faults.{faultsIn, faulting}
 use Rattle.fault_lines.specs.Links.{linksIn}
@@ -20,7 +20,7 @@ use Rattle.faults.proofs.write_faults.Reads as reads
 use Rattle.faults.proofs.write_faults.Lts as lts
 use Rattle.fault_lines.proofs.count_links.Reads as count-links-reads
 use Rattle.fault_lines.proofs.put_lines.Reads as put-lines-reads
-use Rattle.early_lines.proofs.put_early.Reads as put-early-reads
+use Rattle.carry_early.proofs.put_early.Reads as put-early-reads
 
 cast-lines : tie.Need-cast-lines
 cast-lines c = search needs

@@ -11,10 +11,10 @@ use lib.Seq.{drop-cons}
 use borrow.Author.Tests.{eq-eqb, ne-eqb}
 use Rattle.format.specs.Bytes.{printable, all}
 use Rattle.format.specs.Fields.{isValue}
-use Rattle.text.specs.Upto.{before}
-use Rattle.text.specs.Run.{run}
+use Rattle.byte_slices.specs.Upto.{before}
+use Rattle.byte_slices.specs.Run.{run}
 use Rattle.field.specs.Taken.{takenOf}
-use Rattle.text.proofs.Before.{before-stop, before-pass}
+use Rattle.byte_slices.proofs.Before.{before-stop, before-pass}
 
 -- `n` bytes were taken, and `v` is still to be judged
 unfoldable pub takenFrom : ℕ → List ℕ → ℕ

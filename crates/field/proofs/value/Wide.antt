@@ -10,11 +10,11 @@ use borrow.Author.Tests.{ne-eqb, eqb-true}
 use Rattle.format.specs.Bytes.{printable}
 use Rattle.format.specs.Fields.{isWideValue}
 use Rattle.format.specs.Utf8.{within, forms, due, characters}
-use Rattle.text.specs.Upto.{upto, before}
-use Rattle.text.specs.Run.{run}
-use Rattle.text.proofs.Run.{upto-onward}
+use Rattle.byte_slices.specs.Upto.{upto, before}
+use Rattle.byte_slices.specs.Run.{run}
+use Rattle.byte_slices.proofs.Run.{upto-onward}
 use Rattle.field.specs.Taken.{takenOf}
-use Rattle.text.proofs.Before.{before-pass, before-length}
+use Rattle.byte_slices.proofs.Before.{before-pass, before-length}
 use Rattle.field.proofs.value.Value.{tab-printable}
 
 -- nothing is no value, and its length is 0

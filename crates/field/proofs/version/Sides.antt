@@ -10,7 +10,7 @@ use lib.ListN.{length, take, drop}
 use lib.Dec.{eqb}
 use Rattle.format.specs.Decimal.{number}
 use Rattle.format.specs.Version.{sides, grow, both, numbered, version}
-use Rattle.text.specs.Upto.{upto, before}
+use Rattle.byte_slices.specs.Upto.{upto, before}
 use Rattle.field.specs.Spelled.{versionSideOf, parsedVersionOf}
 use Rattle.field.specs.declared.version.VersionSide.the-variants as part
 use Rattle.field.specs.declared.version.ParsedVersion.the-variants as spelled

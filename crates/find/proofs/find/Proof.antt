@@ -2,7 +2,7 @@
 use mathlib.Core.Path.{sym, ap, _∙_}
 use native.Mathlib.Omega.{arith}
 use borrow.Author.Needs.{needs}
-use Rattle.parser.proofs.Fresh.{Current, refused-by, fresh-by}
+use Rattle.read.proofs.Fresh.{Current, refused-by, fresh-by}
 use Rattle.find.specs.Answers.{findAnswerOf}
 use Rattle.find.proofs.Told.{find-refused, find-other, keys-told, find-none, find-some}
 use Rattle.find.proofs.find.Statement.{statement}

@@ -4,10 +4,10 @@ use mathlib.Core.List.{[], _∷_}
 use borrow.Author.Needs.{needs}
 use denote.Enum.Declared.{tagOf}
 use types.Run.{OneOf, miss}
-use Rattle.entries.proofs.Entry.{the-type}
-use Rattle.entries.specs.declared.Place.{Place}
-use Rattle.entries.specs.declared.Entry.{Entry}
-use Rattle.entries.specs.declared.Entry.the-variants.{End, Header, ReferenceSequence, ReadGroup, Program, Comment, Field}
+use Rattle.catalogue_entries.proofs.Entry.{the-type}
+use Rattle.catalogue_entries.specs.declared.Place.{Place}
+use Rattle.catalogue_entries.specs.declared.Entry.{Entry}
+use Rattle.catalogue_entries.specs.declared.Entry.the-variants.{End, Header, ReferenceSequence, ReadGroup, Program, Comment, Field}
 use Rattle.find.specs.Keys.{keyPlace}
 use Rattle.find.proofs.key_place.Statement.{statement}
 use Rattle.find.proofs.key_place.Tie as tie

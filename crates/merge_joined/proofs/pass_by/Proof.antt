@@ -1,7 +1,7 @@
 -- `merge_joined::pass_by` meets its contract: the slots of the block are filled and marked.
 use native.Mathlib.Omega.{arith}
 use borrow.Author.Needs.{needs}
-use Rattle.sq_list.specs.Next.{sqFrom}
+use Rattle.binary_references.specs.Next.{sqFrom}
 use Rattle.merge_joined.proofs.pass_by.Statement.{statement}
 use Rattle.merge_joined.proofs.pass_by.Tie as tie
 

@@ -4,9 +4,9 @@ use Rattle.format.specs.Catalogue.{catalogue}
 use Rattle.format.specs.Programs.{programs, links}
 use Rattle.accepted.specs.Read.{recordsOf}
 use Rattle.accepted.proofs.Read.{accepted-reads}
-use Rattle.entries.specs.Entries.{entriesIn}
-use Rattle.programs.specs.Gathered.{notedIn, gatheredOf}
-use Rattle.parents.proofs.Own.{few-programs, ats-whole, lens-whole, from-whole, widths-whole}
+use Rattle.catalogue_entries.specs.Entries.{entriesIn}
+use Rattle.program_places.specs.Gathered.{notedIn, gatheredOf}
+use Rattle.program_parents.proofs.Own.{few-programs, ats-whole, lens-whole, from-whole, widths-whole}
 use Rattle.program_lines.proofs.Same.{same-gathered}
 use borrow.Author.Needs.{needs}
 use Rattle.merge_programs.proofs.open_text.Statement.{statement}

@@ -6,14 +6,14 @@ use mathlib.Core.List.{List, [], _∷_, _++_, map, append-nil}
 use native.Mathlib.Omega.{arith}
 use lib.ListN.{length, take, replicate, length-map, drop-of-length-le}
 use lib.Seq.{sets}
-use Rattle.text.specs.Over.{over}
-use Rattle.text.specs.Stands.{Each}
-use Rattle.entries.specs.Entries.{entriesIn}
+use Rattle.byte_slices.specs.Over.{over}
+use Rattle.byte_slices.specs.Stands.{Each}
+use Rattle.catalogue_entries.specs.Entries.{entriesIn}
 use Rattle.format.specs.NameIndex.{nameOrdinal, slotCount, index, looks}
-use Rattle.sq_entries.specs.Names.{namesIn}
+use Rattle.name_entries.specs.Names.{namesIn}
 use Rattle.names.specs.Told.{Told}
-use Rattle.sq_slots.specs.Filled.{entering, seats}
-use Rattle.sq_index.specs.Looking.{slotOf, looksOf, ordinalAt}
+use Rattle.name_slots.specs.Filled.{entering, seats}
+use Rattle.name_lookup.specs.Looking.{slotOf, looksOf, ordinalAt}
 use Rattle.names.proofs.Found.{filled-index, places-length, places-noted, found-ordinal, found-looks}
 use Rattle.format.specs.Asked.{asked}
 use Rattle.format.specs.Summed.{summed}

@@ -5,12 +5,12 @@ use mathlib.Core.List.{List, _++_, map}
 use native.Mathlib.Omega.{arith}
 use lib.ListN.{length, drop, length-map}
 use lib.Seq.{length-take-le}
-use Rattle.entries.specs.Entries.{entriesIn}
+use Rattle.catalogue_entries.specs.Entries.{entriesIn}
 use Rattle.format.specs.Calls.{Answer}
-use Rattle.parser.proofs.Fresh.{Current, refused-by, check-fresh}
+use Rattle.read.proofs.Fresh.{Current, refused-by, check-fresh}
 use Rattle.format.specs.NameIndex.{nameOrdinal, slotCount, index, looks}
 use Rattle.name_index.proofs.Indexed.{index-length}
-use Rattle.sq_entries.specs.Names.{namesIn}
+use Rattle.name_entries.specs.Names.{namesIn}
 use Rattle.format.specs.Asked.{asked}
 use Rattle.format.specs.Summed.{summed}
 use Rattle.format.specs.Batch.{batching}

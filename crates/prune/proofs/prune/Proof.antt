@@ -10,16 +10,16 @@ use Rattle.format.specs.Bytes.{any}
 use Rattle.format.specs.Programs.{Program, Link, programs, links, isDangling, loopsFrom, tangled}
 use Rattle.accepted.specs.Read.{recordsOf}
 use Rattle.accepted.proofs.Bools.{split}
-use Rattle.chains.specs.Parents.{linksOf}
-use Rattle.parents.specs.Parents.{parentsOf}
-use Rattle.parents.proofs.Road.{tangled-dangling, tangled-loops, lent-count, lent-inside, lent-few, lent-within, lent-links}
-use Rattle.parents.proofs.Opened.{Opened, opened}
-use Rattle.parser.specs.Answers.{answerOf, outputOf}
-use Rattle.parser.proofs.Told.{refused-answer}
-use Rattle.parser.proofs.Fresh.{Current, refused-by, fresh-by}
+use Rattle.program_chains.specs.Parents.{linksOf}
+use Rattle.program_parents.specs.Parents.{parentsOf}
+use Rattle.program_parents.proofs.Road.{tangled-dangling, tangled-loops, lent-count, lent-inside, lent-few, lent-within, lent-links}
+use Rattle.program_parents.proofs.Opened.{Opened, opened}
+use Rattle.read.specs.Answers.{answerOf, outputOf}
+use Rattle.read.proofs.Told.{refused-answer}
+use Rattle.read.proofs.Fresh.{Current, refused-by, fresh-by}
 use Rattle.format.specs.Prune.{pruning}
-use Rattle.chain_depths.specs.Depths.{depthsOf}
-use Rattle.chain_depths.specs.declared.Depths.{Depths}
+use Rattle.program_depths.specs.Depths.{depthsOf}
+use Rattle.program_depths.specs.declared.Depths.{Depths}
 use Rattle.prune_marks.specs.Marks.{neededMarks}
 use Rattle.tidy.specs.Written.{writingMarked}
 use Rattle.prune.proofs.Pruning.{prune-refused, prune-high, prune-tangled, prune-on}

@@ -6,8 +6,8 @@ use lib.ListN.{length, drop, length-drop}
 use lib.Seq.{drop-drop}
 use borrow.Author.Tests.{not-true, not-false}
 use Rattle.format.specs.Records.{prefixed, kinded}
-use Rattle.text.proofs.Before.{rest}
-use Rattle.kind.specs.Kind.{kindAt}
+use Rattle.byte_slices.proofs.Before.{rest}
+use Rattle.record_kind.specs.Kind.{kindAt}
 use Rattle.record.specs.Head.{headOf}
 use Rattle.record_parser.proofs.Dispatch.{prefix-missing, prefix-there, kind-empty, kind-invalid, kind-is, kind-long}
 use borrow.Author.Needs.{needs}

@@ -4,7 +4,7 @@ use mathlib.Core.Path.{ap, _∙_}
 use native.Mathlib.Omega.{arith}
 use borrow.Author.Needs.{needs}
 use lib.ListN.{length}
-use Rattle.text.proofs.Over.{over-length}
+use Rattle.byte_slices.proofs.Over.{over-length}
 use Rattle.references.proofs.Rows.{other-kind, Left, left-all, left-none, ln-short, entry-within, row-room, left-on}
 use Rattle.references.proofs.put_rows.Statement.{statement}
 use Rattle.references.proofs.put_rows.Tie as tie

@@ -7,10 +7,10 @@ use borrow.Author.Needs.{needs}
 use lib.ListN.{length}
 use Rattle.format.specs.Calls.{Answer}
 use Rattle.format.specs.Reading.{ofKind}
-use Rattle.text.specs.Over.{over}
+use Rattle.byte_slices.specs.Over.{over}
 use Rattle.accepted.specs.Read.{recordsOf}
-use Rattle.entries.specs.Entries.{entriesIn, counted}
-use Rattle.parser.proofs.Fresh.{Current, refused-by, fresh-by}
+use Rattle.catalogue_entries.specs.Entries.{entriesIn, counted}
+use Rattle.read.proofs.Fresh.{Current, refused-by, fresh-by}
 use Rattle.format.specs.Referencing.{rows, referencing}
 use Rattle.references.proofs.Told.{rows-refused, rows-are, count-is, few, rows-fit, rows-short, rows-all, told-refusal, told-answer}
 use Rattle.references.proofs.references.Statement.{statement}

@@ -7,7 +7,7 @@ use lib.ListN.{length}
 use lib.Seq.{length-take-le}
 use lib.Dec.{ltb}
 use borrow.Author.Needs.{needs}
-use Rattle.stored_cases.specs.Cases.{smaller}
+use Rattle.replay_cases.specs.Cases.{smaller}
 use Rattle.replay_lens.proofs.told_by_fronts.Statement.{statement}
 use Rattle.replay_lens.proofs.told_by_fronts.Tie as tie
 

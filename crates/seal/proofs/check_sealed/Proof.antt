@@ -3,8 +3,8 @@ use mathlib.Core.Path.{_≡_, sym, ap, _∙_}
 use mathlib.Core.Bool.{cond}
 use lib.ListN.{length}
 use Rattle.format.specs.Bytes.{same}
-use Rattle.parser.specs.declared.Checked.the-variants.{Refused, Fresh}
-use Rattle.parser.specs.Answers.{checkedOf}
+use Rattle.read.specs.declared.Checked.the-variants.{Refused, Fresh}
+use Rattle.read.specs.Answers.{checkedOf}
 use Rattle.format.specs.Sha256.{sha256}
 use Rattle.format.specs.Seal.{tidyingFresh, checkingSealed}
 use Rattle.seal.proofs.Sealing.{Written, written-by, refused-by, check-refused, check-told}

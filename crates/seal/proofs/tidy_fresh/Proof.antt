@@ -5,9 +5,9 @@ use lib.ListN.{length}
 use Rattle.format.specs.Reading.{readText}
 use Rattle.format.specs.Calls.{tidying}
 use Rattle.accepted.specs.Read.{isAccepted}
-use Rattle.parser.specs.Answers.{answerOf, outputOf}
-use Rattle.parser.proofs.Told.{refused-answer}
-use Rattle.parser.proofs.Fresh.{Current, refused-by, fresh-by, goes-on, stops}
+use Rattle.read.specs.Answers.{answerOf, outputOf}
+use Rattle.read.proofs.Told.{refused-answer}
+use Rattle.read.proofs.Fresh.{Current, refused-by, fresh-by, goes-on, stops}
 use Rattle.tidy.specs.Written.{writingTidy}
 use Rattle.tidy.proofs.Writing.{tidy-accepted}
 use Rattle.format.specs.Seal.{tidyingFresh}

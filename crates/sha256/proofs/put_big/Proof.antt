@@ -1,8 +1,8 @@
 -- `sha256::put_big` meets its contract: four stores in a row are one `over`.
 use native.Mathlib.Omega.{arith}
 use lib.ListN.{length-set}
-use Rattle.text.proofs.Over.{over-four}
-use Rattle.text.specs.Over.{over}
+use Rattle.byte_slices.proofs.Over.{over-four}
+use Rattle.byte_slices.specs.Over.{over}
 use mathlib.Core.Path.{_∙_, ap}
 use Rattle.sha256.proofs.Big.{big-four}
 use borrow.Author.Needs.{needs}

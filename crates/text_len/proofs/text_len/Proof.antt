@@ -6,10 +6,10 @@ use lib.ListN.{length, drop, length-drop}
 use lib.Seq.{drop-length}
 use borrow.Author.Needs.{needs}
 use Rattle.format.specs.Lines.{linesFrom, lines}
-use Rattle.text.specs.First.{firstLine}
-use Rattle.text.proofs.Before.{rest}
-use Rattle.text.proofs.Lines.{lines-none}
-use Rattle.text.proofs.First.{first-within, first-some}
+use Rattle.byte_slices.specs.First.{firstLine}
+use Rattle.byte_slices.proofs.Before.{rest}
+use Rattle.byte_slices.proofs.Lines.{lines-none}
+use Rattle.byte_slices.proofs.First.{first-within, first-some}
 use Rattle.format.specs.TextLen.{otherLine, textLen}
 use Rattle.text_len.proofs.Turn.{line-passed, line-other}
 use Rattle.text_len.proofs.text_len.Statement.{statement}

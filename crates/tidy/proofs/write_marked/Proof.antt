@@ -9,12 +9,12 @@ use Rattle.format.specs.Records.{Record}
 use Rattle.format.specs.Tidy.{tidy, unwritable}
 use Rattle.format.specs.Calls.{Answer, writing}
 use Rattle.accepted.specs.Read.{recordsOf}
-use Rattle.per_kind.specs.Numbers.{total}
+use Rattle.tidy_sizes.specs.Numbers.{total}
 use Rattle.tidy_text.specs.Sizes.{sizesOf}
 use Rattle.tidy_text.proofs.Lines.{opened}
 use Rattle.tidy_text.proofs.Total.{tidy-small}
 use Rattle.tidy_text.proofs.Sizes.{total-size}
-use Rattle.parser.proofs.Told.{refused-answer, written-answer}
+use Rattle.read.proofs.Told.{refused-answer, written-answer}
 use Rattle.tidy.proofs.Writing.{measured-bad, measured-is, write-bad, write-long, write-short, write-fits}
 use Rattle.tidy_text.specs.Sifted.{isMarked, sifted}
 use Rattle.tidy_text.proofs.Sifting.{sifted-small}

@@ -12,10 +12,10 @@ use Rattle.format.specs.Tidy.{unwritable}
 use Rattle.format.specs.declared.Kind.{Kind}
 use Rattle.accepted.specs.Read.{recordsOf}
 use Rattle.accepted.proofs.Ahead.{lent}
-use Rattle.writer.specs.Line.{lineText, lineWritable}
+use Rattle.tidy_line.specs.Line.{lineText, lineWritable}
 use Rattle.tidy_text.specs.Accepted.{withRecord, measuredOf, allRead, recordsFrom}
 use Rattle.tidy_text.specs.Kinds.{kindText}
-use Rattle.per_kind.specs.Numbers.{get}
+use Rattle.tidy_sizes.specs.Numbers.{get}
 use Rattle.tidy_text.specs.Sizes.{sizesOf}
 use Rattle.accepted_line.specs.Found.{kindBy}
 use Rattle.tidy_text.specs.declared.Measured.the-variants as measured

@@ -10,7 +10,7 @@ use Rattle.format.specs.Records.{Record, Line, line}
 use Rattle.format.specs.declared.Kind.{Kind}
 use Rattle.accepted.specs.Read.{recordsOf}
 use Rattle.accepted.proofs.Ahead.{lent}
-use Rattle.writer.specs.Line.{lineText}
+use Rattle.tidy_line.specs.Line.{lineText}
 use Rattle.tidy_text.specs.Accepted.{withRecord, allRead, recordsFrom}
 use Rattle.tidy_text.specs.Kinds.{kindText}
 use Rattle.tidy_text.specs.Placed.{withParts, parts, Apart}

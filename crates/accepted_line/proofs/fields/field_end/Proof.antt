@@ -4,9 +4,9 @@ use mathlib.Core.Path.{_≡_, ap, _∙_}
 use native.Mathlib.Omega.{arith}
 use lib.ListN.{drop, length-drop}
 use borrow.Author.Needs.{needs}
-use Rattle.text.specs.Upto.{upto}
-use Rattle.text.proofs.Lines.{upto-le}
-use Rattle.text.proofs.Before.{rest}
+use Rattle.byte_slices.specs.Upto.{upto}
+use Rattle.byte_slices.proofs.Lines.{upto-le}
+use Rattle.byte_slices.proofs.Before.{rest}
 use Rattle.accepted_line.proofs.fields.field_end.Statement.{statement}
 use Rattle.accepted_line.proofs.fields.field_end.Tie as tie
 

@@ -6,12 +6,12 @@ use lib.ListN.{length, replicate}
 use Rattle.format.specs.Tidy.{tidy}
 use Rattle.format.specs.Work.{allZeros}
 use Rattle.format.proofs.Slots.{held-none}
-use Rattle.text.specs.Over.{over}
-use Rattle.text.proofs.Over.{over-over}
+use Rattle.byte_slices.specs.Over.{over}
+use Rattle.byte_slices.proofs.Over.{over-over}
 use Rattle.key_index.specs.Told.{start}
 use Rattle.tidy_text.specs.Placed.{withParts, parts, Apart}
 use Rattle.tidy_text.proofs.Parts.{starts-apart, starts-placed, around-none}
-use Rattle.early_lines.specs.Early.{earlyOf, rowsFrom}
+use Rattle.carry_early.specs.Early.{earlyOf, rowsFrom}
 use Rattle.carry_passes.specs.From.{keptFrom, rowsOf}
 use Rattle.carry_passes.proofs.Split.{first-kept, first-rows, early-rows}
 use borrow.Author.Needs.{needs}
@@ -20,7 +20,7 @@ use Rattle.carry_passes.proofs.writing.put_all.Tie as tie
 use Rattle.carry_passes.proofs.writing.put_all.Reads as reads
 use Rattle.carry_passes.proofs.writing.put_all.Lts as lts
 use Rattle.carry_passes.proofs.writing.put_lines.Reads as put-lines-reads
-use Rattle.early_lines.proofs.put_early.Reads as put-early-reads
+use Rattle.carry_early.proofs.put_early.Reads as put-early-reads
 
 put-early-requires : tie.Need-put-early-requires
 put-early-requires c κs = let s = c .before .before .before .before .before in (s .pre .0, (s .pre .1 .0 .line, omega (arith, s .pre .1 .1 .1 .1 .1)))

@@ -5,13 +5,13 @@ use mathlib.Core.List.{List}
 use native.Mathlib.Omega.{arith}
 use lib.ListN.{length, drop}
 use Rattle.format.specs.Records.{Line}
-use Rattle.text.specs.Over.{over}
-use Rattle.text.proofs.Over.{over-none}
+use Rattle.byte_slices.specs.Over.{over}
+use Rattle.byte_slices.proofs.Over.{over-none}
 use Rattle.tidy_text.specs.Placed.{withParts, parts, Apart}
 use Rattle.tidy_text.proofs.Parts.{placed-none}
 use Rattle.format.specs.Carrying.{keptOf, skips, rows}
-use Rattle.early_lines.specs.declared.Begin.{Begin}
-use Rattle.kept_lines.specs.Going.{Going}
+use Rattle.carry_early.specs.declared.Begin.{Begin}
+use Rattle.carry_lines.specs.Going.{Going}
 use Rattle.carry_passes.specs.From.{linesKeptFrom, keptFrom, rowsOf}
 use Rattle.carry_passes.specs.Turn.{Turn}
 use Rattle.carry_passes.proofs.Begun.{begun}

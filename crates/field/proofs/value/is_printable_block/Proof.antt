@@ -8,8 +8,8 @@ use lib.Dec.{leb}
 use borrow.Author.Needs.{needs}
 use borrow.Author.Tests.{le-leb, not-true, not-false}
 use Rattle.format.specs.Bytes.{printable}
-use Rattle.text.specs.Run.{run}
-use Rattle.text.proofs.Run.{flag-pass, flag-stop}
+use Rattle.byte_slices.specs.Run.{run}
+use Rattle.byte_slices.proofs.Run.{flag-pass, flag-stop}
 use Rattle.field.proofs.value.is_printable_block.Statement.{statement}
 use Rattle.field.proofs.value.is_printable_block.Tie as tie
 

@@ -8,8 +8,8 @@ use lib.ListN.{length, drop}
 use lib.Dec.{leb}
 use borrow.Author.Tests.{leb-true, leb-false, not-true, not-false}
 use Rattle.format.specs.Bytes.{printable}
-use Rattle.text.specs.Run.{run}
-use Rattle.text.proofs.Run.{run-le, run-drop}
+use Rattle.byte_slices.specs.Run.{run}
+use Rattle.byte_slices.proofs.Run.{run-le, run-drop}
 use Rattle.field.proofs.value.pass_printable.Statement.{statement}
 use Rattle.field.proofs.value.pass_printable.Tie as tie
 

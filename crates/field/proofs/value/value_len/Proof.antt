@@ -8,9 +8,9 @@ use borrow.Author.Needs.{needs}
 use borrow.Author.Tests.{not-true, not-false}
 use Rattle.format.specs.Bytes.{printable}
 use Rattle.format.specs.Fields.{isValue}
-use Rattle.text.specs.Upto.{before}
-use Rattle.text.specs.Run.{run}
-use Rattle.text.proofs.Run.{run-le}
+use Rattle.byte_slices.specs.Upto.{before}
+use Rattle.byte_slices.specs.Run.{run}
+use Rattle.byte_slices.proofs.Run.{run-le}
 use Rattle.field.specs.Taken.{takenOf}
 use Rattle.field.proofs.value.Value.{left, left-run, at-end, at-tab, at-wrong, at-next}
 use Rattle.field.proofs.value.value_len.Statement.{statement}

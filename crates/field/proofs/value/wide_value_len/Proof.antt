@@ -9,12 +9,12 @@ use borrow.Author.Needs.{needs}
 use Rattle.format.specs.Bytes.{printable}
 use Rattle.format.specs.Fields.{isWideValue}
 use Rattle.format.specs.Utf8.{characters}
-use Rattle.text.specs.Run.{run}
-use Rattle.text.specs.Upto.{upto, before}
-use Rattle.text.proofs.Run.{run-le}
-use Rattle.text.proofs.Lines.{upto-le}
+use Rattle.byte_slices.specs.Run.{run}
+use Rattle.byte_slices.specs.Upto.{upto, before}
+use Rattle.byte_slices.proofs.Run.{run-le}
+use Rattle.byte_slices.proofs.Lines.{upto-le}
 use Rattle.field.specs.Taken.{takenOf}
-use Rattle.text.proofs.Before.{rest}
+use Rattle.byte_slices.proofs.Before.{rest}
 use Rattle.field.proofs.value.Wide.{wide-left}
 use Rattle.field.proofs.value.wide_value_len.Statement.{statement}
 use Rattle.field.proofs.value.wide_value_len.Tie as tie

@@ -7,10 +7,10 @@ use lib.Seq.{length-take-le}
 use borrow.Author.Needs.{needs}
 use Rattle.format.specs.Decimal.{number}
 use Rattle.format.specs.Version.{version, both}
-use Rattle.text.proofs.Lines.{upto-le}
+use Rattle.byte_slices.proofs.Lines.{upto-le}
 use Rattle.field.specs.Spelled.{parsedVersionOf, versionSideOf}
 use Rattle.field.specs.declared.version.ParsedVersion.the-variants.{Is, Invalid}
-use Rattle.text.proofs.Before.{rest}
+use Rattle.byte_slices.proofs.Before.{rest}
 use Rattle.field.proofs.version.Sides.{version-none, version-sides, no-major, no-minor, major-minor}
 use Rattle.field.proofs.version.Refused.{version-told}
 use Rattle.field.proofs.version.parse_version.Statement.{statement}

@@ -12,7 +12,7 @@ use Rattle.key_look.proofs.hash.hash_words.Tie as tie
 use Rattle.key_look.proofs.hash.hash_words.Reads as reads
 use Rattle.key_look.proofs.hash.hash_words.Lts as lts
 use Rattle.key_look.proofs.hash.mix.Reads as mix-reads
-use Rattle.little.proofs.get_u32.Reads as get-u32-reads
+use Rattle.little_endian.proofs.get_u32.Reads as get-u32-reads
 
 abbrev Inv-loop : tie.InvT-loop
 Inv-loop kind id h₀ i₀ h i = (i ≤ length id) × (h < 4294967296) × (wordsFrom kind id ≡ wordsFrom h (drop i id))

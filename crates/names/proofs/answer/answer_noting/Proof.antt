@@ -4,8 +4,8 @@ use mathlib.Core.Path.{_≡_, _∙_}
 use native.Mathlib.Omega.{arith}
 use lib.ListN.{length}
 use Rattle.format.specs.NameIndex.{slotCount}
-use Rattle.entries.specs.Entries.{entriesIn}
-use Rattle.sq_entries.specs.Names.{namesIn}
+use Rattle.catalogue_entries.specs.Entries.{entriesIn}
+use Rattle.name_entries.specs.Names.{namesIn}
 use Rattle.name_index.proofs.SlotCount.{slots-power, slots-few}
 use Rattle.format.specs.Asked.{asked}
 use Rattle.names.proofs.answer.Answered.{long₁, notes-told, looks-told, index-told, found-told}

@@ -8,10 +8,10 @@ use lib.ListN.{length, take, drop, getD, length-replicate}
 use borrow.Author.Needs.{needs}
 use Rattle.format.specs.Bytes.{any}
 use Rattle.format.specs.Fields.{tagged, field}
-use Rattle.text.specs.Upto.{before}
+use Rattle.byte_slices.specs.Upto.{before}
 use Rattle.field.specs.Parsed.{parsedOf}
-use Rattle.text.proofs.Before.{rest}
-use Rattle.tags.specs.Occurs.{occurs}
+use Rattle.byte_slices.proofs.Before.{rest}
+use Rattle.record_tags.specs.Occurs.{occurs}
 use Rattle.record.specs.Head.{headOf}
 use Rattle.record_parser.specs.Marks.{marksOf}
 use Rattle.record_parser.proofs.Walked.{Walked, Turned, turned, refused-here}

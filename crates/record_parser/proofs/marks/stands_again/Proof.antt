@@ -2,7 +2,7 @@
 use mathlib.Core.Path.{_≡_, refl, sym, _∙_}
 use mathlib.Core.Bool.{Bool, true, false, not, _&&_, _||_, false≢true}
 use borrow.Author.Needs.{needs}
-use Rattle.tags.specs.Occurs.{occurs}
+use Rattle.record_tags.specs.Occurs.{occurs}
 use Rattle.record_parser.proofs.marks.stands_again.Statement.{statement}
 use Rattle.record_parser.proofs.marks.stands_again.Tie as tie
 
