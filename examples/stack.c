@@ -1,7 +1,7 @@
 /* How much stack each call takes, and what the first call in a fresh thread costs.
  *
  *     ./archive
- *     cc -O2 -Iinclude examples/stack.c target/native/libexports.a -lpthread -o target/stack
+ *     cc -O2 -Iinclude examples/stack.c target/native/libsam_header.a -lpthread -o target/stack
  *     target/stack
  *
  * Every call is made in a thread whose stack is painted, of 4 MiB; what is no longer painted afterwards was used. Then it is made again in a thread that

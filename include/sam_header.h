@@ -1,4 +1,4 @@
-/* The header library for C and C++: link libexports.a (README says how it is made).
+/* The header library for C and C++: link libsam_header.a (README says how it is made).
  *
  * Any bytes may be lent. Of the pointers is asked what C asks of a slice: not NULL, also where the length is 0; aligned to their type; fewer bytes than
  * PTRDIFF_MAX; and nothing that a call writes, `*length`, `*inspected` and `seal` included, overlaps anything else that is lent to that call. Calls keep no

@@ -7,9 +7,9 @@ fn main() {
     let here = PathBuf::from(env::var_os("CARGO_MANIFEST_DIR").unwrap_or_default());
     let folder = env::var_os("SAM_HEADER_LIB_DIR").map_or_else(|| here.join("../../target/native"), PathBuf::from);
     let there = |name: &str| Path::new(&folder).join(format!("lib{name}.a"));
-    let Some(name) = ["exports", "sam_header"].into_iter().find(|name| there(name).is_file()) else {
+    let Some(name) = Some("sam_header").filter(|name| there(name).is_file()) else {
         eprintln!(
-            "{} holds no libexports.a: run ./archive at the top of the repository, or set SAM_HEADER_LIB_DIR.",
+            "{} holds no libsam_header.a: run ./archive at the top of the repository, or set SAM_HEADER_LIB_DIR.",
             folder.display()
         );
         std::process::exit(1);

@@ -1,12 +1,13 @@
 // The head of an accepted line: its kind, its key and its number, by where their values stand. Nothing is judged again.
 pub mod fields;
 pub mod tag_number;
+
 use decimal::Number;
-use format::Kind;
+use field::version::ParsedVersion;
 use fields::Value;
+use format::Kind;
 use record::Head;
 use record::Stretch;
-use field::version::ParsedVersion;
 ghost use mathlib.Core.Path.{_≡_};
 ghost use mathlib.Core.Bool.{true, false};
 ghost use Prim.Native.Nat.{_≤_, _+_};

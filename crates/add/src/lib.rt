@@ -268,7 +268,13 @@ fn add_after(
 }
 
 // Adds a program after each leaf, and writes the tidy text to the front of `out`: reading's refusals, 21, 26, 22, 23, 18, 19, 24, 1, 20.
-pub fn add(text: &[u8], catalogue: &[u8], prefix: &[u8], fields: &[u8], out: &mut [u8]) -> CountAnswer
+pub fn add(
+    text: &[u8],
+    catalogue: &[u8],
+    prefix: &[u8],
+    fields: &[u8],
+    out: &mut [u8],
+) -> CountAnswer
     ensures answer { λ r.
         ⌜ r ≡ answerOf (adding (now (text .entry)) (now (catalogue .entry)) (now (prefix .entry)) (now (fields .entry)) (length (now (out .entry)))) ⌝ }
     ensures wrote { λ _. ⌜ now (out .exit) ≡ outputOf
@@ -286,7 +292,13 @@ pub fn add(text: &[u8], catalogue: &[u8], prefix: &[u8], fields: &[u8], out: &mu
             let mut len: [u32; 1024] = [0; 1024];
             let mut from: [u32; 1024] = [0; 1024];
             let mut widths: [u32; 1024] = [0; 1024];
-            let count = program_places::gather(catalogue, &mut at, &mut len, &mut from, &mut widths);
+            let count = program_places::gather(
+                catalogue,
+                &mut at,
+                &mut len,
+                &mut from,
+                &mut widths,
+            );
             let ats = &at[..count];
             let lens = &len[..count];
             if is_stray(text, ats, lens, fields, previous) {

@@ -15,7 +15,7 @@ use Rattle.format.specs.Adding.{given}
 use Rattle.format.specs.declared.Kind.the-variants.{Program}
 use Rattle.byte_slices.proofs.Lines.{upto-le}
 use Rattle.field.specs.declared.ParsedField as code
-use Rattle.accepted.specs.Sound.{isKey}
+use Rattle.format.specs.Keys.{isKey}
 use Rattle.accepted.proofs.Bools.{any-append, any-snoc, or-true, or-left, or-right, or-split}
 use Rattle.accepted.proofs.Tags.{repeats-snoc, repeats-more}
 use Rattle.record_tags.specs.Occurs.{occurs}

@@ -6,7 +6,7 @@ ghost use mathlib.Core.Bool.{not, _||_};
 ghost use Rattle.format.specs.Fields.{isValue, lastOf};
 ghost use Rattle.format.specs.Adding.{given, misformed};
 ghost use Rattle.record_tags.specs.Occurs.{occurs};
-ghost use Rattle.accepted.specs.Sound.{isKey};
+ghost use Rattle.format.specs.Keys.{isKey};
 ghost use Rattle.add_input.specs.Given.{marred, givenOf};
 
 // Where the value of the given PP stands among the given fields: its offset and its length.

@@ -17,7 +17,8 @@ use Rattle.format.specs.Adding.{given, unplaced, orElse, chained, noProgram, is
 use Rattle.format.specs.declared.Kind.the-variants as kinds
 use Rattle.byte_slices.specs.Stands.{Each}
 use Rattle.accepted.specs.Pieces.{Pairs}
-use Rattle.accepted.specs.Sound.{isKey, kind, FitsRecord, KeyIsValue, Other, Sound}
+use Rattle.accepted.specs.Sound.{kind, FitsRecord, KeyIsValue, Other, Sound}
+use Rattle.format.specs.Keys.{isKey}
 use Rattle.accepted.specs.Spelled.{Good}
 use Rattle.accepted.proofs.Bools.{never, or-left, or-right, and-left, and-right}
 use Rattle.accepted.proofs.Pairs.{each-at}

@@ -1,7 +1,7 @@
 // Reading a binary header in: the tidy text of its text, if its reference list is that text's SQ list.
 use format::LineNo;
-use read_judge::Judged;
 use read::CountAnswer;
+use read_judge::Judged;
 ghost use mathlib.Core.Path.{_≡_};
 ghost use lib.ListN.{length};
 ghost use Rattle.format.specs.Binary.{binaryIn};

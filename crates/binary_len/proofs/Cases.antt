@@ -5,7 +5,7 @@ use mathlib.Core.List.{List, [], _∷_, _++_, map}
 use lib.ListN.{take}
 use Rattle.format.specs.Catalogue.{little}
 use Rattle.format.specs.Binary.{magic, binary}
-use Rattle.tidy_laws.proofs.Example.{ascii}
+use Rattle.format.proofs.Ascii.{ascii}
 use Rattle.binary_len.specs.declared.BinaryLen.{BinaryLen}
 use Rattle.binary_len.specs.declared.BinaryLen.the-variants.{Whole, More, Refused}
 use Rattle.binary_len.specs.BinaryLen.{binaryLen}

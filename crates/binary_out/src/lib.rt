@@ -1,7 +1,7 @@
 // The binary header of the SAM specification, written from an accepted text: its tidy text and its SQ list.
 use format::LineNo;
-use read_judge::Judged;
 use read::CountAnswer;
+use read_judge::Judged;
 use tidy_sizes::PerKind;
 use tidy_text::Measured;
 ghost use mathlib.Core.Path.{_≡_};

@@ -1,8 +1,8 @@
 // The calls that look up a record over a text and its catalogue: counts, keys, lengths, lines and fields. Each judges the text and the catalogue first.
-use format::LineNo;
 use catalogue_lookup::Found;
 use catalogue_lookup::Located;
 use catalogue_lookup::Sized;
+use format::LineNo;
 use read::Checked;
 use read::CountAnswer;
 ghost use mathlib.Core.Path.{_≡_};

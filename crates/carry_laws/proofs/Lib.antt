@@ -1,4 +1,3 @@
-pub mod Example
 pub mod Judged
 pub mod Keys
 pub mod Skips

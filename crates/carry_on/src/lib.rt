@@ -1,7 +1,7 @@
 // Carrying on after refused lines: they are skipped and listed in a table, and the tidy text of the rest is written.
 use carry_early::Begin;
-use format::LineNo;
 use carry_passes::KeptSizes;
+use format::LineNo;
 use tidy_sizes::PerKind;
 ghost use mathlib.Core.Path.{_≡_};
 ghost use mathlib.Core.Option.{none};

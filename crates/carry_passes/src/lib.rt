@@ -1,8 +1,9 @@
 // Carrying on, the pass that measures: how long the tidy text is of the lines that are kept, and how many lines are skipped.
 pub mod writing;
+
 use carry_early::Begin;
-use format::LineNo;
 use carry_lines::Cursor;
+use format::LineNo;
 use tidy_sizes::PerKind;
 use tidy_text::Grown;
 ghost use mathlib.Core.Path.{_≡_};

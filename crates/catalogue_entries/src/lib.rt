@@ -91,7 +91,10 @@ fn body_at(s: &[u8], at: usize, kind: u8) -> Entry
             little_endian::get_u64(s, at + 9),
             little_endian::get_u32(s, at + 17),
         ),
-        format::READ_GROUP => Entry::ReadGroup(place_at(s, at + 1), little_endian::get_u32(s, at + 9)),
+        format::READ_GROUP => Entry::ReadGroup(
+            place_at(s, at + 1),
+            little_endian::get_u32(s, at + 9),
+        ),
         format::PROGRAM => Entry::Program(place_at(s, at + 1), little_endian::get_u32(s, at + 9)),
         5 => Entry::Comment(place_at(s, at + 1), little_endian::get_u32(s, at + 9)),
         6 => Entry::Field(s[at + 1], s[at + 2], place_at(s, at + 3)),

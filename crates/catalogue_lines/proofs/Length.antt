@@ -11,7 +11,8 @@ use Rattle.format.specs.Fields.{Field, tagged}
 use Rattle.format.specs.Records.{Record, others, Line, refusedLine, read, line}
 use Rattle.format.specs.Tidy.{fieldText, fieldsText}
 use Rattle.format.specs.declared.Kind.{Kind}
-use Rattle.accepted.specs.Sound.{isKey, kind}
+use Rattle.accepted.specs.Sound.{kind}
+use Rattle.format.specs.Keys.{isKey}
 use Rattle.accepted.specs.Spelled as sp
 use Rattle.accepted.specs.Spelled.{AcceptedLine}
 use Rattle.accepted.proofs.Spelled.{line-accepted}

@@ -9,7 +9,7 @@ use Rattle.format.specs.Fields as fields
 use Rattle.format.specs.Catalogue.{tails}
 use Rattle.format.specs.declared.Kind.{Kind}
 use Rattle.byte_slices.specs.Upto.{upto}
-use Rattle.accepted.specs.Sound.{isKey}
+use Rattle.format.specs.Keys.{isKey}
 use Rattle.record_tags.specs.Others.{firsts}
 use Rattle.accepted_line.specs.Run.{fieldsTo, fieldsFrom, AtField}
 use Rattle.accepted_line.specs.Next.{isFirst, valueAt, keptAt}

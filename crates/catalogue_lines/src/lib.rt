@@ -1,9 +1,9 @@
 // One line of a text in its catalogue: how many bytes its entries have, the entries written, and the entries compared.
+use accepted_line::Form;
+use accepted_line::KeyValues;
 use catalogue_entries::Entry;
 use catalogue_entries::Place;
 use format::Kind;
-use accepted_line::Form;
-use accepted_line::KeyValues;
 use record::Head;
 ghost use mathlib.Core.Path.{_≡_};
 ghost use mathlib.Core.Bool.{true, false};

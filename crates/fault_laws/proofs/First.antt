@@ -43,7 +43,7 @@ reading-first : (t : List ℕ) → length t ≤ 16777216 → records t ≡ unles
 unfolding faultsIn carriedLines
 reading-first t h =
     let e : ofReading (faultsIn (carriedLines t)) ≡ skips 0 (carriedLines t) =
-        of-skips (links (programs (keptOf (carriedLines t)))) 0 0 (carriedLines t) (all-early none [] (lines t)) in
+    of-skips (links (programs (keptOf (carriedLines t)))) 0 0 (carriedLines t) (all-early none [] (lines t)) in
     reads t h ∙ ap (λ ss. unlessSkipped ss (keptOf (carriedLines t))) (sym e)
 
 pub first-fault : FirstFault

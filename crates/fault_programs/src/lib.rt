@@ -1,7 +1,7 @@
 // The programs among the lines that carrying on keeps: their parents, in one pass; and how many lines are faulty whatever the parents are.
 use carry_early::Begin;
-use catalogue_entries::Place;
 use carry_lines::Cursor;
+use catalogue_entries::Place;
 use program_places::Places;
 use program_places::Programs;
 use tidy_line::Size;

@@ -1,7 +1,7 @@
 // The faults of a text: for each faulty line its number and why, in a table.
 use carry_early::Begin;
-use format::LineNo;
 use fault_programs::KeptLinks;
+use format::LineNo;
 use read::CountAnswer;
 ghost use mathlib.Core.Path.{_≡_};
 ghost use mathlib.Core.List.{map};

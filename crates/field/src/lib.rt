@@ -1,8 +1,9 @@
 // One field of a header line: tag, colon and value, and the numbers that VN of HD and LN of SQ spell.
-pub mod version;
 pub mod value;
-use format::Kind;
+pub mod version;
+
 use field_length::ParsedLength;
+use format::Kind;
 use version::ParsedVersion;
 ghost use mathlib.Core.Path.{_≡_};
 ghost use lib.ListN.{length};

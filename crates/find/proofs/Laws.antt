@@ -23,14 +23,14 @@ use Rattle.accepted.proofs.OfKind.{ofKind-code, apart-ofKind}
 use Rattle.accepted.proofs.Text.{text-apart}
 use Rattle.read.proofs.Fresh.{passed, goes-on}
 use Rattle.calls.proofs.Told.{there-some}
-use Rattle.format.specs.Finding.{isKey, keyOrdinalFrom, finding}
+use Rattle.format.specs.Finding.{equalsKey, keyOrdinalFrom, finding}
 use Rattle.find.proofs.Told.{finds}
 
 -- ---- a key stands once among the records of its kind
 
 -- no later record of the kind has this one's key
 other-key : (r : Record) (qs : List Record) (i : ℕ) (p : Piece) (k : ℕ) → eqb (code r) k ≡ true → Each (λ q. eqb (code q) k ≡ true) qs
-    → any (clash r) qs ≡ false → keyIfThere (getElem? qs i) ≡ some p → isKey (p .bytes) (key r) ≡ false
+    → any (clash r) qs ≡ false → keyIfThere (getElem? qs i) ≡ some p → equalsKey (p .bytes) (key r) ≡ false
 unfolding Each any clash keyIfThere
 other-key r [] i p k c h d e = absurd (never (cc))
 other-key r (q ∷ qs) zero p k c h d e =
@@ -38,9 +38,9 @@ other-key r (q ∷ qs) zero p k c h d e =
     let differ : sameKeys (key r) (some p) ≡ false = ap₂ (λ b o. b && sameKeys (key r) o) (sym one) (sym e) ∙ or-left (eqb (code r) (code q) && sameKeys (key r) (key q)) (any (clash r) qs) d in
     turned (key r) differ
   where
-    turned : (o : Option Piece) → sameKeys o (some p) ≡ false → isKey (p .bytes) o ≡ false
-    turned none s = unfold isKey in refl
-    turned (some y) s = unfold isKey sameKeys in same-sym (p .bytes) (y .bytes) ∙ s
+    turned : (o : Option Piece) → sameKeys o (some p) ≡ false → equalsKey (p .bytes) o ≡ false
+    turned none s = unfold equalsKey in refl
+    turned (some y) s = unfold equalsKey sameKeys in same-sym (p .bytes) (y .bytes) ∙ s
 other-key r (q ∷ qs) (suc i) p k c h d e =
     other-key r qs i p k c (h .1) (or-right (clash r q) (any (clash r) qs) d) e
 
@@ -49,11 +49,11 @@ key-first : (n : ℕ) (qs : List Record) (i : ℕ) (p : Piece) (k : ℕ) → Eac
 unfolding Each KeysDiffer keyIfThere keyOrdinalFrom
 key-first n [] i p k h d e = absurd (never (cc))
 key-first n (q ∷ qs) zero p k h d e =
-    let z : isKey (p .bytes) (key q) ≡ true = ap (isKey (p .bytes)) e ∙ unfold isKey in same-self (p .bytes) in
+    let z : equalsKey (p .bytes) (key q) ≡ true = ap (equalsKey (p .bytes)) e ∙ unfold equalsKey in same-self (p .bytes) in
     let m : n ≡ n + 0 = omega arith in
     rw z (ap some m)
 key-first n (q ∷ qs) (suc i) p k h d e =
-    let z : isKey (p .bytes) (key q) ≡ false = other-key q qs i p k (h .0) (h .1) (d .0) e in
+    let z : equalsKey (p .bytes) (key q) ≡ false = other-key q qs i p k (h .0) (h .1) (d .0) e in
     let m : n + 1 + i ≡ n + suc i = omega arith in
     rw z (key-first (n + 1) qs i p k (h .1) (d .1) e ∙ ap some m)
 

@@ -20,14 +20,14 @@ use Rattle.format.specs.Asked.{asked}
 use Rattle.format.specs.NameIndex.{absent, nameOrdinalFrom, nameOrdinal, index, looks}
 use Rattle.format.specs.Summed.{summed}
 use Rattle.format.specs.Batch.{references, batched, batching}
-use Rattle.format.specs.Finding.{isKey, keyOrdinalFrom, finding}
+use Rattle.format.specs.Finding.{equalsKey, keyOrdinalFrom, finding}
 use Rattle.find.specs.Laws.{orAbsent}
 use Rattle.find.proofs.Told.{kind-few, finds}
 
 -- ---- over records
 
 plain : (n : ℕ) (x : List ℕ) (rs : List Record) → nameOrdinalFrom n (map (λ r. bytesOf (key r)) (ofKind 2 rs)) x ≡ orAbsent (there (keyOrdinalFrom n x (ofKind 2 rs)))
-unfolding nameOrdinalFrom orAbsent there keyOrdinalFrom isKey bytesOf key ofKind code
+unfolding nameOrdinalFrom orAbsent there keyOrdinalFrom equalsKey bytesOf key ofKind code
 plain n x [] = refl
 plain n x (header v fs ∷ rs) = plain n x rs
 plain n x (reference p m fs ∷ rs) = go (same x (p .bytes)) (plain (n + 1) x rs)
@@ -44,7 +44,7 @@ plain n x (comment p ∷ rs) = plain n x rs
 below : (n : ℕ) (x : List ℕ) (qs : List Record) (i : ℕ) → keyOrdinalFrom n x qs ≡ some i → i < n + length qs
 unfolding keyOrdinalFrom
 below n x [] i e = absurd (never cc)
-below n x (q ∷ qs) i e = go (isKey x (key q)) (below (n + 1) x qs i) e
+below n x (q ∷ qs) i e = go (equalsKey x (key q)) (below (n + 1) x qs i) e
   where
     go : (b : Bool) → (keyOrdinalFrom (n + 1) x qs ≡ some i → i < n + 1 + length qs) → cond b (some n) (keyOrdinalFrom (n + 1) x qs) ≡ some i → i < n + suc (length qs)
     go true ih e = let z : n ≡ i = cc in omega (arith, z)

@@ -26,7 +26,7 @@ use Rattle.program_ids.specs.Search.{idOrdinalFrom}
 use Rattle.catalogue_lookup.proofs.Kept.{text-entries, text-counted}
 use Rattle.names.proofs.References.{stands-bytes}
 use Rattle.read.proofs.Fresh.{Current, goes-on, stops}
-use Rattle.format.specs.Finding.{isKey, keyOrdinalFrom, finding}
+use Rattle.format.specs.Finding.{equalsKey, keyOrdinalFrom, finding}
 use Rattle.find.specs.declared.Found.the-variants.{Nothing, At}
 use Rattle.find.specs.Keys.{keyPlace, keysIn, KeysInText, foundOf}
 
@@ -53,7 +53,7 @@ module _ (t : List ℕ) where
     keyed : (b : Bool) (i l : ℕ) (p : Piece) (r : Record) (rs : List Record) → Stands t 0 p → key r ≡ some p → ((j : ℕ) → Law j (l + 1) rs)
         → idOrdinalFrom x i (cond b (bytesAt t (pieceAt p) ∷ keysIn t k (map fieldEntry (others r) ++ entriesOn (l + 1) rs)) (keysIn t k (map fieldEntry (others r) ++ entriesOn (l + 1) rs)))
         ≡ keyOrdinalFrom i x (cond b (r ∷ ofKind k rs) (ofKind k rs))
-    unfolding idOrdinalFrom keyOrdinalFrom isKey bytesAt pieceAt
+    unfolding idOrdinalFrom keyOrdinalFrom equalsKey bytesAt pieceAt
     keyed true i l p r rs s e ih = rw (stands-bytes t p s, e, passes (i + 1) l r rs (ih (i + 1))) refl
     keyed false i l p r rs s e ih = passes i l r rs (ih i)
 
@@ -98,7 +98,7 @@ kind-few k (r ∷ rs) = go (eqb (code r) k) (kind-few k rs)
 -- ---- kinds without keys
 
 no-keys : (i : ℕ) (x : List ℕ) (rs : List Record) → Each (λ r. key r ≡ none) rs → keyOrdinalFrom i x rs ≡ none
-unfolding Each keyOrdinalFrom isKey
+unfolding Each keyOrdinalFrom equalsKey
 no-keys i x [] h = refl
 no-keys i x (r ∷ rs) h = rw (h .0) (no-keys (i + 1) x rs (h .1))
 

@@ -1,3 +1,4 @@
+-- Words for contracts and laws, and nothing to believe.
 -- A record by its key.
 --   Finding   what the call answers, for every argument
 --   Answers   that answer in the code's types

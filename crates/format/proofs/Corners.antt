@@ -1,8 +1,7 @@
 -- Document 01's cases that are marked (P), with document 02's lengths and headers without a readable version, as one table and one statement:
 -- every call in it gives the answer beside it. Behind them stand cases that tell other likely mistakes from the rules.
 use Prim.Native.Nat.{ℕ}
-use Prim.Native.Char.{code}
-use Prim.Native.String.{String, [] as nil, _∷_ as cons}
+use Prim.Native.String.{String}
 use mathlib.Core.Path.{_≡_, refl}
 use mathlib.Core.Bool.{Bool, true, false, _&&_}
 use mathlib.Core.List.{List, [], _∷_, _++_}
@@ -10,11 +9,7 @@ use lib.Dec.{eqb}
 use Rattle.format.specs.Bytes.{same}
 use Rattle.format.specs.Calls as calls
 use Rattle.format.specs.Calls.{Answer, refused, yes}
-
--- the bytes of a text in ASCII
-ascii : String → List ℕ
-ascii nil = []
-ascii (cons c s) = code c ∷ ascii s
+use Rattle.format.proofs.Ascii.{ascii}
 
 -- a call, its arguments, and its answer; calls over a catalogue are given the one that reading the text gives, and adding a prefix and fields; some are
 -- given how long the output is

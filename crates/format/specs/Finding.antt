@@ -10,16 +10,16 @@ use Rattle.format.specs.Reading.{ofKind}
 use Rattle.format.specs.Calls.{Answer, then, fresh, there}
 
 -- is it a key, and `x`? HD and CO have none
-unfoldable pub isKey : List ℕ → Option Piece → Bool
+unfoldable pub equalsKey : List ℕ → Option Piece → Bool
 unfolding same
-isKey x none = false
-isKey x (some p) = same x (p .bytes)
+equalsKey x none = false
+equalsKey x (some p) = same x (p .bytes)
 
 -- the ordinal of the first of some records whose key is `x`, counted from `i`
 unfoldable pub keyOrdinalFrom : ℕ → List ℕ → List Record → Option ℕ
-unfolding isKey key
+unfolding equalsKey key
 keyOrdinalFrom i x [] = none
-keyOrdinalFrom i x (r ∷ rs) = cond (isKey x (key r)) (some i) (keyOrdinalFrom (i + 1) x rs)
+keyOrdinalFrom i x (r ∷ rs) = cond (equalsKey x (key r)) (some i) (keyOrdinalFrom (i + 1) x rs)
 
 -- among the records of a kind: 25 where there is none, and so for a kind without keys
 unfoldable pub finding : List ℕ → List ℕ → ℕ → List ℕ → Answer ℕ

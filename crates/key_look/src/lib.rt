@@ -1,5 +1,6 @@
 // Looks for a key in the slots of an exact index. A slot is 0, or tells a key by its kind and its offset in the text.
 pub mod hash;
+
 use key_at::OFFSETS;
 use record::Stretch;
 ghost use mathlib.Core.Path.{_≡_};

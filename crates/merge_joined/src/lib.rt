@@ -1,8 +1,8 @@
 // The SQ lists of a merge compared: A's is the front of the merged list, and each reference of B is the next of the merged list or one of A's. Merging
 // tools keep the order, so that a reference of B that A has is looked for behind the one that was found before it. From the first that is not found there
 // on, B goes in blocks: the references of a block are in slots, and a walk over A marks those that A has.
-use merge_references::Met;
 use binary_references::NextReference;
+use merge_references::Met;
 ghost use mathlib.Core.Path.{_≡_};
 ghost use mathlib.Core.Bool.{true, false};
 ghost use Prim.Native.Nat.{_≤_, _<_};

@@ -1,9 +1,9 @@
 // Judging a merge of two headers that was made elsewhere: the headers A and B, the merged header, and for each program of A and of B its
 // ordinal in the merged header.
 use format::LineNo;
-use read_judge::Judged;
 use merge_joined::Rules;
 use merge_programs::Opened;
+use read_judge::Judged;
 ghost use mathlib.Core.Path.{_≡_};
 ghost use mathlib.Core.Bool.{true};
 ghost use Rattle.format.specs.Reading.{readText};

@@ -15,7 +15,7 @@ use Rattle.format.specs.Merge.{merged, unmerged, judgingMerge}
 use Rattle.byte_slices.specs.Stands.{Each}
 use Rattle.accepted.specs.Read.{recordsOf}
 use Rattle.tidy_laws.specs.Bare.{bares}
-use Rattle.tidy_laws.proofs.Example.{ascii}
+use Rattle.format.proofs.Ascii.{ascii}
 use Rattle.merge_laws.specs.Fit.{parentLinks, Fit}
 use Rattle.merge_laws.specs.IsMerge.{imageLink}
 use Rattle.merge_laws.specs.Means.{depthOf}

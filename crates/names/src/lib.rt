@@ -1,5 +1,6 @@
 // Many names at once: an index of the SQ names in a lent work area, by it the ordinal of each name of a list, and how much was looked at.
 pub mod answer;
+
 use format::LineNo;
 use read::Checked;
 ghost use mathlib.Core.Path.{_≡_};

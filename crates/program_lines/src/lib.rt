@@ -1,6 +1,6 @@
 // The programs of an accepted text, gathered from its PG lines: where each line stands, its ID and its PP.
-use catalogue_entries::Place;
 use accepted_line::fields::Value;
+use catalogue_entries::Place;
 use program_places::Places;
 use program_places::Programs;
 ghost use mathlib.Core.Path.{_≡_};
@@ -108,7 +108,14 @@ fn find_places(line: &[u8], at: usize, once: bool, tables: &[u32]) -> Noted
     ensures { λ r. ⌜ (r .id ≡ placeOf (lastIn at (now (line .entry)) 73 68)) × (r .previous ≡ previousOf (lastIn at (now (line .entry)) 80 80)) ⌝ }
 {
     let id = narrow(accepted_line::fields::find_value(line, at, b'I', b'D', once, tables));
-    let previous = narrow_previous(accepted_line::fields::find_value(line, at, b'P', b'P', once, tables));
+    let previous = narrow_previous(accepted_line::fields::find_value(
+        line,
+        at,
+        b'P',
+        b'P',
+        once,
+        tables,
+    ));
     Noted { id, previous }
 }
 

@@ -1,6 +1,6 @@
 // The parents of the programs that are gathered from a catalogue, and the road along them to the leaves.
-use program_chains::Ordinals;
 use catalogue_entries::Place;
+use program_chains::Ordinals;
 use program_ids::Named;
 ghost use mathlib.Core.Path.{_≡_};
 ghost use mathlib.Core.Bool.{true};

@@ -1,11 +1,11 @@
 // The leaves over a text and its catalogue by a second engine: each program takes its depth from its parent, and a lent table gets the parent
 // and the depth of each. What is found is the first engine's (roots_and_leaves).
-use program_chains::Ordinals;
 use format::LineNo;
 use format::Node;
+use program_chains::Ordinals;
+use programs::LeavesAnswer;
 use read::Checked;
 use read::CountAnswer;
-use programs::LeavesAnswer;
 ghost use mathlib.Core.Path.{_≡_};
 ghost use mathlib.Core.Bool.{true};
 ghost use lib.ListN.{length};

@@ -1,7 +1,7 @@
 // The whole text: judged line by line, its catalogue written, and a catalogue compared with it.
+use catalogue_lines::Matched;
 use format::LineNo;
 use read_judge::Judged;
-use catalogue_lines::Matched;
 ghost use mathlib.Core.Path.{_≡_};
 ghost use Prim.Native.Nat.{_≤_};
 ghost use lib.ListN.{length};

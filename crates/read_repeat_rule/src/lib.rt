@@ -1,6 +1,6 @@
 // The rule for repeated tags: a header that announces 1.6 or a later version may not repeat a tag in a line, and any other header may.
-use format::Version;
 use field::version::ParsedVersion;
+use format::Version;
 ghost use mathlib.Core.Path.{_≡_};
 ghost use mathlib.Core.List.{[], _∷_};
 ghost use Rattle.format.specs.Bytes.{starts};

@@ -28,7 +28,7 @@ use Rattle.record.specs.declared.Stretch.{Stretch}
 use Rattle.record.specs.declared.Head.{Head}
 use Rattle.record.specs.declared.Head.the-variants as head
 use Rattle.record.specs.Head.{stretchOf, headOf}
-use Rattle.accepted.specs.Sound.{isKey}
+use Rattle.format.specs.Keys.{isKey}
 use Rattle.record_tags.specs.Others.{unkeyed}
 use Rattle.record.specs.Keys.{keyAmong, spelt, versionAmong, worthIfThere, lengthAmong, stretchIfThere, isThere, numbers, plainly, keysOf, withField, headFrom, keyedHead}
 use Rattle.accepted.proofs.Bools.{or-true, split, and-left}

@@ -24,7 +24,7 @@ use Rattle.field.specs.declared.ParsedField as code
 use Rattle.field_tag.specs.Numbers.{isVersion, isLength}
 use Rattle.field.proofs.Answer.{Told}
 use Rattle.field.proofs.Shown.{Shown, shown}
-use Rattle.accepted.specs.Sound.{isKey}
+use Rattle.format.specs.Keys.{isKey}
 use Rattle.accepted.proofs.Tags.{repeats-snoc}
 use Rattle.record_tags.specs.Occurs.{occurs}
 use Rattle.record_tags.proofs.Region.{Clean, occurs-fields}

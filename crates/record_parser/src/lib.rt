@@ -1,10 +1,11 @@
 // One line of a header: the record that it is, or the refusal that it gets.
 pub mod fields;
 pub mod marks;
+
 use format::Kind;
-use record_kind::ParsedKind;
 use record::Head;
 use record::Stretch;
+use record_kind::ParsedKind;
 ghost use mathlib.Core.Path.{_≡_};
 ghost use Prim.Native.Nat.{_≤_, _+_};
 ghost use lib.ListN.{length, drop};

@@ -12,7 +12,7 @@ use Rattle.format.specs.Bytes.{any}
 use Rattle.format.specs.Lines.{Piece}
 use Rattle.format.specs.Fields.{Field, tagged, repeats, later, lastOf, without, put, settledOn, settled}
 use Rattle.format.specs.declared.Kind.{Kind}
-use Rattle.accepted.specs.Sound.{isKey}
+use Rattle.format.specs.Keys.{isKey}
 use Rattle.record_tags.specs.Others.{unkeyed, orLast, latest, firsts}
 use Rattle.accepted.proofs.Bools.{or-assoc, or-comm, or-true, or-false, eqb-sym, any-append, any-snoc, and-left, and-right, or-left, or-right, split}
 use Rattle.accepted.proofs.Tags.{tagged-sym, tagged-same, any-same, any-put, repeats-put}

@@ -8,7 +8,7 @@ use Rattle.format.specs.Bytes.{any}
 use Rattle.format.specs.Lines.{Piece}
 use Rattle.format.specs.Fields.{Field, tagged, lastOf}
 use Rattle.format.specs.declared.Kind.{Kind}
-use Rattle.accepted.specs.Sound.{isKey}
+use Rattle.format.specs.Keys.{isKey}
 
 -- the fields that are no key
 unfoldable pub unkeyed : Kind → List Field → List Field

@@ -1,7 +1,7 @@
 // Tags of a line's fields: which are keys, and whether one stands among the fields before.
 use format::Kind;
 ghost use mathlib.Core.Path.{_≡_};
-ghost use Rattle.accepted.specs.Sound.{isKey};
+ghost use Rattle.format.specs.Keys.{isKey};
 ghost use Rattle.record_tags.specs.Occurs.{occurs};
 
 // VN of HD, SN and LN of SQ, ID of RG and PG.

@@ -1,3 +1,4 @@
+-- Words for contracts and laws, and nothing to believe.
 -- The references of a header in one call.
 --   Referencing   what the call answers, for every argument
 --   Answers       that answer in the code's types

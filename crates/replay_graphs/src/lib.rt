@@ -1,7 +1,7 @@
 // Reading, and the calls over program graphs: whether each answers as a line of stored answers says (`replay` has the lines' form).
+use programs::LeavesAnswer;
 use read::Checked;
 use read::CountAnswer;
-use programs::LeavesAnswer;
 
 // Whether the roots are the line's, in an output of as many elements as it says.
 pub fn is_roots(line: &[u8], text: &[u8], kept: &[u8], out: &mut [u32]) -> bool {
@@ -40,7 +40,10 @@ fn are_roots(word: &[u8], text: &[u8], kept: &[u8], out: &mut [u32]) -> bool {
 fn are_leaves(word: &[u8], text: &[u8], kept: &[u8], out: &mut [u32]) -> bool {
     match programs::leaves(text, kept, out) {
         LeavesAnswer::Refused(n, no) => {
-            byte_slices::same(word, b"cycle") && n == 23 && no.0 == 0 && replay_cases::is_unlisted(out)
+            byte_slices::same(word, b"cycle")
+                && n == 23
+                && no.0 == 0
+                && replay_cases::is_unlisted(out)
         }
         LeavesAnswer::Counted(n, _) => replay_answers::is_list(word, out, n, 4),
     }

@@ -1,7 +1,7 @@
 // The leaves by the second engine: whether the call answers as a line of stored answers says (`replay` has the lines' form). A program in Rattle
 // cannot lend a table without a proof by hand, so `make_plan` is asked: the call writes its parents and depths into the table, and nothing else.
-use programs_by_table::TablePlan;
 use programs::LeavesAnswer;
+use programs_by_table::TablePlan;
 ghost use Prim.Native.Nat.{_≤_};
 
 // The numbers of a table, two for each record, as they are after a call that leaves `count` records in it.

@@ -5,7 +5,7 @@ use mathlib.Core.List.{List, [], _∷_}
 use Rattle.format.specs.Calls.{Answer, yes, refused, reading, fresh}
 use Rattle.read.specs.declared.Checked.the-variants.{Fresh}
 use Rattle.read.specs.Answers.{checkedOf}
-use Rattle.tidy_laws.proofs.Example.{ascii}
+use Rattle.format.proofs.Ascii.{ascii}
 use Rattle.format.specs.Sha256.{sha256}
 use Rattle.format.specs.Seal.{sealing, checkingSealed}
 

@@ -2,7 +2,7 @@
 use Prim.Native.Nat.{ℕ}
 use mathlib.Core.Path.{_≡_, refl}
 use mathlib.Core.List.{List, [], _∷_, map}
-use Rattle.tidy_laws.proofs.Example.{ascii}
+use Rattle.format.proofs.Ascii.{ascii}
 use Rattle.format.specs.TextLen.{textLen}
 
 -- an empty line ends the header, the first too; an `@` alone is a line; a CR at the end of the last line stays in it; an alignment line is none of its lines

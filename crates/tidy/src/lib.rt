@@ -1,7 +1,7 @@
 // Tidying: the text of the same records with the keys first, one LF after each line, kind by kind.
 use format::LineNo;
-use read_judge::Judged;
 use read::CountAnswer;
+use read_judge::Judged;
 use tidy_text::Measured;
 ghost use mathlib.Core.Path.{_≡_};
 ghost use mathlib.Core.Bool.{true};

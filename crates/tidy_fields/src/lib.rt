@@ -6,7 +6,7 @@ ghost use mathlib.Core.List.{[], _∷_, _++_};
 ghost use Prim.Native.Nat.{_≤_, _<_, _+_};
 ghost use lib.ListN.{length, getD};
 ghost use Rattle.byte_slices.specs.Over.{over};
-ghost use Rattle.accepted.specs.Sound.{isKey};
+ghost use Rattle.format.specs.Keys.{isKey};
 ghost use Rattle.accepted_line.specs.Run.{AtField};
 ghost use Rattle.accepted_line.specs.Next.{isFirst};
 ghost use Rattle.accepted_line.specs.Tables.{Walkable};

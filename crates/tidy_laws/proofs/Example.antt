@@ -1,18 +1,13 @@
 -- Document 01's example: a text of which all that is demanded holds, and its tidy text.
 use Prim.Native.Nat.{ℕ}
-use Prim.Native.Char.{code}
-use Prim.Native.String.{String, [] as nil, _∷_ as cons}
 use mathlib.Core.Path.{_≡_, refl}
 use mathlib.Core.List.{List, [], _∷_}
 use native.Mathlib.Omega.{arith}
 use Rattle.format.specs.Records.{Record}
 use Rattle.format.specs.Tidy.{unwritable}
 use Rattle.format.specs.Calls.{Answer, refused, yes, records}
+use Rattle.format.proofs.Ascii.{ascii}
 use Rattle.tidy_laws.specs.Faithful.{Allowed, tidied}
-
-unfoldable pub ascii : String → List ℕ
-ascii nil = []
-ascii (cons c s) = code c ∷ ascii s
 
 unfoldable pub given : List ℕ
 unfolding ascii

@@ -15,7 +15,8 @@ use Rattle.format.specs.declared.Version.{Version}
 use Rattle.format.specs.declared.Kind.{Kind}
 use Rattle.format.specs.declared.Kind.the-variants.{Header, ReferenceSequence, ReadGroup, Program, Comment}
 use Rattle.decimal.proofs.ReadBack.{number-back, reads-back, written-digits}
-use Rattle.accepted.specs.Sound.{isKey, Other}
+use Rattle.accepted.specs.Sound.{Other}
+use Rattle.format.specs.Keys.{isKey}
 use Rattle.accepted.proofs.Bools.{and-left, and-right, or-right}
 use Rattle.utf8.specs.Shown.{shown}
 use Rattle.accepted.proofs.Clean.{between-bounds, tag-bounds, shown-between, allowed-shown}

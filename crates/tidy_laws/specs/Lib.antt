@@ -1,3 +1,4 @@
+-- Words for contracts and laws, and nothing to believe.
 pub mod Bare
 pub mod Line
 pub mod Writable

@@ -1,9 +1,10 @@
 // One record of the tidy text: written from its accepted line, or measured.
 pub mod already;
-use format::Kind;
-use format::Version;
+
 use accepted_line::Form;
 use accepted_line::KeyValues;
+use format::Kind;
+use format::Version;
 use record::Head;
 use record::Stretch;
 ghost use mathlib.Core.Path.{_≡_};

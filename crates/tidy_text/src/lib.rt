@@ -2,8 +2,8 @@
 // puts each record at its kind's own place. Marks can be given, one for each program in text order: a program whose mark is false is left
 // out, and a program past the last mark stays, so that no marks leave all in.
 use format::LineNo;
-use tidy_sizes::PerKind;
 use tidy_line::Size;
+use tidy_sizes::PerKind;
 ghost use mathlib.Core.Path.{_≡_};
 ghost use mathlib.Core.Bool.{true};
 ghost use Prim.Native.Nat.{_≤_, _<_, _+_};

@@ -11,7 +11,7 @@ use Rattle.format.specs.declared.Kind.{Kind}
 use Rattle.byte_slices.specs.Upto.{upto}
 use Rattle.byte_slices.specs.Stands.{Each}
 use Rattle.accepted_line.specs.Number.{tagNumber}
-use Rattle.accepted.specs.Sound.{isKey}
+use Rattle.format.specs.Keys.{isKey}
 use Rattle.record_tags.specs.Others.{firsts}
 use Rattle.accepted_line.specs.Run.{fieldsTo, fieldsFrom, AtField}
 use Rattle.accepted_line.specs.Next.{isFirst, orValue, lastIn, valueAt, keptAt, fieldLength}

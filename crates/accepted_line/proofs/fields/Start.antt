@@ -17,7 +17,8 @@ use Rattle.byte_slices.specs.Upto.{upto}
 use Rattle.byte_slices.specs.Stands.{Each}
 use Rattle.byte_slices.proofs.Stands.{pieces-free}
 use Rattle.accepted.specs.Pieces.{Pairs}
-use Rattle.accepted.specs.Sound.{isKey, kind}
+use Rattle.accepted.specs.Sound.{kind}
+use Rattle.format.specs.Keys.{isKey}
 use Rattle.accepted.specs.Spelled as sp
 use Rattle.accepted.specs.Spelled.{Good, Made, Spelled}
 use Rattle.accepted.proofs.Bools.{never, split, or-split}

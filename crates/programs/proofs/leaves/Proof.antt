@@ -1,4 +1,4 @@
--- `programs::leaves` meets its contract: reading, 21, 22, 23, 20, then the leaves and the hops.
+-- `program_places::leaves` meets its contract: reading, 21, 22, 23, 20, then the leaves and the hops.
 use Prim.Native.Nat.{ℕ}
 use mathlib.Core.Path.{_≡_, sym, ap, _∙_}
 use mathlib.Core.List.{List}

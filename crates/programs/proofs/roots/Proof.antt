@@ -1,4 +1,4 @@
--- `programs::roots` meets its contract: reading, 21, 20, then the programs without PP.
+-- `program_places::roots` meets its contract: reading, 21, 20, then the programs without PP.
 use mathlib.Core.Path.{_≡_, sym, ap, _∙_}
 use mathlib.Core.List.{List}
 use lib.ListN.{length}

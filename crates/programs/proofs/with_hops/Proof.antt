@@ -1,4 +1,4 @@
--- `programs::with_hops` meets its contract: one arm for each answer.
+-- `program_places::with_hops` meets its contract: one arm for each answer.
 use mathlib.Core.Path.{sym, ap}
 use Rattle.programs.specs.Answers.{withHops}
 use borrow.Author.Needs.{needs}

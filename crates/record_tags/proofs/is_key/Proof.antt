@@ -2,7 +2,7 @@
 use mathlib.Core.Path.{_≡_, sym, ap, _∙_}
 use mathlib.Core.Bool.{_&&_, _||_}
 use lib.Dec.{eqb}
-use Rattle.accepted.specs.Sound.{isKey}
+use Rattle.format.specs.Keys.{isKey}
 use borrow.Author.Needs.{needs}
 use Rattle.record_tags.proofs.is_key.Statement.{statement}
 use Rattle.record_tags.proofs.is_key.Tie as tie

@@ -2,9 +2,9 @@
 use Prim.Native.Nat.{ℕ}
 use mathlib.Core.Path.{_≡_, refl}
 use mathlib.Core.List.{List, [], _∷_}
 use Rattle.format.specs.Calls.{refused, yes}
-use Rattle.tidy_laws.proofs.Example.{ascii}
+use Rattle.format.proofs.Ascii.{ascii}
 use Rattle.format.specs.Carrying.{carrying}
 
 -- while nothing is kept, HD may come on a later line and sets the rule anew: line 1 is under 1.6, line 3 under 1.5
 unfoldable pub late : List ℕ

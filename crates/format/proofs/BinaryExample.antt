@@ -2,9 +2,9 @@
 use Prim.Native.Nat.{ℕ}
 use mathlib.Core.Path.{_≡_, refl}
 use mathlib.Core.List.{List, [], _∷_, _++_}
 use Rattle.format.specs.Calls.{refused, yes}
-use Rattle.tidy_laws.proofs.Example.{ascii}
+use Rattle.format.proofs.Ascii.{ascii}
 use Rattle.format.specs.Binary.{binary, binaryOut, binaryIn}
 
 unfoldable pub given : List ℕ
 unfolding ascii
