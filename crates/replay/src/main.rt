@@ -46,7 +46,8 @@
 //     binary_in BYTES ROOM ok BYTES
 //     seal TEXT ROOM ok SEAL
 // have what the program on standard input writes, the tidy text, the tidy text of what is kept with the table of what is skipped, eight
-// digits for each number, the table of the faulty lines, the catalogue, which the check must then take, and refuse when its last byte is another, the catalogue again, by
+// digits for each number, the table of the faulty lines, the catalogue, which the check must then take, and refuse when its last byte is another,
+// the catalogue again, by
 // a work area of SLOTS numbers, which is all zeros afterwards, the binary header, the tidy text of a binary header, and the seal, by a work area
 // of ROOM bytes, which must be as tidying leaves it, and after the check of a seal too unless that is refused before 33. A line of the oracle
 // has its text first; each such text is read, tidied, and asked for its roots and leaves. Of an output that is lent every element is looked at:
