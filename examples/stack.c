@@ -1,7 +1,7 @@
 /* How much stack each call takes, and what the first call in a fresh thread costs.
  *
  *     ./archive
- *     cc -O2 -Iinclude examples/stack.c target/native/libexports.a -lpthread -o target/stack
+ *     cc -O2 -Iinclude examples/stack.c target/native/libsam_header.a -lpthread -o target/stack
  *     target/stack
  *
  * Every call is made in a thread whose stack is painted, of 4 MiB; what is no longer painted afterwards was used. Then it is made again in a thread that
@@ -16,7 +16,7 @@
 
 #include "sam_header.h"
 
-enum { PAINT = 0xA5, LARGE = 4 << 20, KIB = 1024, SLOTS = 1 << 18 };
+enum { PAINT = 0xA5, LARGE = 4 << 20, KIB = 1024, SLOTS = 1 << 18, NUMBERS = 1 << 16 };
 
 static uint8_t *text, *turned, *catalogue, *binary, *out;
 static size_t text_len, catalogue_len, binary_len, out_len;
@@ -30,10 +30,15 @@ static void do_check(void) { answer = sam_header_check(text, text_len, catalogue
 static void do_count(void) { answer = sam_header_count(text, text_len, catalogue, catalogue_len, 2); }
 static void do_key(void) { answer = sam_header_key(text, text_len, catalogue, catalogue_len, 4, 0); }
 static void do_field(void) { answer = sam_header_field(text, text_len, catalogue, catalogue_len, 4, 0, 'P', 'N'); }
+static void do_find(void) { answer = sam_header_find(text, text_len, catalogue, catalogue_len, 2, (const uint8_t *)"c0", 2); }
+static void do_references(void) { answer = sam_header_references(text, text_len, catalogue, catalogue_len, table, NUMBERS); }
 static void do_tidy(void) { answer = sam_header_tidy(text, text_len, out, out_len); }
-static void do_carry_on(void) { answer = sam_header_carry_on(text, text_len, out, out_len, table, 4096); }
+static void do_carry_on(void) { answer = sam_header_carry_on(text, text_len, out, out_len, table, NUMBERS); }
+static void do_faults(void) { answer = sam_header_faults(text, text_len, table, NUMBERS); }
 static void do_binary_out(void) { answer = sam_header_binary_out(text, text_len, out, out_len); }
 static void do_binary_in(void) { answer = sam_header_binary_in(binary, binary_len, out, out_len); }
+static void do_text_len(void) { answer = sam_header_text_len(text, text_len); }
+static void do_binary_len(void) { answer = sam_header_binary_len(binary, binary_len); }
 static void do_roots(void) { answer = sam_header_roots(text, text_len, catalogue, catalogue_len, table, 1024); }
 static void do_leaves(void) { answer = sam_header_leaves(text, text_len, catalogue, catalogue_len, table, 1024); }
 static void do_leaves_by_table(void) { answer = sam_header_leaves_by_table(text, text_len, catalogue, catalogue_len, nodes, 1024, table, 1024); }
@@ -52,8 +57,11 @@ static void do_judge_merge(void) {
 }
 static void do_read_with(void) { answer = sam_header_read_with(text, text_len, out, out_len, work, SLOTS); }
 static void do_check_with(void) { answer = sam_header_check_with(text, text_len, catalogue, catalogue_len, work, SLOTS); }
+static uint8_t seal[32];
+static void do_seal(void) { answer = sam_header_seal(text, text_len, out, out_len, seal); }
+static void do_check_sealed(void) { answer = sam_header_check_sealed(text, text_len, catalogue, catalogue_len, seal, out, out_len); }
 static void do_tidy_with(void) { answer = sam_header_tidy_with(text, text_len, out, out_len, work, SLOTS); }
-static void do_carry_on_with(void) { answer = sam_header_carry_on_with(text, text_len, out, out_len, table, 4096, work, SLOTS); }
+static void do_carry_on_with(void) { answer = sam_header_carry_on_with(text, text_len, out, out_len, table, NUMBERS, work, SLOTS); }
 
 /* What the header promises, in KiB: for texts of at most 256 KiB, and for longer ones. */
 static const struct {
@@ -67,17 +75,24 @@ static const struct {
     {"count", do_count, 64, 900},
     {"key", do_key, 64, 900},
     {"field", do_field, 64, 900},
+    {"find", do_find, 64, 900},
+    {"references", do_references, 64, 900},
     {"tidy", do_tidy, 64, 900},
     {"carry_on", do_carry_on, 64, 900},
+    {"faults", do_faults, 64, 900},
     {"binary_out", do_binary_out, 64, 900},
     {"binary_in", do_binary_in, 64, 900},
-    {"roots", do_roots, 112, 900},
-    {"leaves", do_leaves, 112, 900},
-    {"leaves_by_table", do_leaves_by_table, 136, 900},
-    {"names", do_names, 112, 900},
-    {"add", do_add, 112, 900},
-    {"prune", do_prune, 112, 900},
-    {"judge_merge", do_judge_merge, 640, 900},
+    {"text_len", do_text_len, 64, 64},
+    {"binary_len", do_binary_len, 64, 64},
+    {"roots", do_roots, 64, 900},
+    {"leaves", do_leaves, 64, 900},
+    {"leaves_by_table", do_leaves_by_table, 72, 900},
+    {"names", do_names, 64, 900},
+    {"add", do_add, 64, 900},
+    {"prune", do_prune, 64, 900},
+    {"judge_merge", do_judge_merge, 192, 900},
+    {"seal", do_seal, 64, 900},
+    {"check_sealed", do_check_sealed, 64, 900},
     {"read_with", do_read_with, 64, 64},
     {"check_with", do_check_with, 64, 64},
     {"tidy_with", do_tidy_with, 64, 64},
@@ -119,11 +134,12 @@ static double now(void) {
 }
 
 static double times[2];
+static void (*timed)(void);
 
-static void read_twice(void) {
+static void call_twice(void) {
     for (int i = 0; i < 2; i++) {
         double before = now();
-        do_read();
+        timed();
         double took = now() - before;
         if (took < times[i]) times[i] = took;
     }
@@ -145,7 +161,7 @@ int main(void) {
     int status = 0;
     out_len = 16 << 20;
     text = malloc(16 << 20), turned = malloc(16 << 20), catalogue = malloc(out_len), binary = malloc(out_len), out = malloc(out_len);
-    table = malloc(4096 * sizeof *table), work = calloc(SLOTS, sizeof *work);
+    table = malloc(NUMBERS * sizeof *table), work = calloc(SLOTS, sizeof *work);
     for (size_t t = 0; t < sizeof texts / sizeof *texts; t++) {
         make(texts[t].lines, texts[t].wide ? fields : "");
         printf("%d SQ lines, %zu bytes: KiB of stack\n", texts[t].lines, text_len);
@@ -161,14 +177,18 @@ int main(void) {
             if (i > 0 && kib > (size_t)promised + 8) status = 1; /* the thread itself takes some */
         }
     }
+    static const struct { const char *name; void (*call)(void); } firsts[] = {{"read", do_read}, {"leaves", do_leaves}, {"add", do_add}};
     make(25, fields);
-    times[0] = times[1] = 1e9;
-    for (int i = 0; i < 200; i++) {
-        size_t room = (2 << 20) + (size_t)(i % 7) * 262144;
-        void *stack = fresh_stack(room);
-        in_thread(read_twice, stack, room);
-        munmap(stack, room);
+    for (size_t t = 0; t < sizeof firsts / sizeof *firsts; t++) {
+        timed = firsts[t].call;
+        times[0] = times[1] = 1e9;
+        for (int i = 0; i < 200; i++) {
+            size_t room = (2 << 20) + (size_t)(i % 7) * 262144;
+            void *stack = fresh_stack(room);
+            in_thread(call_twice, stack, room);
+            munmap(stack, room);
+        }
+        printf("25 SQ lines: the first %s in a fresh thread %.1f us, the second %.1f us (best of 200)\n", firsts[t].name, times[0], times[1]);
     }
-    printf("25 SQ lines: the first read in a fresh thread %.1f us, the second %.1f us (best of 200)\n", times[0], times[1]);
     return status;
 }

@@ -1,17 +1,19 @@
-/* The header library for C and C++: link libexports.a (README says how it is made).
+/* The header library for C and C++: link libsam_header.a (README says how it is made).
  *
- * Any bytes may be lent. Of the pointers is asked what C asks of a slice: not NULL, also where the length is 0; aligned to their type; lengths below
- * PTRDIFF_MAX; and no slice that a call writes overlaps another slice of that call. Calls keep no state and lend nothing on: they may run side by side.
- * Stack: for a text of at most 256 KiB read, check, count, key, line, length, field, tidy, carry_on, binary_out, binary_in and names take at most 64 KiB, roots,
- * leaves, add and prune 112, leaves_by_table 136 and judge_merge 640; for a longer text any call takes at most 900 KiB. The calls with a work area
- * take at most 64 KiB for any text. examples/stack.c measures it.
+ * Any bytes may be lent. Of the pointers is asked what C asks of a slice: not NULL, also where the length is 0; aligned to their type; fewer bytes than
+ * PTRDIFF_MAX; and nothing that a call writes, `*length`, `*inspected` and `seal` included, overlaps anything else that is lent to that call. Calls keep no
+ * state and lend nothing on: they may run side by side.
+ * Stack: for texts of at most 256 KiB a call takes at most 64 KiB, but for leaves_by_table, which takes 72, and judge_merge, which takes 192; for longer
+ * texts any call takes at most 900 KiB. The calls with a work area take at most 64 KiB for any text. examples/stack.c measures it.
  *
- * Room that always suffices: for read 3 * text_len + 1 bytes; for tidy, prune, carry_on and binary_in as many as the text has and one more, and two numbers for each line in carry_on's table; for binary_out twice text_len and 14; for roots, leaves and leaves_by_table 1,024 ordinals, and 1,024 records in leaves_by_table's table; for names as many ordinals as the
- * list has names, and the slots that are said there; for add what tidy needs and for each new program, one after each leaf, prefix_len + fields_len, twice
- * the leaf's ID and 13 bytes more. An output that is too short is refusal 20.
+ * Room that always suffices: for read 3 * text_len + 1 bytes; for tidy, prune, carry_on, binary_in, seal and check_sealed as many as the text has and
+ * one more, and two numbers for each line in carry_on's table; for binary_out twice text_len and 14; for roots, leaves and leaves_by_table 1,024
+ * ordinals, and 1,024 records in leaves_by_table's table; for references three numbers for each SQ, and as many as text_len always suffice; for names as
+ * many ordinals as the list has names, and the slots that are said there; for add what tidy needs and for each new program, one after each leaf,
+ * prefix_len + fields_len, twice the leaf's ID and 13 bytes more. An output that is too short is refusal 20.
  *
- * An answer of 2^63 or more is a refusal, which changes no byte. Any other counts what was written at the front of the output, where a call says
- * nothing else. docs/REFUSALS.md says of each number what it means, which calls give it and what its line is. */
+ * An answer of 2^63 or more is a refusal, which changes no byte (what check_sealed's 33 leaves is said there). Any other counts what was written at
+ * the front of the output, where a call says nothing else. docs/REFUSALS.md says of each number what it means, which calls give it and what its line is. */
 #ifndef SAM_HEADER_H
 #define SAM_HEADER_H
 
@@ -21,6 +23,9 @@
 #ifdef __cplusplus
 extern "C" {
 #endif
+
+/* Rises when a call or an answer is changed; calls that are added leave it. The shared object has it in its name, libsam_header.so.4. */
+#define SAM_HEADER_VERSION 4
 
 #define SAM_HEADER_IS_REFUSAL(answer) ((int)((uint64_t)(answer) >> 63))
 #define SAM_HEADER_NUMBER(answer) ((unsigned)((uint64_t)(answer) >> 32 & 255))
@@ -36,6 +41,10 @@ extern "C" {
 #define SAM_HEADER_COUNT(answer) ((uint32_t)((uint64_t)(answer) & UINT32_MAX))
 #define SAM_HEADER_SKIPPED(answer) ((uint32_t)((uint64_t)(answer) >> 32))
 #define SAM_HEADER_WRITTEN(answer) ((uint32_t)((uint64_t)(answer) & UINT32_MAX))
+
+/* Of binary_len, where it is no refusal: whether more bytes are needed, and how many in all. */
+#define SAM_HEADER_IS_CUT(answer) ((int)((uint64_t)(answer) >> 62 & 1))
+#define SAM_HEADER_NEEDED(answer) ((uint64_t)(answer) & (UINT64_MAX >> 2))
 
 /* Refusal numbers. */
 enum {
@@ -63,14 +72,15 @@ enum {
     SAM_HEADER_DANGLING = 22,      /* a PP names no program */
     SAM_HEADER_CYCLE = 23,
     SAM_HEADER_UNWRITABLE = 24,    /* SN can't be written */
-    SAM_HEADER_NO_RECORD = 25,     /* kind not served, or no record at that ordinal */
+    SAM_HEADER_NO_RECORD = 25,     /* kind not served, or no record at that ordinal or with that key */
     SAM_HEADER_BAD_GIVEN = 26,     /* add: prefix or fields */
     SAM_HEADER_LONG_LENGTH = 27,   /* LN of SQ: above 2,147,483,647, in 64 bits */
-    SAM_HEADER_BAD_BINARY = 28,    /* binary_in: not the form of a binary header */
+    SAM_HEADER_BAD_BINARY = 28,    /* binary_in, binary_len: not the form of a binary header */
     SAM_HEADER_OTHER_LIST = 29,    /* binary_in: the reference list is not the text's SQ list */
     SAM_HEADER_MERGED_SQ = 30,     /* judge_merge: the merged SQ list, or shared names with other lengths */
     SAM_HEADER_MERGED_LISTS = 31,  /* judge_merge: the lists of ordinals */
-    SAM_HEADER_MERGED_IMAGE = 32   /* judge_merge: an image has other fields, or another parent */
+    SAM_HEADER_MERGED_IMAGE = 32,  /* judge_merge: an image has other fields, or another parent */
+    SAM_HEADER_OTHER_SEAL = 33     /* check_sealed: the seal is another header's */
 };
 
 /* Field's answer where the caller's stand-in takes the value's place: all ones. It has no number and no line. */
@@ -91,7 +101,7 @@ uint64_t sam_header_read(const uint8_t *text, size_t text_len, uint8_t *catalogu
 uint64_t sam_header_read_with(const uint8_t *text, size_t text_len, uint8_t *catalogue, size_t catalogue_len, uint32_t *work,
                               size_t work_len);
 
-/* 0 if the catalogue is the one that reading this text gives, and 21 if not: every offset, length, VN and LN in it is then this text's. It holds no bytes of
+/* 0 if the catalogue is the one that reading this text gives, and 21 if not: every offset, length, line number, VN and LN in it is then this text's. It holds no bytes of
  * names, so that two texts which differ in names of equal length alone have one catalogue. A text that reading refuses gets reading's refusal. */
 uint64_t sam_header_check(const uint8_t *text, size_t text_len, const uint8_t *catalogue, size_t catalogue_len);
 
@@ -105,12 +115,30 @@ uint64_t sam_header_tidy(const uint8_t *text, size_t text_len, uint8_t *out, siz
 /* The same answer with a lent work area, as in sam_header_read_with. */
 uint64_t sam_header_tidy_with(const uint8_t *text, size_t text_len, uint8_t *out, size_t out_len, uint32_t *work, size_t work_len);
 
+/* Seals a header: its tidy text at the front of `work`, as sam_header_tidy writes it, and the SHA-256 of that text in `seal`, which has 32 bytes. The
+ * answer is sam_header_tidy's. The seal is the header's: texts of equal records have one, in whatever order, spelling and line endings they came; two
+ * headers with one seal would be a collision of SHA-256. Refused as tidy is, 20 for a short work area; then neither `work` nor `seal` changes. */
+uint64_t sam_header_seal(const uint8_t *text, size_t text_len, uint8_t *work, size_t work_len, uint8_t seal[32]);
+
+/* 0 if the catalogue is the one that reading this text gives and the seal, 32 bytes, is the one that sealing it gives. Reading's refusals, 21, then as
+ * tidy, 20 for a short work area, then 33 for another header's seal: an edit that keeps every length, as of chr1 to chrX, is seen here and not by
+ * sam_header_check. On 0, and on 33 too, the tidy text is at the front of `work` and the rest of it is as it was; any other refusal changes nothing. */
+uint64_t sam_header_check_sealed(const uint8_t *text, size_t text_len, const uint8_t *catalogue, size_t catalogue_len,
+                                 const uint8_t seal[32], uint8_t *work, size_t work_len);
+
 /* Goes on after lines that are refused: skips them and writes the tidy text of the others. In `table`, at its front, two numbers for each skipped
  * line, in order: the line and the refusal's number; table_len counts numbers. The answer is the skipped lines shifted left by 32, and the bytes written.
  * While no line is kept, each line that starts @HD and a tab and whose first VN can be read sets the rule for repeated tags, also where it is skipped,
  * and an HD may still be kept; a key of a skipped line is free. 1 for the text, then 24, 1 for the text to be written, 20 for a short output or a
  * short table; then neither of them changes. */
 uint64_t sam_header_carry_on(const uint8_t *text, size_t text_len, uint8_t *out, size_t out_len, uint32_t *table, size_t table_len);
+
+/* The faults of a text. In `table`, at its front, two numbers for each faulty line, in order: the line and why; table_len counts numbers. The answer is
+ * how many faulty lines there are. A line that carrying on skips has its refusal there; of the lines that are kept, an SQ whose name can't be written has
+ * 24, a program whose PP equals the ID of no program kept has 22, and a program that comes back to itself by its parents has 23 (one that only leads into
+ * such a cycle is not faulty). There are none exactly where reading, tidying and the leaves all accept. 1 for the text, then 20 for a short table, which
+ * then does not change. */
+uint64_t sam_header_faults(const uint8_t *text, size_t text_len, uint32_t *table, size_t table_len);
 
 /* The same, with a lent work area of any length and with any content. It is all zeros afterwards, on every answer, refusals too; the answer, `out` and `table`
  * are those of carry_on. work_len counts numbers: one for each eight bytes of the text is as much as is used. An area of 6,144 numbers or fewer is only
@@ -127,6 +155,18 @@ uint64_t sam_header_binary_out(const uint8_t *text, size_t text_len, uint8_t *ou
  * text's SQ list, names and lengths in order; then as tidy. */
 uint64_t sam_header_binary_in(const uint8_t *bytes, size_t bytes_len, uint8_t *out, size_t out_len);
 
+/* How many bytes at the front of a SAM file belong to its header: all lines from the first on that start with @, their endings included; an empty line
+ * ends it. It judges nothing else and never refuses; a text that reading accepts is header to its end. The front that was lent may end within the header or
+ * within a line: where the answer is bytes_len, lend more. */
+uint64_t sam_header_text_len(const uint8_t *bytes, size_t bytes_len);
+
+/* How many bytes at the front of an uncompressed BAM stream are its binary header: as many as binary_in takes, which then never answers 28. Where the header
+ * goes on behind the bytes that were lent, bit 62 is set and SAM_HEADER_NEEDED is how many are needed to say more, always more than were lent and never
+ * more than the header has: lend so many or more, and ask again. Each call passes all references anew: fronts that double cost at most three times as much
+ * as one call, and lending just what is needed, reference by reference, takes time that grows with the square. 28 as soon as it can be no binary header,
+ * whatever follows. 1 for a number of 2^62 or more, which no memory holds. The text is passed, not read. */
+uint64_t sam_header_binary_len(const uint8_t *bytes, size_t bytes_len);
+
 /* ---- over a text and its catalogue: reading's own refusal comes first, then 21.
  * Kinds are HD 1, SQ 2, RG 3, PG 4, CO 5; ordinals count from 0 within a kind. */
 
@@ -137,6 +177,11 @@ uint64_t sam_header_count(const uint8_t *text, size_t text_len, const uint8_t *c
 uint64_t sam_header_key(const uint8_t *text, size_t text_len, const uint8_t *catalogue, size_t catalogue_len, uint8_t kind,
                         uint32_t ordinal);
 
+/* The ordinal of the SQ, RG or PG whose key, SN or ID, is `key`, of any bytes: the inverse of sam_header_key. 25 where there is none, and for
+ * another kind. Each call looks through the records one after another: for many names of SQ ask sam_header_names. */
+uint64_t sam_header_find(const uint8_t *text, size_t text_len, const uint8_t *catalogue, size_t catalogue_len, uint8_t kind,
+                         const uint8_t *key, size_t key_len);
+
 /* The line on which a record of kind 1 to 5 stands: lines count from 0, and every line counts, of whatever kind. */
 uint64_t sam_header_line(const uint8_t *text, size_t text_len, const uint8_t *catalogue, size_t catalogue_len, uint8_t kind,
                          uint32_t ordinal);
@@ -144,6 +189,11 @@ uint64_t sam_header_line(const uint8_t *text, size_t text_len, const uint8_t *ca
 /* The LN of an SQ in `*length`, and 0. It is 1 to 2,147,483,647: reading refuses any other. */
 uint64_t sam_header_length(const uint8_t *text, size_t text_len, const uint8_t *catalogue, size_t catalogue_len, uint32_t ordinal,
                            uint64_t *length);
+
+/* Three numbers for each SQ, in order, in `table`, at its front: the offset of its SN, the length of that, and its LN; table_len counts numbers.
+ * The answer is how many SQ there are, a third of the numbers written. 20 for a table with fewer than three numbers for each. */
+uint64_t sam_header_references(const uint8_t *text, size_t text_len, const uint8_t *catalogue, size_t catalogue_len, uint32_t *table,
+                               size_t table_len);
 
 /* Where the value of a record's field stands, by the two bytes of its tag: its offset shifted left by 32, and its length; a key is no field.
  * SAM_HEADER_STAND_IN, in place of any refusal, where there is no such field or anything is amiss. */

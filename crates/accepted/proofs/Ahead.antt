@@ -6,11 +6,11 @@ use native.Mathlib.Omega.{arith}
 use lib.ListN.{length, take, drop, length-drop, drop-of-length-le}
 use lib.Seq.{take-all, drop-drop, length-take-le}
 use Rattle.format.specs.Lines.{Piece, linesFrom}
-use Rattle.text.specs.First.{firstLine}
-use Rattle.text.specs.Stands.{Stands}
-use Rattle.text.specs.declared.Cut.{Cut}
-use Rattle.text.proofs.Lines.{lines-none}
-use Rattle.text.proofs.First.{first-le, first-within, first-some, lines-first}
+use Rattle.byte_slices.specs.First.{firstLine}
+use Rattle.byte_slices.specs.Stands.{Stands}
+use Rattle.byte_slices.specs.declared.Cut.{Cut}
+use Rattle.byte_slices.proofs.Lines.{lines-none}
+use Rattle.byte_slices.proofs.First.{first-le, first-within, first-some, lines-first}
 use Rattle.accepted.specs.First.{firstAt}
 
 -- the lines from an offset on

@@ -12,8 +12,8 @@ use Rattle.format.specs.Bytes.{any, none?, same}
 use Rattle.format.specs.Lines.{Piece}
 use Rattle.format.specs.Records.{Record, code, key}
 use Rattle.format.specs.Reading.{clash, sameKeys, ofKind}
-use Rattle.text.specs.Stands.{Each}
-use Rattle.text.proofs.Stands.{each-map}
+use Rattle.byte_slices.specs.Stands.{Each}
+use Rattle.byte_slices.proofs.Stands.{each-map}
 use Rattle.accepted.specs.Admits.{Unbarred, KeysDiffer, MayFollow}
 use Rattle.accepted.proofs.Bools.{or-left, or-right, eqb-sym, any-snoc}
 use Rattle.accepted.proofs.OfKind.{ofKind-append}

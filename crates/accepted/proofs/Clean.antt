@@ -12,8 +12,8 @@ use Rattle.format.specs.Fields.{Field, isValue, isWideValue, isWide, allows, is
 use Rattle.format.specs.Records.{Record, code, read, prefixed, breaks}
 use Rattle.format.specs.declared.Kind.{Kind}
 use Rattle.format.specs.declared.Kind.the-variants.{Header, ReferenceSequence, ReadGroup, Program, Comment}
-use Rattle.text.specs.Stands.{Each}
-use Rattle.text.proofs.Stands.{each-bytes}
+use Rattle.byte_slices.specs.Stands.{Each}
+use Rattle.byte_slices.proofs.Stands.{each-bytes}
 use Rattle.format.specs.Utf8.{characters}
 use Rattle.utf8.specs.Shown.{shown}
 use Rattle.utf8.proofs.Shown.{shown-byte, whole-shown}

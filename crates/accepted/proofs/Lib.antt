@@ -14,3 +14,4 @@ pub mod Text
 pub mod Onward
 pub mod Ahead
 pub mod Read
+pub mod LineKeys

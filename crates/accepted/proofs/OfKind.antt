@@ -7,7 +7,7 @@ use lib.Dec.{eqb}
 use Rattle.format.specs.Bytes.{any}
 use Rattle.format.specs.Records.{Record, code}
 use Rattle.format.specs.Reading.{clash, ofKind}
-use Rattle.text.specs.Stands.{Each}
+use Rattle.byte_slices.specs.Stands.{Each}
 use Rattle.accepted.specs.Admits.{KeysDiffer}
 use Rattle.accepted.proofs.Bools.{or-left, or-right}
 

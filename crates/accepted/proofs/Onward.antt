@@ -8,10 +8,10 @@ use lib.ListN.{length, take, drop, length-drop}
 use Rattle.format.specs.Lines.{linesFrom}
 use Rattle.format.specs.Records.{Record}
 use Rattle.format.specs.Reading.{accept, admitted, readOn, readFrom}
-use Rattle.text.specs.First.{firstLine}
-use Rattle.text.proofs.Lines.{lines-none}
-use Rattle.text.proofs.First.{first-some, first-within, lines-first}
-use Rattle.text.proofs.Stands.{by-parts}
+use Rattle.byte_slices.specs.First.{firstLine}
+use Rattle.byte_slices.proofs.Lines.{lines-none}
+use Rattle.byte_slices.proofs.First.{first-some, first-within, lines-first}
+use Rattle.byte_slices.proofs.Stands.{by-parts}
 
 pub read-none : (strict : Bool) (l : ℕ) (before : List Record) (at : ℕ) → readFrom strict l before (linesFrom at []) ≡ accept before
 unfolding readFrom

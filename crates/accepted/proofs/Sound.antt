@@ -14,9 +14,10 @@ use Rattle.format.specs.Version.{version, numbered, both, sides}
 use Rattle.format.specs.declared.Version.{Version}
 use Rattle.format.specs.declared.Kind.{Kind}
 use Rattle.format.specs.declared.Kind.the-variants.{Header, ReferenceSequence, ReadGroup, Program}
-use Rattle.text.specs.Stands.{Each}
-use Rattle.text.proofs.Stands.{each-map}
-use Rattle.accepted.specs.Sound.{isKey, kind, FitsRecord, KeyIsValue, Other, Sound}
+use Rattle.byte_slices.specs.Stands.{Each}
+use Rattle.byte_slices.proofs.Stands.{each-map}
+use Rattle.accepted.specs.Sound.{kind, FitsRecord, KeyIsValue, Other, Sound}
+use Rattle.format.specs.Keys.{isKey}
 use Rattle.accepted.specs.Spelled as sp
 use Rattle.accepted.specs.Spelled.{LengthInRange, Good, Made, Spelled, AcceptedLine}
 use Rattle.accepted.proofs.Bools.{never, and-left, and-right}

@@ -11,8 +11,8 @@ use Rattle.format.specs.Lines.{Piece, cut, placed}
 use Rattle.format.specs.Fields.{Field, lastOf, settled, without}
 use Rattle.format.specs.Records.{Record, read, line}
 use Rattle.format.specs.declared.Kind.{Kind}
-use Rattle.text.specs.Stands.{Stands, Each}
-use Rattle.text.proofs.Stands.{stands-front, stands-onward, pieces-stand}
+use Rattle.byte_slices.specs.Stands.{Stands, Each}
+use Rattle.byte_slices.proofs.Stands.{stands-front, stands-onward, pieces-stand}
 use Rattle.accepted.specs.Pieces.{values, pieces}
 use Rattle.accepted.specs.Spelled as sp
 use Rattle.accepted.specs.Spelled.{Good, Made, kind₀, kind₁, Spelled, AcceptedLine}

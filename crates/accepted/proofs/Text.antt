@@ -10,8 +10,8 @@ use borrow.Author.Tests.{ltb-false}
 use Rattle.format.specs.Lines.{Piece, lines}
 use Rattle.format.specs.Records.{Record, code, read, line}
 use Rattle.format.specs.Reading.{accept, refusedText, admitted, readFrom, longest, readText, ofKind}
-use Rattle.text.specs.Stands.{Stands, Each}
-use Rattle.text.proofs.Stands.{each-map, lines-stand}
+use Rattle.byte_slices.specs.Stands.{Stands, Each}
+use Rattle.byte_slices.proofs.Stands.{each-map, lines-stand}
 use Rattle.accepted.specs.Pieces.{pieces, Pairs}
 use Rattle.accepted.specs.Sound.{Sound}
 use Rattle.accepted.specs.Admits.{strictly, Admits, Unbarred, KeysDiffer}

@@ -3,7 +3,7 @@ use Prim.Native.Nat.{ℕ}
 use mathlib.Core.List.{List}
 use lib.ListN.{take, drop}
 use Rattle.format.specs.Lines.{Piece}
-use Rattle.text.specs.First.{firstLine}
+use Rattle.byte_slices.specs.First.{firstLine}
 
 -- the line at an offset, without its ending
 abbrev pub firstAt : ℕ → List ℕ → Piece

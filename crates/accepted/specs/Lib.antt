@@ -1,3 +1,4 @@
+-- Words for contracts and laws, and nothing to believe.
 pub mod Pieces
 pub mod Sound
 pub mod Spelled
@@ -5,3 +6,4 @@ pub mod Clean
 pub mod Admits
 pub mod Read
 pub mod First
+pub mod Ended

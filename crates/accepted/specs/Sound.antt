@@ -1,7 +1,7 @@
 -- What every record of an accepted line is: its numbers fit, its values are values, and its other fields are no keys.
 use Prim.Native.Nat.{ℕ, _^_, _≤_, _<_}
 use mathlib.Core.Path.{_≡_}
-use mathlib.Core.Bool.{Bool, true, false, _&&_, _||_}
+use mathlib.Core.Bool.{Bool, true, false}
 use mathlib.Core.Option.{Option, none, some}
 use lib.Dec.{eqb}
 use Rattle.format.specs.Lines.{Piece}
@@ -9,15 +9,8 @@ use Rattle.format.specs.Fields.{Field, isValue, allows, isTag, repeats}
 use Rattle.format.specs.Records.{Record, header, reference, group, program, comment, key, others}
 use Rattle.format.specs.declared.Kind.{Kind}
 use Rattle.format.specs.declared.Kind.the-variants.{Header, ReferenceSequence, ReadGroup, Program, Comment}
-use Rattle.text.specs.Stands.{Each}
-
--- VN of HD, SN and LN of SQ, ID of RG and PG
-unfoldable pub isKey : Kind → ℕ → ℕ → Bool
-isKey Header a b = eqb a 86 && eqb b 78
-isKey ReferenceSequence a b = (eqb a 83 && eqb b 78) || (eqb a 76 && eqb b 78)
-isKey ReadGroup a b = eqb a 73 && eqb b 68
-isKey Program a b = eqb a 73 && eqb b 68
-isKey Comment a b = false
+use Rattle.format.specs.Keys.{isKey}
+use Rattle.byte_slices.specs.Stands.{Each}
 
 unfoldable pub kind : Record → Kind
 kind (header v fs) = Header

@@ -13,10 +13,10 @@ use Rattle.format.specs.Tidy.{tidy, unwritable}
 use Rattle.format.specs.Adding.{given, misformed, isKnown, added, unaddable}
 use Rattle.format.specs.Calls.{refused, then, fresh, untangled, writing, adding}
 use Rattle.accepted.specs.Read.{recordsOf}
-use Rattle.id_search.specs.Search.{idsOf}
-use Rattle.id_search.proofs.Search.{ordinal-ids}
-use Rattle.parents.proofs.Road.{none-dangles}
-use Rattle.parser.proofs.Fresh.{Current, goes-on, stops}
+use Rattle.program_ids.specs.Search.{idsOf}
+use Rattle.program_ids.proofs.Search.{ordinal-ids}
+use Rattle.program_parents.proofs.Road.{none-dangles}
+use Rattle.read.proofs.Fresh.{Current, goes-on, stops}
 use Rattle.add_ids.specs.Taken.{isAmong}
 use Rattle.add.specs.Added.{stray, crowded, addingOn}
 

@@ -15,8 +15,8 @@ use Rattle.format.specs.Programs.{Program, programs, links, leaves, ordinalFrom
 use Rattle.format.specs.Tidy.{tidy, unwritable, fieldsText}
 use Rattle.format.specs.Adding.{isKnown, added, used}
 use Rattle.format.specs.Calls.{refused, then, untangled, writing}
-use Rattle.id_search.specs.Search.{idsOf}
-use Rattle.id_search.proofs.Search.{ordinal-ids}
+use Rattle.program_ids.specs.Search.{idsOf}
+use Rattle.program_ids.proofs.Search.{ordinal-ids}
 use Rattle.add_ids.specs.Taken.{isAmong, taken}
 use Rattle.add_ids.proofs.Used.{used-added, added-count}
 use Rattle.add_lines.specs.Lines.{addedText}

@@ -10,9 +10,9 @@ use Rattle.format.specs.Lines.{Piece}
 use Rattle.format.specs.Fields.{lastOf}
 use Rattle.format.specs.Adding.{given, isKnown}
 use Rattle.format.specs.declared.ProgramNo.{ProgramNo}
-use Rattle.id_search.specs.declared.Named.{Named}
-use Rattle.id_search.specs.declared.Named.the-variants.{Nobody, Is}
-use Rattle.id_search.specs.Search.{idOrdinalFrom, namedOf}
+use Rattle.program_ids.specs.declared.Named.{Named}
+use Rattle.program_ids.specs.declared.Named.the-variants.{Nobody, Is}
+use Rattle.program_ids.specs.Search.{idOrdinalFrom, namedOf}
 use Rattle.add_ids.specs.Taken.{isAmong}
 use Rattle.add_input.specs.declared.Given.{Given}
 use Rattle.add_input.specs.declared.Given.the-variants.{Nothing, At}

@@ -16,12 +16,12 @@ use Rattle.format.specs.Tidy.{tidy, text, recordText, fieldText, fieldsText}
 use Rattle.format.specs.Adding.{noProgram, unplaced, orElse, chained, isKnown, afterLeaves, added}
 use Rattle.format.specs.declared.Kind.{Kind}
 use Rattle.format.specs.declared.Kind.the-variants as kind
-use Rattle.text.specs.Stands.{Each}
-use Rattle.parts.specs.Parts.{prefixText}
-use Rattle.per_kind.specs.Numbers.{kindNumber}
+use Rattle.byte_slices.specs.Stands.{Each}
+use Rattle.tidy_parts.specs.Parts.{prefixText}
+use Rattle.tidy_sizes.specs.Numbers.{kindNumber}
 use Rattle.tidy_text.specs.Kinds.{textOfKind, frontText}
 use Rattle.tidy_text.proofs.Total.{tidy-kinds, text-append}
-use Rattle.id_search.specs.Search.{idsOf}
+use Rattle.program_ids.specs.Search.{idsOf}
 use Rattle.add_ids.specs.Taken.{idIn}
 use Rattle.add_lines.specs.Line.{joining, linking, ending, newLine}
 use Rattle.add_lines.specs.Lines.{newLines, addedText}

@@ -2,10 +2,10 @@
 use add_input::Given;
 use add_lines::Shape;
 use format::LineNo;
-use id_search::Named;
-use parser::Checked;
-use parser::CountAnswer;
-use per_kind::PerKind;
+use program_ids::Named;
+use read::Checked;
+use read::CountAnswer;
+use tidy_sizes::PerKind;
 use tidy_text::Measured;
 ghost use mathlib.Core.Path.{_≡_};
 ghost use mathlib.Core.Bool.{true, false, not, _||_, cond};
@@ -18,11 +18,11 @@ ghost use Rattle.format.specs.Reading.{announced, isStrict, readText};
 ghost use Rattle.format.specs.Programs.{programs, leaves};
 ghost use Rattle.format.specs.Adding.{given};
 ghost use Rattle.format.specs.Calls.{adding};
-ghost use Rattle.text.specs.Over.{over};
+ghost use Rattle.byte_slices.specs.Over.{over};
 ghost use Rattle.accepted.specs.Read.{isAccepted, recordsOf};
-ghost use Rattle.id_search.specs.Places.{idsAt, PlacesInText};
-ghost use Rattle.id_search.specs.Search.{idsOf};
-ghost use Rattle.parser.specs.Answers.{answerOf, outputOf};
+ghost use Rattle.program_ids.specs.Places.{idsAt, PlacesInText};
+ghost use Rattle.program_ids.specs.Search.{idsOf};
+ghost use Rattle.read.specs.Answers.{answerOf, outputOf};
 ghost use Rattle.add_ids.specs.Taken.{isAmong};
 ghost use Rattle.add_input.specs.Given.{givenOf};
 ghost use Rattle.tidy_text.specs.Sizes.{sizesOf};
@@ -118,7 +118,7 @@ fn measure_all(
     ensures { λ r. ⌜ r ≡ planning (now (text .entry)) (now (ats .entry)) (now (lens .entry)) shape
         (now (prefix .entry)) (now (fields .entry)) (now (leaves .entry)) room ⌝ }
 {
-    let strict = repeat_rule::is_strict(text);
+    let strict = read_repeat_rule::is_strict(text);
     match tidy_text::measure(text, strict) {
         Measured::Unwritable(line) => Planned::Refused(24, line),
         Measured::Is(sizes) => {
@@ -178,7 +178,7 @@ fn is_free(text: &[u8], ats: &[u32], lens: &[u32], id: &[u8]) -> bool
     requires { ⌜ PlacesInText (now text) (now ats) (now lens) ⌝ }
     ensures { λ r. ⌜ r ≡ not (isAmong (now (id .entry)) (idsAt (now (text .entry)) (now (ats .entry)) (now (lens .entry)))) ⌝ }
 {
-    match id_search::find_program(text, ats, lens, id) {
+    match program_ids::find_program(text, ats, lens, id) {
         Named::Nobody => true,
         Named::Is(_) => false,
     }
@@ -268,30 +268,43 @@ fn add_after(
 }
 
 // Adds a program after each leaf, and writes the tidy text to the front of `out`: reading's refusals, 21, 26, 22, 23, 18, 19, 24, 1, 20.
-pub fn add(text: &[u8], kept: &[u8], prefix: &[u8], fields: &[u8], out: &mut [u8]) -> CountAnswer
+pub fn add(
+    text: &[u8],
+    catalogue: &[u8],
+    prefix: &[u8],
+    fields: &[u8],
+    out: &mut [u8],
+) -> CountAnswer
     ensures answer { λ r.
-        ⌜ r ≡ answerOf (adding (now (text .entry)) (now (kept .entry)) (now (prefix .entry)) (now (fields .entry)) (length (now (out .entry)))) ⌝ }
+        ⌜ r ≡ answerOf (adding (now (text .entry)) (now (catalogue .entry)) (now (prefix .entry)) (now (fields .entry)) (length (now (out .entry)))) ⌝ }
     ensures wrote { λ _. ⌜ now (out .exit) ≡ outputOf
-        (adding (now (text .entry)) (now (kept .entry)) (now (prefix .entry)) (now (fields .entry)) (length (now (out .entry))))
+        (adding (now (text .entry)) (now (catalogue .entry)) (now (prefix .entry)) (now (fields .entry)) (length (now (out .entry))))
         (now (out .entry)) ⌝ }
 {
-    match parser::check(text, kept) {
+    match read::check(text, catalogue) {
         Checked::Refused(n, line) => CountAnswer::Refused(n, line),
         Checked::Fresh => {
             if !add_input::is_in_form(prefix, fields) {
                 return CountAnswer::Refused(26, LineNo(0));
             }
             let previous = add_input::find_previous(fields);
-            let programs = programs::gather(kept);
-            let places = programs.id;
-            let at = places.at;
-            let len = places.len;
-            let ats = &at[..programs.count];
-            let lens = &len[..programs.count];
+            let mut at: [u32; 1024] = [0; 1024];
+            let mut len: [u32; 1024] = [0; 1024];
+            let mut from: [u32; 1024] = [0; 1024];
+            let mut widths: [u32; 1024] = [0; 1024];
+            let count = program_places::gather(
+                catalogue,
+                &mut at,
+                &mut len,
+                &mut from,
+                &mut widths,
+            );
+            let ats = &at[..count];
+            let lens = &len[..count];
             if is_stray(text, ats, lens, fields, previous) {
                 return CountAnswer::Refused(22, LineNo(0)); // the given PP
             }
-            let graph = parents::find_leaves(text, programs);
+            let graph = program_parents::find_leaves(program_parents::parents_of(text, catalogue));
             if graph.refusal != 0 {
                 return CountAnswer::Refused(graph.refusal, LineNo(0));
             }

@@ -20,7 +20,7 @@ use Rattle.accepted.proofs.Pairs.{each-at}
 use Rattle.accepted.proofs.OfKind.{ofKind-code, apart-ofKind}
 use Rattle.accepted.proofs.Apart.{clash-sym, apart-at}
 use Rattle.accepted.proofs.Text.{text-apart}
-use Rattle.chains.proofs.Walks.{map-at}
+use Rattle.program_chains.proofs.Walks.{map-at}
 
 -- ---- two programs
 

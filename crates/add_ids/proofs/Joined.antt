@@ -10,7 +10,7 @@ use lib.Seq.{take-all}
 use lib.Dec.{eqb}
 use borrow.Author.Tests.{eq-eqb, ne-eqb}
 use Rattle.format.specs.Bytes.{same, starts}
-use Rattle.text.proofs.Equal.{same-other}
+use Rattle.byte_slices.proofs.Equal.{same-other}
 use Rattle.accepted.proofs.Bools.{eqb-sym}
 use Rattle.add_ids.specs.Taken.{joined}
 

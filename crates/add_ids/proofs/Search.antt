@@ -10,9 +10,9 @@ use lib.ListN.{length, take, drop, getD, drop-of-length-le, List·getD-eq-defaul
 use lib.Seq.{drop-cons}
 use Rattle.format.specs.Bytes.{same}
 use Rattle.format.specs.Adding.{isKnown}
-use Rattle.id_search.specs.Places.{idsAt, PlacesInText}
-use Rattle.id_search.specs.Search.{idOrdinalFrom}
-use Rattle.id_search.proofs.Search.{ids-length, ids-at}
+use Rattle.program_ids.specs.Places.{idsAt, PlacesInText}
+use Rattle.program_ids.specs.Search.{idOrdinalFrom}
+use Rattle.program_ids.proofs.Search.{ids-length, ids-at}
 use Rattle.add_ids.specs.Taken.{joined, isAmong, idIn, idStanding, taken}
 
 -- ---- one ID

@@ -13,14 +13,14 @@ use Rattle.format.specs.Records.{Record, program, code, key, others}
 use Rattle.format.specs.Reading.{readText, accept, ofKind}
 use Rattle.format.specs.Programs.{Program, bytesOf, programOf, programs, ordinalFrom, link, links, leaves, leavesFrom, numbersFrom}
 use Rattle.format.specs.Adding.{noProgram, unplaced, chained, isKnown, afterLeaves, added, used}
-use Rattle.text.specs.Stands.{Each}
-use Rattle.text.proofs.Stands.{each-map}
+use Rattle.byte_slices.specs.Stands.{Each}
+use Rattle.byte_slices.proofs.Stands.{each-map}
 use Rattle.accepted.proofs.Bools.{or-left, or-right, or-false, or-true, and-left, and-right, split}
 use Rattle.accepted.proofs.Pairs.{each-all, each-both}
-use Rattle.chains.specs.Listed.{named}
-use Rattle.chains.proofs.Leaf.{leaves-exactly, leaves-distinct}
-use Rattle.id_search.specs.Search.{idsOf, idOrdinalFrom}
-use Rattle.id_search.proofs.Search.{ordinal-ids}
+use Rattle.program_chains.specs.Listed.{named}
+use Rattle.program_chains.proofs.Leaf.{leaves-exactly, leaves-distinct}
+use Rattle.program_ids.specs.Search.{idsOf, idOrdinalFrom}
+use Rattle.program_ids.proofs.Search.{ordinal-ids}
 use Rattle.add_ids.specs.Taken.{joined, isAmong, idIn, taken}
 use Rattle.add_ids.proofs.Joined.{joined-same, joined-prefix}
 use Rattle.add_ids.proofs.Apart.{ids-apart}

@@ -4,7 +4,7 @@ use mathlib.Core.Bool.{Bool, false, _||_}
 use mathlib.Core.List.{List, [], _∷_, _++_}
 use lib.ListN.{getD}
 use Rattle.format.specs.Adding.{isKnown}
-use Rattle.id_search.specs.Search.{idOrdinalFrom}
+use Rattle.program_ids.specs.Search.{idOrdinalFrom}
 
 -- prefix, `-`, ID
 unfoldable pub joined : List ℕ → List ℕ → List ℕ

@@ -2,7 +2,7 @@
 use format::ProgramNo;
 ghost use mathlib.Core.Path.{_≡_};
 ghost use Rattle.format.specs.Bytes.{same};
-ghost use Rattle.id_search.specs.Places.{idsAt, PlacesInText};
+ghost use Rattle.program_ids.specs.Places.{idsAt, PlacesInText};
 ghost use Rattle.add_ids.specs.Taken.{joined, isAmong, idIn, idStanding, taken};
 
 // Whether an ID is the prefix, `-` and another ID: the lengths first, then part by part.
@@ -19,12 +19,12 @@ fn is_joined(id: &[u8], prefix: &[u8], other: &[u8]) -> bool
     if id[dash] != b'-' {
         return false;
     }
-    if !text::starts(prefix, id) {
+    if !byte_slices::starts(prefix, id) {
         return false;
     }
     let from = dash + 1;
     let rest = &id[from..];
-    text::same(other, rest)
+    byte_slices::same(other, rest)
 }
 
 // The ID of the program with an ordinal, as a part of the text: no bytes where there is none.

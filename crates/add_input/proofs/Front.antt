@@ -12,18 +12,18 @@ use Rattle.format.specs.Fields.{Field, field}
 use Rattle.format.specs.Adding.{given}
 use Rattle.format.specs.Tidy.{fieldText}
 use Rattle.format.specs.declared.Kind.the-variants.{Program}
-use Rattle.text.specs.Upto.{upto, before}
-use Rattle.text.specs.Stands.{Stands}
-use Rattle.text.proofs.Lines.{upto-le}
+use Rattle.byte_slices.specs.Upto.{upto, before}
+use Rattle.byte_slices.specs.Stands.{Stands}
+use Rattle.byte_slices.proofs.Lines.{upto-le}
 use Rattle.field.specs.declared.ParsedField as code
 use Rattle.field.specs.Parsed.{parsedOf}
 use Rattle.accepted.proofs.Bools.{split}
-use Rattle.record_laws.proofs.Turn.{tailScan, prepend, upto-not}
-use Rattle.record_laws.proofs.Walked.{Turned, turned, refused-here}
-use Rattle.record_laws.proofs.Step.{clean-field, spelled-text}
-use Rattle.other_fields.specs.Run.{Runs}
-use Rattle.other_fields.specs.Next.{fieldLength}
-use Rattle.other_fields.proofs.Runs.{bytesOf, runs-none, runs-more}
+use Rattle.record_parser.proofs.Turn.{tailScan, prepend, upto-not}
+use Rattle.record_parser.proofs.Walked.{Turned, turned, refused-here}
+use Rattle.record_parser.proofs.Step.{clean-field, spelled-text}
+use Rattle.accepted_line.specs.Run.{Runs}
+use Rattle.accepted_line.specs.Next.{fieldLength}
+use Rattle.accepted_line.proofs.fields.Runs.{bytesOf, runs-none, runs-more}
 
 -- the given fields are what is left of a line after its kind bytes
 pub given-tail : (s : List ℕ) → given s ≡ tailScan Program 0 s

@@ -13,18 +13,18 @@ use Rattle.format.specs.Bytes.{any}
 use Rattle.format.specs.Fields.{Field, tagged, Scan, repeats}
 use Rattle.format.specs.Adding.{given}
 use Rattle.format.specs.declared.Kind.the-variants.{Program}
-use Rattle.text.proofs.Lines.{upto-le}
+use Rattle.byte_slices.proofs.Lines.{upto-le}
 use Rattle.field.specs.declared.ParsedField as code
-use Rattle.accepted.specs.Sound.{isKey}
+use Rattle.format.specs.Keys.{isKey}
 use Rattle.accepted.proofs.Bools.{any-append, any-snoc, or-true, or-left, or-right, or-split}
 use Rattle.accepted.proofs.Tags.{repeats-snoc, repeats-more}
-use Rattle.tags.specs.Occurs.{occurs}
-use Rattle.tags.proofs.Region.{occurs-fields}
-use Rattle.record_laws.proofs.Turn.{tailScan, prepend, prepend-prepend}
-use Rattle.record_laws.proofs.Walked.{Turned}
-use Rattle.record_laws.proofs.Step.{turn-shown}
-use Rattle.other_fields.specs.Run.{Runs}
-use Rattle.other_fields.proofs.Runs.{runs-none, runs-append}
+use Rattle.record_tags.specs.Occurs.{occurs}
+use Rattle.record_tags.proofs.Region.{occurs-fields}
+use Rattle.record_parser.proofs.Turn.{tailScan, prepend, prepend-prepend}
+use Rattle.record_parser.proofs.Walked.{Turned}
+use Rattle.record_parser.proofs.Step.{turn-shown}
+use Rattle.accepted_line.specs.Run.{Runs}
+use Rattle.accepted_line.proofs.fields.Runs.{runs-none, runs-append}
 use Rattle.add_input.specs.Given.{marred}
 use Rattle.add_input.proofs.Front.{given-tail, size, onward, one-run}
 

@@ -12,11 +12,11 @@ use Rattle.format.specs.Lines.{Piece}
 use Rattle.format.specs.Fields.{Field, tagged, Scan, later, lastOf}
 use Rattle.format.specs.Adding.{given}
 use Rattle.format.specs.declared.Kind.the-variants.{Program}
-use Rattle.text.specs.Upto.{upto}
-use Rattle.text.proofs.Lines.{upto-le}
+use Rattle.byte_slices.specs.Upto.{upto}
+use Rattle.byte_slices.proofs.Lines.{upto-le}
 use Rattle.field.specs.declared.ParsedField as code
-use Rattle.record_laws.proofs.Turn.{tailScan, prepend}
-use Rattle.record_laws.proofs.Walked.{Turned}
+use Rattle.record_parser.proofs.Turn.{tailScan, prepend}
+use Rattle.record_parser.proofs.Walked.{Turned}
 use Rattle.add_input.specs.declared.Given.{Given}
 use Rattle.add_input.specs.declared.Given.the-variants.{Nothing, At}
 use Rattle.add_input.specs.Given.{givenOf}

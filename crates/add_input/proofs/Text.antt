@@ -10,13 +10,13 @@ use Rattle.format.specs.Fields.{lastOf}
 use Rattle.format.specs.Adding.{given}
 use Rattle.format.specs.Tidy.{fieldsText}
 use Rattle.format.specs.declared.Kind.the-variants.{Program}
-use Rattle.text.specs.Stands.{Stands, Each}
-use Rattle.text.proofs.Stands.{by-parts, each-map, stands-onward}
-use Rattle.text.proofs.Lines.{upto-le}
+use Rattle.byte_slices.specs.Stands.{Stands, Each}
+use Rattle.byte_slices.proofs.Stands.{by-parts, each-map, stands-onward}
+use Rattle.byte_slices.proofs.Lines.{upto-le}
 use Rattle.accepted.proofs.Fields.{Of, lastOf-of}
-use Rattle.record_laws.proofs.Turn.{tailScan, prepend}
-use Rattle.other_fields.specs.Run.{Runs}
-use Rattle.other_fields.proofs.Runs.{runs-none}
+use Rattle.record_parser.proofs.Turn.{tailScan, prepend}
+use Rattle.accepted_line.specs.Run.{Runs}
+use Rattle.accepted_line.proofs.fields.Runs.{runs-none}
 use Rattle.add_input.proofs.Front as fr
 use Rattle.add_input.proofs.Front.{Front, front, given-tail, size, onward, more-run, own-stands}
 

@@ -11,10 +11,10 @@ use lib.Dec.{eqb}
 use borrow.Author.Tests.{eqb-true, eq-eqb, ne-eqb}
 use Rattle.format.specs.Bytes.{printable, all, none?}
 use Rattle.format.specs.Fields.{isValue}
-use Rattle.text.specs.Upto.{upto, before}
-use Rattle.text.proofs.Before.{upto-cases, before-length}
-use Rattle.field_value.specs.Taken.{takenOf}
-use Rattle.field_value.proofs.Taken.{a-value, no-value}
+use Rattle.byte_slices.specs.Upto.{upto, before}
+use Rattle.byte_slices.proofs.Before.{upto-cases, before-length}
+use Rattle.field.specs.Taken.{takenOf}
+use Rattle.field.proofs.value.Taken.{a-value, no-value}
 
 -- a tab can't be printed
 all-tab : (s : List ℕ) → upto 9 s < length s → all printable s ≡ false

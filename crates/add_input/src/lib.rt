@@ -5,8 +5,8 @@ ghost use mathlib.Core.Path.{_≡_};
 ghost use mathlib.Core.Bool.{not, _||_};
 ghost use Rattle.format.specs.Fields.{isValue, lastOf};
 ghost use Rattle.format.specs.Adding.{given, misformed};
-ghost use Rattle.tags.specs.Occurs.{occurs};
-ghost use Rattle.accepted.specs.Sound.{isKey};
+ghost use Rattle.record_tags.specs.Occurs.{occurs};
+ghost use Rattle.format.specs.Keys.{isKey};
 ghost use Rattle.add_input.specs.Given.{marred, givenOf};
 
 // Where the value of the given PP stands among the given fields: its offset and its length.
@@ -19,7 +19,7 @@ pub enum Given {
 fn is_value(src: &[u8]) -> bool
     ensures { λ r. ⌜ r ≡ isValue (now (src .entry)) ⌝ }
 {
-    let len = field_value::value_len(src);
+    let len = field::value::value_len(src);
     if len == 0 {
         return false;
     }
@@ -30,10 +30,10 @@ fn is_value(src: &[u8]) -> bool
 fn is_barred(src: &[u8], a: u8, b: u8) -> bool
     ensures { λ r. ⌜ r ≡ isKey Kind.Program a b || occurs a b (now (src .entry)) ⌝ }
 {
-    if tags::is_key(Kind::Program, a, b) {
+    if record_tags::is_key(Kind::Program, a, b) {
         return true;
     }
-    tags::occurs(src, a, b)
+    record_tags::occurs(src, a, b)
 }
 
 // Whether something is wrong with the fields: not in form, ID among them, or a tag twice, which no header allows here.
@@ -72,7 +72,7 @@ pub fn find_previous(fields: &[u8]) -> Given
     let mut last = Given::Nothing;
     let mut pos: usize = 0;
     while pos < fields.len() {
-        let end = pos + 1 + text::upto(&fields[pos + 1..], b'\t');
+        let end = pos + 1 + byte_slices::upto(&fields[pos + 1..], b'\t');
         if field_tag::is_same_tag(fields[pos + 1], fields[pos + 2], b'P', b'P') {
             last = Given::At(pos + 4, end - (pos + 4));
         }

@@ -11,13 +11,13 @@ use borrow.Author.Tests.{eqb-true, eqb-false, ne-eqb, ltb-true, ltb-false, le-le
 use Rattle.format.specs.Bytes.{any}
 use Rattle.format.specs.Programs.{Link, root, dangling, child, loopsFrom, depth, leaves, roots, rootsFrom, swapRemove}
 use Rattle.accepted.proofs.Bools.{split, or-assoc, or-false}
-use Rattle.chains.specs.Listed.{named}
-use Rattle.chains.specs.Parents.{indexIn}
-use Rattle.chains.proofs.Times.{hit, times, Once, hit-same, hit-other, times-none, swap-times}
-use Rattle.chains.proofs.Swaps.{place-any, swap-shorter}
-use Rattle.chains.proofs.Leaf.{swap-keeps, leaves-times, leaves-exactly, leaves-distinct}
-use Rattle.chain_laws.proofs.Paths.{Below, below-at, depth-less}
-use Rattle.chain_laws.proofs.Some.{leaves-some}
+use Rattle.program_chains.specs.Listed.{named}
+use Rattle.program_chains.specs.Parents.{indexIn}
+use Rattle.program_chains.proofs.Times.{hit, times, Once, hit-same, hit-other, times-none, swap-times}
+use Rattle.program_chains.proofs.Swaps.{place-any, swap-shorter}
+use Rattle.program_chains.proofs.Leaf.{swap-keeps, leaves-times, leaves-exactly, leaves-distinct}
+use Rattle.program_chains.proofs.Paths.{Below, below-at, depth-less}
+use Rattle.program_chains.proofs.Some.{leaves-some}
 use Rattle.add_laws.specs.Grown.{depthAt, children, OldStay, Grown, GrownUnder}
 
 -- ---- lists

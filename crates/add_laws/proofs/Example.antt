@@ -6,7 +6,7 @@ use Rattle.format.specs.Programs.{root, child, leaves}
 use Rattle.format.specs.Catalogue.{catalogue}
 use Rattle.format.specs.Calls.{yes, adding}
 use Rattle.accepted.specs.Read.{recordsOf}
-use Rattle.roundtrip.proofs.Example.{ascii}
+use Rattle.format.proofs.Ascii.{ascii}
 use Rattle.add_laws.specs.Grown.{linksIn}
 
 unfoldable old : List ℕ

@@ -9,18 +9,18 @@ use Rattle.format.specs.Programs.{programs}
 use Rattle.format.specs.Tidy.{isWritable, unwritable}
 use Rattle.format.specs.Adding.{given, added}
 use Rattle.format.specs.Calls.{readAnswer, records}
-use Rattle.text.specs.Stands.{Each}
-use Rattle.text.proofs.Stands.{each-map}
+use Rattle.byte_slices.specs.Stands.{Each}
+use Rattle.byte_slices.proofs.Stands.{each-map}
 use Rattle.accepted.specs.Sound.{Sound}
 use Rattle.accepted.specs.Admits.{Unbarred}
 use Rattle.accepted.specs.Read.{recordsOf}
 use Rattle.accepted.proofs.Bools.{never}
-use Rattle.roundtrip.specs.Line.{Unbroken}
-use Rattle.roundtrip.specs.Writable.{Writable}
-use Rattle.roundtrip.proofs.Unbarred.{unbarred-append}
-use Rattle.roundtrip.proofs.Order.{each-append}
-use Rattle.roundtrip.proofs.Gathered.{text-gathered, gathered-writable}
-use Rattle.roundtrip.proofs.Faithful.{holds}
+use Rattle.tidy_laws.specs.Line.{Unbroken}
+use Rattle.tidy_laws.specs.Writable.{Writable}
+use Rattle.tidy_laws.proofs.Unbarred.{unbarred-append}
+use Rattle.tidy_laws.proofs.Order.{each-append}
+use Rattle.tidy_laws.proofs.Gathered.{text-gathered, gathered-writable}
+use Rattle.tidy_laws.proofs.Faithful.{holds}
 use Rattle.add_laws.specs.Extended.{extended, AllExtended}
 use Rattle.add_laws.proofs.Passed.{Answered, answered}
 use Rattle.add_laws.proofs.New.{New, all-new}

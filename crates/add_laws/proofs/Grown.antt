@@ -14,10 +14,10 @@ use Rattle.format.specs.Programs.{Program, child, programs, ordinalFrom, link, 
 use Rattle.format.specs.Adding.{given, isKnown, afterLeaves, added}
 use Rattle.format.specs.Calls.{yes, records, adding}
 use Rattle.accepted.specs.Read.{kept, recordsOf}
-use Rattle.roundtrip.proofs.Answered.{read-of}
-use Rattle.roundtrip.proofs.Programs.{links-equal}
-use Rattle.chains.specs.Listed.{named}
-use Rattle.parents.proofs.Numbers.{links-count, links-named}
+use Rattle.tidy_laws.proofs.Answered.{read-of}
+use Rattle.tidy_laws.proofs.Programs.{links-equal}
+use Rattle.program_chains.specs.Listed.{named}
+use Rattle.program_parents.proofs.Numbers.{links-count, links-named}
 use Rattle.add_ids.proofs.Apart.{ids-apart}
 use Rattle.add_laws.specs.Extended.{extended, AllExtended}
 use Rattle.add_laws.specs.Grown.{linksIn, Grown, GrownUnder, AllGrown, AllGrownUnder}

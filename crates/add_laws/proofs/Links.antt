@@ -15,14 +15,14 @@ use Rattle.format.specs.Records.{Record, code, key, others}
 use Rattle.format.specs.Reading.{ofKind}
 use Rattle.format.specs.Programs.{Program, Link, child, bytesOf, programOf, programs, ordinalFrom, found, link, links, isDangling, leaves}
 use Rattle.format.specs.Adding.{noProgram, unplaced, orElse, chained, afterLeaves}
-use Rattle.text.specs.Stands.{Each}
-use Rattle.text.proofs.Equal.{same-self}
+use Rattle.byte_slices.specs.Stands.{Each}
+use Rattle.byte_slices.proofs.Equal.{same-self}
 use Rattle.accepted.proofs.Bools.{never, or-left, or-right, and-left}
 use Rattle.accepted.proofs.OfKind.{ofKind-append}
 use Rattle.accepted.proofs.Tags.{lastOf-snoc}
-use Rattle.chains.specs.Listed.{named}
-use Rattle.chains.proofs.Leaf.{leaves-exactly}
-use Rattle.parents.proofs.Numbers.{links-count, link-below}
+use Rattle.program_chains.specs.Listed.{named}
+use Rattle.program_chains.proofs.Leaf.{leaves-exactly}
+use Rattle.program_parents.proofs.Numbers.{links-count, link-below}
 use Rattle.add_ids.proofs.Used.{some-each}
 
 -- ---- programs and more of them

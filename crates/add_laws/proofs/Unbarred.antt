@@ -14,7 +14,7 @@ use Rattle.format.specs.Records.{Record, header, reference, group, program, com
 use Rattle.format.specs.Reading.{sameKeys, clash, ofKind, barred}
 use Rattle.format.specs.Programs.{bytesOf, programOf, programs, ordinalFrom}
 use Rattle.format.specs.Adding.{isKnown, used}
-use Rattle.text.specs.Stands.{Each}
+use Rattle.byte_slices.specs.Stands.{Each}
 use Rattle.accepted.specs.Admits.{Unbarred}
 use Rattle.accepted.proofs.Bools.{or-left, or-right}
 use Rattle.add_laws.proofs.Links.{programs-append}

@@ -8,7 +8,7 @@ use Rattle.format.specs.Tidy.{tidy}
 use Rattle.format.specs.Adding.{given, added}
 use Rattle.format.specs.Calls.{yes, records, adding}
 use Rattle.accepted.specs.Read.{recordsOf}
-use Rattle.roundtrip.specs.Faithful.{Holds}
+use Rattle.tidy_laws.specs.Faithful.{Holds}
 
 -- the records of a text, and the programs that are added to them
 unfoldable pub extended : List ℕ → List ℕ → List ℕ → List Record

@@ -11,11 +11,11 @@ use lib.Dec.{ltb}
 use borrow.Author.Tests.{ltb-true, ltb-false}
 use Rattle.format.specs.Tidy.{fieldText}
 use Rattle.format.specs.declared.Kind.the-variants.{Program}
-use Rattle.text.proofs.Over.{over-none}
-use Rattle.parts.specs.Parts.{prefixText}
-use Rattle.parts.proofs.Wrote.{Wrote}
+use Rattle.byte_slices.proofs.Over.{over-none}
+use Rattle.tidy_parts.specs.Parts.{prefixText}
+use Rattle.tidy_parts.proofs.Wrote.{Wrote}
 use Rattle.accepted.proofs.Bools.{split}
-use Rattle.id_search.specs.Places.{idsAt, PlacesInText}
+use Rattle.program_ids.specs.Places.{idsAt, PlacesInText}
 use Rattle.add_ids.specs.Taken.{idIn}
 use Rattle.add_ids.proofs.Search.{id-none, id-some}
 use Rattle.add_lines.specs.Lines.{newLines, addedText}

@@ -4,7 +4,7 @@ use mathlib.Core.Bool.{Bool, cond}
 use mathlib.Core.List.{List, [], _∷_, _++_}
 use Rattle.format.specs.Tidy.{fieldText}
 use Rattle.format.specs.declared.Kind.the-variants.{Program}
-use Rattle.parts.specs.Parts.{prefixText}
+use Rattle.tidy_parts.specs.Parts.{prefixText}
 
 -- what follows the prefix in an ID
 unfoldable pub joining : Bool → List ℕ → List ℕ

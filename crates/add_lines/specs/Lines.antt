@@ -2,7 +2,7 @@
 use Prim.Native.Nat.{ℕ}
 use mathlib.Core.Bool.{Bool, true, false, cond}
 use mathlib.Core.List.{List, [], _∷_, _++_}
-use Rattle.id_search.specs.Places.{idsAt}
+use Rattle.program_ids.specs.Places.{idsAt}
 use Rattle.add_ids.specs.Taken.{idIn}
 use Rattle.add_lines.specs.declared.Shape.{Shape}
 use Rattle.add_lines.specs.Line.{newLine}

@@ -4,8 +4,8 @@ use format::ProgramNo;
 ghost use mathlib.Core.Path.{_≡_};
 ghost use Prim.Native.Nat.{_≤_, _+_};
 ghost use lib.ListN.{length};
-ghost use Rattle.text.specs.Over.{over};
-ghost use Rattle.id_search.specs.Places.{PlacesInText};
+ghost use Rattle.byte_slices.specs.Over.{over};
+ghost use Rattle.program_ids.specs.Places.{PlacesInText};
 ghost use Rattle.add_lines.specs.Line.{joining, linking, ending, newLine};
 ghost use Rattle.add_lines.specs.Lines.{newText};
 
@@ -22,7 +22,7 @@ fn put_slice(out: &mut [u8], o: usize, from: &[u8]) -> usize
     ensures next { λ r. ⌜ r ≡ o + length (now (from .entry)) ⌝ }
     ensures wrote { λ _. ⌜ now (out .exit) ≡ over (now (out .entry)) o (now (from .entry)) ⌝ }
 {
-    text::put_bytes(out, o, from);
+    byte_slices::put_bytes(out, o, from);
     o + from.len()
 }
 
@@ -46,7 +46,7 @@ fn put_linking(out: &mut [u8], o: usize, id: &[u8], linked: bool) -> usize
     ensures wrote { λ _. ⌜ now (out .exit) ≡ over (now (out .entry)) o (linking linked (now (id .entry))) ⌝ }
 {
     if linked {
-        return parts::put_field(out, o, b'P', b'P', id, 0, id.len());
+        return tidy_parts::put_field(out, o, b'P', b'P', id, 0, id.len());
     }
     o
 }
@@ -77,8 +77,8 @@ pub fn put_line(
     ensures next { λ r. ⌜ r ≡ o + length (newLine alone linked (now (prefix .entry)) (now (fields .entry)) (now (id .entry))) ⌝ }
     ensures wrote { λ _. ⌜ now (out .exit) ≡ over (now (out .entry)) o (newLine alone linked (now (prefix .entry)) (now (fields .entry)) (now (id .entry))) ⌝ }
 {
-    let n = parts::put_prefix(out, o, Kind::Program);
-    let n = parts::put_tag(out, n, b'I', b'D');
+    let n = tidy_parts::put_prefix(out, o, Kind::Program);
+    let n = tidy_parts::put_tag(out, n, b'I', b'D');
     let n = put_slice(out, n, prefix);
     let n = put_joining(out, n, id, alone);
     put_ending(out, n, fields, id, linked)

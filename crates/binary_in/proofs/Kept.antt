@@ -5,7 +5,7 @@ use mathlib.Core.List.{List}
 use native.Mathlib.Omega.{arith}
 use lib.ListN.{length, take, drop, length-drop}
 use lib.Seq.{length-take-le, take-take}
-use Rattle.binary.specs.Binary.{unpadded}
+use Rattle.format.specs.Binary.{unpadded}
 use Rattle.binary_parts.proofs.Unpadded.{unpadded-within, unpadded-is}
 
 module _ (s : List ℕ) (at len kept : ℕ) (h : at + len ≤ length s) (k : kept ≡ length (unpadded (take (at + len - at) (drop at s)))) where

@@ -9,7 +9,7 @@ use Rattle.format.specs.Calls.{refused, then, readAnswer, records}
 use Rattle.accepted.specs.Read.{recordsOf}
 use Rattle.tidy.specs.Written.{writingTidy}
 use Rattle.format.specs.References.{sqList, sameReferences}
-use Rattle.binary.specs.Binary.{takeList, binaryParts, unpadded, wellFormed, listedAlike, binaryIn}
+use Rattle.format.specs.Binary.{takeList, binaryParts, unpadded, wellFormed, listedAlike, binaryIn}
 use Rattle.binary_parts.specs.declared.PartsAt.{PartsAt}
 use Rattle.binary_parts.specs.Parts.{listed, partsFrom}
 

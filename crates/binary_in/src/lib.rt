@@ -1,11 +1,11 @@
 // Reading a binary header in: the tidy text of its text, if its reference list is that text's SQ list.
 use format::LineNo;
-use judging::Judged;
-use parser::CountAnswer;
+use read::CountAnswer;
+use read_judge::Judged;
 ghost use mathlib.Core.Path.{_≡_};
 ghost use lib.ListN.{length};
-ghost use Rattle.binary.specs.Binary.{binaryIn};
-ghost use Rattle.parser.specs.Answers.{answerOf, outputOf};
+ghost use Rattle.format.specs.Binary.{binaryIn};
+ghost use Rattle.read.specs.Answers.{answerOf, outputOf};
 
 // Reads a binary header: the tidy text at the front of `out`, or the first refusal, which changes nothing.
 pub fn binary_in(bytes: &[u8], out: &mut [u8]) -> CountAnswer
@@ -20,11 +20,11 @@ pub fn binary_in(bytes: &[u8], out: &mut [u8]) -> CountAnswer
     let end = start + parts.len;
     let kept = start + binary_parts::unpadded_len(&bytes[start..end]);
     let text = &bytes[start..kept];
-    match judging::judge(text) {
+    match read_judge::judge(text) {
         Judged::Refused(n, line) => CountAnswer::Refused(n, line),
         Judged::Accepted(_) => {
-            let strict = repeat_rule::is_strict(text);
-            if !references_in::is_sq_list(bytes, parts.list, parts.count, text, strict) {
+            let strict = read_repeat_rule::is_strict(text);
+            if !binary_same::is_sq_list(bytes, parts.list, parts.count, text, strict) {
                 return CountAnswer::Refused(29, LineNo(0));
             }
             tidy::write_accepted(text, strict, out)

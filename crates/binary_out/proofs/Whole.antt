@@ -12,13 +12,13 @@ use Rattle.format.specs.Catalogue.{little}
 use Rattle.format.specs.Reading.{refusedText, readText, longest}
 use Rattle.format.specs.Tidy.{tidy, unwritable}
 use Rattle.format.specs.Calls.{refused, yes, then, readAnswer, records, fitting}
-use Rattle.text.specs.Over.{over}
-use Rattle.little.proofs.Little.{little-length}
+use Rattle.byte_slices.specs.Over.{over}
+use Rattle.little_endian.proofs.Little.{little-length}
 use Rattle.accepted.specs.Read.{isAccepted, recordsOf}
 use Rattle.accepted.proofs.Read.{accepted-reads}
 use Rattle.format.specs.References.{Reference, sqList}
-use Rattle.binary.specs.Binary.{magic, sized, listBytes, binary, binaryOut}
-use Rattle.references_out.proofs.Bytes.{behind}
+use Rattle.format.specs.Binary.{magic, sized, listBytes, binary, binaryOut}
+use Rattle.binary_put.proofs.Bytes.{behind}
 use Rattle.tidy.proofs.Writing.{write-bad, write-long, write-fits}
 use Rattle.binary_out.specs.Written.{binaryOf, writingBinary}
 

@@ -6,7 +6,7 @@ use Rattle.format.specs.Tidy.{tidy, unwritable}
 use Rattle.format.specs.Calls.{Answer, then, fitting, writing}
 use Rattle.accepted.specs.Read.{recordsOf}
 use Rattle.format.specs.References.{sqList}
-use Rattle.binary.specs.Binary.{binary}
+use Rattle.format.specs.Binary.{binary}
 
 -- its tidy text and its SQ list
 abbrev pub binaryOf : List ℕ → List ℕ

@@ -1,8 +1,8 @@
 // The binary header of the SAM specification, written from an accepted text: its tidy text and its SQ list.
 use format::LineNo;
-use judging::Judged;
-use parser::CountAnswer;
-use per_kind::PerKind;
+use read::CountAnswer;
+use read_judge::Judged;
+use tidy_sizes::PerKind;
 use tidy_text::Measured;
 ghost use mathlib.Core.Path.{_≡_};
 ghost use mathlib.Core.Bool.{true};
@@ -13,11 +13,11 @@ ghost use Rattle.format.specs.Lines.{lines};
 ghost use Rattle.format.specs.Reading.{announced, isStrict, readText};
 ghost use Rattle.format.specs.Catalogue.{little};
 ghost use Rattle.format.specs.Tidy.{tidy};
-ghost use Rattle.text.specs.Over.{over};
+ghost use Rattle.byte_slices.specs.Over.{over};
 ghost use Rattle.accepted.specs.Read.{isAccepted, recordsOf};
 ghost use Rattle.format.specs.References.{sqList};
-ghost use Rattle.binary.specs.Binary.{magic, binaryOut};
-ghost use Rattle.parser.specs.Answers.{answerOf, outputOf};
+ghost use Rattle.format.specs.Binary.{magic, binaryOut};
+ghost use Rattle.read.specs.Answers.{answerOf, outputOf};
 ghost use Rattle.tidy_text.specs.Sizes.{sizesOf};
 ghost use Rattle.binary_out.specs.Written.{binaryOf, writingBinary};
 
@@ -27,8 +27,8 @@ fn put_front(out: &mut [u8], n: usize)
     requires { ⌜ 8 ≤ length (now out) ⌝ }
     ensures { λ _. ⌜ now (out .exit) ≡ over (now (out .entry)) 0 (magic ++ little 4 n) ⌝ }
 {
-    text::put_bytes(out, 0, b"BAM\x01");
-    little::put_u32(out, 4, n as u32);
+    byte_slices::put_bytes(out, 0, b"BAM\x01");
+    little_endian::put_u32(out, 4, n as u32);
 }
 
 // Writes the tidy text of an accepted text behind these. `sizes` are those that measuring gives, and `n` is its length.
@@ -57,8 +57,8 @@ fn put_binary(text: &[u8], strict: bool, sizes: PerKind, n: usize, count: u32, o
 {
     put_front(out, n);
     put_text(text, strict, sizes, n, out);
-    little::put_u32(out, 8 + n, count);
-    references_out::put_list(text, strict, out, 12 + n);
+    little_endian::put_u32(out, 8 + n, count);
+    binary_put::put_list(text, strict, out, 12 + n);
 }
 
 // Writes the binary header of an accepted text: 24, then 1, then 20.
@@ -75,7 +75,7 @@ fn write_accepted(text: &[u8], strict: bool, out: &mut [u8]) -> CountAnswer
             if format::LONGEST < n {
                 return CountAnswer::Refused(1, LineNo(0));
             }
-            let list = references_out::measure_list(text, strict);
+            let list = binary_put::measure_list(text, strict);
             let whole = 12 + n + list.bytes;
             if out.len() < whole {
                 return CountAnswer::Refused(20, LineNo(0));
@@ -91,8 +91,8 @@ pub fn binary_out(text: &[u8], out: &mut [u8]) -> CountAnswer
     ensures answer { λ r. ⌜ r ≡ answerOf (binaryOut (now (text .entry)) (length (now (out .entry)))) ⌝ }
     ensures wrote { λ _. ⌜ now (out .exit) ≡ outputOf (binaryOut (now (text .entry)) (length (now (out .entry)))) (now (out .entry)) ⌝ }
 {
-    match judging::judge(text) {
+    match read_judge::judge(text) {
         Judged::Refused(n, line) => CountAnswer::Refused(n, line),
-        Judged::Accepted(_) => write_accepted(text, repeat_rule::is_strict(text), out),
+        Judged::Accepted(_) => write_accepted(text, read_repeat_rule::is_strict(text), out),
     }
 }

@@ -8,9 +8,9 @@ use borrow.Author.Tests.{leb-true, leb-false}
 use lib.Dec.{leb}
 use lib.ListN.{length, take, drop}
 use Rattle.format.specs.Bytes.{none?, starts}
-use Rattle.text.proofs.Equal.{starts-short}
+use Rattle.byte_slices.proofs.Equal.{starts-short}
 use Rattle.format.specs.References.{Reference}
-use Rattle.binary.specs.Binary.{andThen, takeNumber, takeSized, takeList, takeBoth, magic, binaryParts}
+use Rattle.format.specs.Binary.{andThen, takeNumber, takeSized, takeList, takeBoth, magic, binaryParts}
 use Rattle.binary_parts.specs.declared.NumberAt.{NumberAt}
 use Rattle.binary_parts.specs.declared.RunAt.{RunAt}
 use Rattle.binary_parts.specs.Parts.{numberTaken, runFrom, isWhole, listed, partsFrom}

@@ -9,7 +9,7 @@ use lib.ListN.{length, take, drop, getD, length-drop}
 use lib.Seq.{take-take, length-take-le}
 use lib.Dec.{eqb}
 use Rattle.format.specs.Programs.{lastOr, butLast}
-use Rattle.binary.specs.Binary.{closedName}
+use Rattle.format.specs.Binary.{closedName}
 
 pub closed-none : (s : List ℕ) → length s ≡ 0 → false ≡ eqb (lastOr 1 s) 0
 unfolding lastOr

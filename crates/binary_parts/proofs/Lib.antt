@@ -3,3 +3,4 @@ pub mod Closed
 pub mod Listed
 pub mod Both
 pub mod Unpadded
+pub mod Places

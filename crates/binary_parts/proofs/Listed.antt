@@ -10,7 +10,7 @@ use lib.Dec.{eqb}
 use borrow.Author.Tests.{eq-eqb, ne-eqb}
 use Rattle.format.specs.Bytes.{none?}
 use Rattle.format.specs.References.{Reference}
-use Rattle.binary.specs.Binary.{andThen, takeReference, takeList}
+use Rattle.format.specs.Binary.{andThen, takeReference, takeList}
 use Rattle.binary_parts.specs.declared.ReferenceAt.{ReferenceAt}
 use Rattle.binary_parts.specs.Parts.{referenceIn, referenceFrom, isWhole, listed}
 

@@ -8,9 +8,9 @@ use native.Mathlib.Omega.{arith}
 use lib.ListN.{length, take, drop, length-drop}
 use lib.Seq.{drop-drop}
 use borrow.Author.Tests.{le-leb, lt-leb}
-use Rattle.little.specs.Little.{ofLittle}
+use Rattle.format.specs.Little.{ofLittle}
 use Rattle.format.specs.References.{Reference}
-use Rattle.binary.specs.Binary.{andThen, takeBytes, takeNumber, takeSized, closedName, takeReference}
+use Rattle.format.specs.Binary.{andThen, takeBytes, takeNumber, takeSized, closedName, takeReference}
 use Rattle.binary_parts.specs.declared.NumberAt.{NumberAt}
 use Rattle.binary_parts.specs.declared.RunAt.{RunAt}
 use Rattle.binary_parts.specs.Parts.{numberTaken, runFrom, referenceFrom}

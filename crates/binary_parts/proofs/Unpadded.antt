@@ -9,7 +9,7 @@ use lib.Seq.{take-suc}
 use lib.Dec.{eqb}
 use borrow.Author.Tests.{ne-eqb}
 use Rattle.format.specs.Bytes.{all}
-use Rattle.binary.specs.Binary.{unpadded}
+use Rattle.format.specs.Binary.{unpadded}
 
 all-zero : (s : List ℕ) → all (eqb 0) (s ++ (0 ∷ [])) ≡ all (eqb 0) s
 unfolding all

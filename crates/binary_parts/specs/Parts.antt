@@ -7,7 +7,7 @@ use mathlib.Core.Option.{Option, none, some}
 use lib.ListN.{length, take, drop}
 use Rattle.format.specs.Bytes.{none?}
 use Rattle.format.specs.References.{Reference}
-use Rattle.binary.specs.Binary.{takeList}
+use Rattle.format.specs.Binary.{takeList}
 use Rattle.binary_parts.specs.declared.NumberAt.{NumberAt}
 use Rattle.binary_parts.specs.declared.RunAt.{RunAt}
 use Rattle.binary_parts.specs.declared.ReferenceAt.{ReferenceAt}

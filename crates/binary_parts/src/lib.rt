@@ -4,8 +4,9 @@ ghost use Prim.Native.Nat.{_+_, _≤_};
 ghost use lib.Dec.{eqb};
 ghost use lib.ListN.{length, drop};
 ghost use Rattle.format.specs.Programs.{lastOr};
-ghost use Rattle.binary.specs.Binary.{takeNumber, takeSized, takeReference, takeList, takeBoth, binaryParts, unpadded};
+ghost use Rattle.format.specs.Binary.{takeNumber, takeSized, takeReference, takeList, takeBoth, binaryParts, unpadded};
 ghost use Rattle.binary_parts.specs.Parts.{numberTaken, runFrom, referenceFrom, isWhole, partsFrom, PartsStand};
+ghost use Rattle.binary_parts.specs.Places.{numberAt, runAt, referenceAt, bothAt, partsAt};
 
 // A number, and where the bytes after it start.
 pub struct NumberAt {
@@ -44,6 +45,7 @@ fn take_number(bytes: &[u8], at: usize) -> NumberAt
     requires { ⌜ at ≤ length (now bytes) ⌝ }
     ensures taken { λ r. ⌜ takeNumber (drop at (now (bytes .entry))) ≡ numberTaken (now (bytes .entry)) r ⌝ }
     ensures inside { λ r. ⌜ r .next ≤ length (now (bytes .entry)) ⌝ }
+    ensures is { λ r. ⌜ r ≡ numberAt (now (bytes .entry)) at ⌝ }
 {
     if bytes.len() - at < 4 {
         return NumberAt {
@@ -52,7 +54,7 @@ fn take_number(bytes: &[u8], at: usize) -> NumberAt
             next: at,
         };
     }
-    let value = little::get_u32(bytes, at);
+    let value = little_endian::get_u32(bytes, at);
     NumberAt {
         ok: true,
         value,
@@ -65,6 +67,7 @@ fn take_sized(bytes: &[u8], at: usize) -> RunAt
     requires { ⌜ at ≤ length (now bytes) ⌝ }
     ensures taken { λ r. ⌜ takeSized (drop at (now (bytes .entry))) ≡ runFrom (now (bytes .entry)) r ⌝ }
     ensures inside { λ r. ⌜ r .at + r .len ≤ length (now (bytes .entry)) ⌝ }
+    ensures is { λ r. ⌜ r ≡ runAt (now (bytes .entry)) at ⌝ }
 {
     let number = take_number(bytes, at);
     let start = number.next;
@@ -102,6 +105,7 @@ pub fn take_reference(bytes: &[u8], at: usize) -> ReferenceAt
     ensures taken { λ r. ⌜ takeReference (drop at (now (bytes .entry))) ≡ referenceFrom (now (bytes .entry)) r ⌝ }
     ensures inside { λ r. ⌜ r .next ≤ length (now (bytes .entry)) ⌝ }
     ensures name { λ r. ⌜ r .name + r .len ≤ length (now (bytes .entry)) ⌝ }
+    ensures is { λ r. ⌜ r ≡ referenceAt (now (bytes .entry)) at ⌝ }
 {
     let run = take_sized(bytes, at);
     let start = run.at;
@@ -150,6 +154,7 @@ fn take_both(bytes: &[u8], at: usize) -> PartsAt
     requires { ⌜ at ≤ length (now bytes) ⌝ }
     ensures taken { λ r. ⌜ takeBoth (drop at (now (bytes .entry))) ≡ partsFrom (now (bytes .entry)) r ⌝ }
     ensures stands { λ r. ⌜ PartsStand (now (bytes .entry)) r ⌝ }
+    ensures is { λ r. ⌜ r ≡ bothAt (now (bytes .entry)) at ⌝ }
 {
     let text = take_sized(bytes, at);
     if text.ok {
@@ -179,8 +184,9 @@ fn take_both(bytes: &[u8], at: usize) -> PartsAt
 pub fn parts(bytes: &[u8]) -> PartsAt
     ensures taken { λ r. ⌜ binaryParts (now (bytes .entry)) ≡ partsFrom (now (bytes .entry)) r ⌝ }
     ensures stands { λ r. ⌜ PartsStand (now (bytes .entry)) r ⌝ }
+    ensures is { λ r. ⌜ r ≡ partsAt (now (bytes .entry)) ⌝ }
 {
-    if text::starts(b"BAM\x01", bytes) {
+    if byte_slices::starts(b"BAM\x01", bytes) {
         return take_both(bytes, 4);
     }
     PartsAt {

@@ -16,7 +16,7 @@ use Rattle.accepted.specs.Pieces.{Pairs}
 use Rattle.accepted.specs.Read.{recordsOf}
 use Rattle.accepted.proofs.Bools.{never}
 use Rattle.accepted.proofs.Text.{text-lines}
-use Rattle.parser.proofs.Fresh.{passed}
+use Rattle.read.proofs.Fresh.{passed}
 use Rattle.calls.proofs.Told.{there-some, located}
 
 -- the line `l` reads as the record of kind `k` with `i` of that kind before it

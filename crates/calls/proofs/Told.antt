@@ -14,22 +14,22 @@ use Rattle.format.specs.Reading.{ofKind}
 use Rattle.format.specs.Catalogue.{catalogue}
 use Rattle.format.specs.declared.LineNo.{LineNo}
 use Rattle.format.specs.Calls.{Answer, refused, yes, there, keyIfThere, lengthIfThere, linesOf, valueIfThere, orStand, fresh, counting, keying, sizing, locating, valuing, looking}
-use Rattle.text.specs.Stands.{Stands}
+use Rattle.byte_slices.specs.Stands.{Stands}
 use Rattle.accepted.proofs.Bools.{never}
 use Rattle.accepted.proofs.Text.{text-fits}
 use Rattle.accepted.specs.Read.{recordsOf}
-use Rattle.entries.specs.declared.Place.{Place}
-use Rattle.entries.specs.Entries.{pieceAt, entriesIn, counted}
-use Rattle.lookup.specs.declared.Found.the-variants.{Nothing, At}
-use Rattle.lookup.specs.declared.Sized.the-variants as ln
-use Rattle.lookup.specs.declared.Located.the-variants as line
-use Rattle.lookup.specs.Lookup.{foundOf, sizedOf, locatedOf, keyIn, lengthIn, lineIn, fieldIn}
-use Rattle.lookup.proofs.Kept.{text-counted, text-keyed, text-valued}
-use Rattle.lookup.proofs.Answers.{text-key, text-ln, text-line, text-field}
+use Rattle.catalogue_entries.specs.declared.Place.{Place}
+use Rattle.catalogue_entries.specs.Entries.{pieceAt, entriesIn, counted}
+use Rattle.catalogue_lookup.specs.declared.Found.the-variants.{Nothing, At}
+use Rattle.catalogue_lookup.specs.declared.Sized.the-variants as ln
+use Rattle.catalogue_lookup.specs.declared.Located.the-variants as line
+use Rattle.catalogue_lookup.specs.Lookup.{foundOf, sizedOf, locatedOf, keyIn, lengthIn, lineIn, fieldIn}
+use Rattle.catalogue_lookup.proofs.Kept.{text-counted, text-keyed, text-valued}
+use Rattle.catalogue_lookup.proofs.Answers.{text-key, text-ln, text-line, text-field}
 use Rattle.calls.specs.declared.KeyAnswer.the-variants as key
 use Rattle.calls.specs.declared.ValuePlace.the-variants as place
 use Rattle.calls.specs.Answers.{keyAnswerOf, valuePlaceOf, partStanding}
-use Rattle.parser.proofs.Fresh.{Current, passed, goes-on, stops}
+use Rattle.read.proofs.Fresh.{Current, passed, goes-on, stops}
 
 -- ---- what is found, as an answer
 

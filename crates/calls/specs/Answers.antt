@@ -3,8 +3,8 @@ use Prim.Native.Nat.{ℕ, _+_}
 use lib.ListN.{length}
 use Rattle.format.specs.Lines.{Piece}
 use Rattle.format.specs.Calls.{Answer, refused, yes}
-use Rattle.parser.specs.declared.CountAnswer as parser
-use Rattle.parser.specs.declared.CountAnswer.the-variants.{Refused, Count}
+use Rattle.read.specs.declared.CountAnswer as parser
+use Rattle.read.specs.declared.CountAnswer.the-variants.{Refused, Count}
 use Rattle.calls.specs.declared.KeyAnswer.{KeyAnswer}
 use Rattle.calls.specs.declared.KeyAnswer.the-variants as key
 use Rattle.calls.specs.declared.LengthAnswer.{LengthAnswer}

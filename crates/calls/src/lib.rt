@@ -1,10 +1,10 @@
 // The calls that look up a record over a text and its catalogue: counts, keys, lengths, lines and fields. Each judges the text and the catalogue first.
+use catalogue_lookup::Found;
+use catalogue_lookup::Located;
+use catalogue_lookup::Sized;
 use format::LineNo;
-use lookup::Found;
-use lookup::Located;
-use lookup::Sized;
-use parser::Checked;
-use parser::CountAnswer;
+use read::Checked;
+use read::CountAnswer;
 ghost use mathlib.Core.Path.{_≡_};
 ghost use Rattle.format.specs.Calls.{counting, keying, sizing, locating, valuing, looking};
 ghost use Rattle.calls.specs.Answers.{countOf, keyAnswerOf, lengthAnswerOf, lineAnswerOf, valuePlaceOf, partStanding};
@@ -34,10 +34,10 @@ pub enum ValuePlace {
 }
 
 // How many records of a kind, 1 to 5, the text has.
-pub fn count(text: &[u8], kept: &[u8], kind: u8) -> CountAnswer
-    ensures { λ r. ⌜ r ≡ countOf (counting (now (text .entry)) (now (kept .entry)) kind) ⌝ }
+pub fn count(text: &[u8], catalogue: &[u8], kind: u8) -> CountAnswer
+    ensures { λ r. ⌜ r ≡ countOf (counting (now (text .entry)) (now (catalogue .entry)) kind) ⌝ }
 {
-    match parser::check(text, kept) {
+    match read::check(text, catalogue) {
         Checked::Refused(n, line) => CountAnswer::Refused(n, line),
         Checked::Fresh => {
             if kind < 1 {
@@ -46,18 +46,18 @@ pub fn count(text: &[u8], kept: &[u8], kind: u8) -> CountAnswer
             if 5 < kind {
                 return CountAnswer::Refused(25, LineNo(0));
             }
-            CountAnswer::Count(record_entries::count_kind(kept, kind))
+            CountAnswer::Count(catalogue_kinds::count_kind(catalogue, kind))
         }
     }
 }
 
 // Where the key of a record stands: SQ, RG and PG have one.
-pub fn key(text: &[u8], kept: &[u8], kind: u8, ordinal: u32) -> KeyAnswer
-    ensures { λ r. ⌜ r ≡ keyAnswerOf (keying (now (text .entry)) (now (kept .entry)) kind ordinal) ⌝ }
+pub fn key(text: &[u8], catalogue: &[u8], kind: u8, ordinal: u32) -> KeyAnswer
+    ensures { λ r. ⌜ r ≡ keyAnswerOf (keying (now (text .entry)) (now (catalogue .entry)) kind ordinal) ⌝ }
 {
-    match parser::check(text, kept) {
+    match read::check(text, catalogue) {
         Checked::Refused(n, line) => KeyAnswer::Refused(n, line),
-        Checked::Fresh => match lookup::find_key(kept, kind, ordinal) {
+        Checked::Fresh => match catalogue_lookup::find_key(catalogue, kind, ordinal) {
             Found::Nothing => KeyAnswer::Refused(25, LineNo(0)),
             Found::At(p) => KeyAnswer::At(p.at, p.len),
         },
@@ -65,12 +65,12 @@ pub fn key(text: &[u8], kept: &[u8], kind: u8, ordinal: u32) -> KeyAnswer
 }
 
 // The LN of the SQ with an ordinal.
-pub fn length(text: &[u8], kept: &[u8], ordinal: u32) -> LengthAnswer
-    ensures { λ r. ⌜ r ≡ lengthAnswerOf (sizing (now (text .entry)) (now (kept .entry)) ordinal) ⌝ }
+pub fn length(text: &[u8], catalogue: &[u8], ordinal: u32) -> LengthAnswer
+    ensures { λ r. ⌜ r ≡ lengthAnswerOf (sizing (now (text .entry)) (now (catalogue .entry)) ordinal) ⌝ }
 {
-    match parser::check(text, kept) {
+    match read::check(text, catalogue) {
         Checked::Refused(n, line) => LengthAnswer::Refused(n, line),
-        Checked::Fresh => match lookup::find_length(kept, ordinal) {
+        Checked::Fresh => match catalogue_lookup::find_length(catalogue, ordinal) {
             Sized::Nothing => LengthAnswer::Refused(25, LineNo(0)),
             Sized::Is(n) => LengthAnswer::Is(n),
         },
@@ -78,12 +78,12 @@ pub fn length(text: &[u8], kept: &[u8], ordinal: u32) -> LengthAnswer
 }
 
 // The line of the record of a kind, 1 to 5, with an ordinal among its kind.
-pub fn line(text: &[u8], kept: &[u8], kind: u8, ordinal: u32) -> LineAnswer
-    ensures { λ r. ⌜ r ≡ lineAnswerOf (locating (now (text .entry)) (now (kept .entry)) kind ordinal) ⌝ }
+pub fn line(text: &[u8], catalogue: &[u8], kind: u8, ordinal: u32) -> LineAnswer
+    ensures { λ r. ⌜ r ≡ lineAnswerOf (locating (now (text .entry)) (now (catalogue .entry)) kind ordinal) ⌝ }
 {
-    match parser::check(text, kept) {
+    match read::check(text, catalogue) {
         Checked::Refused(n, line) => LineAnswer::Refused(n, line),
-        Checked::Fresh => match lookup::find_line(kept, kind, ordinal) {
+        Checked::Fresh => match catalogue_lookup::find_line(catalogue, kind, ordinal) {
             Located::Nothing => LineAnswer::Refused(25, LineNo(0)),
             Located::On(line) => LineAnswer::Is(line),
         },
@@ -91,12 +91,12 @@ pub fn line(text: &[u8], kept: &[u8], kind: u8, ordinal: u32) -> LineAnswer
 }
 
 // Where the value of a field stands in the text: nowhere if anything is amiss or there is no such field.
-pub fn place(text: &[u8], kept: &[u8], kind: u8, ordinal: u32, a: u8, b: u8) -> ValuePlace
-    ensures { λ r. ⌜ r ≡ valuePlaceOf (valuing (now (text .entry)) (now (kept .entry)) kind ordinal a b) ⌝ }
+pub fn place(text: &[u8], catalogue: &[u8], kind: u8, ordinal: u32, a: u8, b: u8) -> ValuePlace
+    ensures { λ r. ⌜ r ≡ valuePlaceOf (valuing (now (text .entry)) (now (catalogue .entry)) kind ordinal a b) ⌝ }
 {
-    match parser::check(text, kept) {
+    match read::check(text, catalogue) {
         Checked::Refused(_, _) => ValuePlace::StandIn,
-        Checked::Fresh => match lookup::find_field(kept, kind, ordinal, a, b) {
+        Checked::Fresh => match catalogue_lookup::find_field(catalogue, kind, ordinal, a, b) {
             Found::Nothing => ValuePlace::StandIn,
             Found::At(p) => ValuePlace::At(p.at, p.len),
         },
@@ -106,18 +106,18 @@ pub fn place(text: &[u8], kept: &[u8], kind: u8, ordinal: u32, a: u8, b: u8) -> 
 // The value of a field as a part of the text, or the whole stand-in where anything is amiss or there is no such field.
 pub fn field<'a>(
     text: &'a [u8],
-    kept: &[u8],
+    catalogue: &[u8],
     kind: u8,
     ordinal: u32,
     a: u8,
     b: u8,
     stand_in: &'a [u8],
 ) -> &'a [u8]
-    ensures value { λ r. ⌜ now r ≡ looking (now (text .entry)) (now (kept .entry)) kind ordinal a b (now (stand_in .entry)) ⌝ }
-    ensures place { λ r. ⌜ r .ptr ≡ partStanding (valuing (now (text .entry)) (now (kept .entry)) kind ordinal a b) (text .entry .ptr)
+    ensures value { λ r. ⌜ now r ≡ looking (now (text .entry)) (now (catalogue .entry)) kind ordinal a b (now (stand_in .entry)) ⌝ }
+    ensures place { λ r. ⌜ r .ptr ≡ partStanding (valuing (now (text .entry)) (now (catalogue .entry)) kind ordinal a b) (text .entry .ptr)
         (stand_in .entry .ptr) ⌝ }
 {
-    match place(text, kept, kind, ordinal, a, b) {
+    match place(text, catalogue, kind, ordinal, a, b) {
         ValuePlace::StandIn => stand_in,
         ValuePlace::At(at, len) => {
             let start = at as usize;

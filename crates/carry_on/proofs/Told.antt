@@ -2,16 +2,17 @@
 use Prim.Native.Nat.{ℕ, _/_, _≤_, _<_}
 use mathlib.Core.Path.{_≡_, refl, sym, ap, ap₂, _∙_}
 use mathlib.Core.List.{List}
-use lib.ListN.{length}
+use lib.ListN.{length, length-replicate}
 use borrow.Author.Tests.{lt-ltb, le-ltb}
 use Rattle.format.specs.Reading.{longest}
 use Rattle.format.specs.Tidy.{tidy}
 use Rattle.format.specs.Calls.{Answer, refused, yes, then, fitting, writing}
+use Rattle.format.specs.Work.{allZeros}
 use Rattle.format.specs.declared.LineNo.{LineNo}
-use Rattle.text.specs.Over.{over}
-use Rattle.parser.specs.Answers.{outputOf}
-use Rattle.parser.proofs.Told.{written-answer}
-use Rattle.carried.specs.Carrying.{keptOf, carriedLines, skips, rows, unwritableLine, carrying}
+use Rattle.byte_slices.specs.Over.{over}
+use Rattle.read.specs.Answers.{outputOf}
+use Rattle.read.proofs.Told.{written-answer}
+use Rattle.format.specs.Carrying.{keptOf, carriedLines, skips, rows, unwritableLine, carrying}
 use Rattle.carry_on.specs.Answers.{carriedOf, textOf, tableOf}
 use Rattle.carry_on.specs.declared.Carried.the-variants.{Refused, Written}
 
@@ -51,3 +52,8 @@ module _ (a : Answer (List ℕ × List ℕ)) (out table : List ℕ) where
     ap₂ Written p q ∙ sym (ap carriedOf e),
     (written-answer (textOf a) out xs out′ (length xs) (ap textOf e) refl v .1, written-answer (tableOf a) table ys table′ (length ys) (ap tableOf e) refl w .1),
   )
+
+-- an area of zeros is as long as it was
+pub zeros-long : (xs ys : List ℕ) → xs ≡ allZeros ys → length xs ≡ length ys
+unfolding allZeros
+zeros-long xs ys e = ap length e ∙ length-replicate (length ys) 0

@@ -1,18 +1,18 @@
 // Carrying on after refused lines: they are skipped and listed in a table, and the tidy text of the rest is written.
-use early_lines::Begin;
+use carry_early::Begin;
+use carry_passes::KeptSizes;
 use format::LineNo;
-use kept_sizes::KeptSizes;
-use per_kind::PerKind;
+use tidy_sizes::PerKind;
 ghost use mathlib.Core.Path.{_≡_};
 ghost use mathlib.Core.Option.{none};
 ghost use Prim.Native.Nat.{_≤_};
 ghost use lib.ListN.{length};
 ghost use Rattle.format.specs.Work.{allZeros};
 ghost use Rattle.tidy_text.specs.Sizes.{sizesOf};
-ghost use Rattle.carried.specs.Carrying.{carriedLines, unwritableLine};
-ghost use Rattle.early_lines.specs.First.{First};
-ghost use Rattle.kept_from.specs.From.{keptFrom, skippedFrom};
-ghost use Rattle.kept_sizes.specs.Measured.{measuredFrom};
+ghost use Rattle.format.specs.Carrying.{carriedLines, unwritableLine};
+ghost use Rattle.carry_early.specs.First.{First};
+ghost use Rattle.carry_passes.specs.From.{keptFrom, skippedFrom};
+ghost use Rattle.carry_passes.specs.Measured.{measuredFrom};
 ghost use Rattle.carry_on.specs.Answers.{carriedAnswer, textLeft, tableLeft};
 
 // A refusal and its line, or how many bytes are written and how many lines are skipped.
@@ -52,7 +52,7 @@ fn write_kept(
     if table.len() < lines * 2 {
         return Carried::Refused(20, LineNo(0));
     }
-    kept_text::put_all(text, b, area, sizes.starts(0), out, table);
+    carry_passes::writing::put_all(text, b, area, sizes.starts(0), out, table);
     Carried::Written(n, lines)
 }
 
@@ -87,8 +87,8 @@ fn carry_indexed(text: &[u8], area: &mut [u32], out: &mut [u8], table: &mut [u32
     ensures wrote { λ _. ⌜ now (out .exit) ≡ textLeft (now (text .entry)) (now (out .entry)) (now (table .entry)) ⌝ }
     ensures listed { λ _. ⌜ now (table .exit) ≡ tableLeft (now (text .entry)) (now (out .entry)) (now (table .entry)) ⌝ }
 {
-    let b = early_lines::find_first(text);
-    let measured = kept_sizes::measure(text, b, area);
+    let b = carry_early::find_first(text);
+    let measured = carry_passes::measure(text, b, area);
     write_measured(text, b, area, measured, out, table)
 }
 
@@ -110,7 +110,7 @@ fn carry_middle(text: &[u8], out: &mut [u8], table: &mut [u32]) -> Carried
     ensures wrote { λ _. ⌜ now (out .exit) ≡ textLeft (now (text .entry)) (now (out .entry)) (now (table .entry)) ⌝ }
     ensures listed { λ _. ⌜ now (table .exit) ≡ tableLeft (now (text .entry)) (now (out .entry)) (now (table .entry)) ⌝ }
 {
-    let mut area = [0u32; judging::OWN_SLOTS];
+    let mut area = [0u32; read_judge::OWN_SLOTS];
     carry_indexed(text, &mut area, out, table)
 }
 
@@ -121,7 +121,7 @@ fn carry_small(text: &[u8], out: &mut [u8], table: &mut [u32]) -> Carried
     ensures wrote { λ _. ⌜ now (out .exit) ≡ textLeft (now (text .entry)) (now (out .entry)) (now (table .entry)) ⌝ }
     ensures listed { λ _. ⌜ now (table .exit) ≡ tableLeft (now (text .entry)) (now (out .entry)) (now (table .entry)) ⌝ }
 {
-    if text.len() <= judging::SHORT {
+    if text.len() <= read_judge::SHORT {
         return carry_short(text, out, table);
     }
     carry_middle(text, out, table)
@@ -138,7 +138,7 @@ fn carry_long(text: &[u8], b: Begin, out: &mut [u8], table: &mut [u32], more: us
     ensures listed { λ _. ⌜ now (table .exit) ≡ tableLeft (now (text .entry)) (now (out .entry)) (now (table .entry)) ⌝ }
 {
     let mut area = [0u32; 196608];
-    let measured = kept_sizes::measure(text, b, &mut area);
+    let measured = carry_passes::measure(text, b, &mut area);
     if 0 < more {
         return match carry_long(text, b, out, table, more - 1) {
             Carried::Refused(n, line) => Carried::Refused(n, line),
@@ -156,10 +156,10 @@ fn carry_lines(text: &[u8], out: &mut [u8], table: &mut [u32]) -> Carried
     ensures wrote { λ _. ⌜ now (out .exit) ≡ textLeft (now (text .entry)) (now (out .entry)) (now (table .entry)) ⌝ }
     ensures listed { λ _. ⌜ now (table .exit) ≡ tableLeft (now (text .entry)) (now (out .entry)) (now (table .entry)) ⌝ }
 {
-    if text.len() <= judging::MIDDLE {
+    if text.len() <= read_judge::MIDDLE {
         return carry_small(text, out, table);
     }
-    let b = early_lines::find_first(text);
+    let b = carry_early::find_first(text);
     carry_long(text, b, out, table, b.line as usize / (format::LONGEST + 1))
 }
 
@@ -186,11 +186,11 @@ fn carry_lent(text: &[u8], out: &mut [u8], table: &mut [u32], area: &mut [u32]) 
     ensures listed { λ _. ⌜ now (table .exit) ≡ tableLeft (now (text .entry)) (now (out .entry)) (now (table .entry)) ⌝ }
     ensures room { λ _. ⌜ length (now (area .exit)) ≡ length (now (area .entry)) ⌝ }
 {
-    if text.len() <= judging::MIDDLE {
+    if text.len() <= read_judge::MIDDLE {
         return carry_small(text, out, table);
     }
-    let n = judging::least(area.len(), text.len() / 8);
-    if n <= judging::OWN_SLOTS {
+    let n = read_judge::least(area.len(), text.len() / 8);
+    if n <= read_judge::OWN_SLOTS {
         return carry_small(text, out, table);
     }
     let front = &mut area[..n];

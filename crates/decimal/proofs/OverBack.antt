@@ -7,7 +7,7 @@ use native.Mathlib.Nat.{add-suc, add-zero, add-comm}
 use lib.ListN.{length, take, drop, set, take-append-drop}
 use lib.Seq.{take-set-le, drop-set-lt, drop-cons, getD-set-same, append-snoc, lt-length-set}
 use Rattle.format.specs.Decimal.{writtenF}
-use Rattle.text.specs.Over.{over}
+use Rattle.byte_slices.specs.Over.{over}
 use Rattle.decimal.proofs.Written.{length-snoc, written-turn}
 
 pub over-none : (out : List ℕ) (at : ℕ) → over out at [] ≡ out

@@ -9,12 +9,12 @@ use lib.Dec.{eqb, ltb}
 use Rattle.format.specs.Bytes.{none?}
 use Rattle.format.specs.Decimal.{worth, span}
 use Rattle.format.specs.Fields.{JudgedPiece, refusedPiece, lengthField}
-use Rattle.decimal.specs.Number.{digitsNumber, numberAtFront, numberRefusal}
+use Rattle.decimal.specs.Number.{digitsNumber, numberAtFront, numberRefusal, NumberTold}
 use Rattle.decimal.specs.declared.Number.the-variants.{NoDigit, TooLarge, Is}
 
-pub length-refused : (at : ℕ) (v : List ℕ) (n : ℕ) → numberRefusal (numberAtFront (2 ^ 64) v) ≡ suc n → lengthField at (span v) ≡ refusedPiece (suc n)
+pub length-refused : (v : List ℕ) → NumberTold v (numberAtFront (2 ^ 64) v)
 unfolding numberRefusal digitsNumber numberAtFront lengthField
-length-refused at v n e = go (none? (span v .0)) (ltb (worth (span v .0)) (2 ^ 64)) (worth (span v .0)) (length (span v .0)) _ e
+length-refused v at n e = go (none? (span v .0)) (ltb (worth (span v .0)) (2 ^ 64)) (worth (span v .0)) (length (span v .0)) _ e
   where
     judge : (c d : Bool) (j : JudgedPiece) → cond c 13 (cond d 0 27) ≡ suc n
         → cond c (refusedPiece 13) (cond (not d) (refusedPiece 27) j) ≡ refusedPiece (suc n)

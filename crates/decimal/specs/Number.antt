@@ -1,11 +1,13 @@
 -- What reading a number at the front of a slice answers.
-use Prim.Native.Nat.{ℕ, _^_}
+use Prim.Native.Nat.{ℕ, suc, _^_}
+use mathlib.Core.Path.{_≡_}
 use mathlib.Core.Bool.{cond}
 use mathlib.Core.List.{List}
 use lib.ListN.{length}
 use lib.Dec.{eqb, ltb}
 use Rattle.format.specs.Bytes.{none?}
 use Rattle.format.specs.Decimal.{worth, span}
+use Rattle.format.specs.Fields.{refusedPiece, lengthField}
 use Rattle.decimal.specs.declared.Number.{Number}
 use Rattle.decimal.specs.declared.Number.the-variants.{NoDigit, TooLarge, Is}
 
@@ -24,3 +26,7 @@ unfoldable pub numberRefusal : Number → ℕ
 numberRefusal NoDigit = 12
 numberRefusal TooLarge = 12
 numberRefusal (Is n len) = cond (eqb n 0) 13 (cond (ltb n (2 ^ 31)) 0 27)
+
+-- LN of SQ with the value `v`, whose number of 64 bits is answered by `r`: where that is a refusal, the field is refused with its number
+abbrev pub NumberTold : List ℕ → Number → Type 0
+NumberTold v r = (at n : ℕ) → numberRefusal r ≡ suc n → lengthField at (span v) ≡ refusedPiece (suc n)

@@ -3,8 +3,8 @@ ghost use mathlib.Core.Path.{_≡_};
 ghost use Prim.Native.Nat.{suc, _≤_, _+_, _^_};
 ghost use lib.ListN.{length};
 ghost use Rattle.format.specs.Decimal.{written};
-ghost use Rattle.text.specs.Over.{over};
-ghost use Rattle.decimal.specs.Number.{numberAtFront};
+ghost use Rattle.byte_slices.specs.Over.{over};
+ghost use Rattle.decimal.specs.Number.{numberAtFront, NumberTold};
 
 // What stands at the front of a slice: its worth and how many digits it has.
 pub enum Number {
@@ -52,7 +52,8 @@ pub fn read_u32(s: &[u8]) -> Number
 }
 
 pub fn read_u64(s: &[u8]) -> Number
-    ensures { λ r. ⌜ r ≡ numberAtFront (2 ^ 64) (now (s .entry)) ⌝ }
+    ensures is { λ r. ⌜ r ≡ numberAtFront (2 ^ 64) (now (s .entry)) ⌝ }
+    ensures refusal { λ r. ⌜ NumberTold (now (s .entry)) r ⌝ }
 {
     read_up_to(s, 18446744073709551615)
 }

@@ -15,9 +15,9 @@ use Rattle.format.specs.declared.Version.{Version}
 use Rattle.format.specs.declared.Kind.{Kind}
 use Rattle.format.specs.declared.Kind.the-variants.{Header, ReferenceSequence, ReadGroup, Program, Comment}
 use Rattle.field_tag.specs.Numbers.{isVersion, isLength}
-use Rattle.field_value.specs.Taken.{takenOf}
-use Rattle.field_value.proofs.Taken.{a-value, no-value, none-allowed}
-use Rattle.length.specs.Parsed.{parsedLengthOf}
+use Rattle.field.specs.Taken.{takenOf}
+use Rattle.field.proofs.value.Taken.{a-value, no-value, none-allowed}
+use Rattle.field_length.specs.Parsed.{parsedLengthOf}
 use Rattle.field.specs.Parsed.{refusedBy, keptBy, versionedBy, lengthFieldBy, parsedOf, fieldNumbers}
 
 -- in HD no value is in UTF-8

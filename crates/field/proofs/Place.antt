@@ -11,8 +11,8 @@ use borrow.Author.Tests.{eq-eqb, ne-eqb, eqb-true}
 use Rattle.format.specs.Bytes.{letter}
 use Rattle.format.specs.Fields.{JudgedPiece, refusedPiece, field, valueField, isTag}
 use Rattle.format.specs.declared.Kind.{Kind}
-use Rattle.text.specs.Upto.{upto, before}
-use Rattle.text.proofs.Before.{before-stop, before-pass}
+use Rattle.byte_slices.specs.Upto.{upto, before}
+use Rattle.byte_slices.proofs.Before.{before-stop, before-pass}
 
 -- what is due after the tag `a`, `b`
 unfoldable pub colonAt : Kind → ℕ → ℕ → ℕ → List ℕ → JudgedPiece

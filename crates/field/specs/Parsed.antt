@@ -10,8 +10,9 @@ use Rattle.format.specs.Fields.{JudgedPiece, refusedPiece, good, goodThen}
 use Rattle.format.specs.Fields as fields
 use Rattle.format.specs.Version.{version}
 use Rattle.field_tag.specs.Numbers.{isVersion, isLength}
-use Rattle.length.specs.declared.ParsedLength.{ParsedLength}
-use Rattle.length.specs.declared.ParsedLength.the-variants.{Refused, Is}
+use Rattle.field_length.specs.declared.ParsedLength.{ParsedLength}
+use Rattle.field_length.specs.declared.ParsedLength.the-variants.{Invalid, Zero, Long, Is}
+use Rattle.field_length.specs.Parsed.{lengthRefusal}
 use Rattle.field.specs.declared.ParsedField.{ParsedField}
 
 -- the refusal `n`
@@ -33,7 +34,10 @@ sizedBy n l = record { stop = 0; tag_0 = 76; tag_1 = 78; len = n; major = 0; min
 
 -- LN of SQ, by what reading its number answered
 unfoldable pub lengthFieldBy : ParsedLength → ParsedField
-lengthFieldBy (Refused n) = refusedBy n
+unfolding lengthRefusal
+lengthFieldBy Invalid = refusedBy (lengthRefusal Invalid)
+lengthFieldBy Zero = refusedBy (lengthRefusal Zero)
+lengthFieldBy Long = refusedBy (lengthRefusal Long)
 lengthFieldBy (Is l n) = sizedBy n l
 
 -- a field of a record of kind `k`: VN of HD carries its version, LN of SQ its number

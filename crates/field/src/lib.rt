@@ -1,14 +1,17 @@
 // One field of a header line: tag, colon and value, and the numbers that VN of HD and LN of SQ spell.
+pub mod value;
+pub mod version;
+
+use field_length::ParsedLength;
 use format::Kind;
-use length::ParsedLength;
 use version::ParsedVersion;
 ghost use mathlib.Core.Path.{_≡_};
 ghost use lib.ListN.{length};
 ghost use Rattle.format.specs.Decimal.{span};
 ghost use Rattle.format.specs.Fields.{field, valueField, lengthField};
 ghost use Rattle.format.specs.Version.{version};
-ghost use Rattle.text.specs.Upto.{before};
-ghost use Rattle.length.specs.Parsed.{parsedLengthOf};
+ghost use Rattle.byte_slices.specs.Upto.{before};
+ghost use Rattle.field_length.specs.Parsed.{parsedLengthOf};
 ghost use Rattle.field.specs.Parsed.{refusedBy, keptBy, versionedBy, lengthFieldBy, parsedOf};
 
 // A field of a line, or the refusal of one, in plain numbers: `stop` is 0 or the refusal, VN of HD says `major` and `minor`, LN of SQ says `length`.
@@ -75,8 +78,10 @@ fn parse_version_value(src: &[u8]) -> ParsedField
 fn parse_length_value(src: &[u8]) -> ParsedField
     ensures { λ r. ⌜ r ≡ lengthFieldBy (parsedLengthOf (lengthField 0 (span (before 9 (now (src .entry)))))) ⌝ }
 {
-    match length::parse_length(src) {
-        ParsedLength::Refused(stop) => ParsedField::refused(stop),
+    match field_length::parse_length(src) {
+        ParsedLength::Invalid => ParsedField::refused(12),
+        ParsedLength::Zero => ParsedField::refused(13),
+        ParsedLength::Long => ParsedField::refused(27),
         ParsedLength::Is(length, len) => ParsedField {
             stop: 0,
             tag_0: b'L',
@@ -96,7 +101,7 @@ fn parse_field_value(kind: Kind, a: u8, b: u8, src: &[u8]) -> ParsedField
     if field_tag::is_length(kind, a, b) {
         return parse_length_value(src);
     }
-    let len = field_value::allowed_len(kind, a, b, src);
+    let len = value::allowed_len(kind, a, b, src);
     if len == 0 {
         return ParsedField::refused(10);
     }

@@ -1,8 +1,7 @@
 -- Document 01's cases that are marked (P), with document 02's lengths and headers without a readable version, as one table and one statement:
--- every call in it gives the answer beside it.
+-- every call in it gives the answer beside it. Behind them stand cases that tell other likely mistakes from the rules.
 use Prim.Native.Nat.{ℕ}
-use Prim.Native.Char.{code}
-use Prim.Native.String.{String, [] as nil, _∷_ as cons}
+use Prim.Native.String.{String}
 use mathlib.Core.Path.{_≡_, refl}
 use mathlib.Core.Bool.{Bool, true, false, _&&_}
 use mathlib.Core.List.{List, [], _∷_, _++_}
@@ -10,18 +9,18 @@ use lib.Dec.{eqb}
 use Rattle.format.specs.Bytes.{same}
 use Rattle.format.specs.Calls as calls
 use Rattle.format.specs.Calls.{Answer, refused, yes}
+use Rattle.format.proofs.Ascii.{ascii}
 
--- the bytes of a text in ASCII
-ascii : String → List ℕ
-ascii nil = []
-ascii (cons c s) = code c ∷ ascii s
-
--- a call, its arguments, and its answer; calls over a catalogue are given the one that reading the text gives, and adding a prefix and fields
+-- a call, its arguments, and its answer; calls over a catalogue are given the one that reading the text gives, and adding a prefix and fields; some are
+-- given how long the output is
 pub data Case : Type 0 where
   reading : String → Answer (List ℕ) → Case
   looking : String → ℕ → ℕ → ℕ → ℕ → String → Case
   leafing : String → Answer (List ℕ × ℕ) → Case
   adding : String → String → String → Answer String → Case
+  readingInto : ℕ → String → Answer (List ℕ) → Case
+  tidyingInto : ℕ → String → Answer String → Case
+  addingInto : ℕ → String → String → String → Answer String → Case
 
 -- ---- the test
 
@@ -41,11 +40,14 @@ unfolding listed calls.reading
 own text = listed (calls.reading text 1000)
 
 holds : Case → Bool
-unfolding ascii sameAnswer own same calls.reading calls.looking calls.leafing calls.adding
+unfolding ascii sameAnswer own same calls.reading calls.looking calls.leafing calls.adding calls.tidying
 holds (reading t a) = sameAnswer same (calls.reading (ascii t) 1000) a
 holds (looking t k i a b v) = same (calls.looking (ascii t) (own (ascii t)) k i a b []) (ascii v)
 holds (leafing t a) = sameAnswer (λ x y. same (x .0) (y .0) && eqb (x .1) (y .1)) (calls.leafing (ascii t) (own (ascii t)) 1000) a
 holds (adding t p f a) = sameAnswer (λ x y. same x (ascii y)) (calls.adding (ascii t) (own (ascii t)) (ascii p) (ascii f) 1000) a
+holds (readingInto n t a) = sameAnswer same (calls.reading (ascii t) n) a
+holds (tidyingInto n t a) = sameAnswer (λ x y. same x (ascii y)) (calls.tidying (ascii t) n) a
+holds (addingInto n t p f a) = sameAnswer (λ x y. same x (ascii y)) (calls.adding (ascii t) (own (ascii t)) (ascii p) (ascii f) n) a
 
 pub holdAll : List Case → Bool
 unfolding holds
@@ -91,6 +93,17 @@ cases =
     ∷ reading "@HD\tSO:a\tSO:b\n" (refused 15 0)
     ∷ reading "@HD\tSO:a\tSO:b\tVN:x\n" (refused 11 0)
     ∷ adding "@PG\tID:a\tPN:x\tPN:y\n" "b" "\tCL:x\tCL:y" (refused 26 0)
+    ∷ reading "@HD\tVN:1.6.0" (refused 11 0)
+    ∷ reading "@HD\tVN:1.6\tDS:Ã©" (refused 10 0)
+    ∷ adding "@PG\tID:a\n@PG\tID:b\n@PG\tID:x-b\tPP:a\n" "x" "" (refused 18 0)
+    ∷ adding "@PG\tID:a\n" "x" "\tPP:b" (refused 22 0)
+    ∷ readingInto 13 "@HD\tVN:1.6\n" (yes one-six)
+    ∷ readingInto 12 "@HD\tVN:1.6\n" (refused 20 0)
+    ∷ tidyingInto 11 "@HD\tVN:1.6" (yes "@HD\tVN:1.6\n")
+    ∷ tidyingInto 10 "@HD\tVN:1.6" (refused 20 0)
+    ∷ addingInto 9 "" "a" "" (yes "@PG\tID:a\n")
+    ∷ addingInto 8 "" "a" "" (refused 20 0)
+    ∷ tidyingInto 0 "@CO\t\n@SQ\tSN:*\tLN:1" (refused 24 1)
     ∷ []
 
 -- ---- the statement

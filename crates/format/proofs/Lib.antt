@@ -1,3 +1,6 @@
+pub mod Ascii
 pub mod Corners
 pub mod Determined
 pub mod Slots
+pub mod CarryingExample
+pub mod BinaryExample

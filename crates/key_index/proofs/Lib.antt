@@ -1,1 +1,4 @@
 pub mod Looking
+pub mod Held
+pub mod HeldKeys
+pub mod Pointing

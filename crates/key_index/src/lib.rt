@@ -23,7 +23,7 @@ fn meet_at(text: &[u8], area: &mut [u32], kind: u8, place: Stretch, room: bool) 
     let start = place.at;
     let end = start + place.len;
     let id = &text[start..end];
-    let number = key_hash::hash(kind, id);
+    let number = key_look::hash::hash(kind, id);
     match key_look::look(text, area, kind, id, number) {
         Sought::Known(_) => true,
         Sought::Free(i) => {

@@ -1,1 +1,3 @@
+-- Words for contracts and laws, and nothing to believe.
 pub mod Sought
+pub mod Hash

@@ -8,7 +8,7 @@ use Rattle.format.specs.Bytes.{same}
 use Rattle.format.specs.Slots.{around}
 use Rattle.record.specs.declared.Stretch.{Stretch}
 use Rattle.key_at.specs.Word.{word}
-use Rattle.key_hash.specs.Hash.{keyHash}
+use Rattle.key_look.specs.Hash.{keyHash}
 use Rattle.key_look.specs.declared.Sought.{Sought}
 use Rattle.key_look.specs.declared.Sought.the-variants.{Known, Free, Full}
 

@@ -1,4 +1,6 @@
 // Looks for a key in the slots of an exact index. A slot is 0, or tells a key by its kind and its offset in the text.
+pub mod hash;
+
 use key_at::OFFSETS;
 use record::Stretch;
 ghost use mathlib.Core.Path.{_≡_};
@@ -7,7 +9,7 @@ ghost use Prim.Native.Nat.{_≤_, _<_, _+_, _*_, _/_, _%_};
 ghost use lib.Dec.{eqb};
 ghost use lib.ListN.{length};
 ghost use Rattle.format.specs.Bytes.{same};
-ghost use Rattle.key_hash.specs.Hash.{keyHash};
+ghost use Rattle.key_look.specs.Hash.{keyHash};
 ghost use Rattle.key_look.specs.Sought.{keyTold, sought, soughtAt};
 
 // How looking for a key ends: at a slot that tells it, at an empty one, or after all slots.
@@ -80,5 +82,5 @@ pub fn look_at(text: &[u8], area: &[u32], kind: u8, place: Stretch) -> Sought
     let start = place.at;
     let end = start + place.len;
     let id = &text[start..end];
-    look(text, area, kind, id, key_hash::hash(kind, id))
+    look(text, area, kind, id, hash::hash(kind, id))
 }

@@ -10,16 +10,16 @@ use borrow.Author.Tests.{not-true, not-false}
 use Rattle.format.specs.Lines.{Piece}
 use Rattle.format.specs.Fields.{Field, tagged, without}
 use Rattle.format.specs.declared.Kind.the-variants.{Program}
-use Rattle.text.specs.Upto.{upto}
-use Rattle.accepted.specs.Sound.{isKey}
+use Rattle.byte_slices.specs.Upto.{upto}
+use Rattle.format.specs.Keys.{isKey}
 use Rattle.accepted.proofs.Bools.{never, split, or-left, or-right, or-true}
-use Rattle.tags.specs.Others.{firsts}
-use Rattle.other_fields.specs.Run.{fieldsTo, fieldsFrom, AtField}
-use Rattle.other_fields.specs.Next.{isFirst, keptAt}
-use Rattle.other_fields.specs.declared.Value.{Value}
-use Rattle.other_fields.proofs.Here.{ended}
-use Rattle.other_fields.proofs.Walked.{Taken}
-use Rattle.other_fields.proofs.Place.{next-at, bounds, passed-at, taken-at}
+use Rattle.record_tags.specs.Others.{firsts}
+use Rattle.accepted_line.specs.Run.{fieldsTo, fieldsFrom, AtField}
+use Rattle.accepted_line.specs.Next.{isFirst, keptAt}
+use Rattle.accepted_line.specs.declared.fields.Value.{Value}
+use Rattle.accepted_line.proofs.fields.Here.{ended}
+use Rattle.accepted_line.proofs.fields.Walked.{Taken}
+use Rattle.accepted_line.proofs.fields.Place.{next-at, bounds, passed-at, taken-at}
 use Rattle.merge_fields.specs.Kept.{isPassed, keptFrom, toldField, toldFields}
 use Rattle.merge_fields.specs.declared.NextField.{NextField}
 

@@ -7,9 +7,9 @@ use lib.ListN.{length, take, drop}
 use lib.Dec.{eqb}
 use Rattle.format.specs.Fields.{Field, without}
 use Rattle.format.specs.declared.Kind.the-variants.{Program}
-use Rattle.accepted.specs.Sound.{isKey}
-use Rattle.tags.specs.Others.{firsts}
-use Rattle.other_fields.specs.Run.{fieldsTo, fieldsFrom, AtField}
+use Rattle.format.specs.Keys.{isKey}
+use Rattle.record_tags.specs.Others.{firsts}
+use Rattle.accepted_line.specs.Run.{fieldsTo, fieldsFrom, AtField}
 use Rattle.merge_fields.specs.declared.NextField.{NextField}
 
 -- ID or PP

@@ -2,8 +2,8 @@
 ghost use mathlib.Core.Path.{_≡_};
 ghost use Prim.Native.Nat.{_≤_, _+_};
 ghost use lib.ListN.{length};
-ghost use Rattle.other_fields.specs.Run.{AtField};
-ghost use Rattle.other_fields.specs.Tables.{Walkable};
+ghost use Rattle.accepted_line.specs.Run.{AtField};
+ghost use Rattle.accepted_line.specs.Tables.{Walkable};
 ghost use Rattle.format.specs.Merge.{sameField, keepsFields};
 ghost use Rattle.program_lines.specs.Line.{FieldsOf};
 ghost use Rattle.merge_fields.specs.Kept.{isPassed, keptFrom, toldField, toldFields, NextInLine};
@@ -38,12 +38,12 @@ fn next_field(line: &[u8], at: usize, start: usize, once: bool, tables: &[u32]) 
 {
     let mut i = start;
     while i < line.len() {
-        let end = other_fields::field_end(line, i);
+        let end = accepted_line::fields::field_end(line, i);
         let first = line[i + 1];
         let second = line[i + 2];
         if !is_passed(first, second) {
-            if other_fields::is_first(line, at, i, once, tables) {
-                let v = other_fields::kept_value(line, at, i, end, once, tables);
+            if accepted_line::fields::is_first(line, at, i, once, tables) {
+                let v = accepted_line::fields::kept_value(line, at, i, end, once, tables);
                 return NextField {
                     found: true,
                     first,
@@ -79,7 +79,7 @@ fn same_field(a: &[u8], f: NextField, b: &[u8], g: NextField) -> bool
     let to = from + f.len;
     let start = g.from;
     let end = start + g.len;
-    text::same(&a[from..to], &b[start..end])
+    byte_slices::same(&a[from..to], &b[start..end])
 }
 
 // Where a line starts in its text, and whether no tag stands twice in it.
@@ -129,7 +129,7 @@ fn same_as_line(a: &[u8], of_a: Walked, tables: &[u32], b: &[u8], at_b: usize, s
     requires { ⌜ FieldsOf strict «at_b» (now b) ⌝ }
     ensures { λ r. ⌜ r ≡ keepsFields (keptFrom («of_a» .at) (now (a .entry)) 3) (keptFrom «at_b» (now (b .entry)) 3) ⌝ }
 {
-    if other_fields::is_once(b, at_b, strict) {
+    if accepted_line::fields::is_once(b, at_b, strict) {
         let of_b = Walked {
             at: at_b,
             once: true,
@@ -137,7 +137,7 @@ fn same_as_line(a: &[u8], of_a: Walked, tables: &[u32], b: &[u8], at_b: usize, s
         return same_walks(a, of_a, tables, b, of_b, &[]);
     }
     let mut tables_b = [0u32; 6448];
-    other_fields::note_tags(b, at_b, &mut tables_b);
+    accepted_line::fields::note_tags(b, at_b, &mut tables_b);
     let of_b = Walked {
         at: at_b,
         once: false,
@@ -159,7 +159,7 @@ pub fn same_fields(
     requires { ⌜ FieldsOf «strict_b» «at_b» (now b) ⌝ }
     ensures { λ r. ⌜ r ≡ keepsFields (keptFrom «at_a» (now (a .entry)) 3) (keptFrom «at_b» (now (b .entry)) 3) ⌝ }
 {
-    if other_fields::is_once(a, at_a, strict_a) {
+    if accepted_line::fields::is_once(a, at_a, strict_a) {
         let of_a = Walked {
             at: at_a,
             once: true,
@@ -167,7 +167,7 @@ pub fn same_fields(
         return same_as_line(a, of_a, &[], b, at_b, strict_b);
     }
     let mut tables_a = [0u32; 6448];
-    other_fields::note_tags(a, at_a, &mut tables_a);
+    accepted_line::fields::note_tags(a, at_a, &mut tables_a);
     let of_a = Walked {
         at: at_a,
         once: false,

@@ -12,7 +12,7 @@ use Rattle.format.specs.Bytes.{same}
 use Rattle.format.specs.Merge.{sameName}
 use Rattle.accepted.proofs.Bools.{split, and-left, and-right}
 use Rattle.format.specs.References.{Reference, sameReference}
-use Rattle.sq_list.specs.Next.{sqFrom}
+use Rattle.binary_references.specs.Next.{sqFrom}
 use Rattle.merge_references.specs.Joining.{metIn, Apart, From}
 use Rattle.merge_references.proofs.Names.{met-same, same-from}
 use Rattle.merge_references.specs.declared.Met.the-variants.{Same}

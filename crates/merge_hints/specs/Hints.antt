@@ -5,7 +5,7 @@ use mathlib.Core.Bool.{Bool, true}
 use mathlib.Core.List.{List, _∷_}
 use lib.ListN.{length, getD}
 use Rattle.format.specs.References.{Reference, sameReference}
-use Rattle.sq_list.specs.Next.{sqFrom}
+use Rattle.binary_references.specs.Next.{sqFrom}
 use Rattle.merge_references.specs.Joining.{metIn}
 use Rattle.merge_references.specs.declared.Met.the-variants.{Same}
 

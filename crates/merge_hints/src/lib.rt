@@ -1,15 +1,15 @@
 // Slots for some references of B by their names, and marks at those that A has with the same length. A slot is 0, or tells a reference of B by the offset
 // from which it is the next, plus one, with six bits of its name's number above, by which most other names are told apart; a marked slot has its highest bit
 // set. Nothing but the marks is believed: no answer rests on which slots are filled, and with what.
-use sq_list::NextReference;
+use binary_references::NextReference;
 ghost use mathlib.Core.Path.{_≡_};
 ghost use mathlib.Core.Bool.{Bool, true};
 ghost use mathlib.Core.List.{List};
 ghost use Prim.Native.Nat.{ℕ, _≤_, _<_, _+_, _*_};
 ghost use lib.ListN.{length};
 ghost use Rattle.format.specs.References.{Reference};
-ghost use Rattle.sq_list.specs.Next.{sqFrom, toldReference};
-ghost use Rattle.key_hash.specs.Hash.{keyHash};
+ghost use Rattle.binary_references.specs.Next.{sqFrom, toldReference};
+ghost use Rattle.key_look.specs.Hash.{keyHash};
 ghost use Rattle.merge_references.specs.Joining.{Apart};
 ghost use Rattle.merge_hints.specs.Hints.{Agreed, Known, Placed, Marked};
 
@@ -26,7 +26,7 @@ fn number(text: &[u8], r: NextReference) -> usize
 {
     let from = r.name.at;
     let to = from + r.name.len;
-    key_hash::hash(2, &text[from..to])
+    key_look::hash::hash(2, &text[from..to])
 }
 
 // The bits of a name's number that a slot keeps, at their place.
@@ -49,7 +49,7 @@ pub fn enter_block(b: &[u8], strict: bool, start: usize, area: &mut [u32])
     let mut left = area.len() / 4 * 3;
     let mut at = start;
     while 0 < left {
-        let r = sq_list::next_reference(b, strict, at);
+        let r = binary_references::next_reference(b, strict, at);
         if !r.found {
             return;
         }
@@ -93,7 +93,7 @@ fn mark_one(area: &mut [u32], b: &[u8], strict: bool, a: &[u8], r: NextReference
             return;
         }
         if v - place == own {
-            let q = sq_list::next_reference(b, strict, (place - 1) as usize);
+            let q = binary_references::next_reference(b, strict, (place - 1) as usize);
             if q.found {
                 if merge_references::same_reference(b, q, a, r) {
                     area[at] = v + MARK;
@@ -117,7 +117,7 @@ pub fn mark_all(a: &[u8], strict_a: bool, b: &[u8], strict_b: bool, area: &mut [
 {
     let mut at: usize = 0;
     loop {
-        let r = sq_list::next_reference(a, strict_a, at);
+        let r = binary_references::next_reference(a, strict_a, at);
         if !r.found {
             return;
         }

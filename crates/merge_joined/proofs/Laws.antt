@@ -9,12 +9,12 @@ use lib.Seq.{append-snoc}
 use lib.Dec.{eqb}
 use borrow.Author.Tests.{eqb-true, eq-eqb}
 use Rattle.format.specs.Bytes.{same, any}
-use Rattle.text.proofs.Equal.{same-equal, same-self}
+use Rattle.byte_slices.proofs.Equal.{same-equal, same-self}
 use Rattle.accepted.proofs.Apart.{same-sym}
 use Rattle.accepted.proofs.Bools.{never, split, and-left, and-right}
 use Rattle.format.specs.References.{Reference, sameReference, sameReferences}
-use Rattle.sq_list.specs.Next.{sqFrom, toldList}
-use Rattle.sq_list.specs.declared.NextReference.{NextReference}
+use Rattle.binary_references.specs.Next.{sqFrom, toldList}
+use Rattle.binary_references.specs.declared.NextReference.{NextReference}
 use Rattle.format.specs.Merge.{sameName, differ}
 use Rattle.merge_references.specs.Joining.{Apart, metIn, leftOf}
 use Rattle.merge_references.proofs.Names.{none-differs, past-front, met-nothing, met-agrees, met-differs}

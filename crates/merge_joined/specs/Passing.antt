@@ -5,8 +5,8 @@ use mathlib.Core.Bool.{Bool, true, false, _&&_}
 use mathlib.Core.List.{List, [], _∷_, _++_}
 use lib.ListN.{length}
 use Rattle.format.specs.References.{Reference, sameReferences}
-use Rattle.sq_list.specs.Next.{sqFrom, toldReference, toldList}
-use Rattle.sq_list.specs.declared.NextReference.{NextReference}
+use Rattle.binary_references.specs.Next.{sqFrom, toldReference, toldList}
+use Rattle.binary_references.specs.declared.NextReference.{NextReference}
 use Rattle.merge_references.specs.Joining.{Apart, leftOf}
 use Rattle.merge_joined.specs.declared.Rules.{Rules}
 use Rattle.merge_joined.specs.declared.Left.{Left}

@@ -1,17 +1,20 @@
 // The SQ lists of a merge compared: A's is the front of the merged list, and each reference of B is the next of the merged list or one of A's. Merging
 // tools keep the order, so that a reference of B that A has is looked for behind the one that was found before it. From the first that is not found there
 // on, B goes in blocks: the references of a block are in slots, and a walk over A marks those that A has.
+use binary_references::NextReference;
 use merge_references::Met;
-use sq_list::NextReference;
 ghost use mathlib.Core.Path.{_≡_};
 ghost use mathlib.Core.Bool.{true, false};
 ghost use Prim.Native.Nat.{_≤_, _<_};
 ghost use lib.ListN.{length};
 ghost use Rattle.format.specs.Merge.{isJoined};
-ghost use Rattle.sq_list.specs.Next.{sqFrom};
+ghost use Rattle.binary_references.specs.Next.{sqFrom};
 ghost use Rattle.merge_references.specs.Joining.{Apart, From};
-ghost use Rattle.merge_hints.specs.Hints.{Marked};
+ghost use Rattle.merge_hints.specs.Hints.{Placed, Marked};
 ghost use Rattle.merge_joined.specs.Passing.{Readable, Ahead, Reached, Passed, IsNext};
+
+// A and B of at most so many bytes together are compared with a small area of slots.
+const SHORT: usize = 524288;
 
 // What each of the three texts says of repeated tags.
 pub struct Rules {
@@ -42,7 +45,7 @@ fn pass_new(b: &[u8], m: &[u8], of: Rules, left: Left) -> Turn
     requires { ⌜ Apart (sqFrom (of .merged) (now m) 0) ⌝ }
     ensures { λ x. ⌜ IsNext (of .b) (now (b .entry)) (of .merged) (now (m .entry)) left x ⌝ }
 {
-    let q = sq_list::next_reference(b, of.b, left.at);
+    let q = binary_references::next_reference(b, of.b, left.at);
     let n = left.ahead;
     if !q.found {
         let spent = Left {
@@ -59,7 +62,7 @@ fn pass_new(b: &[u8], m: &[u8], of: Rules, left: Left) -> Turn
     }
     if n.found {
         if merge_references::same_name(b, q, m, n) {
-            let ahead = sq_list::next_reference(m, of.merged, n.next);
+            let ahead = binary_references::next_reference(m, of.merged, n.next);
             let good = n.length == q.length;
             let passed = Left {
                 good,
@@ -225,8 +228,40 @@ fn pass_slots(a: &[u8], b: &[u8], m: &[u8], of: Rules, from: Left, area: &[u32])
     left
 }
 
-// Passes a block of B's references.
-fn pass_block(a: &[u8], b: &[u8], m: &[u8], of: Rules, from: Left) -> Left
+// Passes a block of B's references by slots in which nothing stands yet.
+fn pass_by(a: &[u8], b: &[u8], m: &[u8], of: Rules, from: Left, area: &mut [u32]) -> Left
+    requires { ⌜ Readable of (now a) (now b) (now m) ⌝ }
+    requires { ⌜ Reached (sqFrom (of .a) (now a) 0) (now b) (of .merged) (now m) from ⌝ }
+    requires { ⌜ (from .good ≡ true) × (from .more ≡ true) ⌝ }
+    requires { ⌜ (4 ≤ length (now area)) × (length (now area) ≤ 33554432) ⌝ }
+    requires { ⌜ Placed (now b) (now area) × Marked (of .b) (now b) (sqFrom (of .a) (now a) 0) (now area) ⌝ }
+    ensures passed { λ x. ⌜ Passed (sqFrom (of .a) (now (a .entry)) 0) (of .b) (now (b .entry)) (of .merged) (now (m .entry)) from x ⌝ }
+    ensures ahead { λ x. ⌜ (x .more ≡ true → from .at < x .at) ⌝ }
+{
+    merge_hints::enter_block(b, of.b, from.at, area);
+    merge_hints::mark_all(a, of.a, b, of.b, area);
+    pass_slots(a, b, m, of, from, area)
+}
+
+// A block of 18,432 references, and `more` times again. Nobody asks for more than once: a function that calls itself is compiled by itself, so that its
+// slots, of 96 KiB here, are on the stack only while it runs, and not in the frames of its callers (`read_judge::judge_long`).
+fn pass_few(a: &[u8], b: &[u8], m: &[u8], of: Rules, from: Left, more: usize) -> Left
+    requires { ⌜ Readable of (now a) (now b) (now m) ⌝ }
+    requires { ⌜ Reached (sqFrom (of .a) (now a) 0) (now b) (of .merged) (now m) from ⌝ }
+    requires { ⌜ (from .good ≡ true) × (from .more ≡ true) ⌝ }
+    ensures passed { λ x. ⌜ Passed (sqFrom (of .a) (now (a .entry)) 0) (of .b) (now (b .entry)) (of .merged) (now (m .entry)) from x ⌝ }
+    ensures ahead { λ x. ⌜ (x .more ≡ true → from .at < x .at) ⌝ }
+{
+    let mut area = [0u32; 24576];
+    let left = pass_by(a, b, m, of, from, &mut area);
+    if 0 < more {
+        return pass_few(a, b, m, of, from, more - 1);
+    }
+    left
+}
+
+// A block of 98,304 references, with 512 KiB of slots.
+fn pass_many(a: &[u8], b: &[u8], m: &[u8], of: Rules, from: Left, more: usize) -> Left
     requires { ⌜ Readable of (now a) (now b) (now m) ⌝ }
     requires { ⌜ Reached (sqFrom (of .a) (now a) 0) (now b) (of .merged) (now m) from ⌝ }
     requires { ⌜ (from .good ≡ true) × (from .more ≡ true) ⌝ }
@@ -234,9 +269,25 @@ fn pass_block(a: &[u8], b: &[u8], m: &[u8], of: Rules, from: Left) -> Left
     ensures ahead { λ x. ⌜ (x .more ≡ true → from .at < x .at) ⌝ }
 {
     let mut area = [0u32; 131072];
-    merge_hints::enter_block(b, of.b, from.at, &mut area);
-    merge_hints::mark_all(a, of.a, b, of.b, &mut area);
-    pass_slots(a, b, m, of, from, &area)
+    let left = pass_by(a, b, m, of, from, &mut area);
+    if 0 < more {
+        return pass_many(a, b, m, of, from, more - 1);
+    }
+    left
+}
+
+// Passes a block of B's references: of few where A and B are short together, since A is walked over once for each block.
+fn pass_block(a: &[u8], b: &[u8], m: &[u8], of: Rules, from: Left) -> Left
+    requires { ⌜ Readable of (now a) (now b) (now m) ⌝ }
+    requires { ⌜ Reached (sqFrom (of .a) (now a) 0) (now b) (of .merged) (now m) from ⌝ }
+    requires { ⌜ (from .good ≡ true) × (from .more ≡ true) ⌝ }
+    ensures passed { λ x. ⌜ Passed (sqFrom (of .a) (now (a .entry)) 0) (of .b) (now (b .entry)) (of .merged) (now (m .entry)) from x ⌝ }
+    ensures ahead { λ x. ⌜ (x .more ≡ true → from .at < x .at) ⌝ }
+{
+    if a.len() + b.len() <= SHORT {
+        return pass_few(a, b, m, of, from, m.len() / 4294967296);
+    }
+    pass_many(a, b, m, of, from, m.len() / 4294967296)
 }
 
 // Whether the merged SQ list is A's, followed by those of B whose name A lacks, and shared names have equal lengths. No name stands twice
@@ -249,7 +300,7 @@ pub fn is_joined(a: &[u8], b: &[u8], m: &[u8], of: Rules) -> bool
     if !front.good {
         return false;
     }
-    let ahead = sq_list::next_reference(m, of.merged, front.next);
+    let ahead = binary_references::next_reference(m, of.merged, front.next);
     let start = Left {
         good: true,
         more: true,
@@ -257,7 +308,6 @@ pub fn is_joined(a: &[u8], b: &[u8], m: &[u8], of: Rules) -> bool
         ahead,
     };
     let mut left = pass_ordered(a, b, m, of, start);
-    // The first block before the loop: called from two places, `pass_block` keeps its slots in a frame of its own, and no text is judged below it.
     if left.more {
         left = pass_block(a, b, m, of, left);
     }

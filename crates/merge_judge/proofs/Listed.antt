@@ -5,8 +5,8 @@ use mathlib.Core.List.{List}
 use Rattle.format.specs.References.{sqList}
 use Rattle.accepted.specs.Read.{recordsOf}
 use Rattle.accepted.proofs.Text.{text-apart}
-use Rattle.sq_list.specs.Next.{sqFrom}
-use Rattle.sq_list.proofs.Next.{sq-all}
+use Rattle.binary_references.specs.Next.{sqFrom}
+use Rattle.binary_references.proofs.Next.{sq-all}
 use Rattle.merge_references.specs.Joining.{Apart}
 use Rattle.merge_references.proofs.Names.{apart-list}
 use Rattle.merge_programs.specs.declared.Opened.{Opened}

@@ -1,9 +1,9 @@
 // Judging a merge of two headers that was made elsewhere: the headers A and B, the merged header, and for each program of A and of B its
 // ordinal in the merged header.
 use format::LineNo;
-use judging::Judged;
 use merge_joined::Rules;
 use merge_programs::Opened;
+use read_judge::Judged;
 ghost use mathlib.Core.Path.{_≡_};
 ghost use mathlib.Core.Bool.{true};
 ghost use Rattle.format.specs.Reading.{readText};
@@ -109,7 +109,7 @@ fn judge_merged(a: &[u8], b: &[u8], m: &[u8], list_a: &[u32], list_b: &[u32]) ->
     ensures { λ r. ⌜ r ≡ verdictOf (afterSecond (recordsOf (now (a .entry))) (recordsOf (now (b .entry))) (now (m .entry))
         (now («list_a» .entry)) (now («list_b» .entry))) ⌝ }
 {
-    match judging::judge(m) {
+    match read_judge::judge(m) {
         Judged::Refused(n, line) => Verdict::Unfit(Which::Merged, n, line),
         Judged::Accepted(_) => judge_accepted(a, b, m, list_a, list_b),
     }
@@ -121,7 +121,7 @@ fn judge_second(a: &[u8], b: &[u8], m: &[u8], list_a: &[u32], list_b: &[u32]) ->
     ensures { λ r. ⌜ r ≡ verdictOf (afterFirst (recordsOf (now (a .entry))) (now (b .entry)) (now (m .entry))
         (now («list_a» .entry)) (now («list_b» .entry))) ⌝ }
 {
-    match judging::judge(b) {
+    match read_judge::judge(b) {
         Judged::Refused(n, line) => Verdict::Unfit(Which::B, n, line),
         Judged::Accepted(_) => judge_merged(a, b, m, list_a, list_b),
     }
@@ -132,7 +132,7 @@ pub fn judge_merge(a: &[u8], b: &[u8], m: &[u8], list_a: &[u32], list_b: &[u32])
     ensures { λ r. ⌜ r ≡ verdictOf (judgingMerge (now (a .entry)) (now (b .entry)) (now (m .entry))
         (now («list_a» .entry)) (now («list_b» .entry))) ⌝ }
 {
-    match judging::judge(a) {
+    match read_judge::judge(a) {
         Judged::Refused(n, line) => Verdict::Unfit(Which::A, n, line),
         Judged::Accepted(_) => judge_second(a, b, m, list_a, list_b),
     }

@@ -8,7 +8,7 @@ use lib.ListN.{length, getD, length-map}
 use Rattle.format.specs.Bytes.{any}
 use Rattle.format.specs.Records.{Record}
 use Rattle.format.specs.Programs.{Link, root, dangling, child, programs, links, isDangling, loopsFrom, depth}
-use Rattle.chain_laws.proofs.Paths.{Below, depth-less}
+use Rattle.program_chains.proofs.Paths.{Below, depth-less}
 use Rattle.merge_laws.specs.IsMerge.{imageIn, imageLink, parentAt, ImageOf, Images}
 use Rattle.merge_laws.specs.Means.{ancestors, depthOf, KeepsChains}
 use Rattle.merge_laws.proofs.Links.{links-length, below, named-below, linked-at}

@@ -12,10 +12,10 @@ use Rattle.format.specs.Programs.{child, isDangling, loopsFrom}
 use Rattle.format.specs.Calls.{records}
 use Rattle.format.specs.Prune.{chosen}
 use Rattle.format.specs.Merge.{merged, unmerged, judgingMerge}
-use Rattle.text.specs.Stands.{Each}
+use Rattle.byte_slices.specs.Stands.{Each}
 use Rattle.accepted.specs.Read.{recordsOf}
-use Rattle.roundtrip.specs.Bare.{bares}
-use Rattle.roundtrip.proofs.Example.{ascii}
+use Rattle.tidy_laws.specs.Bare.{bares}
+use Rattle.format.proofs.Ascii.{ascii}
 use Rattle.merge_laws.specs.Fit.{parentLinks, Fit}
 use Rattle.merge_laws.specs.IsMerge.{imageLink}
 use Rattle.merge_laws.specs.Means.{depthOf}

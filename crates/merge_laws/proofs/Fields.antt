@@ -10,8 +10,8 @@ use Rattle.format.specs.Records.{Record, header, reference, group, program, com
 use Rattle.format.specs.Reading.{ofKind}
 use Rattle.format.specs.Programs.{programOf, programs}
 use Rattle.format.specs.Calls.{records}
-use Rattle.chains.proofs.Walks.{map-at}
-use Rattle.roundtrip.specs.Bare.{bareBytes, bareField, bare, bares}
+use Rattle.program_chains.proofs.Walks.{map-at}
+use Rattle.tidy_laws.specs.Bare.{bareBytes, bareField, bare, bares}
 use Rattle.merge_laws.specs.IsMerge.{otherFields, fieldsAt}
 
 without-bare : (a b : ℕ) (fs : List Field) → map bareField (without a b (map bareField fs)) ≡ map bareField (without a b fs)

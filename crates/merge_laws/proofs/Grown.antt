@@ -11,11 +11,11 @@ use lib.Dec.{eqb, ltb}
 use borrow.Author.Tests.{ne-eqb, ltb-true, ltb-false}
 use Rattle.format.specs.Bytes.{any}
 use Rattle.format.specs.Programs.{Link, root, dangling, child, links, isDangling, reaches, loopsFrom, depth}
-use Rattle.text.specs.Stands.{Each}
+use Rattle.byte_slices.specs.Stands.{Each}
 use Rattle.accepted.proofs.Bools.{any-append, split}
 use Rattle.accepted.proofs.Pairs.{each-at}
-use Rattle.chain_laws.proofs.Paths.{Below, no-return, depth-less}
-use Rattle.chains.specs.Listed.{named}
+use Rattle.program_chains.proofs.Paths.{Below, no-return, depth-less}
+use Rattle.program_chains.specs.Listed.{named}
 use Rattle.merge_laws.specs.Rewritten.{FollowsOld}
 
 -- ---- nothing dangles

@@ -10,7 +10,7 @@ use borrow.Author.Tests.{eq-eqb, eqb-true, not-true}
 use Rattle.format.specs.Bytes.{any, same}
 use Rattle.format.specs.References.{Reference, sameReference, sameReferences}
 use Rattle.format.specs.Merge.{sameName, differ, agreeing, lacking, isJoined}
-use Rattle.text.proofs.Equal.{same-equal, same-self}
+use Rattle.byte_slices.proofs.Equal.{same-equal, same-self}
 use Rattle.accepted.proofs.Bools.{split, and-left, and-right}
 use Rattle.merge_laws.specs.IsMerge.{Joins}
 use Rattle.merge_laws.specs.Means.{HoldsReferences}

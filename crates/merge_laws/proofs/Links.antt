@@ -11,9 +11,9 @@ use Rattle.format.specs.Bytes.{any, same}
 use Rattle.format.specs.Lines.{Piece}
 use Rattle.format.specs.Programs.{Program, Link, root, dangling, child, ordinalFrom, found, link, links, isDangling, loopsFrom, tangled}
 use Rattle.accepted.proofs.Bools.{never, or-left, or-right}
-use Rattle.chains.specs.Listed.{named}
-use Rattle.chain_laws.proofs.Paths.{Below}
-use Rattle.chain_laws.proofs.Some.{named-at}
+use Rattle.program_chains.specs.Listed.{named}
+use Rattle.program_chains.proofs.Paths.{Below}
+use Rattle.program_chains.proofs.Some.{named-at}
 
 pub links-length : (ps : List Program) → length (links ps) ≡ length ps
 unfolding links

@@ -12,7 +12,7 @@ use Rattle.format.specs.Bytes.{all, any, distinct}
 use Rattle.format.specs.Programs.{numbersFrom}
 use Rattle.format.specs.Merge.{assigns, covers, assigned}
 use Rattle.accepted.proofs.Bools.{or-true, or-split, and-left, and-right}
-use Rattle.chains.proofs.Leaf.{counting-length}
+use Rattle.program_chains.proofs.Leaf.{counting-length}
 use Rattle.merge_laws.specs.IsMerge.{imageIn, Hits, Assigns, Lists}
 use Rattle.merge_laws.proofs.Members.{three, all-three, is-false, all-at, at-all}
 

@@ -14,14 +14,14 @@ use Rattle.format.specs.Reading.{sameKeys, clash}
 use Rattle.format.specs.Programs.{Link, root, dangling, child, programs, links, numbersFrom}
 use Rattle.format.specs.References.{Reference, sqList}
 use Rattle.format.specs.Calls.{yes, records}
-use Rattle.text.proofs.Equal.{same-self}
+use Rattle.byte_slices.proofs.Equal.{same-self}
 use Rattle.accepted.specs.Admits.{KeysDiffer}
 use Rattle.accepted.specs.Read.{recordsOf}
 use Rattle.accepted.proofs.Bools.{or-left, or-right, never}
 use Rattle.accepted.proofs.Text.{text-apart}
-use Rattle.chains.proofs.Leaf.{counting-length}
-use Rattle.chain_laws.proofs.Paths.{Below}
-use Rattle.roundtrip.proofs.Answered.{read-of}
+use Rattle.program_chains.proofs.Leaf.{counting-length}
+use Rattle.program_chains.proofs.Paths.{Below}
+use Rattle.tidy_laws.proofs.Answered.{read-of}
 use Rattle.merge_laws.specs.IsMerge.{Joins, imageIn, Hits, Assigns, parentAt, fieldsAt, Images}
 use Rattle.merge_laws.proofs.Joins.{lacking-own}
 use Rattle.merge_laws.proofs.Lists.{number-at}

@@ -13,9 +13,9 @@ use Rattle.format.specs.Calls.{yes, records}
 use Rattle.format.specs.References.{sqList}
 use Rattle.format.specs.Merge.{merged, unmerged, judgingMerge}
 use Rattle.accepted.specs.Read.{recordsOf}
-use Rattle.chains.proofs.Leaf.{counting-length}
-use Rattle.roundtrip.specs.Bare.{bareBytes, bares}
-use Rattle.roundtrip.proofs.Programs.{links-equal}
+use Rattle.program_chains.proofs.Leaf.{counting-length}
+use Rattle.tidy_laws.specs.Bare.{bareBytes, bares}
+use Rattle.tidy_laws.proofs.Programs.{links-equal}
 use Rattle.merge_laws.specs.Fit.{parentLinks, Fit, Fits}
 use Rattle.merge_laws.specs.IsMerge.{Joins, imageIn, Hits, imageLink, Assigns, parentAt, otherFields, fieldsAt, Images, IsMerge}
 use Rattle.merge_laws.specs.Exactly.{JoinsTexts, ListsTexts, AllExactly}

@@ -11,8 +11,8 @@ use Rattle.format.specs.Bytes.{same}
 use Rattle.format.specs.Records.{program}
 use Rattle.format.specs.Programs.{programs}
 use Rattle.accepted.proofs.Bools.{split}
-use Rattle.chains.proofs.Times.{hit, times, hit-same, hit-other}
-use Rattle.chain_laws.proofs.Paths.{at-most}
+use Rattle.program_chains.proofs.Times.{hit, times, hit-same, hit-other}
+use Rattle.program_chains.proofs.Paths.{at-most}
 use Rattle.merge_laws.specs.IsMerge.{imageIn, Hits, Assigns, Lists}
 
 last-one : (m : ℕ) → m < suc m

@@ -10,7 +10,7 @@ use Rattle.format.specs.Reading.{ofKind}
 use Rattle.format.specs.Programs.{Link, root, dangling, child, programs, links}
 use Rattle.format.specs.References.{Reference, sqList}
 use Rattle.format.specs.Merge.{lacking}
-use Rattle.roundtrip.specs.Bare.{bareField}
+use Rattle.tidy_laws.specs.Bare.{bareField}
 
 -- ---- 30: the references
 

@@ -10,9 +10,9 @@ use Rattle.format.specs.Calls.{yes, records}
 use Rattle.format.specs.References.{sqList}
 use Rattle.format.specs.Prune.{chosen}
 use Rattle.format.specs.Merge.{merged, unmerged, judgingMerge}
-use Rattle.text.specs.Stands.{Each}
+use Rattle.byte_slices.specs.Stands.{Each}
 use Rattle.accepted.specs.Read.{recordsOf}
-use Rattle.roundtrip.specs.Bare.{bares}
+use Rattle.tidy_laws.specs.Bare.{bares}
 use Rattle.merge_laws.specs.Fit.{Fit, Fits, parentLinks}
 use Rattle.merge_laws.specs.IsMerge.{Hits, imageLink, Assigns, Images}
 use Rattle.merge_laws.specs.Exactly.{JoinsTexts}

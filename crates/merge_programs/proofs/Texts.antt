@@ -16,8 +16,8 @@ use Rattle.format.specs.Reading.{readText, accept, ofKind}
 use Rattle.format.specs.Programs.{Program, root, programs, programOf, link, links}
 use Rattle.format.specs.Merge.{ProgramShape, shapeOf, shapes, noShape}
 use Rattle.format.specs.declared.Kind.the-variants as kinds
-use Rattle.text.specs.Stands.{Stands, Each}
-use Rattle.text.proofs.Stands.{lines-stand}
+use Rattle.byte_slices.specs.Stands.{Stands, Each}
+use Rattle.byte_slices.proofs.Stands.{lines-stand}
 use Rattle.accepted.specs.Read.{recordsOf}
 use Rattle.accepted.specs.Pieces.{Pairs}
 use Rattle.accepted.specs.Sound.{kind}
@@ -25,16 +25,16 @@ use Rattle.accepted.proofs.Bools.{never, and-left, and-right}
 use Rattle.accepted.proofs.Read.{accepted-reads}
 use Rattle.accepted.proofs.Text.{text-fits}
 use Rattle.accepted.proofs.Pairs.{each-at, pairs-at, pairs-length}
-use Rattle.tags.specs.Others.{firsts}
-use Rattle.other_fields.specs.Run.{fieldsFrom}
-use Rattle.other_fields.proofs.Start.{start-none, accepted-others}
-use Rattle.chains.specs.Parents.{nobody, linkOf, linksOf, areParents, inArray}
-use Rattle.chains.proofs.Arrays.{front-inside, front-at}
-use Rattle.chains.proofs.Walks.{map-at}
-use Rattle.parents.specs.Parents.{parentsOf}
-use Rattle.parents.proofs.Own.{few-programs}
-use Rattle.parents.proofs.Numbers.{links-count}
-use Rattle.parents.proofs.Road.{none-dangles, lent-count, lent-inside, lent-links, lent-within}
+use Rattle.record_tags.specs.Others.{firsts}
+use Rattle.accepted_line.specs.Run.{fieldsFrom}
+use Rattle.accepted_line.proofs.fields.Start.{start-none, accepted-others}
+use Rattle.program_chains.specs.Parents.{nobody, linkOf, linksOf, areParents, inArray}
+use Rattle.program_chains.proofs.Arrays.{front-inside, front-at}
+use Rattle.program_chains.proofs.Walks.{map-at}
+use Rattle.program_parents.specs.Parents.{parentsOf}
+use Rattle.program_parents.proofs.Own.{few-programs}
+use Rattle.program_parents.proofs.Numbers.{links-count}
+use Rattle.program_parents.proofs.Road.{none-dangles, lent-count, lent-inside, lent-links, lent-within}
 use Rattle.program_lines.specs.Found.{mayBeProgram, programLines, pgFrom, linesOf}
 use Rattle.program_lines.specs.Line.{FieldsOf}
 use Rattle.program_lines.proofs.Accepted.{IsProgram, spelled, fielded, text-program-lines}

@@ -4,7 +4,7 @@ use mathlib.Core.Bool.{Bool}
 use mathlib.Core.List.{List}
 use lib.ListN.{length, take, drop, getD}
 use Rattle.format.specs.Merge.{ProgramShape}
-use Rattle.chains.specs.Parents.{linkOf}
+use Rattle.program_chains.specs.Parents.{linkOf}
 use Rattle.program_lines.specs.Line.{FieldsOf}
 use Rattle.merge_fields.specs.Kept.{keptFrom}
 use Rattle.merge_programs.specs.declared.Member.{Member}

@@ -8,7 +8,7 @@ use Rattle.format.specs.Reading.{readText, announced, isStrict}
 use Rattle.format.specs.Programs.{programs, links, tangled}
 use Rattle.accepted.specs.Read.{isAccepted, recordsOf}
 use Rattle.program_lines.specs.Found.{pgFrom, linesOf}
-use Rattle.parents.specs.Parents.{parentsOf}
+use Rattle.program_parents.specs.Parents.{parentsOf}
 use Rattle.merge_programs.specs.declared.Opened.{Opened}
 
 pub record IsOpened (t : List ℕ) (o : Opened) : Type 0 where

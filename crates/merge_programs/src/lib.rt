@@ -1,6 +1,6 @@
 // The programs of a merge: what an accepted text has of them, and whether they have their images in the merged text, by a list of ordinals.
-use parents::Parents;
-use programs::Places;
+use program_parents::Parents;
+use program_places::Places;
 ghost use mathlib.Core.Path.{_≡_};
 ghost use mathlib.Core.Bool.{true, _||_};
 ghost use Prim.Native.Nat.{_<_, _≤_};
@@ -10,7 +10,7 @@ ghost use Rattle.format.specs.Bytes.{all};
 ghost use Rattle.format.specs.Reading.{readText};
 ghost use Rattle.format.specs.Merge.{shapes, keepsParent, isImage, images};
 ghost use Rattle.accepted.specs.Read.{isAccepted, recordsOf};
-ghost use Rattle.chains.specs.Parents.{nobody, linkOf};
+ghost use Rattle.program_chains.specs.Parents.{nobody, linkOf};
 ghost use Rattle.merge_programs.specs.Opened.{IsOpened, Untangled};
 ghost use Rattle.merge_programs.specs.Members.{memberOf, shapeAt, IsMember};
 
@@ -26,13 +26,18 @@ pub fn open_text(text: &[u8]) -> Opened
     requires { ⌜ isAccepted (readText (now text)) ≡ true ⌝ }
     ensures { λ r. ⌜ IsOpened (now (text .entry)) r ⌝ }
 {
-    let strict = repeat_rule::is_strict(text);
+    let strict = read_repeat_rule::is_strict(text);
     let gathered = program_lines::gather(text, strict);
     let programs = gathered.programs;
     let lines = gathered.lines;
-    let linked = parents::link_programs(text, programs);
-    let refusal = linked.refusal;
-    let parents = linked.parents;
+    let id = programs.id;
+    let ats = id.at;
+    let lens = id.len;
+    let previous = programs.previous;
+    let from = previous.at;
+    let widths = previous.len;
+    let parents = program_parents::find_parents(text, &ats, &lens, &from, &widths, programs.count);
+    let refusal = program_parents::tangle(parents);
     Opened {
         strict,
         refusal,
@@ -73,10 +78,10 @@ fn keeps_parent(list: &[u32], parent: u32, image: u32) -> bool
     requires { ⌜ (eqb parent nobody || ltb parent (length (now list))) ≡ true ⌝ }
     ensures { λ r. ⌜ r ≡ keepsParent (now (list .entry)) (linkOf parent) (linkOf image) ⌝ }
 {
-    if parent == chains::NOBODY {
-        return image == chains::NOBODY;
+    if parent == program_chains::NOBODY {
+        return image == program_chains::NOBODY;
     }
-    if image == chains::NOBODY {
+    if image == program_chains::NOBODY {
         return false;
     }
     list[parent as usize] == image

@@ -13,12 +13,12 @@ use Rattle.format.specs.Lines.{Piece}
 use Rattle.format.specs.Fields.{Field}
 use Rattle.format.specs.Records.{Record, header, reference, group, program, comment, code, key}
 use Rattle.format.specs.Reading.{clash, sameKeys}
-use Rattle.text.proofs.Equal.{same-equal}
+use Rattle.byte_slices.proofs.Equal.{same-equal}
 use Rattle.accepted.specs.Admits.{KeysDiffer}
 use Rattle.accepted.proofs.Bools.{never, split, or-left, or-right, any-append}
 use Rattle.format.specs.References.{Reference, sqList}
 use Rattle.format.specs.Merge.{sameName, differ}
-use Rattle.sq_list.specs.Next.{sqFrom}
+use Rattle.binary_references.specs.Next.{sqFrom}
 use Rattle.merge_references.specs.Joining.{metIn, Apart, From}
 use Rattle.merge_references.specs.declared.Met.{Met}
 use Rattle.merge_references.specs.declared.Met.the-variants.{Nothing, Same, Other}

@@ -8,7 +8,7 @@ use lib.Dec.{eqb}
 use Rattle.format.specs.Bytes.{any}
 use Rattle.format.specs.References.{Reference, sameReferences}
 use Rattle.format.specs.Merge.{sameName, agreeing, lacking}
-use Rattle.sq_list.specs.Next.{sqFrom}
+use Rattle.binary_references.specs.Next.{sqFrom}
 use Rattle.merge_references.specs.declared.Met.{Met}
 use Rattle.merge_references.specs.declared.Met.the-variants.{Nothing, Same, Other}
 

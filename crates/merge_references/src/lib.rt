@@ -1,12 +1,12 @@
 // The references of a merge compared: by name and by length, one after another among A's, and A's own at the front of the merged list.
-use sq_list::NextReference;
+use binary_references::NextReference;
 ghost use mathlib.Core.Path.{_≡_};
 ghost use mathlib.Core.Bool.{_&&_};
 ghost use mathlib.Core.List.{List, _++_};
 ghost use Prim.Native.Nat.{_≤_, _+_};
 ghost use lib.ListN.{length};
 ghost use Rattle.format.specs.References.{Reference, sameReference, sameReferences};
-ghost use Rattle.sq_list.specs.Next.{sqFrom, toldReference};
+ghost use Rattle.binary_references.specs.Next.{sqFrom, toldReference};
 ghost use Rattle.format.specs.Merge.{sameName};
 ghost use Rattle.merge_references.specs.Joining.{metIn, From};
 
@@ -33,7 +33,7 @@ pub fn same_name(a: &[u8], r: NextReference, b: &[u8], q: NextReference) -> bool
     let to = from + r.name.len;
     let start = q.name.at;
     let end = start + q.name.len;
-    text::same(&a[from..to], &b[start..end])
+    byte_slices::same(&a[from..to], &b[start..end])
 }
 
 // Whether two references have one name and one length.
@@ -64,7 +64,7 @@ pub fn look_from(a: &[u8], strict: bool, start: usize, b: &[u8], q: NextReferenc
 {
     let mut at = start;
     loop {
-        let r = sq_list::next_reference(a, strict, at);
+        let r = binary_references::next_reference(a, strict, at);
         if !r.found {
             return Look {
                 met: Met::Nothing,
@@ -98,11 +98,11 @@ pub fn pass_front(a: &[u8], strict_a: bool, m: &[u8], strict_m: bool) -> Front
     let mut at: usize = 0;
     let mut next: usize = 0;
     loop {
-        let r = sq_list::next_reference(a, strict_a, at);
+        let r = binary_references::next_reference(a, strict_a, at);
         if !r.found {
             return Front { good: true, next };
         }
-        let n = sq_list::next_reference(m, strict_m, next);
+        let n = binary_references::next_reference(m, strict_m, next);
         if !n.found {
             return Front { good: false, next };
         }

@@ -1,13 +1,8 @@
--- One byte more in a name's number, by adds that wrap at 2 ^ 32, and four bytes more, by one product. Assumes nothing.
-use Prim.Native.Nat.{ℕ, suc, _+_, _*_, _/_, _%_, _^_, _≤_, _<_}
-use mathlib.Core.Path.{_≡_, refl, sym, ap, _∙_}
-use mathlib.Core.List.{List, [], _∷_, _++_}
+-- One byte more in a name's number, by adds that wrap at 2 ^ 32. Assumes nothing.
+use Prim.Native.Nat.{ℕ, _+_, _*_, _%_, _^_, _<_}
+use mathlib.Core.Path.{_≡_, sym, ap, _∙_}
 use native.Mathlib.Omega.{arith}
-use native.Mathlib.Nat.{add-mod, mod-eq-of-lt, div-add-mod, mul-add-mod-self-left}
-use native.Mathlib.Numerals.{add-one, add-two, add-three}
-use lib.ListN.{length, take, drop, getD}
-use lib.Seq.{drop-cons}
-use Rattle.name_index.specs.Index.{hashFrom}
+use native.Mathlib.Nat.{add-mod, mod-eq-of-lt}
 
 -- a sum of what has wrapped already
 wrap : (a c x y : ℕ) → x ≡ a % 2 ^ 32 → y ≡ c % 2 ^ 32 → (x + y) % 2 ^ 32 ≡ (a + c) % 2 ^ 32
@@ -31,40 +26,3 @@ byte-more h b two four eight sixteen thirty-two thirty-three hl bl e2 e4 e8 e16 
     let f33 : thirty-three ≡ (a + h) % 2 ^ 32 = e33 ∙ wrap a h thirty-two h f32 small in
     let s : a + h + b ≡ 33 * h + b = omega arith in
     wrap (a + h) b thirty-three b f33 (sym (mod-eq-of-lt bl)) ∙ ap (λ n. n % 2 ^ 32) s
-
--- ---- four bytes
-
-again : (x b : ℕ) → (33 * (x % 2 ^ 32) + b) % 2 ^ 32 ≡ (33 * x + b) % 2 ^ 32
-again x b =
-    let e : 33 * x + b ≡ 2 ^ 32 * (33 * (x / 2 ^ 32)) + (33 * (x % 2 ^ 32) + b) = omega (arith, div-add-mod x (2 ^ 32)) in
-    sym (ap (λ n. n % 2 ^ 32) e ∙ mul-add-mod-self-left (2 ^ 32) (33 * (x / 2 ^ 32)) (33 * (x % 2 ^ 32) + b))
-
-pub four-more : (h a b c d : ℕ) → hashFrom h (a ∷ b ∷ c ∷ d ∷ []) ≡ (h * 1185921 + (a * 35937 + b * 1089 + c * 33 + d)) % 2 ^ 32
-unfolding hashFrom
-four-more h a b c d =
-    let two : (33 * ((33 * h + a) % 2 ^ 32) + b) % 2 ^ 32 ≡ (33 * (33 * h + a) + b) % 2 ^ 32 = again (33 * h + a) b in
-    let three : (33 * ((33 * ((33 * h + a) % 2 ^ 32) + b) % 2 ^ 32) + c) % 2 ^ 32 ≡ (33 * (33 * (33 * h + a) + b) + c) % 2 ^ 32 =
-    ap (λ v. (33 * v + c) % 2 ^ 32) two ∙ again (33 * (33 * h + a) + b) c in
-    let e : 33 * (33 * (33 * (33 * h + a) + b) + c) + d ≡ h * 1185921 + (a * 35937 + b * 1089 + c * 33 + d) = omega arith in
-    ap (λ v. (33 * v + d) % 2 ^ 32) three ∙ again (33 * (33 * (33 * h + a) + b) + c) d ∙ ap (λ n. n % 2 ^ 32) e
-
--- the four bytes at a place
-pub four-at : (s : List ℕ) (at : ℕ) → at + 4 ≤ length s → take 4 (drop at s) ≡ getD s at 0 ∷ getD s (at + 1) 0 ∷ getD s (at + 2) 0 ∷ getD s (at + 3) 0 ∷ []
-four-at s at h =
-    rw (
-      drop-cons s at 0 (omega arith),
-      drop-cons s (suc at) 0 (omega arith),
-      drop-cons s (suc (suc at)) 0 (omega arith),
-      drop-cons s (suc (suc (suc at))) 0 (omega arith),
-      add-one at,
-      add-two at,
-      add-three at,
-    )
-    refl
-
--- ---- a number in two parts
-
-pub hash-append : (h : ℕ) (s t : List ℕ) → hashFrom h (s ++ t) ≡ hashFrom (hashFrom h s) t
-unfolding hashFrom
-hash-append h [] t = refl
-hash-append h (b ∷ s) t = hash-append ((33 * h + b) % 2 ^ 32) s t

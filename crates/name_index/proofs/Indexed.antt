@@ -9,8 +9,8 @@ use lib.ListN.{length, getD, set, replicate, length-append, length-set, length-r
 use Rattle.format.specs.Bytes.{same}
 use Rattle.format.specs.Slots.{seat, filled, pick, Held}
 use Rattle.format.proofs.Slots.{filled-around, held-none, held-enter}
-use Rattle.text.proofs.Equal.{same-equal}
-use Rattle.name_index.specs.Index.{nameOrdinalFrom, nameOrdinal, slotCount, hashFrom, first, path, enter, enterFrom, index, ordinalOf, nameOf, tellsName, looked, looks}
+use Rattle.byte_slices.proofs.Equal.{same-equal}
+use Rattle.format.specs.NameIndex.{nameOrdinalFrom, nameOrdinal, slotCount, hashFrom, first, path, enter, enterFrom, index, ordinalOf, nameOf, tellsName, looked, looks}
 use Rattle.name_index.specs.Indexed.{Indexed}
 use Rattle.name_index.proofs.SlotCount.{slots-power, slots-enough, slots-smallest, slots-some}
 

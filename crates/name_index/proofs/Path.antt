@@ -7,7 +7,7 @@ use native.Mathlib.Nat.{mod-lt}
 use lib.ListN.{length, getD}
 use Rattle.format.specs.Slots.{around, full, seat}
 use Rattle.format.proofs.Slots.{around-length, around-at}
-use Rattle.name_index.specs.Index.{first, path}
+use Rattle.format.specs.NameIndex.{first, path}
 
 pub seat-lt : (at : ℕ) (slots : List ℕ) → 0 < length slots → seat at slots < length slots
 unfolding seat

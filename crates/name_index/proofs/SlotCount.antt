@@ -8,7 +8,7 @@ use native.Mathlib.Nat.{pow-suc, pow-zero, mul-assoc, mul-left-comm, pow-le-pow-
 use lib.Count.{leadingZeros, leading-top}
 use lib.Dec.{ltb, leb}
 use borrow.Author.Tests.{ltb-true, ltb-false, leb-true, leb-false}
-use Rattle.name_index.specs.Index.{doubled, slotCount}
+use Rattle.format.specs.NameIndex.{doubled, slotCount}
 
 double : (e : ℕ) → 2 * 2 ^ e ≡ 2 ^ suc e
 double e = omega (arith, pow-suc 2 e)

@@ -4,7 +4,7 @@ use mathlib.Core.Path.{_≡_}
 use mathlib.Core.List.{List}
 use lib.ListN.{length}
 use Rattle.format.specs.Slots.{seek}
-use Rattle.name_index.specs.Index.{nameOrdinal, path, index, ordinalOf, tellsName, looks}
+use Rattle.format.specs.NameIndex.{nameOrdinal, path, index, ordinalOf, tellsName, looks}
 
 -- for every list of names
 pub record Indexed (xs : List (List ℕ)) : Type 0 where

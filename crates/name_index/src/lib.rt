@@ -1,9 +1,9 @@
 // The index of names: how many slots there are, which a name's first slot is, and how a name enters.
 ghost use mathlib.Core.Path.{_≡_};
-ghost use Prim.Native.Nat.{ℕ, _≤_, _<_, _+_, _*_, _/_, _%_, _^_};
-ghost use lib.ListN.{length, take, drop, set};
+ghost use Prim.Native.Nat.{ℕ, _≤_, _<_, _+_, _*_, _%_, _^_};
+ghost use lib.ListN.{length, set};
 ghost use Rattle.format.specs.Slots.{seat};
-ghost use Rattle.name_index.specs.Index.{slotCount, hashFrom};
+ghost use Rattle.format.specs.NameIndex.{slotCount, hashFrom};
 
 // How many slots `m` names take: the smallest power of two that is not below twice `m`, at least 2.
 pub fn slot_count(m: u32) -> u32
@@ -29,38 +29,12 @@ fn with_byte(h: u32, b: u8) -> u32
     std::num::wrapping_add_u32(thirty_three, b as u32)
 }
 
-// A name's number with the four bytes at `at` more, in one step: 33 times itself plus the byte, four times over.
-fn with_four(h: u32, name: &[u8], at: usize) -> u32
-    requires { ⌜ at + 4 ≤ length (now name) ⌝ }
-    ensures { λ r. ⌜ r ≡ hashFrom h (take 4 (drop at (now (name .entry)))) ⌝ }
-{
-    let a = name[at] as u64;
-    let b = name[at + 1] as u64;
-    let c = name[at + 2] as u64;
-    let d = name[at + 3] as u64;
-    let four = a * 35937 + b * 1089 + c * 33 + d;
-    ((h as u64 * 1185921 + four) % 4294967296) as u32
-}
-
-// The number of a name's bytes, as long as four are left.
-fn hash_fours(name: &[u8]) -> u32
-    ensures { λ r. ⌜ r ≡ hashFrom 0 (take (length (now (name .entry)) / 4 * 4) (now (name .entry))) ⌝ }
-{
-    let mut h: u32 = 0;
-    let mut i: usize = 0;
-    while 4 <= name.len() - i {
-        h = with_four(h, name, i);
-        i += 4;
-    }
-    h
-}
-
-// A name's number: four bytes at a time, and then the bytes that are left.
+// A name's number.
 pub fn hash(name: &[u8]) -> u32
     ensures { λ r. ⌜ r ≡ hashFrom 0 (now (name .entry)) ⌝ }
 {
-    let mut h = hash_fours(name);
-    let mut i = name.len() / 4 * 4;
+    let mut h: u32 = 0;
+    let mut i: usize = 0;
     while i < name.len() {
         h = with_byte(h, name[i]);
         i += 1;

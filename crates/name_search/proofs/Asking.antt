@@ -6,11 +6,11 @@ use native.Mathlib.Omega.{arith}
 use native.Mathlib.Numerals.{add-one}
 use lib.ListN.{length, take, drop, set, length-set, length-map}
 use lib.Seq.{sets, sets-eq}
-use Rattle.text.specs.Upto.{upto}
-use Rattle.text.specs.Over.{over}
-use Rattle.asked_names.specs.Asked.{asked}
-use Rattle.name_search.specs.Summed.{summed}
-use Rattle.asked_names.proofs.Asked.{asked-none, asked-on}
+use Rattle.byte_slices.specs.Upto.{upto}
+use Rattle.byte_slices.specs.Over.{over}
+use Rattle.format.specs.Asked.{asked}
+use Rattle.format.specs.Summed.{summed}
+use Rattle.name_list.proofs.Asked.{asked-none, asked-on}
 
 -- at `at`, `j` names were passed: what is still to be written and summed is that of the names that are left
 pub record Asking (write count : List ℕ → ℕ) (list before now : List ℕ) (at j sum : ℕ) : Type 0 where

@@ -3,10 +3,10 @@ ghost use mathlib.Core.Path.{_≡_};
 ghost use mathlib.Core.List.{map};
 ghost use Prim.Native.Nat.{ℕ, _≤_, _^_};
 ghost use lib.ListN.{length};
-ghost use Rattle.text.specs.Over.{over};
-ghost use Rattle.asked_names.specs.Asked.{asked};
-ghost use Rattle.sq_index.specs.Looking.{slotOf, looksOf};
-ghost use Rattle.name_search.specs.Summed.{summed};
+ghost use Rattle.byte_slices.specs.Over.{over};
+ghost use Rattle.format.specs.Asked.{asked};
+ghost use Rattle.name_lookup.specs.Looking.{slotOf, looksOf};
+ghost use Rattle.format.specs.Summed.{summed};
 
 // Looks for each name of a list: the slot with it goes into `out`, and the slots that were looked at are summed.
 pub fn find_slots(text: &[u8], slots: &[u32], list: &[u8], out: &mut [u32]) -> u64
@@ -21,8 +21,8 @@ pub fn find_slots(text: &[u8], slots: &[u32], list: &[u8], out: &mut [u32]) -> u
     let mut j: usize = 0;
     let mut looks: u64 = 0;
     while at < list.len() {
-        let end = at + text::upto(&list[at..], b'\n');
-        let found = sq_index::find_slot(text, slots, &list[at..end]);
+        let end = at + byte_slices::upto(&list[at..], b'\n');
+        let found = name_lookup::find_slot(text, slots, &list[at..end]);
         out[j] = found.slot;
         looks += found.looks as u64;
         j += 1;

@@ -7,21 +7,21 @@ use lib.ListN.{length, drop, length-map}
 use borrow.Author.Tests.{lt-ltb, le-ltb}
 use Rattle.format.specs.Reading.{longest}
 use Rattle.format.specs.Calls.{Answer, refused, yes, then, fresh}
-use Rattle.text.specs.Stands.{Each}
+use Rattle.byte_slices.specs.Stands.{Each}
 use Rattle.format.specs.declared.LineNo.{LineNo}
 use Rattle.accepted.specs.Read.{recordsOf}
-use Rattle.entries.specs.Entries.{entriesIn, counted}
-use Rattle.parser.specs.Answers.{outputOf}
-use Rattle.parser.proofs.Fresh.{Current, goes-on, stops}
-use Rattle.parser.proofs.Told.{too-short, fits}
-use Rattle.name_index.specs.Index.{nameOrdinal, slotCount, index, looks}
+use Rattle.catalogue_entries.specs.Entries.{entriesIn, counted}
+use Rattle.read.specs.Answers.{outputOf}
+use Rattle.read.proofs.Fresh.{Current, goes-on, stops}
+use Rattle.read.proofs.Told.{too-short, fits}
+use Rattle.format.specs.NameIndex.{nameOrdinal, slotCount, index, looks}
 use Rattle.name_index.proofs.Indexed.{index-length}
-use Rattle.sq_entries.specs.Names.{namesIn}
-use Rattle.sq_found.specs.Told.{Told}
-use Rattle.sq_entries.proofs.Names.{names-counted}
-use Rattle.asked_names.specs.Asked.{asked}
-use Rattle.name_search.specs.Summed.{summed}
-use Rattle.names.specs.Batch.{references, batched, batching}
+use Rattle.name_entries.specs.Names.{namesIn}
+use Rattle.names.specs.Told.{Told}
+use Rattle.name_entries.proofs.Names.{names-counted}
+use Rattle.format.specs.Asked.{asked}
+use Rattle.format.specs.Summed.{summed}
+use Rattle.format.specs.Batch.{references, batched, batching}
 use Rattle.names.specs.declared.NamesAnswer.the-variants.{Refused, Counted}
 use Rattle.names.specs.Answers.{namesOf, resultsOf, slotsOf}
 use Rattle.names.proofs.References.{text-names, few-names}

@@ -11,13 +11,13 @@ use borrow.Author.Tests.{ltb-false}
 use Rattle.format.specs.Reading.{longest}
 use Rattle.format.specs.Calls.{Answer, refused, yes, then, fitting}
 use Rattle.accepted.specs.Read.{recordsOf}
-use Rattle.parser.proofs.Fresh.{Current, refused-is-no-answer, passed, goes-on}
-use Rattle.name_index.specs.Index.{nameOrdinal, index, looks}
+use Rattle.read.proofs.Fresh.{Current, refused-is-no-answer, passed, goes-on}
+use Rattle.format.specs.NameIndex.{nameOrdinal, index, looks}
 use Rattle.name_index.proofs.Indexed.{indexed}
-use Rattle.asked_names.specs.Asked.{asked}
-use Rattle.asked_names.proofs.Asked.{asked-few}
-use Rattle.name_search.specs.Summed.{summed}
-use Rattle.names.specs.Batch.{references, batched, batching}
+use Rattle.format.specs.Asked.{asked}
+use Rattle.name_list.proofs.Asked.{asked-few}
+use Rattle.format.specs.Summed.{summed}
+use Rattle.format.specs.Batch.{references, batched, batching}
 use Rattle.names.proofs.References.{few-names}
 
 -- ---- over a list of names
@@ -72,6 +72,10 @@ module _ (t c list : List ℕ) (work room : ℕ) (a : List ℕ × List ℕ × �
   bounded : Bounded (length (references (recordsOf t))) a
   unfolding batching
   bounded = answer-bound (references (recordsOf t)) list work room a (sym (goes-on t c (λ rs. batched (references rs) list work room) own) ∙ is)
+
+  -- a list has at most as many names as bytes
+  pub batch-few : length (a .0) ≤ 16777216
+  batch-few = bounded .few
 
   -- at most one slot more for each name than there are SQ
   pub batch-bound : a .2 ≤ length (a .0) * (length (references (recordsOf t)) + 1)

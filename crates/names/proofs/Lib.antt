@@ -3,3 +3,6 @@ pub mod References
 pub mod Told
 pub mod Batched
 pub mod Bound
+pub mod Recoded
+pub mod Named
+pub mod Found

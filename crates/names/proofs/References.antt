@@ -12,14 +12,14 @@ use Rattle.format.specs.Records.{Record, header, reference, group, program, com
 use Rattle.format.specs.Reading.{readText, accept, ofKind}
 use Rattle.format.specs.Catalogue.{catalogue}
 use Rattle.format.specs.Programs.{bytesOf}
-use Rattle.text.specs.Stands.{Each, Stands}
+use Rattle.byte_slices.specs.Stands.{Each, Stands}
 use Rattle.accepted.specs.Pieces.{pieces}
 use Rattle.accepted.proofs.Text.{text-stand, text-count, text-fits}
-use Rattle.entries.specs.declared.Entry.{Entry}
-use Rattle.entries.specs.Entries.{kindByte, pieceAt, headEntry, fieldEntry, entriesOn, entriesOf, entriesIn}
-use Rattle.lookup.proofs.Kept.{text-entries}
-use Rattle.sq_entries.specs.Names.{nameIn, namesIn}
-use Rattle.names.specs.Batch.{references}
+use Rattle.catalogue_entries.specs.declared.Entry.{Entry}
+use Rattle.catalogue_entries.specs.Entries.{kindByte, pieceAt, headEntry, fieldEntry, entriesOn, entriesOf, entriesIn}
+use Rattle.catalogue_lookup.proofs.Kept.{text-entries}
+use Rattle.name_entries.specs.Names.{nameIn, namesIn}
+use Rattle.format.specs.Batch.{references}
 
 -- the entries of fields are passed
 names-fields : (t : List ℕ) (fs : List Field) (es : List Entry) → namesIn t (map fieldEntry fs ++ es) ≡ namesIn t es

@@ -10,16 +10,16 @@ use Rattle.format.specs.Lines.{Piece, lines, linesFrom}
 use Rattle.format.specs.Records.{Record, line, read}
 use Rattle.format.specs.Reading.{accept, readText}
 use Rattle.format.specs.Catalogue.{catalogueFrom, catalogue}
-use Rattle.text.specs.First.{firstLine}
-use Rattle.text.proofs.Lines.{lines-none}
-use Rattle.text.proofs.First.{first-some, first-within, first-le, lines-first}
-use Rattle.text.proofs.Stands.{by-parts}
+use Rattle.byte_slices.specs.First.{firstLine}
+use Rattle.byte_slices.proofs.Lines.{lines-none}
+use Rattle.byte_slices.proofs.First.{first-some, first-within, first-le, lines-first}
+use Rattle.byte_slices.proofs.Stands.{by-parts}
 use Rattle.accepted.specs.Admits.{strictly}
 use Rattle.accepted.specs.Pieces.{Pairs}
 use Rattle.accepted.proofs.Text.{text-lines, text-fits}
-use Rattle.line_entries.specs.Line.{recordBytes}
-use Rattle.line_entries.proofs.Records.{from-cons}
-use Rattle.line_entries.proofs.Length.{bytes-few}
+use Rattle.catalogue_lines.specs.Line.{recordBytes}
+use Rattle.catalogue_lines.proofs.Records.{from-cons}
+use Rattle.catalogue_lines.proofs.Length.{bytes-few}
 
 -- the bytes of lines
 unfoldable total : List Piece → ℕ

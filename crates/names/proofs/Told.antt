@@ -13,19 +13,19 @@ use Rattle.format.specs.Fields.{Field}
 use Rattle.format.specs.Records.{Record, header, reference, group, program, comment, line, read, others}
 use Rattle.format.specs.Reading.{readText, accept}
 use Rattle.format.specs.Catalogue.{catalogue}
-use Rattle.text.specs.First.{firstLine}
-use Rattle.text.specs.Stands.{Each, Stands}
-use Rattle.text.proofs.Lines.{lines-none}
-use Rattle.text.proofs.First.{lines-first}
+use Rattle.byte_slices.specs.First.{firstLine}
+use Rattle.byte_slices.specs.Stands.{Each, Stands}
+use Rattle.byte_slices.proofs.Lines.{lines-none}
+use Rattle.byte_slices.proofs.First.{lines-first}
 use Rattle.accepted.specs.Admits.{strictly}
 use Rattle.accepted.specs.Pieces.{Pairs, pieces}
 use Rattle.accepted.proofs.Text.{text-lines, text-stand, text-fits}
-use Rattle.line_keys.specs.Ended.{Ended}
-use Rattle.line_keys.proofs.LineKeys.{line-ended}
-use Rattle.entries.specs.declared.Entry.{Entry}
-use Rattle.entries.specs.Entries.{pieceAt, headEntry, fieldEntry, entriesOn, entriesOf, entriesIn}
-use Rattle.lookup.proofs.Kept.{text-entries}
-use Rattle.sq_found.specs.Told.{Told}
+use Rattle.accepted.specs.Ended.{Ended}
+use Rattle.accepted.proofs.LineKeys.{line-ended}
+use Rattle.catalogue_entries.specs.declared.Entry.{Entry}
+use Rattle.catalogue_entries.specs.Entries.{pieceAt, headEntry, fieldEntry, entriesOn, entriesOf, entriesIn}
+use Rattle.catalogue_lookup.proofs.Kept.{text-entries}
+use Rattle.names.specs.Told.{Told}
 use Rattle.names.proofs.References.{stands-bytes}
 
 -- ---- each record's key ends where its line says

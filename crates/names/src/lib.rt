@@ -1,10 +1,12 @@
 // Many names at once: an index of the SQ names in a lent work area, by it the ordinal of each name of a list, and how much was looked at.
+pub mod answer;
+
 use format::LineNo;
-use parser::Checked;
+use read::Checked;
 ghost use mathlib.Core.Path.{_≡_};
 ghost use lib.ListN.{length};
-ghost use Rattle.parser.specs.Answers.{outputOf};
-ghost use Rattle.names.specs.Batch.{batching};
+ghost use Rattle.read.specs.Answers.{outputOf};
+ghost use Rattle.format.specs.Batch.{batching};
 ghost use Rattle.names.specs.Answers.{namesOf, resultsOf, slotsOf};
 
 // A refusal and its line, or how many names are answered, and the slots that were looked at.
@@ -18,37 +20,37 @@ pub enum NamesAnswer {
 // short work area or result list.
 pub fn names(
     text: &[u8],
-    kept: &[u8],
+    catalogue: &[u8],
     list: &[u8],
     work: &mut [u32],
     out: &mut [u32],
 ) -> NamesAnswer
     ensures answer { λ r. ⌜ r ≡ namesOf
-        (batching (now (text .entry)) (now (kept .entry)) (now (list .entry)) (length (now (work .entry))) (length (now (out .entry)))) ⌝ }
+        (batching (now (text .entry)) (now (catalogue .entry)) (now (list .entry)) (length (now (work .entry))) (length (now (out .entry)))) ⌝ }
     ensures slots { λ _. ⌜ now (work .exit) ≡ outputOf
-        (slotsOf (batching (now (text .entry)) (now (kept .entry)) (now (list .entry)) (length (now (work .entry))) (length (now (out .entry)))))
+        (slotsOf (batching (now (text .entry)) (now (catalogue .entry)) (now (list .entry)) (length (now (work .entry))) (length (now (out .entry)))))
         (now (work .entry)) ⌝ }
     ensures found { λ _. ⌜ now (out .exit) ≡ outputOf
-        (resultsOf (batching (now (text .entry)) (now (kept .entry)) (now (list .entry)) (length (now (work .entry))) (length (now (out .entry)))))
+        (resultsOf (batching (now (text .entry)) (now (catalogue .entry)) (now (list .entry)) (length (now (work .entry))) (length (now (out .entry)))))
         (now (out .entry)) ⌝ }
 {
-    match parser::check(text, kept) {
+    match read::check(text, catalogue) {
         Checked::Refused(n, line) => NamesAnswer::Refused(n, line),
         Checked::Fresh => {
             if format::LONGEST < list.len() {
                 return NamesAnswer::Refused(1, LineNo(0));
             }
             let room = work.len();
-            let m = sq_entries::count(kept);
+            let m = name_entries::count(catalogue);
             let n = name_index::slot_count(m as u32) as usize;
             if room < n {
                 return NamesAnswer::Refused(20, LineNo(0));
             }
-            let count = asked_names::count_names(list);
+            let count = name_list::count_names(list);
             if out.len() < count {
                 return NamesAnswer::Refused(20, LineNo(0));
             }
-            let looks = name_answer::answer(text, kept, m, list, &mut work[..n], &mut out[..count]);
+            let looks = answer::answer(text, catalogue, m, list, &mut work[..n], &mut out[..count]);
             NamesAnswer::Counted(count, looks)
         }
     }

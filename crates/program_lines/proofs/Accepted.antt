@@ -10,7 +10,7 @@ use Rattle.format.specs.Lines.{Piece, lines}
 use Rattle.format.specs.Records as records
 use Rattle.format.specs.Records.{Record, header, reference, group, program, comment, code, read}
 use Rattle.format.specs.Reading.{accept, readText, announced, isStrict, ofKind}
-use Rattle.text.specs.Stands.{Each}
+use Rattle.byte_slices.specs.Stands.{Each}
 use Rattle.accepted.specs.Pieces.{Pairs}
 use Rattle.accepted.specs.Admits.{strictly}
 use Rattle.accepted.specs.Sound.{kind}
@@ -20,8 +20,8 @@ use Rattle.accepted.proofs.Bools.{never, split}
 use Rattle.accepted.proofs.Spelled.{line-accepted}
 use Rattle.accepted.proofs.Text.{text-lines}
 use Rattle.accepted.proofs.Pairs.{pairs-left}
-use Rattle.other_fields.proofs.Start.{accepted-start, accepted-tags}
-use Rattle.sq_list.proofs.Next.{second-byte}
+use Rattle.accepted_line.proofs.fields.Start.{accepted-start, accepted-tags}
+use Rattle.binary_references.proofs.Next.{second-byte}
 use Rattle.program_lines.specs.Line.{FieldsOf}
 use Rattle.program_lines.specs.Found.{mayBeProgram, programLines, pgFrom}
 

@@ -8,11 +8,11 @@ use native.Mathlib.Omega.{arith}
 use lib.ListN.{length, drop, length-drop}
 use Rattle.format.specs.Lines.{Piece}
 use Rattle.format.specs.Fields.{Field, lastOf}
-use Rattle.text.specs.Stands.{Stands, Each}
+use Rattle.byte_slices.specs.Stands.{Stands, Each}
 use Rattle.accepted.proofs.Fields.{Of, lastOf-of}
-use Rattle.other_fields.specs.Run.{AtField, fieldsFrom}
-use Rattle.other_fields.specs.Next.{lastIn, orValue}
-use Rattle.other_fields.proofs.Runs.{runs-stand}
+use Rattle.accepted_line.specs.Run.{AtField, fieldsFrom}
+use Rattle.accepted_line.specs.Next.{lastIn, orValue}
+use Rattle.accepted_line.proofs.fields.Runs.{runs-stand}
 
 module _ (strict : Bool) (at : ℕ) (line : List ℕ) (h : AtField strict at line 3) (a b : ℕ) where
   last-stands : (p : Piece) → lastOf a b (fieldsFrom at line 3) ≡ some p → Stands (drop 3 line) (at + 3) p

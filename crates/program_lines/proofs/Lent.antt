@@ -5,11 +5,11 @@ use mathlib.Core.Bool.{Bool, true, false, _||_}
 use mathlib.Core.List.{List}
 use native.Mathlib.Omega.{arith}
 use lib.ListN.{length, replicate, length-replicate}
-use Rattle.text.specs.Stands.{Each}
-use Rattle.other_fields.specs.Run.{AtField, fieldsFrom}
-use Rattle.other_fields.specs.Tables.{HasTag, spread, noted, Walkable}
-use Rattle.other_fields.proofs.Here.{laxly}
-use Rattle.other_fields.proofs.Start.{once-start, once-walkable, blank-tables, noted-walkable}
+use Rattle.byte_slices.specs.Stands.{Each}
+use Rattle.accepted_line.specs.Run.{AtField, fieldsFrom}
+use Rattle.accepted_line.specs.Tables.{HasTag, spread, noted, Walkable}
+use Rattle.accepted_line.proofs.fields.Here.{laxly}
+use Rattle.accepted_line.proofs.fields.Start.{once-start, once-walkable, blank-tables, noted-walkable}
 use Rattle.program_lines.specs.Line.{FieldsOf}
 
 module _ (strict : Bool) (at : ℕ) (s : List ℕ) (h : FieldsOf strict at s) where

@@ -9,19 +9,19 @@ use lib.Seq.{append-snoc, length-take-le}
 use Rattle.format.specs.Lines.{Piece, lines}
 use Rattle.format.specs.Records.{Record}
 use Rattle.format.specs.Reading.{readText, accept, ofKind, announced, isStrict}
-use Rattle.text.specs.Stands.{Each}
+use Rattle.byte_slices.specs.Stands.{Each}
 use Rattle.accepted.specs.Read.{isAccepted, recordsOf}
 use Rattle.accepted.proofs.Read.{accepted-reads}
 use Rattle.accepted.proofs.Text.{text-fits, text-programs}
 use Rattle.accepted.proofs.Pairs.{pairs-left, pairs-length}
-use Rattle.chains.specs.Parents.{inArray}
-use Rattle.chains.proofs.Arrays.{array-push}
-use Rattle.entries.specs.declared.Place.{Place}
-use Rattle.other_fields.specs.Next.{lastIn}
-use Rattle.programs.specs.declared.Places.{Places}
-use Rattle.programs.specs.declared.Programs.{Programs}
-use Rattle.programs.proofs.Noting.{map-snoc}
-use Rattle.programs.specs.Gathered.{ProgramPlaces, arraysOf, gatheredOf}
+use Rattle.program_chains.specs.Parents.{inArray}
+use Rattle.program_chains.proofs.Arrays.{array-push}
+use Rattle.catalogue_entries.specs.declared.Place.{Place}
+use Rattle.accepted_line.specs.Next.{lastIn}
+use Rattle.program_places.specs.declared.Places.{Places}
+use Rattle.program_places.specs.declared.Programs.{Programs}
+use Rattle.program_places.proofs.Noting.{map-snoc}
+use Rattle.program_places.specs.Gathered.{ProgramPlaces, arraysOf, gatheredOf}
 use Rattle.program_lines.specs.Line.{FieldsOf}
 use Rattle.program_lines.specs.Found.{programLines, pgFrom, toldLine, toldLines, placeOf, previousOf, notesOf, linesOf, NextLineInText}
 use Rattle.program_lines.specs.declared.NextLine.{NextLine}

@@ -7,10 +7,10 @@ use native.Mathlib.Omega.{arith}
 use lib.ListN.{length, take, drop, length-drop, drop-of-length-le}
 use lib.Seq.{drop-drop}
 use Rattle.format.specs.Lines.{Piece, linesFrom}
-use Rattle.text.specs.First.{firstLine}
-use Rattle.text.specs.declared.Cut.{Cut}
-use Rattle.text.proofs.Lines.{lines-none}
-use Rattle.text.proofs.First.{lines-first, first-le, first-within, first-some}
+use Rattle.byte_slices.specs.First.{firstLine}
+use Rattle.byte_slices.specs.declared.Cut.{Cut}
+use Rattle.byte_slices.proofs.Lines.{lines-none}
+use Rattle.byte_slices.proofs.First.{lines-first, first-le, first-within, first-some}
 use Rattle.program_lines.specs.Found.{mayBeProgram, programLines, pgFrom, toldLine, toldLines}
 use Rattle.program_lines.specs.declared.NextLine.{NextLine}
 

@@ -14,7 +14,7 @@ use Rattle.format.specs.Fields.{Field, tagged, repeats, later, lastOf, without,
 use Rattle.format.specs.Records.{Record, header, reference, group, program, comment, code, key, others}
 use Rattle.format.specs.Reading.{accept, readText, announced, isStrict, ofKind}
 use Rattle.format.specs.Catalogue.{catalogue}
-use Rattle.text.specs.Stands.{Each}
+use Rattle.byte_slices.specs.Stands.{Each}
 use Rattle.accepted.specs.Pieces.{Pairs}
 use Rattle.accepted.specs.Sound.{Sound}
 use Rattle.accepted.specs.Spelled as sp
@@ -22,19 +22,19 @@ use Rattle.accepted.specs.Spelled.{Spelled, Made}
 use Rattle.accepted.proofs.Bools.{never, split, or-left, or-right}
 use Rattle.accepted.proofs.Tags.{tagged-same, later-assoc, repeats-put}
 use Rattle.accepted.proofs.Text.{text-sound}
-use Rattle.roundtrip.proofs.Length.{last-without}
-use Rattle.entries.specs.declared.Place.{Place}
-use Rattle.entries.specs.declared.Entry.{Entry}
-use Rattle.entries.specs.Entries.{pieceAt, headEntry, fieldEntry, entriesOn, entriesOf, entriesIn}
-use Rattle.lookup.specs.declared.Found.{Found}
-use Rattle.lookup.specs.Lookup.{foundOf, valueIn}
-use Rattle.lookup.proofs.Kept.{text-entries}
-use Rattle.lookup.proofs.Answers.{last-none, later-none, value-fields}
-use Rattle.id_search.specs.Places.{nowhere}
-use Rattle.other_fields.specs.Run.{AtField, fieldsFrom}
-use Rattle.other_fields.specs.Next.{lastIn, orValue}
-use Rattle.other_fields.proofs.Start.{accepted-fields, accepted-start}
-use Rattle.programs.specs.Gathered.{ProgramPlaces, orNowhere, notedIn, gatheredOf}
+use Rattle.tidy_laws.proofs.Length.{last-without}
+use Rattle.catalogue_entries.specs.declared.Place.{Place}
+use Rattle.catalogue_entries.specs.declared.Entry.{Entry}
+use Rattle.catalogue_entries.specs.Entries.{pieceAt, headEntry, fieldEntry, entriesOn, entriesOf, entriesIn}
+use Rattle.catalogue_lookup.specs.declared.Found.{Found}
+use Rattle.catalogue_lookup.specs.Lookup.{foundOf, valueIn}
+use Rattle.catalogue_lookup.proofs.Kept.{text-entries}
+use Rattle.catalogue_lookup.proofs.Answers.{last-none, later-none, value-fields}
+use Rattle.program_ids.specs.Places.{nowhere}
+use Rattle.accepted_line.specs.Run.{AtField, fieldsFrom}
+use Rattle.accepted_line.specs.Next.{lastIn, orValue}
+use Rattle.accepted_line.proofs.fields.Start.{accepted-fields, accepted-start}
+use Rattle.program_places.specs.Gathered.{ProgramPlaces, orNowhere, notedIn, gatheredOf}
 use Rattle.program_lines.specs.Found.{pgFrom, placeOf, previousOf, notesOf}
 use Rattle.program_lines.proofs.Accepted.{IsProgram, spelled, text-program-lines}
 use Rattle.program_lines.proofs.Last.{last-after}
@@ -83,13 +83,13 @@ last-settled a b fs = last-on a b [] fs refl ∙ later-none (lastOf a b fs)
 
 -- ---- one program
 
-unfoldable idPlace : Option Piece → Place
+unfoldable pub idPlace : Option Piece → Place
 unfolding nowhere pieceAt
 idPlace none = nowhere
 idPlace (some p) = pieceAt p
 
 -- what a record has of it
-unfoldable recordNotes : Record → ProgramPlaces
+unfoldable pub recordNotes : Record → ProgramPlaces
 unfolding idPlace orNowhere foundOf key others lastOf
 recordNotes r = record { id = idPlace (key r); previous = orNowhere (foundOf (lastOf 80 80 (others r))) }
 
@@ -120,7 +120,7 @@ made-notes at s strict fs r k h e (sp.of-program p d) c =
     pair : {a b c d : Place} → a ≡ b → c ≡ d → _≡_ {A = ProgramPlaces} (record { id = a; previous = c }) (record { id = b; previous = d })
     pair x y = rw (x, y) refl
 
-line-notes : (strict : Bool) (p : Piece) (r : Record) → IsProgram strict p r → notesOf p ≡ recordNotes r
+pub line-notes : (strict : Bool) (p : Piece) (r : Record) → IsProgram strict p r → notesOf p ≡ recordNotes r
 unfolding notesOf
 line-notes strict p r h =
     let a : Spelled strict (p .at) (p .bytes) r = spelled strict p r h in

@@ -6,13 +6,13 @@ use mathlib.Core.List.{List, [], _∷_, map}
 use lib.ListN.{length, take, drop, getD}
 use lib.Dec.{eqb}
 use Rattle.format.specs.Lines.{Piece, linesFrom}
-use Rattle.chains.specs.Parents.{inArray}
-use Rattle.entries.specs.declared.Place.{Place}
-use Rattle.id_search.specs.Places.{nowhere}
-use Rattle.other_fields.specs.declared.Value.{Value}
-use Rattle.other_fields.specs.Next.{lastIn}
-use Rattle.programs.specs.declared.Places.{Places}
-use Rattle.programs.specs.Gathered.{ProgramPlaces}
+use Rattle.program_chains.specs.Parents.{inArray}
+use Rattle.catalogue_entries.specs.declared.Place.{Place}
+use Rattle.program_ids.specs.Places.{nowhere}
+use Rattle.accepted_line.specs.declared.fields.Value.{Value}
+use Rattle.accepted_line.specs.Next.{lastIn}
+use Rattle.program_places.specs.declared.Places.{Places}
+use Rattle.program_places.specs.Gathered.{ProgramPlaces}
 use Rattle.program_lines.specs.declared.NextLine.{NextLine}
 
 -- is the second byte of a line `P`?

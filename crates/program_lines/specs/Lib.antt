@@ -1,3 +1,4 @@
+-- Words for contracts and laws, and nothing to believe.
 -- The programs of a text, by its lines:
 --   Found   the PG lines from an offset on, what the next of them tells, and what is noted of each
 --   Line    an accepted line of fields

@@ -3,9 +3,9 @@ use Prim.Native.Nat.{ℕ, _+_, _≤_}
 use mathlib.Core.Bool.{Bool}
 use mathlib.Core.List.{List}
 use lib.ListN.{length}
-use Rattle.text.specs.Stands.{Each}
-use Rattle.other_fields.specs.Run.{fieldsFrom, AtField}
-use Rattle.other_fields.specs.Tables.{HasTag}
+use Rattle.byte_slices.specs.Stands.{Each}
+use Rattle.accepted_line.specs.Run.{fieldsFrom, AtField}
+use Rattle.accepted_line.specs.Tables.{HasTag}
 
 pub record FieldsOf (strict : Bool) (at : ℕ) (line : List ℕ) : Type 0 where
   pub start : AtField strict at line 3

@@ -1,8 +1,8 @@
 // The programs of an accepted text, gathered from its PG lines: where each line stands, its ID and its PP.
-use entries::Place;
-use other_fields::Value;
-use programs::Places;
-use programs::Programs;
+use accepted_line::fields::Value;
+use catalogue_entries::Place;
+use program_places::Places;
+use program_places::Programs;
 ghost use mathlib.Core.Path.{_≡_};
 ghost use mathlib.Core.Bool.{true};
 ghost use mathlib.Core.List.{map};
@@ -11,9 +11,9 @@ ghost use lib.ListN.{length};
 ghost use Rattle.format.specs.Lines.{lines};
 ghost use Rattle.format.specs.Reading.{announced, isStrict, readText};
 ghost use Rattle.accepted.specs.Read.{isAccepted};
-ghost use Rattle.other_fields.specs.Next.{lastIn};
-ghost use Rattle.other_fields.specs.Tables.{Walkable};
-ghost use Rattle.programs.specs.Gathered.{gatheredOf};
+ghost use Rattle.accepted_line.specs.Next.{lastIn};
+ghost use Rattle.accepted_line.specs.Tables.{Walkable};
+ghost use Rattle.program_places.specs.Gathered.{gatheredOf};
 ghost use Rattle.program_lines.specs.Line.{FieldsOf};
 ghost use Rattle.program_lines.specs.Found.{mayBeProgram, pgFrom, toldLines, NextLineInText, placeOf, previousOf, notesOf, linesOf};
 
@@ -26,9 +26,9 @@ struct NextLine {
 }
 
 // Where the ID and the PP of a program stand.
-struct Noted {
-    id: Place,
-    previous: Place,
+pub struct Noted {
+    pub id: Place,
+    pub previous: Place,
 }
 
 // The programs of a text, and where their lines stand.
@@ -55,7 +55,7 @@ fn next_program(text: &[u8], start: usize) -> NextLine
 {
     let mut at = start;
     while at < text.len() {
-        let cut = text::first_line(&text[at..]);
+        let cut = byte_slices::first_line(&text[at..]);
         let end = at + cut.len;
         let next = at + cut.next;
         if may_be_program(&text[at..end]) {
@@ -94,7 +94,7 @@ fn narrow_previous(v: Value) -> Place
 {
     if v.at == 0 {
         return Place {
-            at: programs::NOWHERE,
+            at: program_places::NOWHERE,
             len: 0,
         };
     }
@@ -107,21 +107,28 @@ fn find_places(line: &[u8], at: usize, once: bool, tables: &[u32]) -> Noted
     requires { ⌜ at + length (now line) ≤ 16777216 ⌝ }
     ensures { λ r. ⌜ (r .id ≡ placeOf (lastIn at (now (line .entry)) 73 68)) × (r .previous ≡ previousOf (lastIn at (now (line .entry)) 80 80)) ⌝ }
 {
-    let id = narrow(other_fields::find_value(line, at, b'I', b'D', once, tables));
-    let previous = narrow_previous(other_fields::find_value(line, at, b'P', b'P', once, tables));
+    let id = narrow(accepted_line::fields::find_value(line, at, b'I', b'D', once, tables));
+    let previous = narrow_previous(accepted_line::fields::find_value(
+        line,
+        at,
+        b'P',
+        b'P',
+        once,
+        tables,
+    ));
     Noted { id, previous }
 }
 
 // The ID and the PP of an accepted PG line at the offset `at`.
-fn places_of(line: &[u8], at: usize, strict: bool) -> Noted
+pub fn places_of(line: &[u8], at: usize, strict: bool) -> Noted
     requires { ⌜ FieldsOf strict at (now line) ⌝ }
     ensures { λ r. ⌜ (r .id ≡ placeOf (lastIn at (now (line .entry)) 73 68)) × (r .previous ≡ previousOf (lastIn at (now (line .entry)) 80 80)) ⌝ }
 {
-    if other_fields::is_once(line, at, strict) {
+    if accepted_line::fields::is_once(line, at, strict) {
         return find_places(line, at, true, &[]);
     }
     let mut tables = [0u32; 6448];
-    other_fields::note_tags(line, at, &mut tables);
+    accepted_line::fields::note_tags(line, at, &mut tables);
     find_places(line, at, false, &tables)
 }
 

@@ -1,1 +1,2 @@
-pub mod Gathered
+-- Words for contracts and laws, and nothing to believe.
+pub mod Answers

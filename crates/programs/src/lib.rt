@@ -1,77 +1,81 @@
-// The programs of a catalogue, gathered in one walk: where the ID and the PP of each stand.
-use entries::Entry;
-use entries::Place;
-use lookup::Found;
+// The roots and the leaves of the programs over a text and its catalogue. Each call judges the text and the catalogue first.
+use format::LineNo;
+use read::Checked;
+use read::CountAnswer;
 ghost use mathlib.Core.Path.{_≡_};
-ghost use Prim.Native.Nat.{_≤_};
-ghost use lib.ListN.{drop};
-ghost use Rattle.entries.specs.Entries.{entriesIn, counted};
-ghost use Rattle.lookup.specs.Lookup.{valueIn};
-ghost use Rattle.programs.specs.Gathered.{orNowhere, notedIn, gatheredOf};
+ghost use lib.ListN.{length};
+ghost use Rattle.format.specs.Calls.{fitting, rooting, leafing};
+ghost use Rattle.read.specs.Answers.{answerOf, outputOf};
+ghost use Rattle.programs.specs.Answers.{leavesAnswerOf, listOf, withHops};
 
-// The offset of a PP that is not there: no place of a text is so far.
-pub const NOWHERE: u32 = 4294967295;
-
-// Places of the text: their offsets, and their lengths.
-pub struct Places {
-    pub at: [u32; 1024],
-    pub len: [u32; 1024],
+// A refusal and its line, or how many leaves are written, and the hops.
+pub enum LeavesAnswer {
+    Refused(u8, LineNo),
+    Counted(usize, u32),
 }
 
-// Where the ID and the PP of each program stand, in order, and how many programs there are.
-pub struct Programs {
-    pub id: Places,
-    pub previous: Places,
-    pub count: usize,
-}
-
-// Where the PP of the program stands whose fields stand from `from` on.
-fn find_previous(catalogue: &[u8], from: usize) -> Place
-    ensures { λ r. ⌜ r ≡ orNowhere (valueIn 80 80 (entriesIn (drop from (now (catalogue .entry))))) ⌝ }
+// Writes ordinals to the front of `out`, and answers how many: 20 where it is too short.
+pub fn put_ordinals(out: &mut [u32], from: &[u32]) -> CountAnswer
+    ensures answer { λ r. ⌜ r ≡ answerOf (fitting (length (now (out .entry))) (now (from .entry))) ⌝ }
+    ensures wrote { λ _. ⌜ now (out .exit) ≡ outputOf (fitting (length (now (out .entry))) (now (from .entry))) (now (out .entry)) ⌝ }
 {
-    match lookup::field_from(catalogue, from, b'P', b'P') {
-        Found::Nothing => Place {
-            at: NOWHERE,
-            len: 0,
-        },
-        Found::At(p) => p,
+    if out.len() < from.len() {
+        return CountAnswer::Refused(20, LineNo(0));
+    }
+    let mut i: usize = 0;
+    while i < from.len() {
+        out[i] = from[i];
+        i += 1;
+    }
+    CountAnswer::Count(i)
+}
+
+// The programs without PP at the front of `out`: no graph check.
+pub fn roots(text: &[u8], catalogue: &[u8], out: &mut [u32]) -> CountAnswer
+    ensures answer { λ r. ⌜ r ≡ answerOf (rooting (now (text .entry)) (now (catalogue .entry)) (length (now (out .entry)))) ⌝ }
+    ensures wrote { λ _. ⌜ now (out .exit) ≡ outputOf (rooting (now (text .entry)) (now (catalogue .entry)) (length (now (out .entry)))) (now (out .entry)) ⌝ }
+{
+    match read::check(text, catalogue) {
+        Checked::Refused(n, line) => CountAnswer::Refused(n, line),
+        Checked::Fresh => {
+            let parents = program_parents::parents_of(text, catalogue);
+            let list = parents.list;
+            let found = program_chains::roots(&list[..parents.count]);
+            let ordinals = found.list;
+            put_ordinals(out, &ordinals[..found.count])
+        }
     }
 }
 
-// The programs of a catalogue: one walk from entry to entry, in which the fields of a program are looked at once more.
-pub fn gather(catalogue: &[u8]) -> Programs
-    requires { ⌜ counted 4 (entriesIn (now catalogue)) ≤ 1024 ⌝ }
-    ensures { λ r. ⌜ r ≡ gatheredOf (notedIn (entriesIn (now (catalogue .entry)))) ⌝ }
+// An answer with the hops beside the number of leaves.
+fn with_hops(a: CountAnswer, hops: u32) -> LeavesAnswer
+    ensures { λ r. ⌜ r ≡ withHops a hops ⌝ }
 {
-    let mut ats: [u32; 1024] = [0; 1024];
-    let mut lens: [u32; 1024] = [0; 1024];
-    let mut from: [u32; 1024] = [0; 1024];
-    let mut widths: [u32; 1024] = [0; 1024];
-    let mut count: usize = 0;
-    let mut at: usize = 0;
-    loop {
-        let e = entries::entry_at(catalogue, at);
-        let len = entries::size(e);
-        if len == 0 {
-            let id = Places { at: ats, len: lens };
-            let previous = Places {
-                at: from,
-                len: widths,
-            };
-            return Programs {
-                id,
-                previous,
-                count,
-            };
-        }
-        at += len;
-        if let Entry::Program(id, _) = e {
-            let previous = find_previous(catalogue, at);
-            ats[count] = id.at;
-            lens[count] = id.len;
-            from[count] = previous.at;
-            widths[count] = previous.len;
-            count += 1;
+    match a {
+        CountAnswer::Refused(n, line) => LeavesAnswer::Refused(n, line),
+        CountAnswer::Count(n) => LeavesAnswer::Counted(n, hops),
+    }
+}
+
+// The leaves at the front of `out`, in the crate's order, and the hops: 22 where a PP dangles, 23 where there is a cycle.
+pub fn leaves(text: &[u8], catalogue: &[u8], out: &mut [u32]) -> LeavesAnswer
+    ensures answer { λ r. ⌜ r ≡ leavesAnswerOf (leafing (now (text .entry)) (now (catalogue .entry)) (length (now (out .entry)))) ⌝ }
+    ensures wrote { λ _. ⌜ now (out .exit) ≡ outputOf (listOf (leafing (now (text .entry)) (now (catalogue .entry)) (length (now (out .entry)))))
+        (now (out .entry)) ⌝ }
+{
+    match read::check(text, catalogue) { // 21 comes before 22
+        Checked::Refused(n, line) => LeavesAnswer::Refused(n, line),
+        Checked::Fresh => {
+            let graph = program_parents::find_leaves(program_parents::parents_of(text, catalogue));
+            if graph.refusal != 0 {
+                return LeavesAnswer::Refused(graph.refusal, LineNo(0));
+            }
+            let parents = graph.parents;
+            let list = parents.list;
+            let hops = program_walks::hops(&list[..parents.count]);
+            let leaves = graph.leaves;
+            let ordinals = leaves.list;
+            with_hops(put_ordinals(out, &ordinals[..leaves.count]), hops)
         }
     }
 }

@@ -11,7 +11,7 @@ use Rattle.format.specs.Records.{Record, code}
 use Rattle.format.specs.Reading.{ofKind}
 use Rattle.format.specs.Programs.{programs, links}
 use Rattle.format.specs.Tidy.{inOrder, text, tidy}
-use Rattle.roundtrip.proofs.Order.{order-1, order-2, order-3, order-4, order-5}
+use Rattle.tidy_laws.proofs.Order.{order-1, order-2, order-3, order-4, order-5}
 use Rattle.format.specs.Prune.{isNeeded, chosen, pruned}
 use Rattle.tidy_text.specs.Sifted.{sifted}
 

@@ -13,7 +13,7 @@ use Rattle.format.specs.Programs.{Link, programs, programOf, links, tangled}
 use Rattle.format.specs.Tidy.{tidy, unwritable}
 use Rattle.format.specs.Calls.{Answer, refused, then, fresh, untangled, writing}
 use Rattle.accepted.specs.Read.{recordsOf}
-use Rattle.parser.proofs.Fresh.{Current, goes-on, stops}
+use Rattle.read.proofs.Fresh.{Current, goes-on, stops}
 use Rattle.format.specs.Prune.{isNeeded, pruned, pruning}
 use Rattle.prune_marks.specs.Marks.{neededMarks}
 use Rattle.prune_marks.proofs.Marked.{marks-at}

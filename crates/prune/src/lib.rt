@@ -1,12 +1,12 @@
 // Pruning: the tidy text with the programs in use and all their ancestors, in the old order, and nothing else changed.
 use format::LineNo;
-use parser::Checked;
-use parser::CountAnswer;
+use read::Checked;
+use read::CountAnswer;
 ghost use mathlib.Core.Path.{_≡_};
 ghost use lib.ListN.{length};
 ghost use lib.Dec.{leb};
 ghost use Rattle.format.specs.Bytes.{any};
-ghost use Rattle.parser.specs.Answers.{answerOf, outputOf};
+ghost use Rattle.read.specs.Answers.{answerOf, outputOf};
 ghost use Rattle.format.specs.Prune.{pruning};
 
 // Whether some ordinal in a list is `count` or more: no program has it.
@@ -32,12 +32,11 @@ pub fn prune(text: &[u8], catalogue: &[u8], used: &[u32], out: &mut [u8]) -> Cou
         (pruning (now (text .entry)) (now (catalogue .entry)) (now (used .entry)) (length (now (out .entry))))
         (now (out .entry)) ⌝ }
 {
-    match parser::check(text, catalogue) {
+    match read::check(text, catalogue) {
         Checked::Refused(n, line) => CountAnswer::Refused(n, line),
         Checked::Fresh => {
-            let programs = programs::gather(catalogue);
-            let high = has_high(used, programs.count);
-            let found = parents::find_parents(text, programs);
+            let found = program_parents::parents_of(text, catalogue);
+            let high = has_high(used, found.count);
             if high {
                 return CountAnswer::Refused(25, LineNo(0));
             }
@@ -46,12 +45,12 @@ pub fn prune(text: &[u8], catalogue: &[u8], used: &[u32], out: &mut [u8]) -> Cou
             }
             let list = found.list;
             let links = &list[..found.count];
-            let depths = chain_depths::find_depths(links);
+            let depths = program_depths::find_depths(links);
             if depths.cycle {
                 return CountAnswer::Refused(23, LineNo(0));
             }
             let marks = prune_marks::mark(links, used);
-            tidy::write_marked(text, repeat_rule::is_strict(text), &marks, out)
+            tidy::write_marked(text, read_repeat_rule::is_strict(text), &marks, out)
         }
     }
 }

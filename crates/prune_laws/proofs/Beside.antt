@@ -17,12 +17,12 @@ use Rattle.format.specs.Tidy.{tidy, unwritable}
 use Rattle.format.specs.Calls.{Answer, refused, yes, then, readAnswer, records, fresh, untangled, fitting, writing, tidying}
 use Rattle.format.specs.Prune.{isNeeded, chosen, pruned, pruning}
 use Rattle.accepted.specs.Read.{isAccepted, kept, recordsOf}
-use Rattle.chains.specs.Listed.{named}
-use Rattle.parents.proofs.Numbers.{links-count, links-named}
-use Rattle.parents.proofs.Own.{few-programs}
-use Rattle.parents.proofs.Road.{none-dangles, none-loops}
-use Rattle.roundtrip.proofs.Answered.{fresh-yes}
-use Rattle.roundtrip.proofs.Total.{tidy-length}
+use Rattle.program_chains.specs.Listed.{named}
+use Rattle.program_parents.proofs.Numbers.{links-count, links-named}
+use Rattle.program_parents.proofs.Own.{few-programs}
+use Rattle.program_parents.proofs.Road.{none-dangles, none-loops}
+use Rattle.tidy_laws.proofs.Answered.{fresh-yes}
+use Rattle.tidy_laws.proofs.Total.{tidy-length}
 use Rattle.tidy_text.proofs.Sifting.{sifted-small, sifted-whole}
 use Rattle.prune.proofs.Chosen.{chosen-same, sifted-tidy, pruned-tidy}
 use Rattle.prune_laws.specs.Beside.{TidiesAll, NeverLonger, RoomForTidy}

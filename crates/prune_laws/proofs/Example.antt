@@ -5,7 +5,7 @@ use mathlib.Core.List.{List, [], _∷_}
 use Rattle.format.specs.Catalogue.{catalogue}
 use Rattle.format.specs.Calls.{refused, yes}
 use Rattle.accepted.specs.Read.{recordsOf}
-use Rattle.roundtrip.proofs.Example.{ascii}
+use Rattle.format.proofs.Ascii.{ascii}
 use Rattle.format.specs.Prune.{pruning}
 
 -- not tidy: the comment stands first, a child before its parent

@@ -17,9 +17,9 @@ use Rattle.accepted.specs.Admits.{Unbarred}
 use Rattle.accepted.proofs.Admits.{barred-clear}
 use Rattle.accepted.proofs.Bools.{never, any-snoc, or-left, or-right}
 use Rattle.accepted.proofs.OfKind.{ofKind-append}
-use Rattle.roundtrip.specs.Gathered as ga
-use Rattle.roundtrip.specs.Gathered.{From, Gathered}
-use Rattle.roundtrip.proofs.Gathered.{text-gathered}
+use Rattle.tidy_laws.specs.Gathered as ga
+use Rattle.tidy_laws.specs.Gathered.{From, Gathered}
+use Rattle.tidy_laws.proofs.Gathered.{text-gathered}
 use Rattle.tidy_text.specs.Sifted.{sifted}
 
 -- ---- lines

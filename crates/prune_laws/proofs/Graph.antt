@@ -12,11 +12,11 @@ use borrow.Author.Tests.{eq-eqb, eqb-true, ltb-true, ltb-false, leb-false, not-t
 use Rattle.format.specs.Bytes.{any}
 use Rattle.format.specs.Programs.{Link, root, dangling, child, isDangling, reaches, loopsFrom, tangled, leaves}
 use Rattle.accepted.proofs.Bools.{never, split, or-split, or-true, or-left, or-right, and-left, and-right}
-use Rattle.chains.specs.Listed.{named}
-use Rattle.chains.proofs.Walks.{map-at, reaches-root}
-use Rattle.chains.proofs.Leaf.{leaves-exactly}
-use Rattle.chain_laws.proofs.Paths.{reaches-fewer, no-return}
-use Rattle.chain_laws.proofs.Some.{named-at}
+use Rattle.program_chains.specs.Listed.{named}
+use Rattle.program_chains.proofs.Walks.{map-at, reaches-root}
+use Rattle.program_chains.proofs.Leaf.{leaves-exactly}
+use Rattle.program_chains.proofs.Paths.{reaches-fewer, no-return}
+use Rattle.program_chains.proofs.Some.{named-at}
 use Rattle.format.specs.Prune.{isNeeded, chosen}
 use Rattle.prune_marks.proofs.Steps.{reach-step, reaches-dangling}
 use Rattle.prune_laws.proofs.Ranks.{rank, chosen-at, chosen-inside, Was, chosen-was, rank-one, chosen-le}

@@ -17,24 +17,24 @@ use Rattle.format.specs.Programs.{Program, Link, bytesOf, programOf, programs, 
 use Rattle.format.specs.Tidy.{tidy, unwritable}
 use Rattle.format.specs.Adding.{noProgram}
 use Rattle.format.specs.Calls.{refused, yes, then, records, current, fresh, untangled, fitting, writing, reading, tidying}
-use Rattle.text.specs.Stands.{Each}
-use Rattle.text.proofs.Equal.{same-self}
+use Rattle.byte_slices.specs.Stands.{Each}
+use Rattle.byte_slices.proofs.Equal.{same-self}
 use Rattle.accepted.specs.Sound.{KeyIsValue, Sound}
 use Rattle.accepted.specs.Read.{isAccepted, kept, recordsOf}
 use Rattle.accepted.proofs.Bools.{never, split, or-split, or-true, or-left, or-right}
 use Rattle.accepted.proofs.Pairs.{each-at}
 use Rattle.accepted.proofs.Text.{text-sound}
-use Rattle.chains.specs.Listed.{named}
-use Rattle.parents.proofs.Numbers.{links-count, links-named}
-use Rattle.parents.proofs.Own.{few-programs}
-use Rattle.parents.proofs.Road.{none-dangles, none-loops}
+use Rattle.program_chains.specs.Listed.{named}
+use Rattle.program_parents.proofs.Numbers.{links-count, links-named}
+use Rattle.program_parents.proofs.Own.{few-programs}
+use Rattle.program_parents.proofs.Road.{none-dangles, none-loops}
 use Rattle.add_ids.proofs.Apart.{ids-apart}
-use Rattle.roundtrip.specs.Bare.{bare, bares}
-use Rattle.roundtrip.specs.Faithful.{Holds}
-use Rattle.roundtrip.proofs.Faithful.{holds}
-use Rattle.roundtrip.proofs.Gathered.{gathered-writable}
-use Rattle.roundtrip.proofs.Programs.{links-equal, ids-equal, count-equal}
-use Rattle.roundtrip.proofs.Answered.{read-of, reading-yes}
+use Rattle.tidy_laws.specs.Bare.{bare, bares}
+use Rattle.tidy_laws.specs.Faithful.{Holds}
+use Rattle.tidy_laws.proofs.Faithful.{holds}
+use Rattle.tidy_laws.proofs.Gathered.{gathered-writable}
+use Rattle.tidy_laws.proofs.Programs.{links-equal, ids-equal, count-equal}
+use Rattle.tidy_laws.proofs.Answered.{read-of, reading-yes}
 use Rattle.format.specs.Prune.{isNeeded, chosen, pruned, pruning}
 use Rattle.tidy_text.specs.Sifted.{sifted}
 use Rattle.prune.proofs.Chosen.{sift-other, sift-programs, pruned-tidy}

@@ -6,7 +6,7 @@ use Rattle.format.specs.Records.{Record}
 use Rattle.format.specs.Programs.{programs, links}
 use Rattle.format.specs.Calls.{yes, records, fitting, tidying}
 use Rattle.accepted.specs.Read.{recordsOf}
-use Rattle.roundtrip.specs.Bare.{bares}
+use Rattle.tidy_laws.specs.Bare.{bares}
 use Rattle.format.specs.Prune.{isNeeded, chosen, pruning}
 
 -- `out` is the text `t` with the programs `us` and their ancestors alone; where a key or a value is in the text does not count

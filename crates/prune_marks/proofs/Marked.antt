@@ -12,9 +12,9 @@ use borrow.Author.Tests.{eqb-true, eqb-false, leb-false}
 use Rattle.format.specs.Bytes.{any}
 use Rattle.format.specs.Programs.{Link, root, dangling, child, reaches, loopsFrom, numbersFrom}
 use Rattle.accepted.proofs.Bools.{never, split, or-split, or-assoc, or-true, or-false, or-left, or-right}
-use Rattle.chains.specs.Listed.{named}
-use Rattle.chains.proofs.Leaf.{counting-length}
-use Rattle.chains.proofs.Walks.{map-at, reaches-root}
+use Rattle.program_chains.specs.Listed.{named}
+use Rattle.program_chains.proofs.Leaf.{counting-length}
+use Rattle.program_chains.proofs.Walks.{map-at, reaches-root}
 use Rattle.format.specs.Prune.{isNeeded}
 use Rattle.prune_marks.specs.Marks.{neededMarks, Closed, Up}
 use Rattle.prune_marks.proofs.Steps.{reach-step, reaches-dangling}

@@ -7,9 +7,9 @@ use native.Mathlib.Omega.{arith}
 use lib.ListN.{length, getD}
 use lib.Dec.{eqb}
 use Rattle.format.specs.Programs.{Link, root, dangling, child, reaches, loopsFrom, depth}
-use Rattle.chains.specs.Listed.{named}
-use Rattle.chain_laws.proofs.Bound.{depth-next}
-use Rattle.chain_laws.proofs.Paths.{depth-less}
+use Rattle.program_chains.specs.Listed.{named}
+use Rattle.program_chains.proofs.Bound.{depth-next}
+use Rattle.program_chains.proofs.Paths.{depth-less}
 
 -- a walk that ends in time is the same with one step less
 reach-same : (ls : List Link) (i f : ℕ) (l : Link) → depth ls (suc f) l ≤ f → reaches ls i f l ≡ reaches ls i (suc f) l

@@ -6,7 +6,7 @@ ghost use lib.ListN.{length};
 ghost use lib.Dec.{leb};
 ghost use Rattle.format.specs.Bytes.{any};
 ghost use Rattle.format.specs.Programs.{loopsFrom};
-ghost use Rattle.chains.specs.Parents.{linksOf, areParents};
+ghost use Rattle.program_chains.specs.Parents.{linksOf, areParents};
 ghost use Rattle.prune_marks.specs.Marks.{neededMarks, Closed, Up};
 
 // Marks the program `u` and its ancestors, parent by parent, up to one that is marked already: then all above it are too.
@@ -19,7 +19,7 @@ fn mark_up(parents: &[u32], marks: &mut [bool], u: u32)
     ensures { λ _. ⌜ Up (linksOf (now (parents .entry))) u (now (marks .entry)) (now (marks .exit)) ⌝ }
 {
     let mut at: u32 = u;
-    while at != chains::NOBODY {
+    while at != program_chains::NOBODY {
         let k = at as usize;
         if marks[k] {
             return;

@@ -18,8 +18,8 @@ use Rattle.record.specs.declared.Stretch.{Stretch}
 use Rattle.record.specs.declared.Keys.{Keys}
 use Rattle.record.specs.declared.Head.{Head}
 use Rattle.record.specs.declared.Head.the-variants as head
-use Rattle.accepted.specs.Sound.{isKey}
-use Rattle.tags.specs.Others.{unkeyed}
+use Rattle.format.specs.Keys.{isKey}
+use Rattle.record_tags.specs.Others.{unkeyed}
 
 -- ---- what the fields say
 

@@ -53,7 +53,7 @@ impl Keys {
         requires { ⌜ self .others + 1 ≤ 18446744073709551615 ⌝ }
         ensures { λ r. ⌜ r ≡ withField kind f at again self ⌝ }
     {
-        if !tags::is_key(kind, f.tag_0, f.tag_1) {
+        if !record_tags::is_key(kind, f.tag_0, f.tag_1) {
             if again {
                 return self;
             }

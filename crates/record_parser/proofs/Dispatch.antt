@@ -12,10 +12,10 @@ use Rattle.format.specs.Bytes.{any}
 use Rattle.format.specs.Records.{Record, header, reference, group, program, comment, code, Line, refusedLine, read, prefixed, kinded, bodied, body, fielded, kindOf, line, breaks}
 use Rattle.format.specs.declared.Kind.{Kind}
 use Rattle.format.specs.declared.Kind.the-variants.{Header, ReferenceSequence, ReadGroup, Program, Comment}
-use Rattle.text.specs.Upto.{leads}
-use Rattle.kind.specs.declared.ParsedKind.{ParsedKind}
-use Rattle.kind.specs.declared.ParsedKind.the-variants.{Empty, Invalid, Is}
-use Rattle.kind.specs.Kind.{parsedKindOf, kindAt}
+use Rattle.byte_slices.specs.Upto.{leads}
+use Rattle.record_kind.specs.declared.ParsedKind.{ParsedKind}
+use Rattle.record_kind.specs.declared.ParsedKind.the-variants.{Empty, Invalid, Is}
+use Rattle.record_kind.specs.Kind.{parsedKindOf, kindAt}
 use Rattle.accepted.proofs.Bools.{split}
 use Rattle.accepted.proofs.Clean.{unbroken}
 use Rattle.record.specs.declared.Head.{Head}

@@ -1,8 +1,11 @@
 // One line of a header: the record that it is, or the refusal that it gets.
+pub mod fields;
+pub mod marks;
+
 use format::Kind;
-use kind::ParsedKind;
 use record::Head;
 use record::Stretch;
+use record_kind::ParsedKind;
 ghost use mathlib.Core.Path.{_≡_};
 ghost use Prim.Native.Nat.{_≤_, _+_};
 ghost use lib.ListN.{length, drop};
@@ -14,10 +17,10 @@ ghost use Rattle.record.specs.Head.{headOf, hasFields};
 fn has_break(src: &[u8]) -> bool
     ensures { λ r. ⌜ r ≡ any breaks (now (src .entry)) ⌝ }
 {
-    if text::upto(src, b'\n') < src.len() {
+    if byte_slices::upto(src, b'\n') < src.len() {
         return true;
     }
-    text::upto(src, b'\r') < src.len()
+    byte_slices::upto(src, b'\r') < src.len()
 }
 
 // CO: one tab, then any bytes, also none.
@@ -48,7 +51,7 @@ fn parse_value(kind: Kind, src: &[u8], at: usize, strict: bool) -> Head
     match kind {
         Kind::Comment => parse_comment(src, at),
         Kind::Header | Kind::ReferenceSequence | Kind::ReadGroup | Kind::Program =>
-            record_fields::parse_fields(kind, src, at, strict),
+            fields::parse_fields(kind, src, at, strict),
     }
 }
 
@@ -57,10 +60,10 @@ fn parse_bytes(src: &[u8], at: usize, strict: bool) -> Head
     requires { ⌜ at + length (now src) ≤ 4294967295 ⌝ }
     ensures { λ r. ⌜ r ≡ headOf (prefixed strict at (now (src .entry))) ⌝ }
 {
-    if !text::leads(src, b'@') {
+    if !byte_slices::leads(src, b'@') {
         return Head::Refused(3);
     }
-    match kind::parse_kind(&src[1..]) {
+    match record_kind::parse_kind(&src[1..]) {
         ParsedKind::Empty => Head::Refused(4),
         ParsedKind::Invalid => Head::Refused(5),
         ParsedKind::Is(k) => parse_value(k, src, at, strict),

@@ -10,10 +10,15 @@
 // and one more; their answers were written by hand from these documents. 188 are longer, and answered by a model written from these alone.
 // `names.txt`: questions to `names`, answered by a model written from document 02 alone.
 // `requests.txt`: questions to every call, answered by that model, request by request.
+// `more.txt`: questions to the calls that no document names, answered by a model written from what was asked of them, and their edges by hand.
+// `faults.txt`: questions to `faults`, 58 answered by that model, the others by another written from the rule.
+// `seal.txt`: questions to `seal` and `check_sealed`, 100 answered by that model, the others written by hand.
 // `merges.txt`: merges that samtools, picard and sambamba made of small headers, judged by a model written from document 02 alone (`oracle/merges`).
+// `lens.txt`: fronts of SAM files and of uncompressed BAM streams, to `text_len` and `binary_len`: answered by that model, written by samtools, and
+// corners written by hand.
 //
 // Words are parted by one space; byte strings are in hex, `-` for none. A line is a call, its text, its catalogue (`=` for the one that
-// `parser::read` gives), its other arguments, and the answer:
+// `read::read` gives), its other arguments, and the answer:
 //     count TEXT KEPT KIND ok COUNT
 //     key TEXT KEPT KIND ORDINAL ok OFFSET LENGTH
 //     ln TEXT KEPT ORDINAL ok LN
@@ -25,25 +30,36 @@
 //     add TEXT KEPT ROOM PREFIX FIELDS ok BYTES
 //     names TEXT KEPT LIST WORK ROOM ok ORDINALS INDEX LOOKS
 //     prune TEXT KEPT ROOM USED ok BYTES
+//     find TEXT KEPT KIND KEY ok ORDINAL
+//     references TEXT KEPT ROOM ok COUNT ROWS
+//     check_sealed TEXT KEPT ROOM SEAL ok
 // or `refused NUMBER LINE` in place of `ok ..`. ORDINALS have four hex digits each; those of names and of USED have eight, and so have the
-// slots of INDEX and the parent and the depth of each program in ROWS; SEATS is how many records the table has; LOOKS is `-` where it is not
-// stored. Over a text alone:
+// slots of INDEX, the parent and the depth of each program in ROWS, and each number of a row of references; SEATS is how many records the
+// table has; LOOKS is `-` where it is not stored. Over a text alone:
 //     program TEXT BYTES
 //     tidy TEXT ROOM ok BYTES
 //     carry_on TEXT ROOM TABLE ok BYTES ROWS
+//     faults TEXT TABLE ok ROWS
 //     read TEXT ROOM ok CATALOGUE
 //     read_with TEXT ROOM SLOTS ok CATALOGUE
 //     binary_out TEXT ROOM ok BYTES
 //     binary_in BYTES ROOM ok BYTES
+//     seal TEXT ROOM ok SEAL
 // have what the program on standard input writes, the tidy text, the tidy text of what is kept with the table of what is skipped, eight
-// digits for each number, the catalogue, which the check must then take, and refuse when its last byte is another, the catalogue again, by
-// a work area of SLOTS numbers, which is all zeros afterwards, the binary header, and the tidy text of a binary header. A line of the oracle
+// digits for each number, the table of the faulty lines, the catalogue, which the check must then take, and refuse when its last byte is another,
+// the catalogue again, by
+// a work area of SLOTS numbers, which is all zeros afterwards, the binary header, the tidy text of a binary header, and the seal, by a work area
+// of ROOM bytes, which must be as tidying leaves it, and after the check of a seal too unless that is refused before 33. A line of the oracle
 // has its text first; each such text is read, tidied, and asked for its roots and leaves. Of an output that is lent every element is looked at:
 // what is not the answer must be as it was. Where the field call's answer stands no program can see: its contract says it. Over three texts and
 // two lists:
 //     judge_merge A B MERGED LIST_A LIST_B ok
 // or `refused NUMBER LINE ABOUT` in place of `ok`: ABOUT is `A`, `B` or `M` for the text that it is about, or `-`; each number of a list has eight
-// hex digits.
+// hex digits. Over the front of a file or of a stream:
+//     text_len BYTES ok COUNT
+//     binary_len BYTES ok whole COUNT
+//     binary_len BYTES ok more COUNT
+// or `refused 28 0`. The same must be said where as many bytes as are asked for are lent each time, with the cursor.
 //
 // A line that starts with `!` holds a wrong answer, and the program must find it wrong: so it is seen that each comparison can fail. One that
 // starts with `#` is a note.
@@ -51,11 +67,15 @@ use libc::STDOUT_FILENO;
 use replay_asked::ACCEPTED;
 use replay_asked::ADDED;
 use replay_asked::BINARY_IN;
+use replay_asked::BINARY_LEN;
 use replay_asked::BINARY_OUT;
 use replay_asked::BY_TABLE;
 use replay_asked::CARRIED;
+use replay_asked::CHECK_SEALED;
 use replay_asked::COUNT;
+use replay_asked::FAULTS;
 use replay_asked::FIELD;
+use replay_asked::FIND;
 use replay_asked::FOUND;
 use replay_asked::KEY;
 use replay_asked::LEAVES;
@@ -68,8 +88,11 @@ use replay_asked::PROGRAM;
 use replay_asked::PRUNED;
 use replay_asked::READ;
 use replay_asked::READ_WITH;
+use replay_asked::REFERENCES;
 use replay_asked::REFUSED;
 use replay_asked::ROOTS;
+use replay_asked::SEALED;
+use replay_asked::TEXT_LEN;
 use replay_asked::UNKNOWN;
 use replay_asked::UNWRITABLE;
 use replay_asked::WRONG;
@@ -88,6 +111,8 @@ fn is_call(line: &[u8], asked: usize, text: &[u8], kept: &[u8], out: &mut [u32])
         ROOTS => replay_graphs::is_roots(line, text, kept, out),
         LEAVES => replay_graphs::is_leaves(line, text, kept, out),
         BY_TABLE => replay_table::is_leaves_by_table(line, text, kept, out),
+        FIND => replay_found::is_found(line, text, kept),
+        REFERENCES => replay_found::is_referenced(line, text, kept, out),
         _ => false,
     }
 }
@@ -95,18 +120,18 @@ fn is_call(line: &[u8], asked: usize, text: &[u8], kept: &[u8], out: &mut [u32])
 // Whether a call over text and catalogue answers as the line says.
 fn is_answer(line: &[u8], asked: usize, text: &[u8]) -> bool {
     let mut kept = io::large_buffer();
-    let n = replay_calls::keep(stored_cases::word(line, 2), text, &mut kept);
+    let n = replay_calls::keep(replay_cases::word(line, 2), text, &mut kept);
     if asked == ADDED {
-        let mut out = stored_answers::bytes();
+        let mut out = replay_answers::bytes();
         return replay_texts::is_added(line, text, &kept[..n], &mut out);
     }
     if asked == PRUNED {
-        let mut out = stored_answers::bytes();
+        let mut out = replay_answers::bytes();
         return replay_prune::is_pruned(line, text, &kept[..n], &mut out);
     }
-    let mut out = stored_answers::ordinals();
+    let mut out = replay_answers::ordinals();
     if asked == NAMES {
-        let mut work = stored_answers::ordinals();
+        let mut work = replay_answers::ordinals();
         return replay_names::is_names(line, text, &kept[..n], &mut work, &mut out);
     }
     is_call(line, asked, text, &kept[..n], &mut out)
@@ -117,13 +142,17 @@ fn is_written(line: &[u8], asked: usize, text: &[u8]) -> bool {
     if asked == PROGRAM {
         return replay_texts::is_program(line, text);
     }
-    let mut out = stored_answers::bytes();
+    let mut out = replay_answers::bytes();
     if asked == CARRIED {
-        let mut table = stored_answers::ordinals();
+        let mut table = replay_answers::ordinals();
         return replay_carried::is_carried(line, text, &mut out, &mut table);
     }
+    if asked == FAULTS {
+        let mut table = replay_answers::ordinals();
+        return replay_faults::is_faults(line, text, &mut table);
+    }
     if asked == READ_WITH {
-        let mut work = stored_answers::ordinals();
+        let mut work = replay_answers::ordinals();
         return replay_work::is_read_with(line, text, &mut out, &mut work);
     }
     match asked {
@@ -136,18 +165,18 @@ fn is_written(line: &[u8], asked: usize, text: &[u8]) -> bool {
 
 // Whether the library says of a text what the crate says.
 fn is_sample(line: &[u8], asked: usize, text: &[u8]) -> bool {
-    let mut kept = stored_answers::bytes();
-    let mut out = stored_answers::bytes();
+    let mut kept = replay_answers::bytes();
+    let mut out = replay_answers::bytes();
     match asked {
         REFUSED => replay_graphs::is_read_refused(line, text, &mut kept)
             && replay_texts::is_tidy_refused(line, text, &mut out),
         ACCEPTED => {
             replay_graphs::is_read(line, text, &mut kept)
-                && replay_texts::is_tidy(stored_cases::word(line, 2), text, &mut out)
+                && replay_texts::is_tidy(replay_cases::word(line, 2), text, &mut out)
         }
         UNWRITABLE => {
             replay_graphs::is_read(line, text, &mut kept)
-                && replay_texts::is_unwritable(stored_cases::word(line, 2), text, &mut out)
+                && replay_texts::is_unwritable(replay_cases::word(line, 2), text, &mut out)
         }
         _ => false,
     }
@@ -158,16 +187,28 @@ fn is_right(line: &[u8], asked: usize) -> bool {
     if asked == MERGED {
         return replay_merged::is_merged(line);
     }
+    if asked == TEXT_LEN {
+        return replay_lens::is_text_len(line);
+    }
+    if asked == BINARY_LEN {
+        return replay_lens::is_binary_len(line);
+    }
+    if asked == SEALED {
+        return replay_seal::is_sealed(line);
+    }
+    if asked == CHECK_SEALED {
+        return replay_seal::is_check_sealed(line);
+    }
     let mut text = io::large_buffer();
-    if asked < PROGRAM {
-        let n = stored_cases::decode(stored_cases::word(line, 1), &mut text);
+    if asked < PROGRAM || asked == FIND || asked == REFERENCES {
+        let n = replay_cases::decode(replay_cases::word(line, 1), &mut text);
         return is_answer(line, asked, &text[..n]);
     }
-    if asked < REFUSED {
-        let n = stored_cases::decode(stored_cases::word(line, 1), &mut text);
+    if asked < REFUSED || asked == FAULTS {
+        let n = replay_cases::decode(replay_cases::word(line, 1), &mut text);
         return is_written(line, asked, &text[..n]);
     }
-    let n = stored_cases::decode(stored_cases::word(line, 0), &mut text);
+    let n = replay_cases::decode(replay_cases::word(line, 0), &mut text);
     is_sample(line, asked, &text[..n])
 }
 
@@ -220,7 +261,7 @@ fn block(input: &[u8], tally: &mut [u32]) -> usize
 {
     let mut at: usize = 0;
     while at < input.len() {
-        let end = stored_cases::until(input, at, b'\n');
+        let end = replay_cases::until(input, at, b'\n');
         if end == input.len() {
             return at;
         }
@@ -237,7 +278,7 @@ fn next_block(fd: i32, at: usize, tally: &mut [u32]) -> usize
     ensures { λ r. ⌜ (r ≤ 131072) × (length (now (tally .exit)) ≡ length (now (tally .entry))) ⌝ }
 {
     libc::lseek(fd, at as i64, libc::SEEK_SET);
-    let mut input = stored_cases::space();
+    let mut input = replay_cases::space();
     let n = io::read_full(fd, &mut input);
     if n == 0 {
         return 0;
@@ -272,7 +313,7 @@ fn replay(place: usize) {
         os::fail(&name[..n]);
         return;
     }
-    let mut tally: [u32; 26] = [0; 26];
+    let mut tally: [u32; 33] = [0; 33];
     all_blocks(fd, &mut tally);
     libc::close(fd);
     io::write_all(STDOUT_FILENO, &name[..n]);

@@ -56,84 +56,125 @@ pub const FOUND: usize = 24;
 
 pub const MERGED: usize = 25;
 
+pub const TEXT_LEN: usize = 26;
+
+pub const BINARY_LEN: usize = 27;
+
+pub const FIND: usize = 28;
+
+pub const REFERENCES: usize = 29;
+
+pub const SEALED: usize = 30;
+
+pub const CHECK_SEALED: usize = 31;
+
+pub const FAULTS: usize = 32;
+
 // What a line asks: its first word is a call, or its second what the crate makes of the text.
 pub fn asked_by(line: &[u8]) -> usize {
-    let call = stored_cases::word(line, 0);
-    if text::same(call, b"count") {
+    let call = replay_cases::word(line, 0);
+    if byte_slices::same(call, b"count") {
         return COUNT;
     }
-    if text::same(call, b"key") {
+    if byte_slices::same(call, b"key") {
         return KEY;
     }
-    if text::same(call, b"ln") {
+    if byte_slices::same(call, b"ln") {
         return LENGTH;
     }
-    if text::same(call, b"line") {
+    if byte_slices::same(call, b"line") {
         return LINE;
     }
-    if text::same(call, b"field") {
+    if byte_slices::same(call, b"field") {
         return FIELD;
     }
-    if text::same(call, b"roots") {
+    if byte_slices::same(call, b"roots") {
         return ROOTS;
     }
-    if text::same(call, b"leaves") {
+    if byte_slices::same(call, b"leaves") {
         return LEAVES;
     }
-    if text::same(call, b"leaves_by_table") {
+    if byte_slices::same(call, b"leaves_by_table") {
         return BY_TABLE;
     }
-    if text::same(call, b"add") {
+    if byte_slices::same(call, b"add") {
         return ADDED;
     }
-    if text::same(call, b"names") {
+    if byte_slices::same(call, b"names") {
         return NAMES;
     }
-    if text::same(call, b"prune") {
+    if byte_slices::same(call, b"prune") {
         return PRUNED;
     }
-    if text::same(call, b"judge_merge") {
+    if byte_slices::same(call, b"judge_merge") {
         return MERGED;
+    }
+    found_by(line)
+}
+
+// What a line asks about a key, about all references, a seal or faults.
+fn found_by(line: &[u8]) -> usize {
+    let call = replay_cases::word(line, 0);
+    if byte_slices::same(call, b"find") {
+        return FIND;
+    }
+    if byte_slices::same(call, b"references") {
+        return REFERENCES;
+    }
+    if byte_slices::same(call, b"seal") {
+        return SEALED;
+    }
+    if byte_slices::same(call, b"check_sealed") {
+        return CHECK_SEALED;
+    }
+    if byte_slices::same(call, b"faults") {
+        return FAULTS;
     }
     written_by(line)
 }
 
 // What a line asks of a text alone, or of a binary header.
 fn written_by(line: &[u8]) -> usize {
-    let call = stored_cases::word(line, 0);
-    if text::same(call, b"program") {
+    let call = replay_cases::word(line, 0);
+    if byte_slices::same(call, b"program") {
         return PROGRAM;
     }
-    if text::same(call, b"tidy") {
+    if byte_slices::same(call, b"tidy") {
         return TIDIED;
     }
-    if text::same(call, b"carry_on") {
+    if byte_slices::same(call, b"carry_on") {
         return CARRIED;
     }
-    if text::same(call, b"read") {
+    if byte_slices::same(call, b"read") {
         return READ;
     }
-    if text::same(call, b"binary_out") {
+    if byte_slices::same(call, b"binary_out") {
         return BINARY_OUT;
     }
-    if text::same(call, b"binary_in") {
+    if byte_slices::same(call, b"binary_in") {
         return BINARY_IN;
     }
-    if text::same(call, b"read_with") {
+    if byte_slices::same(call, b"read_with") {
         return READ_WITH;
     }
-    judged_by(stored_cases::word(line, 1))
+    if byte_slices::same(call, b"text_len") {
+        return TEXT_LEN;
+    }
+    if byte_slices::same(call, b"binary_len") {
+        return BINARY_LEN;
+    }
+    judged_by(replay_cases::word(line, 1))
 }
 
 // What the crate makes of a text, by its name.
 fn judged_by(word: &[u8]) -> usize {
-    if text::same(word, b"refused") {
+    if byte_slices::same(word, b"refused") {
         return REFUSED;
     }
-    if text::same(word, b"accepted") {
+    if byte_slices::same(word, b"accepted") {
         return ACCEPTED;
     }
-    if text::same(word, b"unwritable") {
+    if byte_slices::same(word, b"unwritable") {
         return UNWRITABLE;
     }
     UNKNOWN
@@ -165,7 +206,7 @@ fn print_count(name: &[u8], n: u32) {
 
 // Writes how many lines ask for something written.
 fn print_written(tally: &[u32])
-    requires { ⌜ length (now tally) ≡ 26 ⌝ }
+    requires { ⌜ length (now tally) ≡ 33 ⌝ }
 {
     print_count(b" add ", tally[ADDED]);
     print_count(b" names ", tally[NAMES]);
@@ -180,9 +221,34 @@ fn print_written(tally: &[u32])
     print_count(b" judge_merge ", tally[MERGED]);
 }
 
+// Writes how many lines ask how long a header is.
+fn print_lens(tally: &[u32])
+    requires { ⌜ length (now tally) ≡ 33 ⌝ }
+{
+    print_count(b" text_len ", tally[TEXT_LEN]);
+    print_count(b" binary_len ", tally[BINARY_LEN]);
+}
+
+// Writes how many lines ask about a key, or about all references.
+fn print_sought(tally: &[u32])
+    requires { ⌜ length (now tally) ≡ 33 ⌝ }
+{
+    print_count(b" find ", tally[FIND]);
+    print_count(b" references ", tally[REFERENCES]);
+}
+
+// Writes how many lines ask for a seal, or for faults.
+fn print_sealed(tally: &[u32])
+    requires { ⌜ length (now tally) ≡ 33 ⌝ }
+{
+    print_count(b" seal ", tally[SEALED]);
+    print_count(b" check_sealed ", tally[CHECK_SEALED]);
+    print_count(b" faults ", tally[FAULTS]);
+}
+
 // Writes how many lines ask each call.
 pub fn print_asked(tally: &[u32])
-    requires { ⌜ length (now tally) ≡ 26 ⌝ }
+    requires { ⌜ length (now tally) ≡ 33 ⌝ }
 {
     print_count(b" count ", tally[COUNT]);
     print_count(b" key ", tally[KEY]);
@@ -193,11 +259,14 @@ pub fn print_asked(tally: &[u32])
     print_count(b" leaves ", tally[LEAVES]);
     print_count(b" leaves_by_table ", tally[BY_TABLE]);
     print_written(tally);
+    print_lens(tally);
+    print_sought(tally);
+    print_sealed(tally);
 }
 
 // Writes how many texts the crate judged in each way, and how many lines ask nothing.
 pub fn print_judged(tally: &[u32])
-    requires { ⌜ length (now tally) ≡ 26 ⌝ }
+    requires { ⌜ length (now tally) ≡ 33 ⌝ }
 {
     print_count(b" refused ", tally[REFUSED]);
     print_count(b" accepted ", tally[ACCEPTED]);
@@ -207,7 +276,7 @@ pub fn print_judged(tally: &[u32])
 
 // Writes how many answers were wrong, and how many of the marked lines were found.
 pub fn print_found(tally: &[u32])
-    requires { ⌜ length (now tally) ≡ 26 ⌝ }
+    requires { ⌜ length (now tally) ≡ 33 ⌝ }
 {
     print_number(b" wrong ", tally[WRONG]);
     print_number(b", known wrong found ", tally[FOUND]);

@@ -16,23 +16,23 @@ fn is_table(word: &[u8], table: &[u32], skipped: usize) -> bool {
     if format::LONGEST < skipped {
         return false;
     }
-    stored_answers::is_list(word, table, 2 * skipped, 8)
+    replay_answers::is_list(word, table, 2 * skipped, 8)
 }
 
 // Whether what is kept and the table of the skipped lines are the line's, in an output and a table of as many elements as it says.
 pub fn is_carried(line: &[u8], text: &[u8], out: &mut [u8], table: &mut [u32]) -> bool {
-    let room = stored_answers::byte_room(stored_cases::word(line, 2), out);
-    let rows = stored_answers::ordinal_room(stored_cases::word(line, 3), table);
+    let room = replay_answers::byte_room(replay_cases::word(line, 2), out);
+    let rows = replay_answers::ordinal_room(replay_cases::word(line, 3), table);
     match carried(text, &mut out[..room], &mut table[..rows]) {
         Carried::Refused(n, no) => {
-            stored_answers::is_refusal(line, 4, n, no)
-                && stored_cases::is_untouched(out)
-                && stored_cases::is_unlisted(table)
+            replay_answers::is_refusal(line, 4, n, no)
+                && replay_cases::is_untouched(out)
+                && replay_cases::is_unlisted(table)
         }
         Carried::Written(n, skipped) => {
-            stored_answers::is_ok(line, 4, 2)
-                && stored_answers::is_text(stored_cases::word(line, 5), out, n)
-                && is_table(stored_cases::word(line, 6), table, skipped)
+            replay_answers::is_ok(line, 4, 2)
+                && replay_answers::is_text(replay_cases::word(line, 5), out, n)
+                && is_table(replay_cases::word(line, 6), table, skipped)
         }
     }
 }

@@ -1,48 +1,51 @@
 // Reading, and the calls over program graphs: whether each answers as a line of stored answers says (`replay` has the lines' form).
-use parser::Checked;
-use parser::CountAnswer;
-use roots_and_leaves::LeavesAnswer;
+use programs::LeavesAnswer;
+use read::Checked;
+use read::CountAnswer;
 
 // Whether the roots are the line's, in an output of as many elements as it says.
 pub fn is_roots(line: &[u8], text: &[u8], kept: &[u8], out: &mut [u32]) -> bool {
-    let room = stored_answers::ordinal_room(stored_cases::word(line, 3), out);
-    match roots_and_leaves::roots(text, kept, &mut out[..room]) {
-        CountAnswer::Refused(n, no) => stored_answers::is_refusal(line, 4, n, no)
-            && stored_cases::is_unlisted(out),
-        CountAnswer::Count(n) => stored_answers::is_ok(line, 4, 1)
-            && stored_answers::is_list(stored_cases::word(line, 5), out, n, 4),
+    let room = replay_answers::ordinal_room(replay_cases::word(line, 3), out);
+    match programs::roots(text, kept, &mut out[..room]) {
+        CountAnswer::Refused(n, no) => replay_answers::is_refusal(line, 4, n, no)
+            && replay_cases::is_unlisted(out),
+        CountAnswer::Count(n) => replay_answers::is_ok(line, 4, 1)
+            && replay_answers::is_list(replay_cases::word(line, 5), out, n, 4),
     }
 }
 
 // Whether the leaves and the hops are the line's, in an output of as many elements as it says.
 pub fn is_leaves(line: &[u8], text: &[u8], kept: &[u8], out: &mut [u32]) -> bool {
-    let room = stored_answers::ordinal_room(stored_cases::word(line, 3), out);
-    match roots_and_leaves::leaves(text, kept, &mut out[..room]) {
-        LeavesAnswer::Refused(n, no) => stored_answers::is_refusal(line, 4, n, no)
-            && stored_cases::is_unlisted(out),
+    let room = replay_answers::ordinal_room(replay_cases::word(line, 3), out);
+    match programs::leaves(text, kept, &mut out[..room]) {
+        LeavesAnswer::Refused(n, no) => replay_answers::is_refusal(line, 4, n, no)
+            && replay_cases::is_unlisted(out),
         LeavesAnswer::Counted(n, hops) => {
-            stored_answers::is_ok(line, 4, 2)
-                && stored_answers::is_list(stored_cases::word(line, 5), out, n, 4)
-                && stored_answers::is_number(stored_cases::word(line, 6), hops as u64)
+            replay_answers::is_ok(line, 4, 2)
+                && replay_answers::is_list(replay_cases::word(line, 5), out, n, 4)
+                && replay_answers::is_number(replay_cases::word(line, 6), hops as u64)
         }
     }
 }
 
 // Whether the roots are the crate's.
 fn are_roots(word: &[u8], text: &[u8], kept: &[u8], out: &mut [u32]) -> bool {
-    match roots_and_leaves::roots(text, kept, out) {
+    match programs::roots(text, kept, out) {
         CountAnswer::Refused(_, _) => false,
-        CountAnswer::Count(n) => stored_answers::is_list(word, out, n, 4),
+        CountAnswer::Count(n) => replay_answers::is_list(word, out, n, 4),
     }
 }
 
 // Whether the leaves are the crate's, or it found a cycle and the answer is 23.
 fn are_leaves(word: &[u8], text: &[u8], kept: &[u8], out: &mut [u32]) -> bool {
-    match roots_and_leaves::leaves(text, kept, out) {
+    match programs::leaves(text, kept, out) {
         LeavesAnswer::Refused(n, no) => {
-            text::same(word, b"cycle") && n == 23 && no.0 == 0 && stored_cases::is_unlisted(out)
+            byte_slices::same(word, b"cycle")
+                && n == 23
+                && no.0 == 0
+                && replay_cases::is_unlisted(out)
         }
-        LeavesAnswer::Counted(n, _) => stored_answers::is_list(word, out, n, 4),
+        LeavesAnswer::Counted(n, _) => replay_answers::is_list(word, out, n, 4),
     }
 }
 
@@ -51,17 +54,17 @@ fn is_graph(line: &[u8], text: &[u8], kept: &[u8], n: usize) -> bool {
     if kept.len() < n {
         return false;
     }
-    let mut first = stored_answers::ordinals();
-    let mut second = stored_answers::ordinals();
-    stored_cases::is_untouched(&kept[n..])
-        && are_roots(stored_cases::word(line, 3), text, &kept[..n], &mut first)
-        && are_leaves(stored_cases::word(line, 4), text, &kept[..n], &mut second)
-        && stored_cases::word(line, 5).len() == 0
+    let mut first = replay_answers::ordinals();
+    let mut second = replay_answers::ordinals();
+    replay_cases::is_untouched(&kept[n..])
+        && are_roots(replay_cases::word(line, 3), text, &kept[..n], &mut first)
+        && are_leaves(replay_cases::word(line, 4), text, &kept[..n], &mut second)
+        && replay_cases::word(line, 5).len() == 0
 }
 
 // Whether a text is read, and its roots and leaves are the line's.
 pub fn is_read(line: &[u8], text: &[u8], kept: &mut [u8]) -> bool {
-    match parser::read(text, kept) {
+    match read::read(text, kept) {
         CountAnswer::Refused(_, _) => false,
         CountAnswer::Count(n) => is_graph(line, text, kept, n),
     }
@@ -69,7 +72,7 @@ pub fn is_read(line: &[u8], text: &[u8], kept: &mut [u8]) -> bool {
 
 // Whether the check refuses `kept` with 21.
 fn is_stale(text: &[u8], kept: &[u8]) -> bool {
-    match parser::check(text, kept) {
+    match read::check(text, kept) {
         Checked::Fresh => false,
         Checked::Refused(n, _) => n == 21,
     }
@@ -77,7 +80,7 @@ fn is_stale(text: &[u8], kept: &[u8]) -> bool {
 
 // Whether the check takes `kept`, and refuses it with another last byte. The empty one has no last byte.
 fn is_fresh(text: &[u8], kept: &mut [u8]) -> bool {
-    match parser::check(text, kept) {
+    match read::check(text, kept) {
         Checked::Fresh => {}
         Checked::Refused(_, _) => return false,
     }
@@ -94,25 +97,25 @@ fn is_own(word: &[u8], text: &[u8], kept: &mut [u8], n: usize) -> bool {
     if kept.len() < n {
         return false;
     }
-    stored_answers::is_text(word, kept, n) && is_fresh(text, &mut kept[..n])
+    replay_answers::is_text(word, kept, n) && is_fresh(text, &mut kept[..n])
 }
 
 // Whether reading answers as the line says, in a slice of as many bytes as it says, and the check takes what was read.
 pub fn is_reading(line: &[u8], text: &[u8], kept: &mut [u8]) -> bool {
-    let room = stored_answers::byte_room(stored_cases::word(line, 2), kept);
-    match parser::read(text, &mut kept[..room]) {
-        CountAnswer::Refused(n, no) => stored_answers::is_refusal(line, 3, n, no)
-            && stored_cases::is_untouched(kept),
-        CountAnswer::Count(n) => stored_answers::is_ok(line, 3, 1)
-            && is_own(stored_cases::word(line, 4), text, kept, n),
+    let room = replay_answers::byte_room(replay_cases::word(line, 2), kept);
+    match read::read(text, &mut kept[..room]) {
+        CountAnswer::Refused(n, no) => replay_answers::is_refusal(line, 3, n, no)
+            && replay_cases::is_untouched(kept),
+        CountAnswer::Count(n) => replay_answers::is_ok(line, 3, 1)
+            && is_own(replay_cases::word(line, 4), text, kept, n),
     }
 }
 
 // Whether reading refuses a text as the crate does, and writes nothing.
 pub fn is_read_refused(line: &[u8], text: &[u8], out: &mut [u8]) -> bool {
-    match parser::read(text, out) {
-        CountAnswer::Refused(n, no) => stored_answers::is_refusal(line, 1, n, no)
-            && stored_cases::is_untouched(out),
+    match read::read(text, out) {
+        CountAnswer::Refused(n, no) => replay_answers::is_refusal(line, 1, n, no)
+            && replay_cases::is_untouched(out),
         CountAnswer::Count(_) => false,
     }
 }

@@ -25,8 +25,8 @@ fn put_list(word: &[u8], list: &mut [u32]) -> usize
     ensures { λ r. ⌜ (r ≤ length (now (list .exit))) × (r ≡ length (take r (now (list .exit)))) ⌝ }
 {
     let mut bytes = io::large_buffer();
-    let n = stored_cases::decode(word, &mut bytes) / 4;
-    let count = stored_cases::least(n, list.len());
+    let n = replay_cases::decode(word, &mut bytes) / 4;
+    let count = replay_cases::least(n, list.len());
     let mut i: usize = 0;
     while i < count {
         list[i] = ordinal(&bytes, 4 * i);
@@ -37,17 +37,17 @@ fn put_list(word: &[u8], list: &mut [u32]) -> usize
 
 // Whether the answer of a line is a refusal with this number, line and text.
 fn is_refusal(line: &[u8], n: u8, no: LineNo, about: &[u8]) -> bool {
-    text::same(stored_cases::word(line, 6), b"refused")
-        && stored_answers::is_number(stored_cases::word(line, 7), n as u64)
-        && stored_answers::is_number(stored_cases::word(line, 8), no.0 as u64)
-        && text::same(stored_cases::word(line, 9), about)
-        && stored_cases::word(line, 10).len() == 0
+    byte_slices::same(replay_cases::word(line, 6), b"refused")
+        && replay_answers::is_number(replay_cases::word(line, 7), n as u64)
+        && replay_answers::is_number(replay_cases::word(line, 8), no.0 as u64)
+        && byte_slices::same(replay_cases::word(line, 9), about)
+        && replay_cases::word(line, 10).len() == 0
 }
 
 // Whether the verdict is the line's.
 fn is_verdict(line: &[u8], verdict: Verdict) -> bool {
     match verdict {
-        Verdict::Accepted => stored_answers::is_ok(line, 6, 0),
+        Verdict::Accepted => replay_answers::is_ok(line, 6, 0),
         Verdict::Unfit(which, n, no) => match which {
             Which::A => is_refusal(line, n, no, b"A"),
             Which::B => is_refusal(line, n, no, b"B"),
@@ -60,9 +60,9 @@ fn is_verdict(line: &[u8], verdict: Verdict) -> bool {
 // Whether the lists of a line are judged as it says, with these three texts.
 fn is_judged(line: &[u8], a: &[u8], b: &[u8], m: &[u8]) -> bool {
     let mut list_a: [u32; 2048] = [0; 2048];
-    let k = put_list(stored_cases::word(line, 4), &mut list_a);
+    let k = put_list(replay_cases::word(line, 4), &mut list_a);
     let mut list_b: [u32; 2048] = [0; 2048];
-    let n = put_list(stored_cases::word(line, 5), &mut list_b);
+    let n = put_list(replay_cases::word(line, 5), &mut list_b);
     is_verdict(
         line,
         merge_judge::judge_merge(a, b, m, &list_a[..k], &list_b[..n]),
@@ -72,10 +72,10 @@ fn is_judged(line: &[u8], a: &[u8], b: &[u8], m: &[u8]) -> bool {
 // Whether the merge of a line is judged as it says.
 pub fn is_merged(line: &[u8]) -> bool {
     let mut a = io::large_buffer();
-    let i = stored_cases::decode(stored_cases::word(line, 1), &mut a);
+    let i = replay_cases::decode(replay_cases::word(line, 1), &mut a);
     let mut b = io::large_buffer();
-    let j = stored_cases::decode(stored_cases::word(line, 2), &mut b);
+    let j = replay_cases::decode(replay_cases::word(line, 2), &mut b);
     let mut m = io::large_buffer();
-    let k = stored_cases::decode(stored_cases::word(line, 3), &mut m);
+    let k = replay_cases::decode(replay_cases::word(line, 3), &mut m);
     is_judged(line, &a[..i], &b[..j], &m[..k])
 }

@@ -3,29 +3,29 @@ use names::NamesAnswer;
 
 // Whether the slots that were looked at are as many as a word says, where it says a number.
 fn is_looks(word: &[u8], looks: u64) -> bool {
-    text::same(word, b"-") || stored_answers::is_number(word, looks)
+    byte_slices::same(word, b"-") || replay_answers::is_number(word, looks)
 }
 
 // Whether the ordinals of the names, the index and the slots looked at are the line's, in a work area and an output of as many elements as it says.
 pub fn is_names(line: &[u8], text: &[u8], kept: &[u8], work: &mut [u32], out: &mut [u32]) -> bool {
     let mut list = io::buffer();
-    let n = stored_cases::decode(stored_cases::word(line, 3), &mut list);
-    let slots = stored_answers::ordinal_room(stored_cases::word(line, 4), work);
-    let room = stored_answers::ordinal_room(stored_cases::word(line, 5), out);
+    let n = replay_cases::decode(replay_cases::word(line, 3), &mut list);
+    let slots = replay_answers::ordinal_room(replay_cases::word(line, 4), work);
+    let room = replay_answers::ordinal_room(replay_cases::word(line, 5), out);
     match names::names(text, kept, &list[..n], &mut work[..slots], &mut out[..room]) {
         NamesAnswer::Refused(n, no) => {
-            stored_answers::is_refusal(line, 6, n, no)
-                && stored_cases::is_unlisted(work)
-                && stored_cases::is_unlisted(out)
+            replay_answers::is_refusal(line, 6, n, no)
+                && replay_cases::is_unlisted(work)
+                && replay_cases::is_unlisted(out)
         }
         NamesAnswer::Counted(n, looks) => {
-            stored_answers::is_ok(line, 6, 3)
-                && is_looks(stored_cases::word(line, 9), looks)
-                && stored_answers::is_list(stored_cases::word(line, 7), out, n, 8)
-                && stored_answers::is_list(
-                    stored_cases::word(line, 8),
+            replay_answers::is_ok(line, 6, 3)
+                && is_looks(replay_cases::word(line, 9), looks)
+                && replay_answers::is_list(replay_cases::word(line, 7), out, n, 8)
+                && replay_answers::is_list(
+                    replay_cases::word(line, 8),
                     work,
-                    stored_cases::word(line, 8).len() / 8,
+                    replay_cases::word(line, 8).len() / 8,
                     8,
                 )
         }

@@ -1,14 +1,14 @@
 // The leaves by the second engine: whether the call answers as a line of stored answers says (`replay` has the lines' form). A program in Rattle
 // cannot lend a table without a proof by hand, so `make_plan` is asked: the call writes its parents and depths into the table, and nothing else.
-use leaves_by_table::TablePlan;
-use roots_and_leaves::LeavesAnswer;
+use programs::LeavesAnswer;
+use programs_by_table::TablePlan;
 ghost use Prim.Native.Nat.{_≤_};
 
 // The numbers of a table, two for each record, as they are after a call that leaves `count` records in it.
 fn rows(parents: [u32; 1024], depths: [u32; 1024], count: usize) -> [u32; 2048]
     requires { ⌜ count ≤ 1024 ⌝ }
 {
-    let mut table = stored_answers::ordinals();
+    let mut table = replay_answers::ordinals();
     let mut i: usize = 0;
     while i < count {
         table[2 * i] = parents[i];
@@ -29,23 +29,23 @@ fn is_plan(line: &[u8], plan: TablePlan, out: &[u32]) -> bool
     let answer = plan.answer;
     match answer {
         LeavesAnswer::Refused(n, no) => {
-            stored_answers::is_refusal(line, 5, n, no)
-                && stored_cases::is_unlisted(out)
-                && stored_cases::is_unlisted(&table)
+            replay_answers::is_refusal(line, 5, n, no)
+                && replay_cases::is_unlisted(out)
+                && replay_cases::is_unlisted(&table)
         }
         LeavesAnswer::Counted(n, hops) => {
-            stored_answers::is_ok(line, 5, 3)
-                && stored_answers::is_list(stored_cases::word(line, 6), out, n, 4)
-                && stored_answers::is_number(stored_cases::word(line, 7), hops as u64)
-                && stored_answers::is_list(stored_cases::word(line, 8), &table, 2 * count, 8)
+            replay_answers::is_ok(line, 5, 3)
+                && replay_answers::is_list(replay_cases::word(line, 6), out, n, 4)
+                && replay_answers::is_number(replay_cases::word(line, 7), hops as u64)
+                && replay_answers::is_list(replay_cases::word(line, 8), &table, 2 * count, 8)
         }
     }
 }
 
 // Whether the leaves, the hops and the table are the line's, with an output and a table of as many elements as it says.
 pub fn is_leaves_by_table(line: &[u8], text: &[u8], kept: &[u8], out: &mut [u32]) -> bool {
-    let room = stored_answers::ordinal_room(stored_cases::word(line, 3), out);
-    let seats = stored_cases::number(stored_cases::word(line, 4));
-    let plan = leaves_by_table::make_plan(text, kept, seats, &mut out[..room]);
+    let room = replay_answers::ordinal_room(replay_cases::word(line, 3), out);
+    let seats = replay_cases::number(replay_cases::word(line, 4));
+    let plan = programs_by_table::make_plan(text, kept, seats, &mut out[..room]);
     is_plan(line, plan, out)
 }

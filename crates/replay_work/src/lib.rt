@@ -1,5 +1,5 @@
 // Reading with a lent work area: whether the call answers as a line of stored answers says (`replay` has the lines' form).
-use parser::CountAnswer;
+use read::CountAnswer;
 ghost use mathlib.Core.Path.{_≡_};
 ghost use lib.Dec.{eqb};
 ghost use lib.ListN.{length};
@@ -24,7 +24,7 @@ fn read(text: &[u8], out: &mut [u8], work: &mut [u32]) -> CountAnswer
     ensures room { λ _. ⌜ length (now (out .exit)) ≡ length (now (out .entry)) ⌝ }
     ensures slots { λ _. ⌜ length (now (work .exit)) ≡ length (now (work .entry)) ⌝ }
 {
-    parser::read_with(text, out, work)
+    read::read_with(text, out, work)
 }
 
 // Whether the first `n` numbers of an area are zeros, and the others as they were.
@@ -32,22 +32,22 @@ fn is_left(work: &[u32], n: usize) -> bool {
     if work.len() < n {
         return false;
     }
-    is_cleared(&work[..n]) && stored_cases::is_unlisted(&work[n..])
+    is_cleared(&work[..n]) && replay_cases::is_unlisted(&work[n..])
 }
 
 // Whether the catalogue is the line's, in an output of as many bytes as it says, and a work area of as many numbers as it says is all zeros.
 pub fn is_read_with(line: &[u8], text: &[u8], out: &mut [u8], work: &mut [u32]) -> bool {
-    let room = stored_answers::byte_room(stored_cases::word(line, 2), out);
-    let slots = stored_answers::ordinal_room(stored_cases::word(line, 3), work);
+    let room = replay_answers::byte_room(replay_cases::word(line, 2), out);
+    let slots = replay_answers::ordinal_room(replay_cases::word(line, 3), work);
     match read(text, &mut out[..room], &mut work[..slots]) {
         CountAnswer::Refused(n, no) => {
-            stored_answers::is_refusal(line, 4, n, no)
-                && stored_cases::is_untouched(out)
+            replay_answers::is_refusal(line, 4, n, no)
+                && replay_cases::is_untouched(out)
                 && is_left(work, slots)
         }
         CountAnswer::Count(n) => {
-            stored_answers::is_ok(line, 4, 1)
-                && stored_answers::is_text(stored_cases::word(line, 5), out, n)
+            replay_answers::is_ok(line, 4, 1)
+                && replay_answers::is_text(replay_cases::word(line, 5), out, n)
                 && is_left(work, slots)
         }
     }

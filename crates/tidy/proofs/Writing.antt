@@ -14,7 +14,7 @@ use Rattle.format.specs.declared.LineNo.{LineNo}
 use Rattle.accepted.proofs.Read.{accepted-reads}
 use Rattle.accepted.specs.Read.{isAccepted, recordsOf}
 use Rattle.tidy_text.specs.Accepted.{measuredOf}
-use Rattle.per_kind.specs.declared.PerKind.{PerKind}
+use Rattle.tidy_sizes.specs.declared.PerKind.{PerKind}
 use Rattle.tidy_text.specs.declared.Measured.the-variants.{Unwritable, Is}
 
 -- ---- by what was measured

@@ -1,7 +1,7 @@
 // Tidying: the text of the same records with the keys first, one LF after each line, kind by kind.
 use format::LineNo;
-use judging::Judged;
-use parser::CountAnswer;
+use read::CountAnswer;
+use read_judge::Judged;
 use tidy_text::Measured;
 ghost use mathlib.Core.Path.{_≡_};
 ghost use mathlib.Core.Bool.{true};
@@ -11,8 +11,8 @@ ghost use Rattle.format.specs.Reading.{announced, isStrict, readText};
 ghost use Rattle.format.specs.Calls.{tidying};
 ghost use Rattle.format.specs.Work.{allZeros};
 ghost use Rattle.accepted.specs.Read.{isAccepted};
-ghost use Rattle.judging.specs.Judged.{judgedOf};
-ghost use Rattle.parser.specs.Answers.{answerOf, outputOf};
+ghost use Rattle.read_judge.specs.Judged.{judgedOf};
+ghost use Rattle.read.specs.Answers.{answerOf, outputOf};
 ghost use Rattle.tidy.specs.Written.{writingTidy, writingMarked};
 
 // Writes the tidy text of an accepted text without the programs whose mark is false: 24, then 1, then 20.
@@ -58,7 +58,7 @@ fn tidy_judged(text: &[u8], judged: Judged, out: &mut [u8]) -> CountAnswer
 {
     match judged {
         Judged::Refused(n, line) => CountAnswer::Refused(n, line),
-        Judged::Accepted(_) => write_accepted(text, repeat_rule::is_strict(text), out),
+        Judged::Accepted(_) => write_accepted(text, read_repeat_rule::is_strict(text), out),
     }
 }
 
@@ -67,7 +67,7 @@ pub fn tidy(text: &[u8], out: &mut [u8]) -> CountAnswer
     ensures answer { λ r. ⌜ r ≡ answerOf (tidying (now (text .entry)) (length (now (out .entry)))) ⌝ }
     ensures wrote { λ _. ⌜ now (out .exit) ≡ outputOf (tidying (now (text .entry)) (length (now (out .entry)))) (now (out .entry)) ⌝ }
 {
-    tidy_judged(text, judging::judge(text), out)
+    tidy_judged(text, read_judge::judge(text), out)
 }
 
 // The same with a lent work area, which is all zeros afterwards.
@@ -76,6 +76,6 @@ pub fn tidy_with(text: &[u8], out: &mut [u8], work: &mut [u32]) -> CountAnswer
     ensures wrote { λ _. ⌜ now (out .exit) ≡ outputOf (tidying (now (text .entry)) (length (now (out .entry)))) (now (out .entry)) ⌝ }
     ensures zeros { λ _. ⌜ now (work .exit) ≡ allZeros (now (work .entry)) ⌝ }
 {
-    let judged = judging::judge_with(text, work);
+    let judged = read_judge::judge_with(text, work);
     tidy_judged(text, judged, out)
 }

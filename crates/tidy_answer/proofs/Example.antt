@@ -1,7 +1,8 @@
 -- What the program writes, computed: document 01's example, a refusal by reading, and one by writing.
 use mathlib.Core.Path.{_≡_, refl}
-use Rattle.roundtrip.proofs.Example.{ascii, given}
-use Rattle.tidy_answer.specs.Program.{program}
+use Rattle.tidy_laws.proofs.Example.{given}
+use Rattle.format.proofs.Ascii.{ascii}
+use Rattle.format.specs.Program.{program}
 
 pub example-tidy : program given ≡ ascii "@HD\tVN:1.6\tSO:unsorted\n@SQ\tSN:s1\tLN:8\n@PG\tID:a\n@CO\tx\n"
 unfolding ascii given program

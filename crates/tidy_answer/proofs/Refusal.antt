@@ -5,10 +5,10 @@ use mathlib.Core.List.{List, [], _∷_, _++_}
 use native.Mathlib.Omega.{arith}
 use lib.ListN.{length, set, length-append}
 use Rattle.format.specs.Decimal.{written}
-use Rattle.text.specs.Over.{over}
+use Rattle.byte_slices.specs.Over.{over}
 use Rattle.decimal.proofs.Written.{written-short}
-use Rattle.parts.proofs.Wrote.{Wrote, wrote-then, wrote-one}
-use Rattle.tidy_answer.specs.Program.{spelledRefused, spelledLine, refusal}
+use Rattle.tidy_parts.proofs.Wrote.{Wrote, wrote-then, wrote-one}
+use Rattle.format.specs.Program.{spelledRefused, spelledLine, refusal}
 
 pub refusal-size : (n l : ℕ) → length (refusal n l) ≡ 8 + length (written n) + 6 + length (written l) + 1
 unfolding refusal spelledRefused spelledLine

@@ -12,13 +12,13 @@ use Rattle.format.specs.Reading.{Reading, refusedText, accept, readText, longes
 use Rattle.format.specs.Tidy.{tidy, unwritable}
 use Rattle.format.specs.Calls.{Answer, refused, yes, then, readAnswer, records, fitting, writing, tidying}
 use Rattle.format.specs.declared.LineNo.{LineNo}
-use Rattle.parser.specs.declared.CountAnswer.the-variants.{Refused, Count}
-use Rattle.parser.specs.Answers.{answerOf, outputOf}
-use Rattle.text.specs.Over.{over}
-use Rattle.text.proofs.Over.{over-length}
+use Rattle.read.specs.declared.CountAnswer.the-variants.{Refused, Count}
+use Rattle.read.specs.Answers.{answerOf, outputOf}
+use Rattle.byte_slices.specs.Over.{over}
+use Rattle.byte_slices.proofs.Over.{over-length}
 use Rattle.accepted.proofs.Bools.{never}
-use Rattle.roundtrip.proofs.Total.{tidy-length}
-use Rattle.tidy_answer.specs.Program.{refusal, said, program}
+use Rattle.tidy_laws.proofs.Total.{tidy-length}
+use Rattle.format.specs.Program.{refusal, said, program}
 use Rattle.tidy_answer.proofs.Refusal.{refusal-fits}
 
 -- ---- the limit

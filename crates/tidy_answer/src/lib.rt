@@ -1,11 +1,11 @@
 // What the program on standard input writes: the tidy text, or the refusal as a line.
 use format::LineNo;
-use parser::CountAnswer;
+use read::CountAnswer;
 ghost use mathlib.Core.Path.{_≡_};
 ghost use Prim.Native.Nat.{_≤_};
 ghost use lib.ListN.{length};
-ghost use Rattle.text.specs.Over.{over};
-ghost use Rattle.tidy_answer.specs.Program.{refusal, program};
+ghost use Rattle.byte_slices.specs.Over.{over};
+ghost use Rattle.format.specs.Program.{refusal, program};
 
 // Writes `refused N line L` and LF to the front of `out`, and answers how many bytes that is.
 fn put_refusal(out: &mut [u8], n: u32, line: LineNo) -> usize
@@ -13,9 +13,9 @@ fn put_refusal(out: &mut [u8], n: u32, line: LineNo) -> usize
     ensures next { λ r. ⌜ r ≡ length (refusal n (line .0)) ⌝ }
     ensures wrote { λ _. ⌜ now (out .exit) ≡ over (now (out .entry)) 0 (refusal n (line .0)) ⌝ }
 {
-    text::put_bytes(out, 0, b"refused ");
+    byte_slices::put_bytes(out, 0, b"refused ");
     let at = decimal::write_u32(out, 8, n);
-    text::put_bytes(out, at, b" line ");
+    byte_slices::put_bytes(out, at, b" line ");
     let at = decimal::write_u32(out, at + 6, line.0);
     out[at] = b'\n';
     at + 1

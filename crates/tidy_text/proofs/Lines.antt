@@ -7,8 +7,8 @@ use lib.ListN.{length, take, drop}
 use Rattle.format.specs.Lines.{Piece, lines}
 use Rattle.format.specs.Records.{Record, read, line}
 use Rattle.format.specs.Reading.{Reading, refusedText, accept, announced, isStrict, readText}
-use Rattle.text.specs.First.{firstLine}
-use Rattle.text.specs.declared.Cut.{Cut}
+use Rattle.byte_slices.specs.First.{firstLine}
+use Rattle.byte_slices.specs.declared.Cut.{Cut}
 use Rattle.accepted.specs.Admits.{strictly}
 use Rattle.accepted.specs.Pieces.{Pairs}
 use Rattle.accepted.specs.Read.{isAccepted, isRead, recordsOf}

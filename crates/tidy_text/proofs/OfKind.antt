@@ -18,12 +18,12 @@ use Rattle.accepted.proofs.Bools.{never}
 use Rattle.accepted.proofs.Sound.{made-kind}
 use Rattle.accepted.proofs.Spelled.{line-accepted}
 use Rattle.accepted.specs.Read.{isRead}
-use Rattle.writer.specs.Line.{lineText}
+use Rattle.tidy_line.specs.Line.{lineText}
 use Rattle.tidy_text.specs.Accepted.{withRecord}
-use Rattle.per_kind.specs.Numbers.{kindNumber}
+use Rattle.tidy_sizes.specs.Numbers.{kindNumber}
 use Rattle.tidy_text.specs.Kinds.{kindText, textOfKind}
-use Rattle.heads.specs.Found.{kindBy}
-use Rattle.heads.proofs.Finds.{first-byte}
+use Rattle.accepted_line.specs.Found.{kindBy}
+use Rattle.accepted_line.proofs.Finds.{first-byte}
 
 kind-number : (r : Record) → kindNumber (kind r) ≡ code r
 unfolding kind kindNumber code

@@ -8,16 +8,16 @@ use Rattle.format.specs.Records.{Record, Line}
 use Rattle.format.specs.Tidy.{tidy}
 use Rattle.format.specs.declared.Kind.{Kind}
 use Rattle.format.specs.declared.Kind.the-variants.{Header, ReferenceSequence, ReadGroup, Program, Comment}
-use Rattle.text.specs.Over.{over}
-use Rattle.text.proofs.Over.{over-none, over-length, over-over}
-use Rattle.writer.specs.Line.{lineText}
-use Rattle.parts.proofs.Wrote.{Wrote, wrote-then}
+use Rattle.byte_slices.specs.Over.{over}
+use Rattle.byte_slices.proofs.Over.{over-none, over-length, over-over}
+use Rattle.tidy_line.specs.Line.{lineText}
+use Rattle.tidy_parts.proofs.Wrote.{Wrote, wrote-then}
 use Rattle.tidy_text.specs.Accepted.{withRecord}
-use Rattle.per_kind.specs.Numbers.{kindNumber, get, plus, front, kindStarts}
+use Rattle.tidy_sizes.specs.Numbers.{kindNumber, get, plus, front, kindStarts}
 use Rattle.tidy_text.specs.Kinds.{kindText, textOfKind, frontText}
 use Rattle.tidy_text.specs.Sizes.{sizesOf}
 use Rattle.tidy_text.specs.Placed.{Part, withParts, begins, Apart, parts}
-use Rattle.per_kind.specs.declared.PerKind.{PerKind}
+use Rattle.tidy_sizes.specs.declared.PerKind.{PerKind}
 use Rattle.tidy_text.proofs.OfKind.{only, kind-turn}
 use Rattle.tidy_text.proofs.Sizes.{size-none, front-size}
 use Rattle.tidy_text.proofs.Total.{front-sizes, tidy-sizes, tidy-kinds}

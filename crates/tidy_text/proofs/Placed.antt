@@ -5,8 +5,8 @@ use mathlib.Core.List.{List, [], _∷_, _++_}
 use native.Mathlib.Omega.{arith}
 use lib.ListN.{length, set, length-append}
 use lib.Seq.{set-comm, sets, sets-eq, length-sets}
-use Rattle.text.specs.Over.{over}
-use Rattle.text.proofs.Over.{over-length, over-over}
+use Rattle.byte_slices.specs.Over.{over}
+use Rattle.byte_slices.proofs.Over.{over-length, over-over}
 use Rattle.tidy_text.specs.Placed.{Part, withParts, begins, Apart}
 
 -- ---- two writes

@@ -11,13 +11,13 @@ use Rattle.format.specs.Records.{Record, header, reference, group, program, com
 use Rattle.format.specs.Tidy.{recordText, text, tidy, isWritable}
 use Rattle.format.specs.declared.Kind.{Kind}
 use Rattle.format.specs.declared.Kind.the-variants.{Program}
-use Rattle.text.specs.Over.{over}
+use Rattle.byte_slices.specs.Over.{over}
 use Rattle.accepted.specs.Read.{isRead}
 use Rattle.accepted.proofs.Bools.{never, split}
-use Rattle.heads.specs.Found.{kindBy}
-use Rattle.writer.specs.Line.{lineText, lineWritable}
-use Rattle.per_kind.specs.Numbers.{kindNumber, get, plus}
-use Rattle.per_kind.specs.declared.PerKind.{PerKind}
+use Rattle.accepted_line.specs.Found.{kindBy}
+use Rattle.tidy_line.specs.Line.{lineText, lineWritable}
+use Rattle.tidy_sizes.specs.Numbers.{kindNumber, get, plus}
+use Rattle.tidy_sizes.specs.declared.PerKind.{PerKind}
 use Rattle.tidy_text.specs.Accepted.{withRecord}
 use Rattle.tidy_text.specs.Kinds.{kindText}
 use Rattle.tidy_text.specs.Sizes.{grownBy}

@@ -11,12 +11,12 @@ use Rattle.format.specs.Tidy.{text, tidy}
 use Rattle.format.specs.Reading.{ofKind}
 use Rattle.format.specs.declared.Kind.{Kind}
 use Rattle.format.specs.declared.Kind.the-variants.{Header, ReferenceSequence, ReadGroup, Program, Comment}
-use Rattle.writer.specs.Line.{lineText}
+use Rattle.tidy_line.specs.Line.{lineText}
 use Rattle.tidy_text.specs.Accepted.{withRecord}
-use Rattle.per_kind.specs.Numbers.{kindNumber, each, get, noBytes, plus, front, total}
+use Rattle.tidy_sizes.specs.Numbers.{kindNumber, each, get, noBytes, plus, front, total}
 use Rattle.tidy_text.specs.Kinds.{kindText, textOfKind, frontText}
 use Rattle.tidy_text.specs.Sizes.{sizesOf}
-use Rattle.per_kind.specs.declared.PerKind.{PerKind}
+use Rattle.tidy_sizes.specs.declared.PerKind.{PerKind}
 use Rattle.tidy_text.proofs.OfKind.{only, kind-turn}
 use Rattle.tidy_text.proofs.Total.{size, front-sizes, tidy-sizes}
 

@@ -11,14 +11,14 @@ use Rattle.format.specs.Tidy.{recordText, text, inOrder, tidy}
 use Rattle.format.specs.declared.Kind.{Kind}
 use Rattle.format.specs.declared.Kind.the-variants.{Header, ReferenceSequence, ReadGroup, Program, Comment}
 use Rattle.accepted.proofs.Ahead.{lent}
-use Rattle.writer.specs.Line.{lineText}
+use Rattle.tidy_line.specs.Line.{lineText}
 use Rattle.tidy_text.specs.Accepted.{withRecord, recordsFrom}
-use Rattle.per_kind.specs.Numbers.{kindNumber}
+use Rattle.tidy_sizes.specs.Numbers.{kindNumber}
 use Rattle.tidy_text.specs.Kinds.{textOfKind, frontText}
 use Rattle.tidy_text.proofs.Lines.{Opened, Turn, ended}
-use Rattle.text.specs.declared.Cut.{Cut}
+use Rattle.byte_slices.specs.declared.Cut.{Cut}
 use Rattle.accepted.specs.Read.{recordsOf}
-use Rattle.roundtrip.proofs.Total.{order-length, tidy-length}
+use Rattle.tidy_laws.proofs.Total.{order-length, tidy-length}
 
 pub text-onto : (l : Line) (rs : List Record) → text (withRecord l rs) ≡ lineText l ++ text rs
 unfolding text withRecord lineText

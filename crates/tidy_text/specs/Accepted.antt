@@ -1,14 +1,15 @@
 -- The records of an accepted text, from its reading and line by line, and which of its names can't be written.
 use Prim.Native.Nat.{ℕ}
+use mathlib.Core.Path.{_≡_}
 use mathlib.Core.Bool.{Bool, true, false, _&&_}
 use mathlib.Core.List.{List, [], _∷_}
 use mathlib.Core.Option.{Option, none, some}
 use lib.ListN.{drop}
 use Rattle.format.specs.Lines.{Piece, linesFrom}
 use Rattle.format.specs.Records.{Record, Line, refusedLine, read, line}
-use Rattle.format.specs.Calls.{Answer, refused, yes}
+use Rattle.format.specs.Calls.{Answer, refused, yes, writing}
 use Rattle.accepted.specs.Read.{isRead}
-use Rattle.per_kind.specs.declared.PerKind.{PerKind}
+use Rattle.tidy_sizes.specs.declared.PerKind.{PerKind}
 use Rattle.tidy_text.specs.declared.Measured.{Measured}
 use Rattle.tidy_text.specs.declared.Measured.the-variants as measured
 
@@ -21,6 +22,10 @@ measuredOf (some l) n = measured.Unwritable (record { 0 = l })
 unfoldable pub measuredAnswer : Measured → Answer PerKind
 measuredAnswer (measured.Unwritable l) = refused 24 (l .0)
 measuredAnswer (measured.Is n) = yes n
+
+-- the sizes of a text are answered by `r`, and `o` is the line of its first SQ that can't be written: where that is a refusal, writing is refused with it
+abbrev pub MeasuredTold : Option ℕ → Measured → Type 0
+MeasuredTold o r = (room n l : ℕ) (t : List ℕ) → measuredAnswer r ≡ refused n l → writing room o t ≡ refused n l
 
 -- ---- line by line
 

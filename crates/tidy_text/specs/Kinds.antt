@@ -9,9 +9,9 @@ use Rattle.format.specs.Reading.{ofKind}
 use Rattle.format.specs.Tidy.{recordText, text}
 use Rattle.format.specs.declared.Kind.{Kind}
 use Rattle.format.specs.declared.Kind.the-variants.{Header, ReferenceSequence, ReadGroup, Program}
-use Rattle.heads.specs.Found.{kindBy}
-use Rattle.writer.specs.Line.{lineText}
-use Rattle.per_kind.specs.Numbers.{kindNumber}
+use Rattle.accepted_line.specs.Found.{kindBy}
+use Rattle.tidy_line.specs.Line.{lineText}
+use Rattle.tidy_sizes.specs.Numbers.{kindNumber}
 
 -- the kind of an accepted line
 abbrev pub lineKind : List ℕ → Kind

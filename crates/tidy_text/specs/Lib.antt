@@ -1,3 +1,4 @@
+-- Words for contracts and laws, and nothing to believe.
 pub mod Accepted
 pub mod Kinds
 pub mod Sizes

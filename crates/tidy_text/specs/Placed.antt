@@ -5,10 +5,10 @@ use lib.ListN.{length}
 use Rattle.format.specs.Records.{Record}
 use Rattle.format.specs.declared.Kind.{Kind}
 use Rattle.format.specs.declared.Kind.the-variants.{Header, ReferenceSequence, ReadGroup, Program, Comment}
-use Rattle.text.specs.Over.{over}
+use Rattle.byte_slices.specs.Over.{over}
 use Rattle.tidy_text.specs.Kinds.{textOfKind, frontText}
-use Rattle.per_kind.specs.Numbers.{get}
-use Rattle.per_kind.specs.declared.PerKind.{PerKind}
+use Rattle.tidy_sizes.specs.Numbers.{get}
+use Rattle.tidy_sizes.specs.declared.PerKind.{PerKind}
 
 pub record Part : Type 0 where
   pub at : ℕ

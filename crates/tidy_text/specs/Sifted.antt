@@ -6,9 +6,9 @@ use lib.ListN.{length, getD}
 use lib.Dec.{eqb}
 use Rattle.format.specs.Records.{Record, code, Line}
 use Rattle.format.specs.declared.Kind.{Kind}
-use Rattle.text.specs.Over.{over}
-use Rattle.per_kind.specs.Numbers.{get, plus}
-use Rattle.per_kind.specs.declared.PerKind.{PerKind}
+use Rattle.byte_slices.specs.Over.{over}
+use Rattle.tidy_sizes.specs.Numbers.{get, plus}
+use Rattle.tidy_sizes.specs.declared.PerKind.{PerKind}
 use Rattle.tidy_text.specs.Sizes.{grownBy}
 use Rattle.tidy_text.specs.declared.Grown.{Grown}
 use Rattle.tidy_text.specs.declared.Grown.the-variants as grown

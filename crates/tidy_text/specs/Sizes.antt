@@ -4,9 +4,9 @@ use mathlib.Core.List.{List}
 use lib.ListN.{length}
 use Rattle.format.specs.Records.{Record, Line}
 use Rattle.format.specs.declared.Kind.{Kind}
-use Rattle.writer.specs.Line.{lineText, lineWritable}
-use Rattle.per_kind.specs.Numbers.{each, plus}
-use Rattle.per_kind.specs.declared.PerKind.{PerKind}
+use Rattle.tidy_line.specs.Line.{lineText, lineWritable}
+use Rattle.tidy_sizes.specs.Numbers.{each, plus}
+use Rattle.tidy_sizes.specs.declared.PerKind.{PerKind}
 use Rattle.tidy_text.specs.Kinds.{textOfKind}
 use Rattle.tidy_text.specs.declared.Grown.{Grown}
 use Rattle.tidy_text.specs.declared.Grown.the-variants as grown

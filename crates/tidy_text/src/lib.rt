@@ -2,8 +2,8 @@
 // puts each record at its kind's own place. Marks can be given, one for each program in text order: a program whose mark is false is left
 // out, and a program past the last mark stays, so that no marks leave all in.
 use format::LineNo;
-use per_kind::PerKind;
-use writer::Size;
+use tidy_line::Size;
+use tidy_sizes::PerKind;
 ghost use mathlib.Core.Path.{_≡_};
 ghost use mathlib.Core.Bool.{true};
 ghost use Prim.Native.Nat.{_≤_, _<_, _+_};
@@ -12,11 +12,11 @@ ghost use Rattle.format.specs.Lines.{lines};
 ghost use Rattle.format.specs.Records.{line};
 ghost use Rattle.format.specs.Reading.{announced, isStrict, readText};
 ghost use Rattle.format.specs.Tidy.{tidy, unwritable};
-ghost use Rattle.text.specs.Over.{over};
+ghost use Rattle.byte_slices.specs.Over.{over};
 ghost use Rattle.accepted.specs.Read.{isAccepted, isRead, recordsOf};
-ghost use Rattle.tidy_text.specs.Accepted.{measuredOf};
+ghost use Rattle.tidy_text.specs.Accepted.{measuredOf, MeasuredTold};
 ghost use Rattle.tidy_text.specs.Kinds.{lineKind, tidyLine};
-ghost use Rattle.per_kind.specs.Numbers.{get, plus};
+ghost use Rattle.tidy_sizes.specs.Numbers.{get, plus};
 ghost use Rattle.tidy_text.specs.Sizes.{grownBy, sizesOf};
 ghost use Rattle.tidy_text.specs.Placed.{withParts, parts, Apart, withGap};
 ghost use Rattle.tidy_text.specs.Sifted.{isMarked, sifted, stayBy, isProgramLine, grownIf, placesIf, writtenIf};
@@ -71,11 +71,11 @@ fn with_line_if(sizes: PerKind, src: &[u8], at: usize, strict: bool, stays: bool
     if !stays {
         return Grown::Is(sizes);
     }
-    let size = writer::record_size(src, at, strict);
+    let size = tidy_line::record_size(src, at, strict);
     let Size::Is(n) = size else {
         return Grown::Unwritable;
     };
-    Grown::Is(sizes.plus(heads::kind_of(src), n))
+    Grown::Is(sizes.plus(accepted_line::kind_of(src), n))
 }
 
 // The same of a line that stays.
@@ -93,15 +93,16 @@ pub fn with_line(sizes: PerKind, src: &[u8], at: usize, strict: bool) -> Grown
 pub fn measure_marked(text: &[u8], strict: bool, marks: &[bool]) -> Measured
     requires { ⌜ isAccepted (readText (now text)) ≡ true ⌝ }
     requires { ⌜ strict ≡ isStrict (announced (lines (now text))) ⌝ }
-    ensures { λ r. ⌜ r ≡ measuredOf (unwritable 0 (recordsOf (now (text .entry))))
+    ensures is { λ r. ⌜ r ≡ measuredOf (unwritable 0 (recordsOf (now (text .entry))))
         (sizesOf (sifted (isMarked (now (marks .entry))) 0 (recordsOf (now (text .entry))))) ⌝ }
+    ensures refusal { λ r. ⌜ MeasuredTold (unwritable 0 (recordsOf (now (text .entry)))) r ⌝ }
 {
     let mut l: u32 = 0;
     let mut k: usize = 0;
     let mut sizes = PerKind::new();
     let mut at: usize = 0;
     while at < text.len() {
-        let cut = text::first_line(&text[at..]);
+        let cut = byte_slices::first_line(&text[at..]);
         let s = stay_of(&text[at..at + cut.len], marks, k);
         let grown = with_line_if(sizes, &text[at..at + cut.len], at, strict, s.stays);
         let Grown::Is(next) = grown else {
@@ -119,7 +120,8 @@ pub fn measure_marked(text: &[u8], strict: bool, marks: &[bool]) -> Measured
 pub fn measure(text: &[u8], strict: bool) -> Measured
     requires { ⌜ isAccepted (readText (now text)) ≡ true ⌝ }
     requires { ⌜ strict ≡ isStrict (announced (lines (now text))) ⌝ }
-    ensures { λ r. ⌜ r ≡ measuredOf (unwritable 0 (recordsOf (now (text .entry)))) (sizesOf (recordsOf (now (text .entry)))) ⌝ }
+    ensures is { λ r. ⌜ r ≡ measuredOf (unwritable 0 (recordsOf (now (text .entry)))) (sizesOf (recordsOf (now (text .entry)))) ⌝ }
+    ensures refusal { λ r. ⌜ MeasuredTold (unwritable 0 (recordsOf (now (text .entry)))) r ⌝ }
 {
     measure_marked(text, strict, &[])
 }
@@ -142,9 +144,9 @@ fn put_line_if(
     if !stays {
         return places;
     }
-    let kind = heads::kind_of(src);
+    let kind = accepted_line::kind_of(src);
     let o = places.get(kind);
-    let n = writer::put_record(out, o, src, at, strict);
+    let n = tidy_line::put_record(out, o, src, at, strict);
     places.plus(kind, n - o)
 }
 
@@ -171,7 +173,7 @@ fn put_lines(text: &[u8], strict: bool, marks: &[bool], places: PerKind, out: &m
     let mut k: usize = 0;
     let mut at: usize = 0; // from the first line on
     while at < text.len() {
-        let cut = text::first_line(&text[at..]);
+        let cut = byte_slices::first_line(&text[at..]);
         let s = stay_of(&text[at..at + cut.len], marks, k);
         next = put_line_if(out, next, &text[at..at + cut.len], at, strict, s.stays);
         k = s.next;

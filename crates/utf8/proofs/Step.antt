@@ -8,7 +8,7 @@ use lib.ListN.{length}
 use lib.Dec.{leb}
 use borrow.Author.Tests.{le-leb, lt-leb}
 use Rattle.format.specs.Utf8.{within, forms, due, characters}
-use Rattle.text.specs.Stands.{Each}
+use Rattle.byte_slices.specs.Stands.{Each}
 use Rattle.utf8.specs.Pending.{pendingOf, trails, ranges, dueOf, dueAfter}
 use Rattle.utf8.specs.declared.Pending.{Pending}
 

@@ -1,4 +1,4 @@
-// Runs sequences of bytes as DS of an SQ through `parser::read`, and writes what each is answered: 0 where the text is
+// Runs sequences of bytes as DS of an SQ through `read::read`, and writes what each is answered: 0 where the text is
 // accepted, or the refusal's number.
 //
 // First every sequence of up to 2 bytes. A line has the first byte in hex, its answer alone, and then the answers with each second
@@ -6,7 +6,7 @@
 // answer to a line: those of 3 and 4 bytes around each edge of the table of RFC 3629, and some cut short by a tab. What is expected
 // was made by `oracle/characters`, with python's decoder: none of it by this program.
 use libc::STDOUT_FILENO;
-use parser::CountAnswer;
+use read::CountAnswer;
 ghost use Prim.Native.Nat.{_≤_};
 ghost use lib.ListN.{length};
 
@@ -16,9 +16,9 @@ fn ask(value: &[u8]) -> u8
 {
     let mut text: [u8; 81] = [0; 81];
     let mut kept: [u8; 64] = [0; 64];
-    text::put_bytes(&mut text, 0, b"@SQ\tSN:s\tLN:1\tDS:");
-    text::put_bytes(&mut text, 17, value);
-    match parser::read(&text[..17 + value.len()], &mut kept) {
+    byte_slices::put_bytes(&mut text, 0, b"@SQ\tSN:s\tLN:1\tDS:");
+    byte_slices::put_bytes(&mut text, 17, value);
+    match read::read(&text[..17 + value.len()], &mut kept) {
         CountAnswer::Refused(n, _) => n,
         CountAnswer::Count(_) => 0,
     }
@@ -79,7 +79,7 @@ fn rows() {
 // One line of the input.
 fn case(hex: &[u8]) {
     let mut value: [u8; 64] = [0; 64];
-    let n = stored_cases::decode(hex, &mut value);
+    let n = replay_cases::decode(hex, &mut value);
     io::print_decimal(STDOUT_FILENO, ask(&value[..n]) as u64);
     io::write_all(STDOUT_FILENO, b"\n");
 }
@@ -87,14 +87,14 @@ fn case(hex: &[u8]) {
 fn cases(input: &[u8]) {
     let mut at: usize = 0;
     while at < input.len() {
-        let end = stored_cases::until(input, at, b'\n');
+        let end = replay_cases::until(input, at, b'\n');
         case(&input[at..end]);
         at = end + 1;
     }
 }
 
 fn main() {
-    let mut input = stored_cases::space();
+    let mut input = replay_cases::space();
     let n = io::read_full(0, &mut input);
     rows();
     cases(&input[..n]);

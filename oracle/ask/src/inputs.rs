@@ -934,6 +934,44 @@ pub fn with_refused(rng: &mut Rng) -> Vec<u8> {
     text
 }
 
+/// Programs, SQ of which some have names that can't be written, and lines that are refused, in an order by chance. A program that is refused leaves
+/// those whose PP names it without a parent. With many, 20,000 SQ stand before, between or behind them.
+pub fn faulty(rng: &mut Rng, many: bool) -> Vec<u8> {
+    const BAD: [&[u8]; 9] = [
+        b"", b"x", b"@CO", b"@SQ\tSN:s", b"@SQ\tSN:s\tLN:0", b"@HD\tVN:1.6", b"@PG\tPP:a", b"@PG\tID:a\tPP:", b"@PG\tID:b\tPP:b\tx",
+    ];
+    let n = rng.below(9);
+    let text = programs(rng, n);
+    let mut all: Vec<Vec<u8>> = spans(&text).map(|(a, b)| text[a..b].to_vec()).collect();
+    if rng.one_in(3) && !all.is_empty() {
+        let at = rng.below(all.len());
+        all[at].push(b'\t');
+    }
+    for _ in 0..rng.below(7) {
+        let more = match rng.below(8) {
+            0 => [b"@SQ\tSN:", *rng.of(&[&b"*"[..], b"=a", b"a,b", b"<a>"]), b"\tLN:7"].concat(),
+            1 | 2 => [b"@SQ\tSN:", &name(rng)[..], b"\tLN:8"].concat(),
+            3 if !all.is_empty() => {
+                let line = rng.of(&all).clone();
+                damaged(rng, &line)
+            }
+            4 if !all.is_empty() => rng.of(&all).clone(),
+            5 => b"@HD\tVN:1.5".to_vec(),
+            _ => rng.of(&BAD).to_vec(),
+        };
+        let at = rng.below(all.len() + 1);
+        all.insert(at, more);
+    }
+    if many {
+        let at = rng.below(all.len() + 1);
+        all.splice(at..at, (0..20_000).map(|i| short_sq(i).into_bytes()));
+        let (from, to) = (rng.below(all.len()), rng.below(all.len()));
+        let line = all.remove(from);
+        all.insert(to, line);
+    }
+    ended(rng, &all)
+}
+
 /// The text with its first line ended by CR LF in place of LF, or the other way, and whether a line stands behind it: an accepted text
 /// keeps its records, and the places behind the first line become others. None where there is no LF, or too many bytes.
 pub fn ended_otherwise(text: &[u8]) -> Option<(Vec<u8>, bool)> {

@@ -168,14 +168,20 @@ pub fn tidy(header: &Header) -> io::Result<Vec<u8>> {
     write_header(&mut out, header).map(|()| out)
 }
 
-/// The place, among the SQ records, of the first that the crate's writer refuses.
-pub fn unwritable(header: &Header) -> Option<usize> {
+/// The places, among the SQ records, of those that the crate's writer refuses.
+pub fn all_unwritable(header: &Header) -> impl Iterator<Item = usize> {
     let mut one = Header::default();
-    header.reference_sequences().iter().position(|(name, map)| {
+    let references = header.reference_sequences().iter().enumerate();
+    references.filter_map(move |(i, (name, map))| {
         one.clear();
         one.reference_sequences_mut().insert(name.clone(), map.clone());
-        tidy(&one).is_err()
+        tidy(&one).is_err().then_some(i)
     })
+}
+
+/// The first of these places.
+pub fn unwritable(header: &Header) -> Option<usize> {
+    all_unwritable(header).next()
 }
 
 /// The ordinals of the roots.

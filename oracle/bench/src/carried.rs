@@ -86,11 +86,16 @@ fn row(name: &str, text: &str, rounds: usize) {
 
 pub fn table(rounds: usize) {
     println!("{:<34}{:>10}{:>8}{:>8}{:>9}{:>9}{:>9}", "carrying on", "bytes", "lines", "skipped", "/crate", "ns/line", "best of");
+    each(&mut |name, text| row(name, text, rounds));
+}
+
+/// The texts of the rows.
+pub fn each(f: &mut dyn FnMut(&str, &str)) {
     let made = Names::ALL.map(|(names, word)| (format!("20000 SQ, {word}"), texts::sequences(MANY, names, true)));
     let short = ("20000 short SQ".to_string(), texts::sequences(MANY, Names::Of(10), false));
     for (name, text) in made.into_iter().chain([short]) {
-        row(&name, &text, rounds);
-        row(&format!("{name}, a tenth LN:0"), &tenth(&text, without_length), rounds);
-        row(&format!("{name}, a tenth used"), &tenth(&text, named_as), rounds);
+        f(&name, &text);
+        f(&format!("{name}, a tenth LN:0"), &tenth(&text, without_length));
+        f(&format!("{name}, a tenth used"), &tenth(&text, named_as));
     }
 }

@@ -9,6 +9,10 @@
 //! bench prune [--rounds N]             the sixth table (`pruned.rs`), where the archive has the call
 //! bench judge_merge [--rounds N]       the seventh table (`merged.rs`), where the archive has the call
 //! bench read_with [--rounds N]         the eighth table (`area.rs`), where the archive has the call
+//! bench lens [--rounds N]              the ninth table (`lens.rs`), where the archive has text_len and binary_len
+//! bench seal [--rounds N] [FOLDER]     seals (`sealed.rs`), where the archive has the calls
+//! bench references [--rounds N]        the ninth table (`found.rs`), where the archive has references and find
+//! bench faults [--rounds N]            faults (`faulty.rs`), where the archive has the call
 //!
 //! FOLDER has real headers, `*.sam` (default ../shared/headers beside the repository).
 //!
@@ -39,12 +43,20 @@ mod area;
 mod calls;
 #[cfg(feature = "carry_on")]
 mod carried;
+#[cfg(feature = "lens")]
+mod lens;
+#[cfg(feature = "faults")]
+mod faulty;
+#[cfg(feature = "found")]
+mod found;
 #[cfg(feature = "judge_merge")]
 mod merged;
 #[cfg(feature = "names")]
 mod names;
 #[cfg(feature = "prune")]
 mod pruned;
+#[cfg(feature = "seal")]
+mod sealed;
 #[cfg(feature = "table")]
 mod table;
 mod texts;
@@ -168,7 +180,11 @@ fn main() -> ExitCode {
     let args: Vec<String> = std::env::args().skip(1).collect();
     let args: Vec<&str> = args.iter().map(String::as_str).collect();
     let (call, args) = match args[..] {
-        [call @ ("names" | "carry_on" | "leaves_by_table" | "prune" | "judge_merge" | "read_with"), ref rest @ ..] => (call, rest),
+        [
+            call @ ("names" | "carry_on" | "leaves_by_table" | "prune" | "judge_merge" | "read_with" | "lens" | "seal" | "references"
+            | "faults"),
+            ref rest @ ..,
+        ] => (call, rest),
         _ => ("", &args[..]),
     };
     let (rounds, folder) = match *args {
@@ -177,7 +193,11 @@ fn main() -> ExitCode {
             || call == "leaves_by_table" && !cfg!(feature = "table")
             || call == "prune" && !cfg!(feature = "prune")
             || call == "judge_merge" && !cfg!(feature = "judge_merge")
-            || call == "read_with" && !cfg!(feature = "work") =>
+            || call == "read_with" && !cfg!(feature = "work")
+            || call == "lens" && !cfg!(feature = "lens")
+            || call == "seal" && !cfg!(feature = "seal")
+            || call == "references" && !cfg!(feature = "found")
+            || call == "faults" && !cfg!(feature = "faults") =>
         {
             eprintln!("the archive has no sam_header_{call}");
             return ExitCode::from(2);
@@ -217,9 +237,29 @@ fn main() -> ExitCode {
         pruned::table(rounds);
         return ExitCode::SUCCESS;
     }
+    #[cfg(feature = "found")]
+    if call == "references" {
+        found::table(rounds);
+        return ExitCode::SUCCESS;
+    }
+    #[cfg(feature = "faults")]
+    if call == "faults" {
+        faulty::table(rounds);
+        return ExitCode::SUCCESS;
+    }
     #[cfg(feature = "work")]
     if call == "read_with" {
         area::table(rounds);
+        return ExitCode::SUCCESS;
+    }
+    #[cfg(feature = "lens")]
+    if call == "lens" {
+        lens::table(rounds);
+        return ExitCode::SUCCESS;
+    }
+    #[cfg(feature = "seal")]
+    if call == "seal" {
+        sealed::table(rounds, Path::new(folder));
         return ExitCode::SUCCESS;
     }
     #[cfg(feature = "judge_merge")]

@@ -15,6 +15,9 @@ pub struct Carried {
     pub header: Header,
     /// The lines of the SQ that are kept.
     pub sequences: Vec<u32>,
+    /// The lines of the programs that are kept.
+    #[cfg_attr(not(feature = "faults"), allow(dead_code))]
+    pub programs: Vec<u32>,
     /// The lines that are skipped, with the refusal's number; none where the line was not given to the crate.
     pub skipped: Vec<(u32, Option<u32>)>,
 }
@@ -35,9 +38,9 @@ fn program_id(line: &[u8], strict: bool) -> Vec<u8> {
 /// a text.
 pub fn carried(text: &[u8], takes: impl Fn(&[u8]) -> bool) -> Option<Carried> {
     let mut parser = oracle::lax_parser();
-    let (mut strict, mut empty, mut programs) = (false, true, 0);
+    let (mut strict, mut empty) = (false, true);
     let mut surplus: HashSet<Vec<u8>> = HashSet::new();
-    let (mut sequences, mut skipped) = (Vec::new(), Vec::new());
+    let (mut sequences, mut programs, mut skipped) = (Vec::new(), Vec::new(), Vec::new());
     for (i, (a, b)) in spans(text).enumerate() {
         let (i, line) = (i as u32, &text[a..b]);
         if known::widened(line) {
@@ -53,7 +56,7 @@ pub fn carried(text: &[u8], takes: impl Fn(&[u8]) -> bool) -> Option<Carried> {
             continue;
         }
         let refused = match parser.parse_partial(line) {
-            Ok(()) if line.starts_with(b"@PG") && programs == PROGRAMS => {
+            Ok(()) if line.starts_with(b"@PG") && programs.len() == PROGRAMS => {
                 surplus.insert(program_id(line, strict));
                 Some(19)
             }
@@ -68,13 +71,13 @@ pub fn carried(text: &[u8], takes: impl Fn(&[u8]) -> bool) -> Option<Carried> {
         empty = false;
         match &line[..3] {
             b"@SQ" => sequences.push(i),
-            b"@PG" => programs += 1,
+            b"@PG" => programs.push(i),
             _ => {}
         }
     }
     let mut header = parser.finish();
     header.programs_mut().as_mut().truncate(PROGRAMS);
-    Some(Carried { header, sequences, skipped })
+    Some(Carried { header, sequences, programs, skipped })
 }
 
 /// Whether the crate's own default, which forbids repeated tags until a version is announced, skips other lines.

@@ -12,12 +12,18 @@ use oracle::{
 use crate::area;
 #[cfg(feature = "carry_on")]
 use crate::carried;
+#[cfg(feature = "faults")]
+use crate::faulty;
+#[cfg(feature = "found")]
+use crate::found;
 #[cfg(feature = "add")]
 use crate::grown::{self, Grown};
 #[cfg(feature = "table")]
 use crate::table::{self, Tabled};
 #[cfg(feature = "prune")]
 use crate::pruned;
+#[cfg(feature = "seal")]
+use crate::sealed::Sha256;
 use crate::{
     known::{self, Kind},
     tally::{Call, Tally},
@@ -48,7 +54,7 @@ pub struct Difference {
 
 const SHORT: Refusal = Refusal { number: 20, line: 0 };
 const STALE: Refusal = Refusal { number: 21, line: 0 };
-#[cfg(any(feature = "lookup", feature = "prune"))]
+#[cfg(any(feature = "lookup", feature = "found", feature = "prune"))]
 const ABSENT: Refusal = Refusal { number: 25, line: 0 };
 
 fn refusal(number: u32) -> Refusal {
@@ -346,12 +352,14 @@ fn some(n: usize, rng: &mut Rng) -> Vec<usize> {
 #[derive(Default)]
 pub struct Checker {
     bytes: Lent<u8>,
-    #[cfg(any(feature = "graph", feature = "names", feature = "carry_on"))]
+    #[cfg(any(feature = "graph", feature = "found", feature = "names", feature = "carry_on"))]
     words: Lent<u32>,
     #[cfg(any(feature = "names", feature = "carry_on"))]
     work: Lent<u32>,
     #[cfg(feature = "table")]
     lender: table::Lender,
+    #[cfg(feature = "seal")]
+    sha256: Sha256,
     found: Vec<Difference>,
     pub tally: Tally,
 }
@@ -369,6 +377,10 @@ impl Checker {
         #[cfg(feature = "carry_on")]
         if case.list.is_none() {
             self.carry_on(&case.text);
+        }
+        #[cfg(feature = "faults")]
+        if case.list.is_none() {
+            self.faultless(&case.text);
         }
         #[cfg(feature = "work")]
         if case.list.is_none() {
@@ -501,6 +513,8 @@ impl Checker {
         self.held(Call::Read, said);
         let said = outputs(&mut self.bytes, Err(r), |o| library::tidy(text, o));
         self.held(Call::Tidy, said);
+        #[cfg(feature = "seal")]
+        self.seal_refused(text, r);
         #[cfg(feature = "binary")]
         self.binary_refused(text, r);
         for catalogue in [&b""[..], b"\x01\x01\x00\x00\x00\x06\x00\x00\x00\x00\x00\x00\x00"] {
@@ -520,6 +534,14 @@ impl Checker {
                     let got = library::field(text, catalogue, kind, 0, tag);
                     self.held(Call::Field, got.map(|place| format!("on a refused text: kind {kind} at {place:?}")));
                 }
+            }
+            #[cfg(feature = "found")]
+            {
+                for kind in [2, 9] {
+                    self.still(Call::Find, library::find(text, catalogue, kind, b"a"), r);
+                }
+                let said = outputs(&mut self.words, Err(r), |o| library::references(text, catalogue, o));
+                self.held(Call::References, said);
             }
             #[cfg(feature = "graph")]
             {
@@ -578,6 +600,8 @@ impl Checker {
         }
 
         self.tidy(text, header);
+        #[cfg(feature = "seal")]
+        self.seal(text, catalogue, &damaged, header, &mut rng);
         #[cfg(feature = "binary")]
         self.binary(text, header, &mut rng);
         #[cfg(feature = "lookup")]
@@ -587,6 +611,8 @@ impl Checker {
         }
         #[cfg(feature = "graph")]
         self.graph(text, catalogue, &damaged, header, &mut rng);
+        #[cfg(feature = "found")]
+        self.found(text, catalogue, &damaged, header);
         #[cfg(feature = "add")]
         self.add(case, catalogue, &damaged, header, &mut rng);
         #[cfg(feature = "prune")]
@@ -623,6 +649,12 @@ impl Checker {
         };
         let said = outputs(&mut self.bytes, want, |o| library::tidy(text, o));
         let number = want.err().map_or(0, |r| r.number);
+        // What is written tidy is how a header is handed over to the crate: its parser takes it and holds the same records.
+        if let Ok((tidy, _)) = want
+            && oracle::parse(tidy).as_ref().ok() != Some(header)
+        {
+            self.differ(Call::Tidy, None, "the crate reads other records in the tidy text".into());
+        }
         if number == 1 && said.is_none() {
             self.differ(Call::Tidy, Some(Kind::Size), "refused 1; the crate writes it".into());
         }
@@ -870,6 +902,37 @@ impl Checker {
     }
 }
 
+#[cfg(feature = "found")]
+impl Checker {
+    // Keys of the text, and what is nearly one, asked for in the kind that has them and in another; then the table of references. What is asked by chance
+    // follows from the text, and leaves the other calls' chances as they are.
+    fn found(&mut self, text: &[u8], catalogue: &[u8], damaged: &[Vec<u8>], header: &Header) {
+        let mut rng = seeded(text);
+        for kind in 2..=4 {
+            let keys = found::keys(header, kind);
+            let mut asked = vec![(kind, Vec::new())];
+            for _ in 0..keys.len().min(2) {
+                let key = *rng.of(&keys);
+                asked.extend([(kind, key.to_vec()), (rng.below(7) as u8, key.to_vec()), (kind, found::nearly(key, &mut rng))]);
+            }
+            for (kind, key) in asked {
+                let place = found::keys(header, kind).iter().position(|k| *k == key);
+                let want = place.map_or(Err(ABSENT), |i| Ok(i as u64));
+                let what = format!("kind {kind} key {}", key.escape_ascii());
+                self.same(Call::Find, library::find(text, catalogue, kind, &key), want, &what);
+            }
+        }
+        let c = rng.of(damaged);
+        self.same(Call::Find, library::find(text, c, rng.below(7) as u8, b"a"), Err(STALE), "a damaged catalogue");
+        let rows = found::rows(text, header);
+        let want = Ok((&rows[..], rows.len() as u64 / 3));
+        let said = outputs(&mut self.words, want, |o| library::references(text, catalogue, o));
+        self.said(Call::References, 0, said);
+        let said = outputs(&mut self.words, Err(STALE), |o| library::references(text, c, o));
+        self.said(Call::References, 21, said);
+    }
+}
+
 #[cfg(feature = "prune")]
 impl Checker {
     // Programs in use: what is left is the crate's table without the others, written by the crate. An ordinal that is too high comes
@@ -902,6 +965,75 @@ impl Checker {
         let (c, used) = (rng.of(damaged), rng.of(&lists));
         let said = outputs(&mut self.bytes, Err(STALE), |o| library::prune(text, c, used, o));
         self.said(Call::Prune, 21, said);
+    }
+}
+
+/// What a seal holds before a call.
+#[cfg(feature = "seal")]
+const UNSEALED: [u8; 32] = [0x5A; 32];
+
+/// The seal of another header.
+#[cfg(feature = "seal")]
+const OTHER: Refusal = Refusal { number: 33, line: 0 };
+
+#[cfg(feature = "seal")]
+impl Checker {
+    // A refused text gives reading's refusal, whatever the catalogue and the seal hold, and neither the work area nor the seal changes.
+    fn seal_refused(&mut self, text: &[u8], r: Refusal) {
+        let mut seal = UNSEALED;
+        let said = outputs(&mut self.bytes, Err(r), |o| library::seal(text, o, &mut seal));
+        let said = said.or((seal != UNSEALED).then(|| "a refusal changed the seal".into()));
+        self.held(Call::Seal, said);
+        let said = outputs(&mut self.bytes, Err(r), |o| library::check_sealed(text, b"", &seal, o));
+        self.held(Call::CheckSealed, said);
+    }
+
+    // The check of a seal that is another header's: 33 comes when the tidy text stands in the work area, and any other refusal as tidying's.
+    fn other_seal(&mut self, text: &[u8], catalogue: &[u8], seal: &[u8; 32], want: Result<&[u8], Refusal>) {
+        let said = outputs(&mut self.bytes, want.map(|t| (t, 33)), |o| match library::check_sealed(text, catalogue, seal, o) {
+            Err(OTHER) => Ok(33),
+            answer => answer,
+        });
+        self.said(Call::CheckSealed, want.err().map_or(33, |r| r.number), said.map(|what| format!("another seal: {what}")));
+    }
+
+    // The seal is the digest of the crate's tidy text. The check takes it and no other; a catalogue that is not the text's comes before, and the same text with
+    // other names, which has the same catalogue, has another seal.
+    fn seal(&mut self, text: &[u8], catalogue: &[u8], damaged: &[Vec<u8>], header: &Header, rng: &mut Rng) {
+        let written = oracle::tidy(header);
+        let want = match &written {
+            Ok(t) if t.len() > oracle::LONGEST => Err(refusal(1)),
+            Ok(t) => Ok(&t[..]),
+            Err(_) => Err(Self::unwritable(text, header)),
+        };
+        let number = want.err().map_or(0, |r| r.number);
+        let digest = want.map_or(UNSEALED, |t| self.sha256.digest(t));
+        let mut wrong = None;
+        let said = outputs(&mut self.bytes, want.map(|t| (t, t.len() as u64)), |o| {
+            let mut seal = UNSEALED;
+            let answer = library::seal(text, o, &mut seal);
+            if seal != if answer.is_ok() { digest } else { UNSEALED } {
+                wrong = Some(format!("{answer:?} and the seal {}", inputs::hex(&seal)));
+            }
+            answer
+        });
+        self.said(Call::Seal, number, said.or(wrong));
+        let said = outputs(&mut self.bytes, want.map(|t| (t, 0)), |o| library::check_sealed(text, catalogue, &digest, o));
+        self.said(Call::CheckSealed, number, said);
+        let mut other = digest;
+        other[rng.below(32)] ^= 1 << rng.below(8);
+        self.other_seal(text, catalogue, &other, want);
+        let (c, seal) = (rng.of(damaged), if rng.one_in(2) { &digest } else { &other });
+        let said = outputs(&mut self.bytes, Err(STALE), |o| library::check_sealed(text, c, seal, o));
+        self.said(Call::CheckSealed, 21, said);
+        let named = inputs::renamed(text);
+        // A name that a repeated tag replaces is none of the records: the seal is then the same.
+        if let (Ok(own), Ok(header)) = (want, oracle::parse(&named))
+            && let Ok(t) = oracle::tidy(&header)
+            && t != own
+        {
+            self.other_seal(&named, catalogue, &digest, Ok(&t));
+        }
     }
 }
 
@@ -1001,7 +1133,7 @@ impl Checker {
             return self.said(Call::CarryOn, 1, said);
         }
         let takes = |t: &[u8]| library::read(t, &mut vec![0; 3 * t.len() + 1]).is_ok();
-        let Some(want) = carried::carried(text, takes) else {
+        let Some(mut want) = carried::carried(text, takes) else {
             return self.differ(Call::CarryOn, Some(Kind::Wide), "a value that the crate's stand-in does not take".into());
         };
         if want.skipped.iter().any(|s| s.1.is_none() || s.1 == Some(19)) {
@@ -1011,7 +1143,8 @@ impl Checker {
             self.differ(Call::CarryOn, Some(Kind::CarryDefault), "a repeated tag is allowed; the crate: 14".into());
         }
         let written = oracle::tidy(&want.header);
-        let rows = self.rows(text, &want.skipped);
+        let answer = library::carry_on(text, self.bytes.lend(text.len() + 1), self.words.lend(2 * want.skipped.len()));
+        let rows = self.rows(answer, &want.skipped);
         let due = match &written {
             Ok(t) if t.len() > oracle::LONGEST => Err(refusal(1)),
             Ok(t) => Ok(&t[..]),
@@ -1022,14 +1155,20 @@ impl Checker {
         };
         let said = self.carried_at_lengths(text, due, &rows);
         self.said(Call::CarryOn, due.err().map_or(0, |r| r.number), said);
+        // Of a line that the crate was not given the faults have the number that carrying on told, if it did.
+        for (skipped, row) in want.skipped.iter_mut().zip(rows.chunks(2)) {
+            skipped.1 = skipped.1.or(Some(row[1]).filter(|&n| n != 0));
+        }
+        #[cfg(feature = "faults")]
+        self.faults(text, &want);
     }
 
-    // The table that is due. A line that the crate was not given has any number of a line's refusal: the library's own is taken over.
-    fn rows(&mut self, text: &[u8], skipped: &[(u32, Option<u32>)]) -> Vec<u32> {
-        let answer = library::carry_on(text, self.bytes.lend(text.len() + 1), self.words.lend(2 * skipped.len()));
-        let own = |i: usize| answer.map_or(0, |_| self.words.front(2 * skipped.len())[2 * i + 1]);
+    // The rows that are due, after a call with room for them alone. A line that the crate was not given has any number of a line's refusal: the library's
+    // own is taken over.
+    fn rows(&self, answer: Answer, lines: &[(u32, Option<u32>)]) -> Vec<u32> {
+        let own = |i: usize| answer.map_or(0, |_| self.words.front(2 * lines.len())[2 * i + 1]);
         let number = |i: usize, n: Option<u32>| n.unwrap_or(if matches!(own(i), 2..=18 | 27) { own(i) } else { 0 });
-        skipped.iter().enumerate().flat_map(|(i, &(line, n))| [line, number(i, n)]).collect()
+        lines.iter().enumerate().flat_map(|(i, &(line, n))| [line, number(i, n)]).collect()
     }
 
     // Asks with an output and a table that are longer than the answer, exactly as long, one short, and empty. Says what is wrong, if anything.
@@ -1088,6 +1227,50 @@ impl Checker {
             Some("something past the answer or the table was changed".into())
         } else {
             None
+        }
+    }
+}
+
+#[cfg(feature = "faults")]
+impl Checker {
+    // The faulty lines: what is skipped and why is carrying on's, and what is faulty of the rest follows from the crate's tables.
+    fn faults(&mut self, text: &[u8], kept: &carried::Carried) {
+        let lines = faulty::lines(kept);
+        let answer = library::faults(text, self.words.lend(2 * lines.len()));
+        let rows = self.rows(answer, &lines);
+        let said = outputs(&mut self.words, Ok((&rows, lines.len() as u64)), |o| library::faults(text, o));
+        if said.is_none() {
+            self.tally.faults(&rows);
+        }
+        self.said(Call::Faults, 0, said);
+    }
+
+    // What the library must tell of any text, the crate unasked: 1 for one that is too long; else no faults exactly where reading, tidying and leaves all
+    // accept, and the first fault that has a number of reading's is reading's refusal.
+    fn faultless(&mut self, text: &[u8]) {
+        if text.len() > oracle::LONGEST {
+            let said = outputs(&mut self.words, Err(refusal(1)), |o| library::faults(text, o));
+            return self.said(Call::Faults, 1, said);
+        }
+        let mut table = vec![0; 2 * oracle::spans(text).count()];
+        let answer = library::faults(text, &mut table);
+        let Some(rows) = answer.ok().and_then(|n| table.get(..2 * n as usize)) else {
+            return self.differ(Call::Faults, None, format!("with room for all lines: {answer:?}"));
+        };
+        let mut catalogue = vec![0; 3 * text.len() + 1];
+        let read = library::read(text, &mut catalogue);
+        let tidy = library::tidy(text, &mut vec![0; text.len() + 1]);
+        let leaves = read.and_then(|n| library::leaves(text, &catalogue[..n as usize], &mut [0; oracle::PROGRAMS]));
+        // The longest text may be too long by the last LF when it is tidied, which is no fault.
+        let tidies = tidy.is_ok() || text.len() == oracle::LONGEST && tidy == Err(refusal(1));
+        let first = rows.chunks(2).find(|row| !matches!(row[1], 22..=24)).map(|row| Refusal { number: row[1], line: row[0] });
+        if rows.is_empty() != (tidies && leaves.is_ok()) {
+            let calls = format!("read {read:?}, tidy {tidy:?}, leaves {leaves:?}");
+            self.differ(Call::Faults, None, format!("the faults {rows:?}, and {calls}"));
+        } else if first != read.err() {
+            self.differ(Call::Faults, None, format!("the faults {rows:?}, and read {read:?}"));
+        } else {
+            self.tally.told();
         }
     }
 }

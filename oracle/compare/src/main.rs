@@ -12,14 +12,22 @@ mod area;
 #[cfg(feature = "carry_on")]
 mod carried;
 mod check;
+#[cfg(feature = "faults")]
+mod faulty;
+#[cfg(feature = "found")]
+mod found;
 #[cfg(feature = "add")]
 mod grown;
 mod known;
+#[cfg(feature = "lens")]
+mod lens;
 #[cfg(feature = "judge_merge")]
 mod merged;
 #[cfg(feature = "prune")]
 mod pruned;
 mod reduce;
+#[cfg(feature = "seal")]
+mod sealed;
 #[cfg(feature = "table")]
 mod table;
 mod tally;
@@ -30,8 +38,8 @@ use check::{Case, Checker, Difference};
 use known::Kind;
 use oracle::inputs::{self, Rng, in_domain};
 
-const PHASES: [&str; 13] = [
-    "corners", "tokens", "fields", "bytes", "graphs", "random", "damaged", "programs", "boundaries", "keys", "names", "skipped", "merged",
+const PHASES: [&str; 15] = [
+    "corners", "tokens", "fields", "bytes", "graphs", "random", "damaged", "programs", "boundaries", "keys", "names", "skipped", "merged", "lens", "faults",
 ];
 
 /// Unlisted differences that are printed; the run ends at the last of them.
@@ -47,6 +55,8 @@ struct Run {
     unlisted_count: u64,
     #[cfg(feature = "judge_merge")]
     merges: merged::Tally,
+    #[cfg(feature = "lens")]
+    lens: lens::Tally,
     trace: bool,
 }
 
@@ -171,6 +181,17 @@ impl Run {
         }
     }
 
+    #[cfg(feature = "lens")]
+    fn stream(&mut self, bytes: &[u8]) {
+        self.texts += 1;
+        if let Some(what) = self.lens.compare(bytes) {
+            self.unlisted_count += 1;
+            if self.unlisted_count <= MOST as u64 {
+                println!("UNLISTED {}", clipped(&what));
+            }
+        }
+    }
+
     fn phase(&mut self, phase: &str, rng: &mut Rng, scale: usize) {
         match phase {
             "corners" => {
@@ -290,6 +311,26 @@ impl Run {
             }
             #[cfg(not(feature = "judge_merge"))]
             "merged" => {}
+            #[cfg(feature = "lens")]
+            "lens" => {
+                for _ in 0..100_000 * scale {
+                    self.stream(&lens::file(rng));
+                    self.stream(&lens::stream(rng));
+                }
+            }
+            #[cfg(not(feature = "lens"))]
+            "lens" => {}
+            "faults" if cfg!(feature = "faults") => {
+                for _ in 0..100_000 * scale {
+                    let text = inputs::faulty(rng, false);
+                    self.text(&text);
+                }
+                for _ in 0..20 * scale {
+                    let text = inputs::faulty(rng, true);
+                    self.text(&text);
+                }
+            }
+            "faults" => {}
             _ => unreachable!(),
         }
     }
@@ -338,14 +379,18 @@ fn main() -> ExitCode {
     }
     let calls: Vec<&str> = [
         ("lookup", cfg!(feature = "lookup")),
+        ("found", cfg!(feature = "found")),
         ("graph", cfg!(feature = "graph")),
         ("leaves_by_table", cfg!(feature = "table")),
         ("add", cfg!(feature = "add")),
         ("prune", cfg!(feature = "prune")),
         ("names", cfg!(feature = "names")),
         ("carry_on", cfg!(feature = "carry_on")),
+        ("faults", cfg!(feature = "faults")),
         ("binary", cfg!(feature = "binary")),
         ("judge_merge", cfg!(feature = "judge_merge")),
+        ("text_len binary_len", cfg!(feature = "lens")),
+        ("seal", cfg!(feature = "seal")),
     ]
     .iter()
     .filter_map(|&(name, there)| there.then_some(name))
@@ -365,6 +410,8 @@ fn main() -> ExitCode {
         unlisted_count: 0,
         #[cfg(feature = "judge_merge")]
         merges: merged::Tally::default(),
+        #[cfg(feature = "lens")]
+        lens: lens::Tally::default(),
         trace,
     };
     let began = Instant::now();
@@ -381,6 +428,8 @@ fn main() -> ExitCode {
     print!("{}", run.checker.tally);
     #[cfg(feature = "judge_merge")]
     print!("{}", run.merges);
+    #[cfg(feature = "lens")]
+    print!("{}", run.lens);
     println!("\nKnown kinds of difference, with the smallest input:");
     for (kind, meaning) in known::ALL {
         if let Some((n, smallest)) = run.known.get(&kind).cloned() {

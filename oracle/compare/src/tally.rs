@@ -20,11 +20,16 @@ pub enum Call {
     Prune,
     Names,
     CarryOn,
+    Faults,
     BinaryOut,
     BinaryIn,
+    Seal,
+    CheckSealed,
+    Find,
+    References,
 }
 
-const CALLS: [Call; 17] = [
+const CALLS: [Call; 22] = [
     Call::Read,
     Call::Check,
     Call::Tidy,
@@ -40,22 +45,42 @@ const CALLS: [Call; 17] = [
     Call::Prune,
     Call::Names,
     Call::CarryOn,
+    Call::Faults,
     Call::BinaryOut,
     Call::BinaryIn,
+    Call::Seal,
+    Call::CheckSealed,
+    Call::Find,
+    Call::References,
 ];
 
-/// Refusals have the numbers from 1 to 29.
-const NUMBERS: usize = 30;
+/// Refusals have the numbers from 1 to 33.
+const NUMBERS: usize = 34;
 
 /// How often both sides agreed. A number is a refusal's, 0 an acceptance. Field lookup gives no number: where the stand-in takes
 /// the value's place, it is counted under the number that key would give.
-#[derive(Default)]
 pub struct Tally {
     texts: [u64; NUMBERS],
     calls: [[u64; NUMBERS]; CALLS.len()],
     refused: [u64; CALLS.len()],
     grown: u64,
     areas: u64,
+    faults: [u64; NUMBERS],
+    told: u64,
+}
+
+impl Default for Tally {
+    fn default() -> Self {
+        Self {
+            texts: [0; NUMBERS],
+            calls: [[0; NUMBERS]; CALLS.len()],
+            refused: [0; CALLS.len()],
+            grown: 0,
+            areas: 0,
+            faults: [0; NUMBERS],
+            told: 0,
+        }
+    }
 }
 
 impl Tally {
@@ -80,6 +105,20 @@ impl Tally {
         self.areas += 1;
     }
 
+    /// The faulty lines of a text are these rows.
+    #[cfg(feature = "faults")]
+    pub fn faults(&mut self, rows: &[u32]) {
+        for row in rows.chunks(2) {
+            self.faults[row[1] as usize] += 1;
+        }
+    }
+
+    /// A text's faults told what reading, tidying and leaves say of it.
+    #[cfg(feature = "faults")]
+    pub fn told(&mut self) {
+        self.told += 1;
+    }
+
     /// An add to a header with programs did to its chains what it must.
     #[cfg(feature = "add")]
     pub fn grown(&mut self) {
@@ -89,6 +128,10 @@ impl Tally {
 
 fn row(f: &mut fmt::Formatter<'_>, row: &[u64; NUMBERS]) -> fmt::Result {
     write!(f, "accepted {}", row[0])?;
+    numbers(f, row)
+}
+
+fn numbers(f: &mut fmt::Formatter<'_>, row: &[u64; NUMBERS]) -> fmt::Result {
     for (number, n) in row.iter().enumerate().skip(1).filter(|&(_, &n)| n > 0) {
         write!(f, ", {number}: {n}")?;
     }
@@ -108,6 +151,9 @@ impl fmt::Display for Tally {
             }
         }
         writeln!(f, "Chains after add that are as they must be: {}", self.grown)?;
-        writeln!(f, "Texts that are read, checked and tidied alike with a work area: {}", self.areas)
+        writeln!(f, "Texts that are read, checked and tidied alike with a work area: {}", self.areas)?;
+        writeln!(f, "Texts whose faults tell what read, tidy and leaves answer: {}", self.told)?;
+        write!(f, "Faulty lines by number: {} in all", self.faults.iter().sum::<u64>())?;
+        numbers(f, &self.faults)
     }
 }

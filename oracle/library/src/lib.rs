@@ -48,6 +48,27 @@ unsafe extern "C" {
     ) -> u64;
 }
 
+#[cfg(feature = "found")]
+unsafe extern "C" {
+    fn sam_header_find(
+        text: *const u8,
+        text_len: usize,
+        catalogue: *const u8,
+        catalogue_len: usize,
+        kind: u8,
+        key: *const u8,
+        key_len: usize,
+    ) -> u64;
+    fn sam_header_references(
+        text: *const u8,
+        text_len: usize,
+        catalogue: *const u8,
+        catalogue_len: usize,
+        table: *mut u32,
+        table_len: usize,
+    ) -> u64;
+}
+
 #[cfg(feature = "graph")]
 unsafe extern "C" {
     fn sam_header_roots(
@@ -151,6 +172,11 @@ unsafe extern "C" {
     ) -> u64;
 }
 
+#[cfg(feature = "faults")]
+unsafe extern "C" {
+    fn sam_header_faults(text: *const u8, text_len: usize, table: *mut u32, table_len: usize) -> u64;
+}
+
 #[cfg(feature = "work")]
 unsafe extern "C" {
     fn sam_header_read_with(
@@ -185,6 +211,12 @@ unsafe extern "C" {
     fn sam_header_binary_in(bytes: *const u8, bytes_len: usize, out: *mut u8, out_len: usize) -> u64;
 }
 
+#[cfg(feature = "lens")]
+unsafe extern "C" {
+    fn sam_header_text_len(bytes: *const u8, bytes_len: usize) -> u64;
+    fn sam_header_binary_len(bytes: *const u8, bytes_len: usize) -> u64;
+}
+
 #[cfg(feature = "judge_merge")]
 unsafe extern "C" {
     fn sam_header_judge_merge(
@@ -198,6 +230,20 @@ unsafe extern "C" {
         list_a_len: usize,
         list_b: *const u32,
         list_b_len: usize,
+    ) -> u64;
+}
+
+#[cfg(feature = "seal")]
+unsafe extern "C" {
+    fn sam_header_seal(text: *const u8, text_len: usize, work: *mut u8, work_len: usize, seal: *mut u8) -> u64;
+    fn sam_header_check_sealed(
+        text: *const u8,
+        text_len: usize,
+        catalogue: *const u8,
+        catalogue_len: usize,
+        seal: *const u8,
+        work: *mut u8,
+        work_len: usize,
     ) -> u64;
 }
 
@@ -253,6 +299,19 @@ pub fn field(text: &[u8], catalogue: &[u8], kind: u8, ordinal: u32, [a, b]: [u8;
     let place =
         unsafe { sam_header_field(text.as_ptr(), text.len(), catalogue.as_ptr(), catalogue.len(), kind, ordinal, a, b) };
     (place != u64::MAX).then_some(((place >> 32) as usize, place as u32 as usize))
+}
+
+#[cfg(feature = "found")]
+pub fn find(text: &[u8], catalogue: &[u8], kind: u8, key: &[u8]) -> Answer {
+    let (c, k) = (catalogue.as_ptr(), key.as_ptr());
+    answer(unsafe { sam_header_find(text.as_ptr(), text.len(), c, catalogue.len(), kind, k, key.len()) })
+}
+
+/// Three numbers for each SQ are left in `table`.
+#[cfg(feature = "found")]
+pub fn references(text: &[u8], catalogue: &[u8], table: &mut [u32]) -> Answer {
+    let (c, t) = (catalogue.as_ptr(), table.as_mut_ptr());
+    answer(unsafe { sam_header_references(text.as_ptr(), text.len(), c, catalogue.len(), t, table.len()) })
 }
 
 #[cfg(feature = "graph")]
@@ -373,6 +432,12 @@ pub fn carry_on_with(text: &[u8], out: &mut [u8], table: &mut [u32], work: &mut 
     })
 }
 
+/// Two numbers for each faulty line are left in `table`.
+#[cfg(feature = "faults")]
+pub fn faults(text: &[u8], table: &mut [u32]) -> Answer {
+    answer(unsafe { sam_header_faults(text.as_ptr(), text.len(), table.as_mut_ptr(), table.len()) })
+}
+
 /// Reading by a lent area, which is all zeros afterwards.
 #[cfg(feature = "work")]
 pub fn read_with(text: &[u8], catalogue: &mut [u8], work: &mut [u32]) -> Answer {
@@ -402,6 +467,38 @@ pub fn binary_out(text: &[u8], out: &mut [u8]) -> Answer {
 #[cfg(feature = "binary")]
 pub fn binary_in(bytes: &[u8], out: &mut [u8]) -> Answer {
     answer(unsafe { sam_header_binary_in(bytes.as_ptr(), bytes.len(), out.as_mut_ptr(), out.len()) })
+}
+
+/// How many bytes at the front of a file belong to its header.
+#[cfg(feature = "lens")]
+pub fn text_len(bytes: &[u8]) -> Answer {
+    answer(unsafe { sam_header_text_len(bytes.as_ptr(), bytes.len()) })
+}
+
+/// What the front of a stream tells of its binary header: how many bytes it has, or how many are needed to say more.
+#[derive(Clone, Copy, Debug, Eq, PartialEq)]
+pub enum Len {
+    Whole(u64),
+    More(u64),
+}
+
+#[cfg(feature = "lens")]
+pub fn binary_len(bytes: &[u8]) -> Result<Len, Refusal> {
+    let word = answer(unsafe { sam_header_binary_len(bytes.as_ptr(), bytes.len()) })?;
+    Ok(if word >> 62 == 0 { Len::Whole(word) } else { Len::More(word ^ 1 << 62) })
+}
+
+/// The tidy text is left in `work`.
+#[cfg(feature = "seal")]
+pub fn seal(text: &[u8], work: &mut [u8], seal: &mut [u8; 32]) -> Answer {
+    answer(unsafe { sam_header_seal(text.as_ptr(), text.len(), work.as_mut_ptr(), work.len(), seal.as_mut_ptr()) })
+}
+
+/// The tidy text is left in `work`, after 33 too.
+#[cfg(feature = "seal")]
+pub fn check_sealed(text: &[u8], catalogue: &[u8], seal: &[u8; 32], work: &mut [u8]) -> Answer {
+    let (c, s) = (catalogue.as_ptr(), seal.as_ptr());
+    answer(unsafe { sam_header_check_sealed(text.as_ptr(), text.len(), c, catalogue.len(), s, work.as_mut_ptr(), work.len()) })
 }
 
 /// A refusal comes with which text it is about: 1 for A, 2 for B, 3 for the merged one, 0 for none.

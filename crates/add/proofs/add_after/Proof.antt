@@ -16,15 +16,15 @@ use Rattle.format.specs.Adding.{given, isKnown, added, used}
 use Rattle.format.specs.Calls.{writing}
 use Rattle.accepted.specs.Read.{recordsOf}
 use Rattle.accepted.proofs.Read.{accepted-reads}
-use Rattle.text.proofs.Before.{rest}
-use Rattle.id_search.specs.Places.{idsAt, PlacesInText}
-use Rattle.id_search.specs.Search.{idsOf}
-use Rattle.id_search.proofs.Search.{ids-length}
-use Rattle.parents.proofs.Numbers.{links-count}
-use Rattle.parents.proofs.Own.{few-programs}
-use Rattle.parser.specs.Answers.{answerOf, outputOf}
-use Rattle.parser.proofs.Told.{refused-answer}
-use Rattle.chains.proofs.Leaf.{leaves-length}
+use Rattle.byte_slices.proofs.Before.{rest}
+use Rattle.program_ids.specs.Places.{idsAt, PlacesInText}
+use Rattle.program_ids.specs.Search.{idsOf}
+use Rattle.program_ids.proofs.Search.{ids-length}
+use Rattle.program_parents.proofs.Numbers.{links-count}
+use Rattle.program_parents.proofs.Own.{few-programs}
+use Rattle.read.specs.Answers.{answerOf, outputOf}
+use Rattle.read.proofs.Told.{refused-answer}
+use Rattle.program_chains.proofs.Leaf.{leaves-length}
 use Rattle.add_ids.specs.Taken.{isAmong, taken}
 use Rattle.add_input.proofs.Text.{given-text}
 use Rattle.add_lines.specs.Lines.{addedText}

@@ -1,5 +1,5 @@
 -- `add::is_free` meets its contract: nobody has this ID.
-use Rattle.id_search.specs.Places.{idsAt}
+use Rattle.program_ids.specs.Places.{idsAt}
 use Rattle.add.proofs.Prior.{free-nobody, free-somebody}
 use mathlib.Core.Path.{sym, _∙_}
 use borrow.Author.Needs.{needs}

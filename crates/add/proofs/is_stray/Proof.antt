@@ -2,7 +2,7 @@
 use lib.ListN.{length, take, drop}
 use Rattle.format.specs.Fields.{lastOf}
 use Rattle.format.specs.Adding.{given}
-use Rattle.id_search.specs.Places.{idsAt}
+use Rattle.program_ids.specs.Places.{idsAt}
 use Rattle.add_ids.specs.Taken.{isAmong}
 use Rattle.add.specs.Added.{stray}
 use Rattle.add.proofs.Prior.{stray-nothing, stray-at}

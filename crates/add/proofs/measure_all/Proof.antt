@@ -11,8 +11,8 @@ use Rattle.format.specs.Records.{Record}
 use Rattle.format.specs.Reading.{announced, isStrict}
 use Rattle.format.specs.Tidy.{tidy, unwritable}
 use Rattle.accepted.specs.Read.{recordsOf}
-use Rattle.id_search.specs.Places.{idsAt}
-use Rattle.per_kind.specs.Numbers.{total}
+use Rattle.program_ids.specs.Places.{idsAt}
+use Rattle.tidy_sizes.specs.Numbers.{total}
 use Rattle.tidy_text.specs.Sizes.{sizesOf}
 use Rattle.tidy_text.proofs.Lines.{opened}
 use Rattle.tidy_text.proofs.Total.{tidy-small}
@@ -50,7 +50,7 @@ measured : (z : tie.After-sizes) → let rs = records (start z) in (unwritable 0
 measured z =
     let m = z .before .before in
     let rs = records (start z) in
-    measured-is (unwritable 0 rs) (sizesOf rs) (z .sizes .given .0 .0) (sym (m .measure .ensures) ∙ z .sizes .given .1)
+    measured-is (unwritable 0 rs) (sizesOf rs) (z .sizes .given .0 .0) (sym (m .measure .ensures .0) ∙ z .sizes .given .1)
 
 -- how many bytes it has
 sum : (z : tie.After-sizes) → (total (z .sizes .given .0 .0) ≡ length (tidy (records (start z)))) × (length (tidy (records (start z))) ≤ 16777217)
@@ -143,7 +143,7 @@ returns-4 c =
     let s = c .before .before .before .before .before .before .before .before .before .before .before in
     let room = s .args .room in
     let l = c .before .line .given .0 .0 in
-    sym (ap (plannedOf (sound s)) (write-bad room (unwritable 0 (records s)) (whole s) (l .0) (measured-bad (unwritable 0 (records s)) (sizesOf (records s)) l (sym (m .measure .ensures) ∙ c .before .line .given .1))))
+    sym (ap (plannedOf (sound s)) (write-bad room (unwritable 0 (records s)) (whole s) (l .0) (measured-bad (unwritable 0 (records s)) (sizesOf (records s)) l (sym (m .measure .ensures .0) ∙ c .before .line .given .1))))
 
 returns-5 : tie.Need-returns-5
 unfolding plannedOf

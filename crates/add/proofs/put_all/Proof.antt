@@ -8,10 +8,10 @@ use Rattle.format.specs.Records.{Record}
 use Rattle.format.specs.Tidy.{tidy}
 use Rattle.format.specs.declared.Kind.the-variants.{Comment}
 use Rattle.accepted.specs.Read.{recordsOf}
-use Rattle.id_search.specs.Places.{idsAt}
+use Rattle.program_ids.specs.Places.{idsAt}
 use Rattle.tidy_text.specs.Kinds.{textOfKind, frontText}
-use Rattle.per_kind.specs.Numbers.{get, front}
-use Rattle.text.specs.Over.{over}
+use Rattle.tidy_sizes.specs.Numbers.{get, front}
+use Rattle.byte_slices.specs.Over.{over}
 use Rattle.tidy_text.proofs.Lines.{opened}
 use Rattle.tidy_text.proofs.Total.{tidy-small}
 use Rattle.tidy_text.proofs.Sizes.{front-size, get-sizes}

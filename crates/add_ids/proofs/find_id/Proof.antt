@@ -3,7 +3,7 @@ use Prim.Native.Nat.{_+_, _≤_}
 use mathlib.Core.Path.{refl, sym}
 use native.Mathlib.Omega.{arith}
 use lib.ListN.{length, getD}
-use Rattle.id_search.proofs.Search.{placed-inside}
+use Rattle.program_ids.proofs.Search.{placed-inside}
 use Rattle.add_ids.specs.Taken.{idStanding}
 use Rattle.add_ids.proofs.Search.{id-none, id-some, standing-none}
 use borrow.Author.Needs.{needs}

@@ -6,8 +6,8 @@ use native.Mathlib.Omega.{arith}
 use borrow.Author.Needs.{needs}
 use lib.ListN.{length, drop}
 use Rattle.format.specs.Bytes.{same}
-use Rattle.id_search.specs.Places.{idsAt}
-use Rattle.id_search.proofs.Search.{ids-length}
+use Rattle.program_ids.specs.Places.{idsAt}
+use Rattle.program_ids.proofs.Search.{ids-length}
 use Rattle.add_ids.specs.Taken.{joined, isAmong}
 use Rattle.add_ids.proofs.Search.{known-end, known-step}
 use Rattle.add_ids.proofs.is_known.Statement.{statement}

@@ -5,7 +5,7 @@ use mathlib.Core.Bool.{Bool, true, false, _||_}
 use native.Mathlib.Omega.{arith}
 use borrow.Author.Needs.{needs}
 use lib.ListN.{length, drop}
-use Rattle.id_search.specs.Places.{idsAt}
+use Rattle.program_ids.specs.Places.{idsAt}
 use Rattle.add_ids.specs.Taken.{joined, isAmong, taken}
 use Rattle.add_ids.proofs.Search.{taken-end, taken-step}
 use Rattle.add_ids.proofs.is_taken.Statement.{statement}

@@ -4,8 +4,8 @@ use mathlib.Core.Path.{_≡_, sym, ap, _∙_}
 use native.Mathlib.Omega.{arith}
 use lib.ListN.{length, drop}
 use borrow.Author.Needs.{needs}
-use Rattle.text.specs.Upto.{upto}
-use Rattle.text.proofs.Before.{rest}
+use Rattle.byte_slices.specs.Upto.{upto}
+use Rattle.byte_slices.proofs.Before.{rest}
 use Rattle.add_input.proofs.Last.{Seeking, seeking-start, seeking-end, bounds, seeking-same, seeking-other}
 use Rattle.add_input.proofs.find_previous.Statement.{statement}
 use Rattle.add_input.proofs.find_previous.Tie as tie

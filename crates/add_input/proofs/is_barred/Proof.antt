@@ -2,7 +2,7 @@
 use mathlib.Core.Path.{sym, ap, _∙_}
 use mathlib.Core.Bool.{_||_}
 use borrow.Author.Needs.{needs}
-use Rattle.tags.specs.Occurs.{occurs}
+use Rattle.record_tags.specs.Occurs.{occurs}
 use Rattle.add_input.proofs.is_barred.Statement.{statement}
 use Rattle.add_input.proofs.is_barred.Tie as tie
 

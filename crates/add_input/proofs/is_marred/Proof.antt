@@ -7,10 +7,10 @@ use lib.Seq.{length-take-le}
 use borrow.Author.Needs.{needs}
 use Rattle.format.specs.Fields.{field}
 use Rattle.format.specs.declared.Kind.the-variants.{Program}
-use Rattle.text.specs.Upto.{before}
+use Rattle.byte_slices.specs.Upto.{before}
 use Rattle.field.specs.Parsed.{parsedOf}
-use Rattle.text.proofs.Before.{rest}
-use Rattle.record_laws.proofs.Walked.{Turned, turned, refused-here}
+use Rattle.byte_slices.proofs.Before.{rest}
+use Rattle.record_parser.proofs.Walked.{Turned, turned, refused-here}
 use Rattle.add_input.proofs.Judged.{Going, going-start, turn-end, turn-other, turn-refused, next-within, turn-barred, going}
 use Rattle.add_input.proofs.is_marred.Statement.{statement}
 use Rattle.add_input.proofs.is_marred.Tie as tie

@@ -5,7 +5,7 @@ use mathlib.Core.Bool.{false}
 use native.Mathlib.Omega.{arith}
 use borrow.Author.Needs.{needs}
 use lib.ListN.{length, drop, getD, length-append}
-use Rattle.id_search.specs.Places.{idsAt}
+use Rattle.program_ids.specs.Places.{idsAt}
 use Rattle.add_ids.specs.Taken.{idIn}
 use Rattle.add_lines.specs.Line.{newLine}
 use Rattle.add_lines.specs.Lines.{newLines, addedText}

@@ -6,10 +6,10 @@ use mathlib.Core.List.{_++_}
 use native.Mathlib.Omega.{arith}
 use borrow.Author.Needs.{needs}
 use lib.ListN.{length, drop, length-append}
-use Rattle.text.specs.Over.{over}
-use Rattle.text.proofs.Over.{over-none}
-use Rattle.parts.proofs.Wrote.{Wrote, wrote-onward}
-use Rattle.id_search.specs.Places.{idsAt}
+use Rattle.byte_slices.specs.Over.{over}
+use Rattle.byte_slices.proofs.Over.{over-none}
+use Rattle.tidy_parts.proofs.Wrote.{Wrote, wrote-onward}
+use Rattle.program_ids.specs.Places.{idsAt}
 use Rattle.add_lines.specs.Line.{newLine}
 use Rattle.add_lines.specs.Lines.{newLines, addedText}
 use Rattle.add_lines.proofs.Lines.{lines-more, lines-done, added-one, added-each}

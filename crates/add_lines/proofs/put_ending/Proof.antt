@@ -4,7 +4,7 @@ use mathlib.Core.Path.{_≡_, refl, _∙_}
 use mathlib.Core.List.{[], _∷_, _++_}
 use native.Mathlib.Omega.{arith}
 use lib.ListN.{length, set, length-set, length-append}
-use Rattle.parts.proofs.Wrote.{wrote-then, wrote-one}
+use Rattle.tidy_parts.proofs.Wrote.{wrote-then, wrote-one}
 use Rattle.add_lines.specs.Line.{linking, ending}
 use Rattle.add_lines.proofs.Lines.{ending-size}
 use Rattle.add_lines.proofs.put_ending.Statement.{statement}

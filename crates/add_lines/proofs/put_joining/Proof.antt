@@ -5,7 +5,7 @@ use mathlib.Core.List.{[], _∷_}
 use native.Mathlib.Omega.{arith}
 use borrow.Author.Needs.{needs}
 use lib.ListN.{length, set, length-set}
-use Rattle.parts.proofs.Wrote.{Wrote, wrote-then, wrote-one}
+use Rattle.tidy_parts.proofs.Wrote.{Wrote, wrote-then, wrote-one}
 use Rattle.add_lines.proofs.Lines.{joining-none, joining-some, wrote-none}
 use Rattle.add_lines.proofs.put_joining.Statement.{statement}
 use Rattle.add_lines.proofs.put_joining.Tie as tie

@@ -4,8 +4,8 @@ use mathlib.Core.List.{List, [], _∷_, _++_}
 use native.Mathlib.Omega.{arith}
 use borrow.Author.Needs.{needs}
 use lib.ListN.{length, length-append}
-use Rattle.parts.proofs.Wrote.{wrote-then}
-use Rattle.parts.specs.Parts.{prefixText}
+use Rattle.tidy_parts.proofs.Wrote.{wrote-then}
+use Rattle.tidy_parts.specs.Parts.{prefixText}
 use Rattle.format.specs.declared.Kind.the-variants.{Program}
 use Rattle.add_lines.specs.Line.{joining, linking, ending, newLine}
 use Rattle.add_lines.proofs.Lines.{ending-size, line-size}

@@ -4,7 +4,7 @@ use native.Mathlib.Omega.{arith}
 use borrow.Author.Needs.{needs}
 use lib.ListN.{length}
 use lib.Seq.{take-length}
-use Rattle.parts.proofs.Wrote.{Wrote}
+use Rattle.tidy_parts.proofs.Wrote.{Wrote}
 use Rattle.format.specs.Tidy.{fieldText}
 use Rattle.add_lines.proofs.Lines.{linking-some, linking-none, wrote-none}
 use Rattle.add_lines.proofs.put_linking.Statement.{statement}

@@ -9,12 +9,12 @@ use Rattle.format.specs.Reading.{accept, readText}
 use Rattle.accepted.specs.Read.{isAccepted, recordsOf}
 use Rattle.accepted.proofs.Text.{text-fits}
 use Rattle.format.specs.References.{sqList, sameReferences}
-use Rattle.binary.specs.Binary.{takeList, unpadded, binaryIn}
+use Rattle.format.specs.Binary.{takeList, unpadded, binaryIn}
 use Rattle.binary_parts.specs.Parts.{listed}
-use Rattle.sq_list.proofs.Next.{sq-all}
-use Rattle.judging.proofs.Whole.{text-refused, text-accepted}
-use Rattle.parser.specs.Answers.{answerOf, outputOf}
-use Rattle.parser.proofs.Told.{refused-answer}
+use Rattle.binary_references.proofs.Next.{sq-all}
+use Rattle.read_judge.proofs.Whole.{text-refused, text-accepted}
+use Rattle.read.specs.Answers.{answerOf, outputOf}
+use Rattle.read.proofs.Told.{refused-answer}
 use Rattle.binary_in.proofs.Kept.{kept-within, kept-is}
 use Rattle.binary_in.proofs.Reading.{in-none, in-refused, in-other, in-same}
 use borrow.Author.Needs.{needs}
@@ -35,13 +35,13 @@ module _ (c : tie.After-unpadded-len) where
   inside =
       let p = c .before .before .before .before .before in
       let q = p .parts .result in
-      omega (arith, p .parts .ensures .1 .text, kept-within (p .before .before .before .args .bytes .now) (q .text) (q .len) (c .unpadded-len .result) (p .parts .ensures .1 .text) (c .unpadded-len .ensures))
+      omega (arith, p .parts .ensures .1 .0 .text, kept-within (p .before .before .before .args .bytes .now) (q .text) (q .len) (c .unpadded-len .result) (p .parts .ensures .1 .0 .text) (c .unpadded-len .ensures))
 
   text-is : textOf ≡ unpadded (take (c .before .before .before .before .before .parts .result .len) (drop (c .before .before .before .before .before .parts .result .text) (c .before .before .before .before .before .before .before .before .args .bytes .now)))
   text-is =
       let p = c .before .before .before .before .before in
       let q = p .parts .result in
-      kept-is (p .before .before .before .args .bytes .now) (q .text) (q .len) (c .unpadded-len .result) (p .parts .ensures .1 .text) (c .unpadded-len .ensures)
+      kept-is (p .before .before .before .args .bytes .now) (q .text) (q .len) (c .unpadded-len .result) (p .parts .ensures .1 .0 .text) (c .unpadded-len .ensures)
 
 -- ---- once it is accepted
 
@@ -138,7 +138,7 @@ is-sq-list-requires c κs =
     let u = e .before .before .before .before in
     let p = u .before .before .before .before .before in
     let t = textOf u in
-    (p .parts .ensures .1 .list, (p .parts .ensures .1 .whole (not-false (p .parts .result .ok) (u .before .before .before .if1 .left)), text-fits t (recordsOf t) (accepted e)))
+    (p .parts .ensures .1 .0 .list, (p .parts .ensures .1 .0 .whole (not-false (p .parts .result .ok) (u .before .before .before .if1 .left)), text-fits t (recordsOf t) (accepted e)))
 
 -- src/lib.rt:28:17
 returns-2 : tie.Need-returns-2

@@ -3,11 +3,11 @@ use mathlib.Core.Path.{_≡_, sym, ap, _∙_}
 use mathlib.Core.Bool.{true}
 use lib.ListN.{length}
 use Rattle.format.specs.Reading.{readText}
-use Rattle.binary.specs.Binary.{binaryOut}
+use Rattle.format.specs.Binary.{binaryOut}
 use Rattle.accepted.specs.Read.{isAccepted}
-use Rattle.parser.specs.Answers.{answerOf, outputOf}
-use Rattle.judging.proofs.Whole.{text-refused, text-accepted}
-use Rattle.parser.proofs.Told.{refused-answer}
+use Rattle.read.specs.Answers.{answerOf, outputOf}
+use Rattle.read_judge.proofs.Whole.{text-refused, text-accepted}
+use Rattle.read.proofs.Told.{refused-answer}
 use Rattle.binary_out.proofs.Whole.{out-refused, out-accepted}
 use borrow.Author.Needs.{needs}
 use Rattle.binary_out.proofs.binary_out.Statement.{statement}

@@ -5,14 +5,14 @@ use native.Mathlib.Omega.{arith}
 use lib.ListN.{length}
 use Rattle.format.specs.Catalogue.{little}
 use Rattle.format.specs.Tidy.{tidy}
-use Rattle.text.specs.Over.{over}
+use Rattle.byte_slices.specs.Over.{over}
 use Rattle.accepted.specs.Read.{recordsOf}
 use Rattle.accepted.proofs.Read.{accepted-reads}
 use Rattle.accepted.proofs.Text.{text-fits}
 use Rattle.format.specs.References.{sqList}
-use Rattle.binary.specs.Binary.{listBytes}
-use Rattle.sq_list.specs.Next.{sqFrom}
-use Rattle.sq_list.proofs.Next.{sq-all}
+use Rattle.format.specs.Binary.{listBytes}
+use Rattle.binary_references.specs.Next.{sqFrom}
+use Rattle.binary_references.proofs.Next.{sq-all}
 use Rattle.binary_out.proofs.Whole.{binary-length, binary-over}
 use Rattle.binary_out.proofs.put_binary.Statement.{statement}
 use Rattle.binary_out.proofs.put_binary.Tie as tie

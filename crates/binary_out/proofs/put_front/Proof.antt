@@ -2,9 +2,9 @@
 use mathlib.Core.Path.{ap, _∙_}
 use native.Mathlib.Omega.{arith}
 use Rattle.format.specs.Catalogue.{little}
-use Rattle.text.specs.Over.{over}
-use Rattle.text.proofs.Over.{over-over}
-use Rattle.binary.specs.Binary.{magic}
+use Rattle.byte_slices.specs.Over.{over}
+use Rattle.byte_slices.proofs.Over.{over-over}
+use Rattle.format.specs.Binary.{magic}
 use borrow.Author.Needs.{needs}
 use Rattle.binary_out.proofs.put_front.Statement.{statement}
 use Rattle.binary_out.proofs.put_front.Tie as tie

@@ -9,15 +9,15 @@ use Rattle.accepted.specs.Read.{recordsOf}
 use Rattle.accepted.proofs.Read.{accepted-reads}
 use Rattle.accepted.proofs.Text.{text-fits}
 use Rattle.format.specs.References.{sqList}
-use Rattle.binary.specs.Binary.{listBytes}
-use Rattle.sq_list.proofs.Next.{sq-all}
-use Rattle.references_out.specs.Size.{listSize}
-use Rattle.per_kind.specs.Numbers.{total}
+use Rattle.format.specs.Binary.{listBytes}
+use Rattle.binary_references.proofs.Next.{sq-all}
+use Rattle.binary_put.specs.Size.{listSize}
+use Rattle.tidy_sizes.specs.Numbers.{total}
 use Rattle.tidy_text.specs.Sizes.{sizesOf}
 use Rattle.tidy_text.proofs.Lines.{opened}
 use Rattle.tidy_text.proofs.Total.{tidy-small}
 use Rattle.tidy_text.proofs.Sizes.{total-size}
-use Rattle.parser.proofs.Told.{refused-answer, written-answer}
+use Rattle.read.proofs.Told.{refused-answer, written-answer}
 use Rattle.tidy.proofs.Writing.{measured-bad, measured-is}
 use Rattle.binary_out.specs.Written.{binaryOf, writingBinary}
 use Rattle.binary_out.proofs.Whole.{binary-length, out-bad, out-long, out-short, out-written}
@@ -32,7 +32,7 @@ measured : (c : tie.After-sizes)
 measured c =
     let m = c .before .before in
     let rs = recordsOf (m .before .before .before .args .text .now) in
-    measured-is (unwritable 0 rs) (sizesOf rs) (c .sizes .given .0 .0) (sym (m .measure .ensures) ∙ c .sizes .given .1)
+    measured-is (unwritable 0 rs) (sizesOf rs) (c .sizes .given .0 .0) (sym (m .measure .ensures .0) ∙ c .sizes .given .1)
 
 -- how many bytes it has
 sum : (c : tie.After-sizes) → total (c .sizes .given .0 .0) ≡ length (tidy (recordsOf (c .before .before .before .before .before .args .text .now)))
@@ -124,7 +124,7 @@ returns-3 c =
     let room = length (a .out .now) in
     let l = c .before .line .given .0 .0 in
     refused-answer (writingBinary (a .text .now) room) (a .out .now) 24 l
-    (out-bad (a .text .now) room (l .0) (measured-bad (unwritable 0 rs) (sizesOf rs) l (sym (m .measure .ensures) ∙ c .before .line .given .1)))
+    (out-bad (a .text .now) room (l .0) (measured-bad (unwritable 0 rs) (sizesOf rs) l (sym (m .measure .ensures .0) ∙ c .before .line .given .1)))
 
 same-length : tie.Need-same-length
 same-length c = search needs

@@ -3,7 +3,7 @@ use Prim.Native.Nat.{_≤_}
 use mathlib.Core.Path.{_≡_, refl, sym, ap, _∙_}
 use native.Mathlib.Omega.{arith}
 use lib.ListN.{length, drop}
-use Rattle.binary.specs.Binary.{takeList}
+use Rattle.format.specs.Binary.{takeList}
 use Rattle.binary_parts.specs.Parts.{isWhole}
 use Rattle.binary_parts.proofs.Listed.{list-short, list-on, list-end}
 use borrow.Author.Tests.{not-true, not-false}

@@ -8,6 +8,7 @@ use Rattle.format.specs.Programs.{lastOr}
 use Rattle.binary_parts.specs.Parts.{referenceFrom}
 use Rattle.binary_parts.proofs.Closed.{run-some, run-name, open-name}
 use Rattle.binary_parts.proofs.Taken.{reference-none, reference-open, reference-at}
+use Rattle.binary_parts.proofs.Places.{reference-none-at, reference-open-at, reference-whole-at}
 use borrow.Author.Needs.{needs}
 use Rattle.binary_parts.proofs.take_reference.Statement.{statement}
 use Rattle.binary_parts.proofs.take_reference.Tie as tie
@@ -49,7 +50,7 @@ sub-t13 c =
     let i = c .before .before .before in
     let r = i .before .before .before .before in
     let q = r .take-sized .result in
-    run-some (r .before .before .args .bytes .now) (q .at) (q .len) (r .take-sized .ensures .1) (sym (closes i) ∙ c .before .before .if2 .taken)
+    run-some (r .before .before .args .bytes .now) (q .at) (q .len) (r .take-sized .ensures .1 .0) (sym (closes i) ∙ c .before .before .if2 .taken)
 
 returns : tie.Need-returns
 returns c =
@@ -60,8 +61,14 @@ returns c =
     let q = r .take-sized .result in
     let n = c .before .take-number in (
       reference-at s (a .at) q (r .take-sized .ensures .0) (i .before .before .if1 .taken) (q .len - 1) (n .result)
-          (run-name s (q .at) (q .len) (r .take-sized .ensures .1) (sym (closes i) ∙ c .before .before .if2 .taken)) (n .ensures .0),
-      (n .ensures .1, omega (arith, r .take-sized .ensures .1)),
+          (run-name s (q .at) (q .len) (r .take-sized .ensures .1 .0) (sym (closes i) ∙ c .before .before .if2 .taken)) (n .ensures .0),
+      (
+        n .ensures .1 .0,
+        (
+          omega (arith, r .take-sized .ensures .1 .0),
+          reference-whole-at s (a .at) q (r .take-sized .ensures .1 .1) (n .result) (n .ensures .1 .1) (i .before .before .if1 .taken) (sym (closes i) ∙ c .before .before .if2 .taken),
+        ),
+      ),
     )
 
 returns-2 : tie.Need-returns-2
@@ -74,7 +81,7 @@ returns-2 c =
     let q = r .take-sized .result in (
       reference-open s (a .at) q (r .take-sized .ensures .0) (i .before .before .if1 .taken)
           (open-name (take (q .len) (drop (q .at) s)) (sym (closes i) ∙ c .if2 .left)),
-      search needs,
+      (search needs, (search needs, reference-open-at s (a .at) q (r .take-sized .ensures .1 .1) (sym (closes i) ∙ c .if2 .left))),
     )
 
 returns-3 : tie.Need-returns-3
@@ -82,7 +89,7 @@ unfolding referenceFrom
 returns-3 c =
     let r = c .before .before in
     let a = r .before .before .args in
-    (reference-none (a .bytes .now) (a .at) (r .take-sized .result) (r .take-sized .ensures .0) (c .if1 .left), search needs)
+    (reference-none (a .bytes .now) (a .at) (r .take-sized .result) (r .take-sized .ensures .0) (c .if1 .left), (search needs, (search needs, reference-none-at (a .bytes .now) (a .at) (r .take-sized .result) (r .take-sized .ensures .1 .1) (c .if1 .left))))
 
 pub take-reference-spec : {M : Type 1} → statement M
 take-reference-spec =

@@ -4,7 +4,7 @@ use mathlib.Core.Path.{_≡_, sym, ap, _∙_}
 use native.Mathlib.Omega.{arith}
 use lib.ListN.{length, take}
 use lib.Seq.{take-length, length-take-le}
-use Rattle.binary.specs.Binary.{unpadded}
+use Rattle.format.specs.Binary.{unpadded}
 use Rattle.binary_parts.proofs.Unpadded.{unpadded-on, unpadded-at}
 use Rattle.binary_parts.proofs.unpadded_len.Statement.{statement}
 use Rattle.binary_parts.proofs.unpadded_len.Tie as tie

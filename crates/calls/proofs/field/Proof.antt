@@ -41,20 +41,20 @@ part-result-start : tie.Need-part-result-start
 part-result-start c = search needs
 
 -- the value's place
-told : (c : tie.After-at) → let a = c .before .before .before .before .before .before .args in valuePlaceOf (valuing (a .text .now) (a .kept .now) (a .kind) (a .ordinal) (a .a) (a .b)) ≡ At (c .at .given .0 .0) (c .at .given .0 .1 .0)
+told : (c : tie.After-at) → let a = c .before .before .before .before .before .before .args in valuePlaceOf (valuing (a .text .now) (a .catalogue .now) (a .kind) (a .ordinal) (a .a) (a .b)) ≡ At (c .at .given .0 .0) (c .at .given .0 .1 .0)
 told c = sym (c .before .before .place .ensures) ∙ c .at .given .1
 
 part-result-end : tie.Need-part-result-end
 part-result-end c =
     let p = c .before in
     let a = p .before .before .before .before .before .before .args in
-    omega (arith, place-inside (a .text .now) (a .kept .now) (a .kind) (a .ordinal) (a .a) (a .b) (p .at .given .0 .0) (p .at .given .0 .1 .0) (told p))
+    omega (arith, place-inside (a .text .now) (a .catalogue .now) (a .kind) (a .ordinal) (a .a) (a .b) (p .at .given .0 .0) (p .at .given .0 .1 .0) (told p))
 
 returns : tie.Need-returns
 returns c =
     let k = c .before .before in
     let a = k .before .before .before .before .args in
-    stood (a .text .now) (a .kept .now) (a .kind) (a .ordinal) (a .a) (a .b) (a .stand-in .now) (a .text .ptr) (a .stand-in .ptr) (sym (k .place .ensures) ∙ c .enum-told .given .1)
+    stood (a .text .now) (a .catalogue .now) (a .kind) (a .ordinal) (a .a) (a .b) (a .stand-in .now) (a .text .ptr) (a .stand-in .ptr) (sym (k .place .ensures) ∙ c .enum-told .given .1)
 
 returns-2 : tie.Need-returns-2
 returns-2 c =
@@ -62,7 +62,7 @@ returns-2 c =
     let a = p .before .before .before .before .before .before .args in
     let at = p .at .given .0 .0 in
     let len = p .at .given .0 .1 .0 in
-    let v = valued-at (a .text .now) (a .kept .now) (a .kind) (a .ordinal) (a .a) (a .b) (a .stand-in .now) (a .text .ptr) (a .stand-in .ptr) at len (told p) in
+    let v = valued-at (a .text .now) (a .catalogue .now) (a .kind) (a .ordinal) (a .a) (a .b) (a .stand-in .now) (a .text .ptr) (a .stand-in .ptr) at len (told p) in
     (lent (a .text .now) at len ∙ v .0, v .1)
 
 pub field-spec : {M : Type 1} → statement M

@@ -1,7 +1,7 @@
 -- `calls::key` meets its contract: reading, 21, then 25 where the catalogue has no such key.
 use mathlib.Core.Path.{sym, ap, _∙_}
 use Rattle.calls.specs.Answers.{keyAnswerOf}
-use Rattle.parser.proofs.Fresh.{refused-by, fresh-by}
+use Rattle.read.proofs.Fresh.{refused-by, fresh-by}
 use Rattle.calls.proofs.Told.{key-refused, key-none, key-found}
 use borrow.Author.Needs.{needs}
 use Rattle.calls.proofs.key.Statement.{statement}
@@ -31,20 +31,20 @@ returns c =
     let k = c .before .before .before in
     let a = k .before .before .before .args in
     let g = c .before .n .given in
-    sym (ap keyAnswerOf (key-refused (a .text .now) (a .kept .now) (g .0 .0) (g .0 .1 .0 .0) (refused-by (a .text .now) (a .kept .now) (k .check .ensures) (g .0 .0) (g .0 .1 .0) (g .1)) (a .kind) (a .ordinal)))
+    sym (ap keyAnswerOf (key-refused (a .text .now) (a .catalogue .now) (g .0 .0) (g .0 .1 .0 .0) (refused-by (a .text .now) (a .catalogue .now) (k .check .ensures) (g .0 .0) (g .0 .1 .0) (g .1)) (a .kind) (a .ordinal)))
 
 returns-2 : tie.Need-returns-2
 unfolding keyAnswerOf
 returns-2 c =
     let f = c .before .before in
     let a = f .before .before .before .before .before .before .args in
-    sym (ap keyAnswerOf (key-none (a .text .now) (a .kept .now) (fresh-by (a .text .now) (a .kept .now) (f .before .before .before .check .ensures) (f .before .enum-told .given .1)) (a .kind) (a .ordinal) (sym (f .find-key .ensures) ∙ c .enum-told2 .given .1)))
+    sym (ap keyAnswerOf (key-none (a .text .now) (a .catalogue .now) (fresh-by (a .text .now) (a .catalogue .now) (f .before .before .before .check .ensures) (f .before .enum-told .given .1)) (a .kind) (a .ordinal) (sym (f .find-key .ensures .0) ∙ c .enum-told2 .given .1)))
 
 returns-3 : tie.Need-returns-3
 returns-3 c =
     let f = c .before .before .before in
     let a = f .before .before .before .before .before .before .args in
-    sym (key-found (a .text .now) (a .kept .now) (fresh-by (a .text .now) (a .kept .now) (f .before .before .before .check .ensures) (f .before .enum-told .given .1)) (a .kind) (a .ordinal) (c .before .p .given .0 .0) (sym (f .find-key .ensures) ∙ c .before .p .given .1))
+    sym (key-found (a .text .now) (a .catalogue .now) (fresh-by (a .text .now) (a .catalogue .now) (f .before .before .before .check .ensures) (f .before .enum-told .given .1)) (a .kind) (a .ordinal) (c .before .p .given .0 .0) (sym (f .find-key .ensures .0) ∙ c .before .p .given .1))
 
 pub key-spec : {M : Type 1} → statement M
 key-spec =

@@ -1,7 +1,7 @@
 -- `calls::length` meets its contract: reading, 21, then 25 where the catalogue has no such SQ.
 use mathlib.Core.Path.{sym, ap, _∙_}
 use Rattle.calls.specs.Answers.{lengthAnswerOf}
-use Rattle.parser.proofs.Fresh.{refused-by, fresh-by}
+use Rattle.read.proofs.Fresh.{refused-by, fresh-by}
 use Rattle.calls.proofs.Told.{length-refused, length-none, length-found}
 use borrow.Author.Needs.{needs}
 use Rattle.calls.proofs.length.Statement.{statement}
@@ -31,21 +31,21 @@ returns c =
     let k = c .before .before .before in
     let a = k .before .before .before .args in
     let g = c .before .n .given in
-    sym (ap lengthAnswerOf (length-refused (a .text .now) (a .kept .now) (g .0 .0) (g .0 .1 .0 .0) (refused-by (a .text .now) (a .kept .now) (k .check .ensures) (g .0 .0) (g .0 .1 .0) (g .1)) (a .ordinal)))
+    sym (ap lengthAnswerOf (length-refused (a .text .now) (a .catalogue .now) (g .0 .0) (g .0 .1 .0 .0) (refused-by (a .text .now) (a .catalogue .now) (k .check .ensures) (g .0 .0) (g .0 .1 .0) (g .1)) (a .ordinal)))
 
 returns-2 : tie.Need-returns-2
 unfolding lengthAnswerOf
 returns-2 c =
     let f = c .before .before in
     let a = f .before .before .before .before .before .before .args in
-    sym (ap lengthAnswerOf (length-none (a .text .now) (a .kept .now) (fresh-by (a .text .now) (a .kept .now) (f .before .before .before .check .ensures) (f .before .enum-told .given .1)) (a .ordinal) (sym (f .find-length .ensures) ∙ c .enum-told2 .given .1)))
+    sym (ap lengthAnswerOf (length-none (a .text .now) (a .catalogue .now) (fresh-by (a .text .now) (a .catalogue .now) (f .before .before .before .check .ensures) (f .before .enum-told .given .1)) (a .ordinal) (sym (f .find-length .ensures .0) ∙ c .enum-told2 .given .1)))
 
 returns-3 : tie.Need-returns-3
 unfolding lengthAnswerOf
 returns-3 c =
     let f = c .before .before .before in
     let a = f .before .before .before .before .before .before .args in
-    sym (ap lengthAnswerOf (length-found (a .text .now) (a .kept .now) (fresh-by (a .text .now) (a .kept .now) (f .before .before .before .check .ensures) (f .before .enum-told .given .1)) (a .ordinal) (c .before .n2 .given .0 .0) (sym (f .find-length .ensures) ∙ c .before .n2 .given .1)))
+    sym (ap lengthAnswerOf (length-found (a .text .now) (a .catalogue .now) (fresh-by (a .text .now) (a .catalogue .now) (f .before .before .before .check .ensures) (f .before .enum-told .given .1)) (a .ordinal) (c .before .n2 .given .0 .0) (sym (f .find-length .ensures .0) ∙ c .before .n2 .given .1)))
 
 pub length-spec : {M : Type 1} → statement M
 length-spec =

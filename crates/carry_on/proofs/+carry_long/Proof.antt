@@ -4,12 +4,13 @@ use mathlib.Core.Path.{sym, _∙_}
 use native.Mathlib.Omega.{arith}
 use borrow.Author.Needs.{needs}
 use borrow.Fn.Kinds.{In}
+use Rattle.carry_on.proofs.Told.{zeros-long}
 use borrow.Fn.PlainCycle.{Measures, is, falls, and}
 use Rattle.carry_on.proofs.carry_long.Reads as carry-long
 use Rattle.carry_on.proofs.carry_long.Kinds as carry-long-kinds
 use Rattle.carry_on.proofs.+carry_long.Lts-carry_long as carry-long-lts
 use Rattle.carry_on.proofs.write_measured.Reads as write-measured-reads
-use Rattle.kept_sizes.proofs.measure.Reads as measure-reads
+use Rattle.carry_passes.proofs.measure.Reads as measure-reads
 use Rattle.carry_on.proofs.+carry_long.{statement}
 use Rattle.carry_on.proofs.+carry_long.Tie.{close}
 
@@ -65,7 +66,7 @@ carry-long-write-measured-requires : (t : ℕ) → carry-long-lts.Need-write-mea
 carry-long-write-measured-requires t c κs =
     let m = c .before .before .before .before .before in
     let s = m .before .before .before .before .before in
-    (s .pre .1 .0, (s .pre .1 .1, (omega (arith, m .measure .ensures .1), m .measure .ensures .0)))
+    (s .pre .1 .0, (s .pre .1 .1, (omega (arith, zeros-long _ _ (m .measure .ensures .1 .1)), m .measure .ensures .0)))
 
 carry-long-same-length-5 : (t : ℕ) → carry-long-lts.Need-same-length-5 (measure-reads.Asked, measure-reads.Learnt, carry-long-below t, carry-long.Post, write-measured-reads.Asked, write-measured-reads.Learnt) (carry-long-at t) carry-long.Post
 carry-long-same-length-5 t c = search needs

@@ -1,13 +1,14 @@
 -- `carry_on::carry_indexed` meets its contract: the first line that is kept is found, the lines from there on are measured, then written.
 use native.Mathlib.Omega.{arith}
 use borrow.Author.Needs.{needs}
+use Rattle.carry_on.proofs.Told.{zeros-long}
 use Rattle.carry_on.proofs.carry_indexed.Statement.{statement}
 use Rattle.carry_on.proofs.carry_indexed.Tie as tie
 use Rattle.carry_on.proofs.carry_indexed.Reads as reads
 use Rattle.carry_on.proofs.carry_indexed.Lts as lts
 use Rattle.carry_on.proofs.write_measured.Reads as write-measured-reads
-use Rattle.early_lines.proofs.find_first.Reads as find-first-reads
-use Rattle.kept_sizes.proofs.measure.Reads as measure-reads
+use Rattle.carry_early.proofs.find_first.Reads as find-first-reads
+use Rattle.carry_passes.proofs.measure.Reads as measure-reads
 
 find-first-requires : tie.Need-find-first-requires
 find-first-requires c κs = search needs
@@ -19,7 +20,7 @@ write-measured-requires : tie.Need-write-measured-requires
 write-measured-requires c κs =
     let s = c .before .before .before .before .before .before .before .before .before .before .before .before in
     let m = c .before .before .before .before .before in
-    (s .pre .0, (m .before .before .find-first .ensures, (omega (arith, m .measure .ensures .1, s .pre .1), m .measure .ensures .0)))
+    (s .pre .0, (m .before .before .find-first .ensures, (omega (arith, zeros-long _ _ (m .measure .ensures .1 .1), s .pre .1), m .measure .ensures .0)))
 
 same-length : tie.Need-same-length
 same-length c = search needs

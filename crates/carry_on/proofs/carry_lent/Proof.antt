@@ -2,7 +2,7 @@
 use mathlib.Core.Path.{_≡_, refl, sym}
 use native.Mathlib.Omega.{arith}
 use lib.ListN.{length-take}
-use Rattle.judging.proofs.Smaller.{least-left}
+use Rattle.read_judge.proofs.Smaller.{least-left}
 use borrow.Author.Needs.{needs}
 use Rattle.carry_on.proofs.carry_lent.Statement.{statement}
 use Rattle.carry_on.proofs.carry_lent.Tie as tie
@@ -10,7 +10,7 @@ use Rattle.carry_on.proofs.carry_lent.Reads as reads
 use Rattle.carry_on.proofs.carry_lent.Lts as lts
 use Rattle.carry_on.proofs.carry_indexed.Reads as carry-indexed-reads
 use Rattle.carry_on.proofs.carry_small.Reads as carry-small-reads
-use Rattle.judging.proofs.least.Reads as least-reads
+use Rattle.read_judge.proofs.least.Reads as least-reads
 
 carry-small-requires : tie.Need-carry-small-requires
 carry-small-requires c κs = search needs

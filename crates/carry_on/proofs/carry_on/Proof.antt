@@ -1,6 +1,6 @@
 -- `carry_on::carry_on` meets its contract: 1 first, then by the text's length.
 use lib.ListN.{length}
-use Rattle.carried.specs.Carrying.{carrying}
+use Rattle.format.specs.Carrying.{carrying}
 use Rattle.carry_on.proofs.Told.{told-long, refused-all}
 use borrow.Author.Needs.{needs}
 use Rattle.carry_on.proofs.carry_on.Statement.{statement}

@@ -2,7 +2,7 @@
 use mathlib.Core.Path.{_≡_, ap, _∙_}
 use lib.ListN.{length, replicate}
 use Rattle.format.specs.Work.{allZeros}
-use Rattle.carried.specs.Carrying.{carrying}
+use Rattle.format.specs.Carrying.{carrying}
 use Rattle.carry_on.proofs.Told.{told-long, refused-all}
 use borrow.Author.Needs.{needs}
 use Rattle.carry_on.proofs.carry_on_with.Statement.{statement}

@@ -5,13 +5,13 @@ use mathlib.Core.List.{List}
 use native.Mathlib.Omega.{arith}
 use lib.ListN.{length, length-append}
 use Rattle.format.specs.Tidy.{tidy}
-use Rattle.per_kind.specs.Numbers.{total, front, kindStarts}
+use Rattle.tidy_sizes.specs.Numbers.{total, front, kindStarts}
 use Rattle.tidy_text.proofs.Sizes.{total-size}
 use Rattle.tidy.proofs.Writing.{write-long, write-short, write-fits}
-use Rattle.carried.specs.Carrying.{keptOf, carriedLines, skips, rows, unwritableLine, carrying}
-use Rattle.early_lines.specs.Early.{earlyOf, rowsFrom}
-use Rattle.kept_from.specs.From.{keptFrom, rowsOf}
-use Rattle.kept_from.proofs.Split.{first-kept, first-small, first-count, skips-few, first-rows, early-rows}
+use Rattle.format.specs.Carrying.{keptOf, carriedLines, skips, rows, unwritableLine, carrying}
+use Rattle.carry_early.specs.Early.{earlyOf, rowsFrom}
+use Rattle.carry_passes.specs.From.{keptFrom, rowsOf}
+use Rattle.carry_passes.proofs.Split.{first-kept, first-small, first-count, skips-few, first-rows, early-rows}
 use Rattle.carry_on.proofs.Told.{told-refused, told-short, told-fits, refused-all, written-all}
 use borrow.Author.Needs.{needs}
 use Rattle.carry_on.proofs.write_kept.Statement.{statement}
@@ -132,7 +132,7 @@ returns-4 c =
     (told-fits t (length (a .out .now)) (length (a .table .now)) (s .pre .0) (kept t)
     (write-fits (length (a .out .now)) (unwritableLine 0 (carriedLines t)) (kept t) (s .pre .1 .1 .1 .0) (omega (arith, n, sum s, c .before .before .before .before .before .before .before .before .before .before .before .before .before .before .if1 .left)) (omega (arith, n, sum s, c .before .before .before .before .before .before .before .before .before .before .before .before .before .if2 .left)))
     (omega (arith, count s, c .before .before .before .before .before .before .before .before .before .before .before .if3 .left)))
-    (n ∙ sum s .0) half (w .0) (w .1)
+    (n ∙ sum s .0) half (w .0) (w .1 .0)
 
 pub write-kept-spec : {M : Type 1} → statement M
 write-kept-spec =

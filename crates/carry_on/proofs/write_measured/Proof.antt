@@ -4,10 +4,10 @@ use lib.ListN.{length}
 use Rattle.format.specs.Tidy.{tidy}
 use Rattle.tidy_text.specs.Sizes.{sizesOf}
 use Rattle.tidy.proofs.Writing.{write-bad}
-use Rattle.carried.specs.Carrying.{keptOf, carriedLines, unwritableLine, carrying}
-use Rattle.kept_from.specs.From.{keptFrom, skippedFrom, unwritableFrom}
-use Rattle.kept_from.proofs.Split.{first-names}
-use Rattle.kept_sizes.proofs.Told.{measured-bad, measured-is}
+use Rattle.format.specs.Carrying.{keptOf, carriedLines, unwritableLine, carrying}
+use Rattle.carry_passes.specs.From.{keptFrom, skippedFrom, unwritableFrom}
+use Rattle.carry_passes.proofs.Split.{first-names}
+use Rattle.carry_passes.proofs.MeasuredSizes.{measured-bad, measured-is}
 use Rattle.carry_on.proofs.Told.{told-refused, refused-all}
 use borrow.Author.Needs.{needs}
 use Rattle.carry_on.proofs.write_measured.Statement.{statement}

@@ -5,7 +5,7 @@ use mathlib.Core.List.{[]}
 use native.Mathlib.Omega.{arith}
 use lib.ListN.{length, length-set}
 use Rattle.format.specs.Decimal.{written, writtenF}
-use Rattle.text.specs.Over.{over}
+use Rattle.byte_slices.specs.Over.{over}
 use Rattle.decimal.proofs.Written.{written-turns}
 use Rattle.decimal.proofs.OverBack.{digit-back, digits-end}
 use Rattle.decimal.proofs.write_u64.Statement.{statement}

@@ -8,10 +8,10 @@ use borrow.Author.Needs.{needs}
 use borrow.Author.Tests.{not-true, not-false}
 use Rattle.format.specs.Fields.{field, valueField}
 use Rattle.format.specs.declared.Kind.{Kind}
-use Rattle.text.specs.Upto.{before}
+use Rattle.byte_slices.specs.Upto.{before}
 use Rattle.field.specs.Parsed.{parsedOf}
 use Rattle.field.specs.declared.ParsedField.{ParsedField}
-use Rattle.text.proofs.Before.{rest}
+use Rattle.byte_slices.proofs.Before.{rest}
 use Rattle.field.proofs.Place.{colonAt, field-in-place, place-short, place-tag, place-colon, colon-none, colon-other, colon-value}
 use Rattle.field.proofs.parse_field.Statement.{statement}
 use Rattle.field.proofs.parse_field.Tie as tie

@@ -8,12 +8,12 @@ use lib.ListN.{length, take}
 use lib.Seq.{length-take-le}
 use borrow.Author.Needs.{needs}
 use Rattle.format.specs.Version.{version}
-use Rattle.text.proofs.Lines.{upto-le}
-use Rattle.text.specs.Upto.{upto, before}
-use Rattle.field_value.specs.Taken.{takenOf}
-use Rattle.field_value.proofs.Taken.{a-value}
+use Rattle.byte_slices.proofs.Lines.{upto-le}
+use Rattle.byte_slices.specs.Upto.{upto, before}
+use Rattle.field.specs.Taken.{takenOf}
+use Rattle.field.proofs.value.Taken.{a-value}
 use Rattle.field.specs.Parsed.{keptBy, versionedBy}
-use Rattle.text.proofs.Before.{before-length}
+use Rattle.byte_slices.proofs.Before.{before-length}
 use Rattle.field.proofs.Judged.{value-length, value-none, value-version, value-kept}
 use Rattle.field.proofs.parse_field_value.Statement.{statement}
 use Rattle.field.proofs.parse_field_value.Tie as tie

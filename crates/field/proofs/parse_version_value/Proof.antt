@@ -5,9 +5,9 @@ use mathlib.Core.Option.{Option, none, some}
 use borrow.Author.Needs.{needs}
 use Rattle.format.specs.Version.{version}
 use Rattle.format.specs.declared.Version.{Version}
-use Rattle.version.specs.Spelled.{parsedVersionOf}
-use Rattle.version.specs.declared.ParsedVersion.{ParsedVersion}
-use Rattle.version.specs.declared.ParsedVersion.the-variants.{Is, Invalid}
+use Rattle.field.specs.Spelled.{parsedVersionOf}
+use Rattle.field.specs.declared.version.ParsedVersion.{ParsedVersion}
+use Rattle.field.specs.declared.version.ParsedVersion.the-variants.{Is, Invalid}
 use Rattle.field.specs.Parsed.{versionedBy, refusedBy}
 use Rattle.field.specs.declared.ParsedField.{ParsedField}
 use Rattle.field.proofs.parse_version_value.Statement.{statement}
@@ -40,14 +40,14 @@ unfolding versionBy
 returns c =
     let e = c .before in
     let p = e .before .before in
-    c .refused .ensures ∙ ap (versionBy _) (sym (e .enum-told .given .1) ∙ p .parse-version .ensures) ∙ by-spelled _ _
+    c .refused .ensures ∙ ap (versionBy _) (sym (e .enum-told .given .1) ∙ p .parse-version .ensures .0) ∙ by-spelled _ _
 
 returns-2 : tie.Need-returns-2
 unfolding versionBy
 returns-2 c =
     let v = c .before in
     let p = v .before .before in
-    ap (versionBy _) (sym (v .version .given .1) ∙ p .parse-version .ensures) ∙ by-spelled _ _
+    ap (versionBy _) (sym (v .version .given .1) ∙ p .parse-version .ensures .0) ∙ by-spelled _ _
 
 pub parse-version-value-spec : {M : Type 1} → statement M
 parse-version-value-spec =

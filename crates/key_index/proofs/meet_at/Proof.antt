@@ -5,7 +5,7 @@ use mathlib.Core.Bool.{cond}
 use mathlib.Core.List.{List}
 use native.Mathlib.Omega.{arith}
 use lib.ListN.{length, take, drop, set, length-take}
-use Rattle.key_hash.specs.Hash.{keyHash}
+use Rattle.key_look.specs.Hash.{keyHash}
 use Rattle.key_look.specs.declared.Sought.the-variants.{Known, Free, Full}
 use Rattle.key_look.specs.Sought.{mark, sought}
 use Rattle.key_index.specs.Told.{value, saysKnown, afterLooking}
@@ -15,7 +15,7 @@ use Rattle.key_index.proofs.meet_at.Statement.{statement}
 use Rattle.key_index.proofs.meet_at.Tie as tie
 use Rattle.key_index.proofs.meet_at.Reads as reads
 use Rattle.key_index.proofs.meet_at.Lts as lts
-use Rattle.key_hash.proofs.hash.Reads as hash-reads
+use Rattle.key_look.proofs.hash.hash.Reads as hash-reads
 use Rattle.key_look.proofs.look.Reads as look-reads
 use Rattle.key_look.proofs.mark.Reads as mark-reads
 

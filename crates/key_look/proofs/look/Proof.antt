@@ -10,7 +10,7 @@ use borrow.Author.Needs.{needs}
 use lib.ListN.{length, drop, getD}
 use Rattle.format.specs.Bytes.{same}
 use Rattle.format.specs.Slots.{around}
-use Rattle.key_hash.specs.Hash.{keyHash}
+use Rattle.key_look.specs.Hash.{keyHash}
 use Rattle.key_look.specs.Sought.{mark, keyTold, tellsKey, firstSlot, lookAlong, sought}
 use Rattle.key_look.proofs.Looking.{at-empty, at-hit, at-other, at-next, at-end}
 use Rattle.key_look.proofs.look.Statement.{statement}

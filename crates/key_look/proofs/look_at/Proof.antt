@@ -9,7 +9,7 @@ use Rattle.key_look.proofs.look_at.Statement.{statement}
 use Rattle.key_look.proofs.look_at.Tie as tie
 use Rattle.key_look.proofs.look_at.Reads as reads
 use Rattle.key_look.proofs.look_at.Lts as lts
-use Rattle.key_hash.proofs.hash.Reads as hash-reads
+use Rattle.key_look.proofs.hash.hash.Reads as hash-reads
 use Rattle.key_look.proofs.look.Reads as look-reads
 
 add-end : tie.Need-add-end

@@ -7,8 +7,8 @@ use native.Mathlib.Omega.{arith}
 use lib.ListN.{length, take, drop, getD}
 use borrow.Author.Tests.{not-true, not-false}
 use Rattle.accepted.proofs.Bools.{never}
-use Rattle.other_fields.specs.Run.{AtField}
-use Rattle.other_fields.proofs.Place.{next-at, bounds}
+use Rattle.accepted_line.specs.Run.{AtField}
+use Rattle.accepted_line.proofs.fields.Place.{next-at, bounds}
 use Rattle.merge_fields.specs.Kept.{isPassed, keptFrom, toldField, toldFields, NextInLine}
 use Rattle.merge_fields.proofs.Turns.{kept-end, kept-later, kept-passed, kept-next}
 use Rattle.merge_fields.proofs.next_field.Statement.{statement}

@@ -7,7 +7,7 @@ use native.Mathlib.Omega.{arith}
 use lib.ListN.{length}
 use borrow.Author.Tests.{not-true, not-false}
 use Rattle.accepted.proofs.Bools.{split}
-use Rattle.other_fields.specs.Run.{AtField}
+use Rattle.accepted_line.specs.Run.{AtField}
 use Rattle.format.specs.Merge.{sameField, keepsFields}
 use Rattle.merge_fields.specs.Kept.{keptFrom, toldField, toldFields}
 use Rattle.merge_fields.proofs.Turns.{told-one, told-none}

@@ -6,8 +6,8 @@ use native.Mathlib.Omega.{arith}
 use lib.ListN.{length}
 use borrow.Author.Needs.{needs}
 use borrow.Author.Tests.{not-true, not-false}
-use Rattle.sq_list.specs.Next.{sqFrom, toldReference}
-use Rattle.sq_list.proofs.Next.{told-one}
+use Rattle.binary_references.specs.Next.{sqFrom, toldReference}
+use Rattle.binary_references.proofs.Next.{told-one}
 use Rattle.merge_references.specs.Joining.{From}
 use Rattle.merge_references.proofs.Names.{from-start, from-next}
 use Rattle.merge_hints.specs.Hints.{Placed, Marked}

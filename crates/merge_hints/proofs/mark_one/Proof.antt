@@ -6,8 +6,8 @@ use native.Mathlib.Omega.{arith}
 use native.Mathlib.Nat.{mod-lt}
 use lib.ListN.{length, getD, length-set}
 use borrow.Author.Needs.{needs}
-use Rattle.sq_list.specs.Next.{sqFrom, toldReference}
-use Rattle.sq_list.proofs.Next.{told-one}
+use Rattle.binary_references.specs.Next.{sqFrom, toldReference}
+use Rattle.binary_references.proofs.Next.{told-one}
 use Rattle.merge_hints.specs.Hints.{slotOffset, Placed, Marked}
 use Rattle.merge_hints.proofs.Laws.{placed-mark, marked-mark, known-by}
 use Rattle.merge_hints.proofs.mark_one.Statement.{statement}

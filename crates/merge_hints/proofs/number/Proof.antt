@@ -3,8 +3,8 @@ use Prim.Native.Nat.{_+_, _-_}
 use mathlib.Core.Path.{_≡_, ap, _∙_}
 use native.Mathlib.Omega.{arith}
 use lib.ListN.{take, drop}
-use Rattle.key_hash.specs.Hash.{keyHash}
-use Rattle.sq_list.specs.Next.{toldReference}
+use Rattle.key_look.specs.Hash.{keyHash}
+use Rattle.binary_references.specs.Next.{toldReference}
 use borrow.Author.Needs.{needs}
 use Rattle.merge_hints.proofs.number.Statement.{statement}
 use Rattle.merge_hints.proofs.number.Tie as tie

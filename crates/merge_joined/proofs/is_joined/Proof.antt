@@ -8,8 +8,8 @@ use native.Mathlib.Omega.{arith}
 use lib.ListN.{length, replicate, length-replicate}
 use borrow.Author.Needs.{needs}
 use borrow.Author.Tests.{not-true, not-false}
-use Rattle.sq_list.specs.Next.{sqFrom, toldList}
-use Rattle.sq_list.proofs.Next.{told-one, told-none}
+use Rattle.binary_references.specs.Next.{sqFrom, toldList}
+use Rattle.binary_references.proofs.Next.{told-one, told-none}
 use Rattle.format.specs.Merge.{isJoined}
 use Rattle.accepted.proofs.Bools.{split}
 use Rattle.merge_references.specs.Joining.{leftOf}

@@ -4,8 +4,8 @@ use mathlib.Core.Bool.{false≢true}
 use mathlib.Core.List.{_∷_}
 use borrow.Author.Needs.{needs}
 use borrow.Author.Tests.{not-true, not-false}
-use Rattle.sq_list.specs.Next.{toldReference, toldList}
-use Rattle.sq_list.proofs.Next.{told-one, told-none}
+use Rattle.binary_references.specs.Next.{toldReference, toldList}
+use Rattle.binary_references.proofs.Next.{told-one, told-none}
 use Rattle.merge_joined.specs.Passing.{Ahead}
 use Rattle.merge_joined.proofs.Laws.{passed-spent, passed-new, gone-other, gone-none}
 use Rattle.merge_joined.proofs.pass_new.Statement.{statement}

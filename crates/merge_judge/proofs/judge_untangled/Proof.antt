@@ -8,7 +8,7 @@ use borrow.Author.Tests.{not-true, not-false}
 use Rattle.format.specs.Bytes.{all}
 use Rattle.accepted.specs.Read.{recordsOf}
 use Rattle.format.specs.References.{sqList}
-use Rattle.sq_list.specs.Next.{sqFrom}
+use Rattle.binary_references.specs.Next.{sqFrom}
 use Rattle.format.specs.Merge.{isJoined, assigned, shapes, images}
 use Rattle.merge_programs.proofs.Texts.{small, count-shapes, count-few}
 use Rattle.merge_judge.specs.Judged.{whichOf, verdictOf}

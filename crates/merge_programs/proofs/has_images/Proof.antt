@@ -8,7 +8,7 @@ use lib.Dec.{eqb, ltb}
 use borrow.Author.Tests.{not-true, not-false, ltb-true}
 use Rattle.format.specs.Merge.{shapes, isImage, images}
 use Rattle.accepted.specs.Read.{recordsOf}
-use Rattle.chains.specs.Parents.{nobody}
+use Rattle.program_chains.specs.Parents.{nobody}
 use Rattle.merge_programs.specs.Members.{shapeAt, IsMember}
 use Rattle.merge_programs.proofs.Texts.{all-at, count-shapes, count-few, is-member, member-shape, member-within}
 use Rattle.merge_programs.proofs.All.{imagesFrom, images-start, images-turn, images-end}

@@ -7,7 +7,7 @@ use native.Mathlib.Omega.{arith}
 use lib.ListN.{take, drop}
 use borrow.Author.Tests.{not-true, not-false}
 use Rattle.format.specs.Merge.{keepsFields, keepsParent, isImage}
-use Rattle.chains.specs.Parents.{linkOf}
+use Rattle.program_chains.specs.Parents.{linkOf}
 use Rattle.program_lines.specs.Line.{FieldsOf}
 use Rattle.merge_fields.specs.Kept.{keptFrom}
 use Rattle.merge_programs.specs.declared.Member.{Member}

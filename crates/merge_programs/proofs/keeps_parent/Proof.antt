@@ -9,7 +9,7 @@ use lib.Dec.{eqb, ltb}
 use borrow.Author.Tests.{eq-eqb, ne-eqb, ltb-true}
 use Rattle.format.specs.Programs.{Link, root, child}
 use Rattle.accepted.proofs.Bools.{split}
-use Rattle.chains.specs.Parents.{nobody, linkOf}
+use Rattle.program_chains.specs.Parents.{nobody, linkOf}
 use Rattle.format.specs.Merge.{isRoot, isChildOf, keepsParent}
 use borrow.Author.Needs.{needs}
 use Rattle.merge_programs.proofs.keeps_parent.Statement.{statement}

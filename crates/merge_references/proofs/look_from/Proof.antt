@@ -5,8 +5,8 @@ use mathlib.Core.List.{_∷_}
 use native.Mathlib.Omega.{arith}
 use lib.ListN.{length}
 use borrow.Author.Tests.{not-true, not-false}
-use Rattle.sq_list.specs.Next.{sqFrom, toldReference}
-use Rattle.sq_list.proofs.Next.{told-one, told-none}
+use Rattle.binary_references.specs.Next.{sqFrom, toldReference}
+use Rattle.binary_references.proofs.Next.{told-one, told-none}
 use Rattle.merge_references.specs.Joining.{metIn, From}
 use Rattle.merge_references.proofs.Names.{met-none, met-same, met-other, met-past, from-next}
 use Rattle.merge_references.proofs.look_from.Statement.{statement}

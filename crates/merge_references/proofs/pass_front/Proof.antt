@@ -7,8 +7,8 @@ use native.Mathlib.Omega.{arith}
 use lib.ListN.{length}
 use borrow.Author.Tests.{not-true, not-false}
 use Rattle.format.specs.References.{Reference, sameReferences}
-use Rattle.sq_list.specs.Next.{sqFrom, toldReference}
-use Rattle.sq_list.proofs.Next.{told-one, told-none}
+use Rattle.binary_references.specs.Next.{sqFrom, toldReference}
+use Rattle.binary_references.proofs.Next.{told-one, told-none}
 use Rattle.merge_references.proofs.Lists.{front-end, front-short, front-turn}
 use Rattle.merge_references.proofs.pass_front.Statement.{statement}
 use Rattle.merge_references.proofs.pass_front.Tie as tie

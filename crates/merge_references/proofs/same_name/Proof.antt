@@ -4,7 +4,7 @@ use mathlib.Core.Path.{_≡_, ap₂, _∙_}
 use native.Mathlib.Omega.{arith}
 use lib.ListN.{take, drop}
 use Rattle.format.specs.Bytes.{same}
-use Rattle.sq_list.specs.Next.{toldReference}
+use Rattle.binary_references.specs.Next.{toldReference}
 use Rattle.format.specs.Merge.{sameName}
 use borrow.Author.Needs.{needs}
 use Rattle.merge_references.proofs.same_name.Statement.{statement}

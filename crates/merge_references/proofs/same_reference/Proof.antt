@@ -1,6 +1,6 @@
 -- `merge_references::same_reference` meets its contract: the lengths decide, and then the names.
 use mathlib.Core.Path.{_≡_, sym, _∙_}
-use Rattle.sq_list.specs.Next.{toldReference}
+use Rattle.binary_references.specs.Next.{toldReference}
 use Rattle.merge_references.proofs.Lists.{other-size, one-size}
 use borrow.Author.Needs.{needs}
 use Rattle.merge_references.proofs.same_reference.Statement.{statement}

@@ -1,14 +1,13 @@
 -- `name_index::hash` meets its contract: the number so far and the bytes that are left lead to the name's number.
-use Prim.Native.Nat.{ℕ, _+_, _*_, _/_, _%_, _-_, _^_, _≤_, _<_}
+use Prim.Native.Nat.{ℕ, _+_, _*_, _%_, _-_, _^_, _≤_, _<_}
 use mathlib.Core.Path.{_≡_, refl, sym, ap, _∙_}
 use mathlib.Core.List.{List}
 use native.Mathlib.Omega.{arith}
 use native.Mathlib.Numerals.{add-one}
-use lib.ListN.{length, getD, take, drop, drop-of-length-le, take-append-drop}
+use lib.ListN.{length, getD, drop, drop-of-length-le}
 use lib.Seq.{drop-cons}
 use borrow.Author.Needs.{needs}
-use Rattle.name_index.specs.Index.{hashFrom}
-use Rattle.name_index.proofs.Byte.{hash-append}
+use Rattle.format.specs.NameIndex.{hashFrom}
 use Rattle.name_index.proofs.hash.Statement.{statement}
 use Rattle.name_index.proofs.hash.Tie as tie
 
@@ -27,17 +26,8 @@ Inv-loop name h₀ i₀ h i = (i ≤ length name) × (hashFrom 0 name ≡ hashFr
 abbrev μ-loop : tie.MeasureT-loop
 μ-loop name h₀ i₀ h i = length name - i
 
-hash-fours-requires : tie.Need-hash-fours-requires Inv-loop μ-loop
-hash-fours-requires c κs = search needs
-
-mul-i : tie.Need-mul-i Inv-loop μ-loop
-mul-i c = omega arith
-
 loop-holds : tie.Need-loop-holds Inv-loop μ-loop
-loop-holds c =
-    let s = c .before .before .args .name .now in
-    let n : ℕ = length s / 4 * 4 in
-    (omega arith, ap (hashFrom 0) (sym (take-append-drop n s)) ∙ hash-append 0 (take n s) (drop n s) ∙ ap (λ h. hashFrom h (drop n s)) (sym (c .hash-fours .ensures)))
+loop-holds c = (omega arith, refl)
 
 shared-slice-read-with-byte : tie.Need-shared-slice-read-with-byte Inv-loop μ-loop
 shared-slice-read-with-byte c = omega arith
@@ -54,12 +44,12 @@ loop-less c = omega arith
 loop-again : tie.Need-loop-again Inv-loop μ-loop
 loop-again c =
     let l = c .before .before .before in
-    (omega arith, l .loop .inv .1 ∙ pass (l .loop .h) (l .before .before .before .args .name .now) (l .loop .i) (omega arith) ∙ ap (λ h. hashFrom h (drop (l .loop .i + 1) (l .before .before .before .args .name .now))) (sym (c .with-byte .ensures)))
+    (omega arith, l .loop .inv .1 ∙ pass (l .loop .h) (l .before .before .args .name .now) (l .loop .i) (omega arith) ∙ ap (λ h. hashFrom h (drop (l .loop .i + 1) (l .before .before .args .name .now))) (sym (c .with-byte .ensures)))
 
 returns : tie.Need-returns Inv-loop μ-loop
 returns c =
     let l = c .before in
-    sym (l .loop .inv .1 ∙ spent (l .loop .h) (l .before .before .before .args .name .now) (l .loop .i) (c .loop-test .left))
+    sym (l .loop .inv .1 ∙ spent (l .loop .h) (l .before .before .args .name .now) (l .loop .i) (c .loop-test .left))
 
 pub hash-spec : {M : Type 1} → statement M
 hash-spec =
@@ -67,8 +57,6 @@ hash-spec =
     (tie.spec
     Inv-loop
     μ-loop
-    hash-fours-requires
-    mul-i
     loop-holds
     shared-slice-read-with-byte
     with-byte-requires

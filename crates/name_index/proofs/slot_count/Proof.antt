@@ -9,7 +9,7 @@ use mathlib.Core.Path.{_≡_, refl, sym, ap, _∙_}
 use native.Mathlib.Omega.{arith}
 use lib.Count.{leadingZeros, leading-of-zero, leading-le, leading-top}
 use borrow.Author.Needs.{needs}
-use Rattle.name_index.specs.Index.{slotCount}
+use Rattle.format.specs.NameIndex.{slotCount}
 use Rattle.name_index.proofs.SlotCount.{slots-shift}
 use Rattle.name_index.proofs.slot_count.Statement.{statement}
 use Rattle.name_index.proofs.slot_count.Tie as tie

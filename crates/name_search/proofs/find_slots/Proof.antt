@@ -5,9 +5,9 @@ use native.Mathlib.Omega.{arith}
 use borrow.Author.Needs.{needs}
 use lib.ListN.{length, take, drop, length-take, length-drop}
 use Rattle.name_index.proofs.SlotCount.{power-some}
-use Rattle.sq_index.specs.Looking.{slotOf, looksOf}
-use Rattle.sq_index.proofs.Looking.{looks-most}
-use Rattle.asked_names.proofs.Asked.{name-within}
+use Rattle.name_lookup.specs.Looking.{slotOf, looksOf}
+use Rattle.name_lookup.proofs.Looking.{looks-most}
+use Rattle.name_list.proofs.Asked.{name-within}
 use Rattle.name_search.proofs.Asking.{Asking, asking-start, asking-end, asking-room, asking-on}
 use Rattle.name_search.proofs.find_slots.Statement.{statement}
 use Rattle.name_search.proofs.find_slots.Tie as tie

@@ -5,15 +5,15 @@ use mathlib.Core.List.{List, _++_, map}
 use native.Mathlib.Omega.{arith}
 use lib.ListN.{length, drop, length-map}
 use lib.Seq.{length-take-le}
-use Rattle.entries.specs.Entries.{entriesIn}
+use Rattle.catalogue_entries.specs.Entries.{entriesIn}
 use Rattle.format.specs.Calls.{Answer}
-use Rattle.parser.proofs.Fresh.{Current, refused-by, check-fresh}
-use Rattle.name_index.specs.Index.{nameOrdinal, slotCount, index, looks}
+use Rattle.read.proofs.Fresh.{Current, refused-by, check-fresh}
+use Rattle.format.specs.NameIndex.{nameOrdinal, slotCount, index, looks}
 use Rattle.name_index.proofs.Indexed.{index-length}
-use Rattle.sq_entries.specs.Names.{namesIn}
-use Rattle.asked_names.specs.Asked.{asked}
-use Rattle.name_search.specs.Summed.{summed}
-use Rattle.names.specs.Batch.{batching}
+use Rattle.name_entries.specs.Names.{namesIn}
+use Rattle.format.specs.Asked.{asked}
+use Rattle.format.specs.Summed.{summed}
+use Rattle.format.specs.Batch.{batching}
 use Rattle.names.proofs.Batched.{batch-refused, batch-long, batch-work, batch-room, batch-all, few, short, many, told, told-refusal, told-answer}
 use borrow.Author.Needs.{needs}
 use Rattle.names.proofs.names.Statement.{statement}
@@ -31,22 +31,22 @@ enum-told c = search needs
 -- ---- once the check passed
 
 -- the catalogue is the text's own
-own : (c : tie.After-enum-told) → let a = c .before .before .before .before .before .before .before .before .args in Current (a .text .now) (a .kept .now)
-own c = let a = c .before .before .before .before .before .before .before .before .args in check-fresh (a .text .now) (a .kept .now) (sym (c .before .before .check .ensures) ∙ c .enum-told .given .1)
+own : (c : tie.After-enum-told) → let a = c .before .before .before .before .before .before .before .before .args in Current (a .text .now) (a .catalogue .now)
+own c = let a = c .before .before .before .before .before .before .before .before .args in check-fresh (a .text .now) (a .catalogue .now) (sym (c .before .before .check .ensures) ∙ c .enum-told .given .1)
 
 -- the names of its SQ
 abbrev names : tie.After-enum-told → List (List ℕ)
-names c = let a = c .before .before .before .before .before .before .before .before .args in namesIn (a .text .now) (entriesIn (a .kept .now))
+names c = let a = c .before .before .before .before .before .before .before .before .args in namesIn (a .text .now) (entriesIn (a .catalogue .now))
 
 abbrev batch : tie.Start → Answer (List ℕ × List ℕ × ℕ)
-batch s = batching (s .args .text .now) (s .args .kept .now) (s .args .list .now) (length (s .args .work .now)) (length (s .args .out .now))
+batch s = batching (s .args .text .now) (s .args .catalogue .now) (s .args .list .now) (length (s .args .work .now)) (length (s .args .out .now))
 
 -- how many there are
 number : (c : tie.After-count) → c .count .result ≡ length (names (c .before .before))
-number c = let e = c .before .before in let a = e .before .before .before .before .before .before .before .before .args in c .count .ensures ∙ many (a .text .now) (a .kept .now) (own e)
+number c = let e = c .before .before in let a = e .before .before .before .before .before .before .before .before .args in c .count .ensures ∙ many (a .text .now) (a .catalogue .now) (own e)
 
 few-names : (c : tie.After-count) → c .count .result ≤ 16777216
-few-names c = let e = c .before .before in let a = e .before .before .before .before .before .before .before .before .args in omega (arith, number c, few (a .text .now) (a .kept .now) (own e))
+few-names c = let e = c .before .before in let a = e .before .before .before .before .before .before .before .before .args in omega (arith, number c, few (a .text .now) (a .catalogue .now) (own e))
 
 -- how many slots
 slots : (c : tie.After-slot-count) → c .slot-count .result ≡ slotCount (length (names (c .before .before .before)))
@@ -57,7 +57,7 @@ returns c =
     let e = c .before in
     let s = e .before .before .before .before .before .before .before .before in
     let a = s .args in
-    told-refusal (batch s) (a .work .now) (a .out .now) 1 (record { 0 = 0 }) (batch-long (a .text .now) (a .kept .now) (own e) (a .list .now) (length (a .work .now)) (length (a .out .now)) (c .if1 .taken))
+    told-refusal (batch s) (a .work .now) (a .out .now) 1 (record { 0 = 0 }) (batch-long (a .text .now) (a .catalogue .now) (own e) (a .list .now) (length (a .work .now)) (length (a .out .now)) (c .if1 .taken))
 
 count-requires : tie.Need-count-requires
 count-requires c κs = search needs
@@ -78,7 +78,7 @@ returns-2 c =
     let s = o .before .before .before .before .before .before .before .before .before in
     let a = s .args in
     told-refusal (batch s) (a .work .now) (a .out .now) 20 (record { 0 = 0 })
-    (batch-work (a .text .now) (a .kept .now) (own (o .before)) (a .list .now) (length (a .work .now)) (length (a .out .now)) (o .if1 .left) (omega (arith, slots n, c .if2 .taken)))
+    (batch-work (a .text .now) (a .catalogue .now) (own (o .before)) (a .list .now) (length (a .work .now)) (length (a .out .now)) (o .if1 .left) (omega (arith, slots n, c .if2 .taken)))
 
 count-names-requires : tie.Need-count-names-requires
 count-names-requires c κs = search needs
@@ -91,7 +91,7 @@ returns-3 c =
     let s = o .before .before .before .before .before .before .before .before .before in
     let a = s .args in
     told-refusal (batch s) (a .work .now) (a .out .now) 20 (record { 0 = 0 })
-    (batch-room (a .text .now) (a .kept .now) (own (o .before)) (a .list .now) (length (a .work .now)) (length (a .out .now)) (o .if1 .left) (omega (arith, slots n, k .before .if2 .left)) (omega (arith, k .count-names .ensures, c .if3 .taken)))
+    (batch-room (a .text .now) (a .catalogue .now) (own (o .before)) (a .list .now) (length (a .work .now)) (length (a .out .now)) (o .if1 .left) (omega (arith, slots n, k .before .if2 .left)) (omega (arith, k .count-names .ensures, c .if3 .taken)))
 
 slice-relend-prefix-answer : tie.Need-slice-relend-prefix-answer
 slice-relend-prefix-answer c = search needs
@@ -116,13 +116,13 @@ answer-requires c κs =
     let e = n .before .before .before in
     let a = e .before .before .before .before .before .before .before .before .args in
     record {
-      short = short (a .text .now) (a .kept .now) (own e);
+      short = short (a .text .now) (a .catalogue .now) (own e);
       short-list = n .before .before .if1 .left;
-      few = few (a .text .now) (a .kept .now) (own e);
+      few = few (a .text .now) (a .catalogue .now) (own e);
       size = length-take-le (n .slot-count .result) (a .work .now) (k .before .if2 .left) ∙ slots n;
       room = length-take-le (k .count-names .result) (a .out .now) (c .before .before .if3 .left) ∙ k .count-names .ensures;
       count = number (n .before);
-      told = told (a .text .now) (a .kept .now) (own e);
+      told = told (a .text .now) (a .catalogue .now) (own e);
     }
 
 returns-4 : tie.Need-returns-4
@@ -132,7 +132,7 @@ returns-4 c =
     let a = s .args in
     let g = c .before .n .given in
     told-refusal (batch s) (a .work .now) (a .out .now) (g .0 .0) (g .0 .1 .0)
-    (batch-refused (a .text .now) (a .kept .now) (a .list .now) (length (a .work .now)) (length (a .out .now)) (g .0 .0) (g .0 .1 .0 .0) (refused-by (a .text .now) (a .kept .now) (k .check .ensures) (g .0 .0) (g .0 .1 .0) (g .1)))
+    (batch-refused (a .text .now) (a .catalogue .now) (a .list .now) (length (a .work .now)) (length (a .out .now)) (g .0 .0) (g .0 .1 .0 .0) (refused-by (a .text .now) (a .catalogue .now) (k .check .ensures) (g .0 .0) (g .0 .1 .0) (g .1)))
 
 same-length : tie.Need-same-length
 same-length c = search needs
@@ -154,7 +154,7 @@ returns-5 c =
     let count : k .count-names .result ≡ length found = k .count-names .ensures ∙ sym (length-map (asked (a .list .now)) (nameOrdinal xs)) in
     let many : n .slot-count .result ≡ length (index xs) = slots n ∙ sym (index-length xs) in
     told-answer (batch s) (a .work .now) (a .out .now) found (index xs) (summed (looks xs) (asked (a .list .now)))
-    (batch-all (a .text .now) (a .kept .now) (own e) (a .list .now) (length (a .work .now)) (length (a .out .now)) (o .if1 .left) (omega (arith, slots n, k .before .if2 .left)) (omega (arith, k .count-names .ensures, c .before .before .before .before .before .before .before .if3 .left)))
+    (batch-all (a .text .now) (a .catalogue .now) (own e) (a .list .now) (length (a .work .now)) (length (a .out .now)) (o .if1 .left) (omega (arith, slots n, k .before .if2 .left)) (omega (arith, k .count-names .ensures, c .before .before .before .before .before .before .before .if3 .left)))
     (k .count-names .result) count (w .answer .result) (w .answer .ensures .1 .1)
     (w .answer .last .1 .1 .1 .1 .0 ++ drop (n .slot-count .result) (a .work .now)) (w .answer .last .1 .1 .1 .1 .1 .0 ++ drop (k .count-names .result) (a .out .now))
     (ap₂ (λ l m. l ++ drop m (a .work .now)) (w .answer .ensures .0) many) (ap₂ (λ l m. l ++ drop m (a .out .now)) (w .answer .ensures .1 .0) count)

@@ -5,7 +5,7 @@ use native.Mathlib.Omega.{arith}
 use lib.ListN.{length}
 use Rattle.format.specs.Fields.{isTag}
 use Rattle.format.specs.Bytes.{letter, digit, between}
-use Rattle.other_fields.specs.Next.{lastIn}
+use Rattle.accepted_line.specs.Next.{lastIn}
 use Rattle.program_lines.specs.Found.{placeOf, previousOf}
 use Rattle.program_lines.proofs.Last.{last-inside}
 use Rattle.program_lines.proofs.find_places.Statement.{statement}

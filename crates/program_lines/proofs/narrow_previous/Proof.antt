@@ -2,7 +2,7 @@
 use mathlib.Core.Path.{_≡_, refl, sym, ap, _∙_}
 use mathlib.Core.Bool.{cond}
 use borrow.Author.Tests.{eq-eqb, ne-eqb}
-use Rattle.id_search.specs.Places.{nowhere}
+use Rattle.program_ids.specs.Places.{nowhere}
 use Rattle.program_lines.specs.Found.{placeOf, previousOf}
 use borrow.Author.Needs.{needs}
 use Rattle.program_lines.proofs.narrow_previous.Statement.{statement}

@@ -5,8 +5,8 @@ use mathlib.Core.Bool.{false≢true}
 use native.Mathlib.Omega.{arith}
 use lib.ListN.{length}
 use borrow.Author.Needs.{needs}
-use Rattle.text.specs.First.{firstLine}
-use Rattle.text.proofs.Before.{rest}
+use Rattle.byte_slices.specs.First.{firstLine}
+use Rattle.byte_slices.proofs.Before.{rest}
 use Rattle.program_lines.specs.Found.{pgFrom, toldLine, toldLines}
 use Rattle.program_lines.proofs.Next.{Turn, turn, pg-none}
 use Rattle.program_lines.proofs.next_program.Statement.{statement}

@@ -8,23 +8,18 @@ use lib.Dec.{leb}
 use native.Mathlib.Omega.{arith}
 use Rattle.format.specs.Bytes.{any}
 use Rattle.format.specs.Programs.{Program, Link, programs, links, isDangling, loopsFrom, tangled}
-use Rattle.format.specs.Catalogue.{catalogue}
 use Rattle.accepted.specs.Read.{recordsOf}
 use Rattle.accepted.proofs.Bools.{split}
-use Rattle.chains.specs.Parents.{linksOf}
-use Rattle.entries.specs.Entries.{entriesIn}
-use Rattle.programs.specs.Gathered.{notedIn, gatheredOf}
-use Rattle.parents.specs.Parents.{parentsOf}
-use Rattle.parents.proofs.Numbers.{links-count}
-use Rattle.parents.proofs.Own.{own-count}
-use Rattle.parents.proofs.Road.{tangled-dangling, tangled-loops, lent-count, lent-inside, lent-few, lent-within, lent-links}
-use Rattle.parents.proofs.Opened.{Opened, opened}
-use Rattle.parser.specs.Answers.{answerOf, outputOf}
-use Rattle.parser.proofs.Told.{refused-answer}
-use Rattle.parser.proofs.Fresh.{Current, refused-by, fresh-by}
+use Rattle.program_chains.specs.Parents.{linksOf}
+use Rattle.program_parents.specs.Parents.{parentsOf}
+use Rattle.program_parents.proofs.Road.{tangled-dangling, tangled-loops, lent-count, lent-inside, lent-few, lent-within, lent-links}
+use Rattle.program_parents.proofs.Opened.{Opened, opened}
+use Rattle.read.specs.Answers.{answerOf, outputOf}
+use Rattle.read.proofs.Told.{refused-answer}
+use Rattle.read.proofs.Fresh.{Current, refused-by, fresh-by}
 use Rattle.format.specs.Prune.{pruning}
-use Rattle.chain_depths.specs.Depths.{depthsOf}
-use Rattle.chain_depths.specs.declared.Depths.{Depths}
+use Rattle.program_depths.specs.Depths.{depthsOf}
+use Rattle.program_depths.specs.declared.Depths.{Depths}
 use Rattle.prune_marks.specs.Marks.{neededMarks}
 use Rattle.tidy.specs.Written.{writingMarked}
 use Rattle.prune.proofs.Pruning.{prune-refused, prune-high, prune-tangled, prune-on}
@@ -39,53 +34,45 @@ own c = let a = c .before .before .before .before .before .before .before .args 
 opens : (c : tie.After-enum-told) → let a = c .before .before .before .before .before .before .before .args in Opened (a .text .now) (a .catalogue .now)
 opens c = let a = c .before .before .before .before .before .before .before .args in opened (a .text .now) (a .catalogue .now) (own c .reads) (own c .own)
 
--- what is gathered
-gathers : (c : tie.After-gather) → c .gather .result ≡ gatheredOf (notedIn (entriesIn (catalogue (recordsOf (c .before .before .before .before .before .before .before .before .args .text .now)))))
-gathers c = opens (c .before) .gathers (c .gather .result) (c .gather .ensures)
-
--- is some ordinal too high?
-high : (c : tie.After-has-high) → (let a = c .before .before .before .before .before .before .before .before .before .args in any (leb (length (links (programs (recordsOf (a .text .now)))))) (a .used .now) ≡ c .has-high .result)
-high c =
-    let a = c .before .before .before .before .before .before .before .before .before .args in
-    let g = c .before in
-    let count = own-count (a .text .now) (opens (g .before) .accepted) (g .gather .result) (gathers g) in
-    sym (c .has-high .ensures ∙ ap (λ n. any (leb n) (a .used .now)) (count ∙ sym (links-count (programs (recordsOf (a .text .now))))))
-
 -- ---- the parents
 
-abbrev ps : tie.After-find-parents → List Program
-ps f = programs (recordsOf (f .before .before .before .before .before .before .before .before .before .before .args .text .now))
+abbrev ps : tie.After-parents-of → List Program
+ps f = programs (recordsOf (f .before .before .before .before .before .before .before .before .args .text .now))
 
-abbrev ls : tie.After-find-parents → List Link
+abbrev ls : tie.After-parents-of → List Link
 ls f = links (ps f)
 
-few : (f : tie.After-find-parents) → length (ps f) ≤ 1024
-few f = opens (f .before .before .before) .few
+few : (f : tie.After-parents-of) → length (ps f) ≤ 1024
+few f = opens (f .before) .few
 
-dangles : (f : tie.After-find-parents) → any isDangling (ls f) ≡ f .find-parents .result .dangling
+dangles : (f : tie.After-parents-of) → any isDangling (ls f) ≡ f .parents-of .result .dangling
 unfolding parentsOf
-dangles f = sym (ap (λ q. q .dangling) (f .find-parents .ensures))
+dangles f = sym (ap (λ q. q .dangling) (f .parents-of .ensures))
 
-counts : (f : tie.After-find-parents) → f .find-parents .result .count ≡ length (ls f)
+counts : (f : tie.After-parents-of) → f .parents-of .result .count ≡ length (ls f)
 unfolding parentsOf
-counts f = ap (λ q. q .count) (f .find-parents .ensures)
+counts f = ap (λ q. q .count) (f .parents-of .ensures)
 
-low : (e : tie.Else1) → let f = e .before in any (leb (length (ls f))) (f .before .before .before .before .before .before .before .before .before .before .args .used .now) ≡ false
-low e = high (e .before .before) ∙ e .if1 .left
+-- is some ordinal too high?
+high : (h : tie.After-has-high) → let f = h .before in any (leb (length (ls f))) (f .before .before .before .before .before .before .before .before .args .used .now) ≡ h .has-high .result
+high h = let f = h .before in sym (h .has-high .ensures ∙ ap (λ n. any (leb n) (f .before .before .before .before .before .before .before .before .args .used .now)) (counts f))
+
+low : (e : tie.Else1) → let f = e .before .before in any (leb (length (ls f))) (f .before .before .before .before .before .before .before .before .args .used .now) ≡ false
+low e = high (e .before) ∙ e .if1 .left
 
 -- where none dangles
 module _ (e : tie.Else2) where
-  abbrev asked : tie.After-find-parents
-  asked = e .before .before
+  abbrev asked : tie.After-parents-of
+  asked = e .before .before .before
 
   abbrev lent : List ℕ
-  lent = take (asked .find-parents .result .count) (asked .find-parents .result .list)
+  lent = take (asked .parents-of .result .count) (asked .parents-of .result .list)
 
   linked : any isDangling (ls asked) ≡ false
   linked = dangles asked ∙ e .if2 .left
 
   says : linksOf lent ≡ ls asked
-  says = lent-links (ps asked) (few asked) (asked .find-parents .result) (asked .find-parents .ensures) (e .if2 .left)
+  says = lent-links (ps asked) (few asked) (asked .parents-of .result) (asked .parents-of .ensures) (e .if2 .left)
 
   -- is there a cycle?
   loops : loopsFrom (linksOf lent) 0 (linksOf lent) ≡ loopsFrom (ls asked) 0 (ls asked)
@@ -105,72 +92,67 @@ enum-known-n c = search needs
 enum-told : tie.Need-enum-told
 enum-told c = search needs
 
-gather-requires : tie.Need-gather-requires
-gather-requires c κs = opens c .entries
+parents-of-requires : tie.Need-parents-of-requires
+parents-of-requires c κs = (opens c .accepted, own c .own)
 
 has-high-requires : tie.Need-has-high-requires
 has-high-requires c κs = search needs
 
 returns : tie.Need-returns
 returns c =
-    let h = c .before .before in
+    let h = c .before in
     let a = h .before .before .before .before .before .before .before .before .before .args in
     let room = length (a .out .now) in
     refused-answer (pruning (a .text .now) (a .catalogue .now) (a .used .now) room) (a .out .now) 25 (record { 0 = 0 })
     (prune-high (a .text .now) (a .catalogue .now) (a .used .now) room (own (h .before .before)) (high h ∙ c .if1 .taken))
 
-find-parents-requires : tie.Need-find-parents-requires
-find-parents-requires c κs =
-    let g = c .before in
-    (opens (g .before) .accepted, gathers g)
-
 returns-2 : tie.Need-returns-2
 returns-2 c =
     let e = c .before in
-    let f = e .before in
-    let a = f .before .before .before .before .before .before .before .before .before .before .args in
+    let f = e .before .before in
+    let a = f .before .before .before .before .before .before .before .before .args in
     let room = length (a .out .now) in
     refused-answer (pruning (a .text .now) (a .catalogue .now) (a .used .now) room) (a .out .now) 22 (record { 0 = 0 })
-    (prune-tangled (a .text .now) (a .catalogue .now) (a .used .now) room (own (f .before .before .before)) (low e) 22 (sym (tangled-dangling (ls f) (dangles f ∙ c .if2 .taken))) (λ q. omega arith))
+    (prune-tangled (a .text .now) (a .catalogue .now) (a .used .now) room (own (f .before)) (low e) 22 (sym (tangled-dangling (ls f) (dangles f ∙ c .if2 .taken))) (λ q. omega arith))
 
 array-share-prefix-list : tie.Need-array-share-prefix-list
 array-share-prefix-list c =
     let f = asked (c .before) in
-    lent-inside (ps f) (few f) (f .find-parents .result) (f .find-parents .ensures)
+    lent-inside (ps f) (few f) (f .parents-of .result) (f .parents-of .ensures)
 
 slice-aggregate-links : tie.Need-slice-aggregate-links
 slice-aggregate-links c =
     let f = asked (c .before .before) in
-    lent-count (ps f) (few f) (f .find-parents .result) (f .find-parents .ensures)
+    lent-count (ps f) (few f) (f .parents-of .result) (f .parents-of .ensures)
 
 find-depths-requires : tie.Need-find-depths-requires
 find-depths-requires c κs =
     let e = c .before .before in
     let f = asked e in
-    let q = f .find-parents .result in
-    let is = f .find-parents .ensures in
+    let q = f .parents-of .result in
+    let is = f .parents-of .ensures in
     (lent-within (ps f) (few f) q is (e .if2 .left), lent-few (ps f) (few f) q is)
 
 returns-3 : tie.Need-returns-3
 returns-3 c =
     let e = c .before .before .before .before in
     let f = asked e in
-    let a = f .before .before .before .before .before .before .before .before .before .before .args in
+    let a = f .before .before .before .before .before .before .before .before .args in
     let room = length (a .out .now) in
     refused-answer (pruning (a .text .now) (a .catalogue .now) (a .used .now) room) (a .out .now) 23 (record { 0 = 0 })
-    (prune-tangled (a .text .now) (a .catalogue .now) (a .used .now) room (own (f .before .before .before)) (low (e .before)) 23
+    (prune-tangled (a .text .now) (a .catalogue .now) (a .used .now) room (own (f .before)) (low (e .before)) 23
     (sym (tangled-loops (ls f) true (linked e) (sym (loops e) ∙ sym (cycle-is _ _ (c .before .find-depths .ensures)) ∙ c .if3 .taken))) (λ q. omega arith))
 
 mark-requires : tie.Need-mark-requires
 mark-requires c κs =
     let e = c .before .before .before .before in
     let f = asked e in
-    let q = f .find-parents .result in
-    let is = f .find-parents .ensures in (
+    let q = f .parents-of .result in
+    let is = f .parents-of .ensures in (
       lent-within (ps f) (few f) q is (e .if2 .left),
       (
         sym (cycle-is _ _ (c .before .find-depths .ensures)) ∙ c .if3 .left,
-        (lent-few (ps f) (few f) q is, ap (λ n. any (leb n) (f .before .before .before .before .before .before .before .before .before .before .args .used .now)) (sym (lent-count (ps f) (few f) q is) ∙ counts f) ∙ low (e .before)),
+        (lent-few (ps f) (few f) q is, ap (λ n. any (leb n) (f .before .before .before .before .before .before .before .before .args .used .now)) (sym (lent-count (ps f) (few f) q is) ∙ counts f) ∙ low (e .before)),
       ),
     )
 
@@ -181,7 +163,7 @@ slice-aggregate-write-marked : tie.Need-slice-aggregate-write-marked
 slice-aggregate-write-marked c = search needs
 
 write-marked-requires : tie.Need-write-marked-requires
-write-marked-requires c κs = (opens (c .before .before .before .before .before .before .before .before .before .before .before .before .before) .accepted, c .before .before .is-strict .ensures)
+write-marked-requires c κs = (opens (c .before .before .before .before .before .before .before .before .before .before .before .before) .accepted, c .before .before .is-strict .ensures)
 
 returns-4 : tie.Need-returns-4
 returns-4 c =
@@ -202,12 +184,12 @@ returns-5 c =
     let n = m .before in
     let e = n .before .before .before .before in
     let f = asked e in
-    let a = f .before .before .before .before .before .before .before .before .before .before .args in
+    let a = f .before .before .before .before .before .before .before .before .args in
     let room = length (a .out .now) in
     let marks = m .mark .result in
     let whole : tangled (ls f) ≡ 0 = tangled-loops (ls f) false (linked e) (sym (loops e) ∙ sym (cycle-is _ _ (n .before .find-depths .ensures)) ∙ n .if3 .left) in
     let on : writingMarked (a .text .now) marks room ≡ pruning (a .text .now) (a .catalogue .now) (a .used .now) room =
-    sym (prune-on (a .text .now) (a .catalogue .now) (a .used .now) room (own (f .before .before .before)) (low (e .before)) whole (few f) marks (m .mark .ensures ∙ ap (λ l. neededMarks l (a .used .now)) (says e))) in
+    sym (prune-on (a .text .now) (a .catalogue .now) (a .used .now) room (own (f .before)) (low (e .before)) whole (few f) marks (m .mark .ensures ∙ ap (λ l. neededMarks l (a .used .now)) (says e))) in
     (w .write-marked .ensures .0 ∙ ap answerOf on, w .write-marked .ensures .1 ∙ ap (λ x. outputOf x (a .out .now)) on)
 
 pub prune-spec : {M : Type 1} → statement M
@@ -217,9 +199,8 @@ prune-spec =
     check-requires
     enum-known-n
     enum-told
-    gather-requires
+    parents-of-requires
     has-high-requires
-    find-parents-requires
     returns
     returns-2
     array-share-prefix-list

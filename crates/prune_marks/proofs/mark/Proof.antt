@@ -6,7 +6,7 @@ use native.Mathlib.Omega.{arith}
 use native.Mathlib.Numerals.{add-one}
 use lib.ListN.{length, getD, drop, drop-of-length-le}
 use lib.Seq.{drop-cons}
-use Rattle.chains.specs.Parents.{linksOf}
+use Rattle.program_chains.specs.Parents.{linksOf}
 use Rattle.prune_marks.proofs.Marked.{Marking, marking-begins, marking-goes, marking-ends, used-at}
 use Rattle.prune_marks.proofs.mark.Statement.{statement}
 use Rattle.prune_marks.proofs.mark.Tie as tie

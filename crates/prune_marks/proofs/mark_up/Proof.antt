@@ -6,10 +6,10 @@ use mathlib.Core.List.{List}
 use native.Mathlib.Omega.{arith}
 use lib.ListN.{length, length-set, length-map}
 use Rattle.format.specs.Programs.{depth}
-use Rattle.chains.specs.Listed.{named}
-use Rattle.chains.specs.Parents.{linkOf, linksOf, areParents}
-use Rattle.chains.proofs.Walks.{within-at, link-none, link-some, link-at}
-use Rattle.chain_laws.proofs.Bound.{within-below}
+use Rattle.program_chains.specs.Listed.{named}
+use Rattle.program_chains.specs.Parents.{linkOf, linksOf, areParents}
+use Rattle.program_chains.proofs.Walks.{within-at, link-none, link-some, link-at}
+use Rattle.program_chains.proofs.Bound.{within-below}
 use Rattle.prune_marks.proofs.Steps.{depth-falls}
 use Rattle.prune_marks.proofs.Marked.{Walking, walk-begins, walk-ends, walk-meets, walk-goes}
 use Rattle.prune_marks.proofs.mark_up.Statement.{statement}

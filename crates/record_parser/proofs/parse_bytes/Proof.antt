@@ -6,8 +6,8 @@ use lib.ListN.{length, drop, length-drop}
 use lib.Seq.{drop-drop}
 use borrow.Author.Tests.{not-true, not-false}
 use Rattle.format.specs.Records.{prefixed, kinded}
-use Rattle.text.proofs.Before.{rest}
-use Rattle.kind.specs.Kind.{kindAt}
+use Rattle.byte_slices.proofs.Before.{rest}
+use Rattle.record_kind.specs.Kind.{kindAt}
 use Rattle.record.specs.Head.{headOf}
 use Rattle.record_parser.proofs.Dispatch.{prefix-missing, prefix-there, kind-empty, kind-invalid, kind-is, kind-long}
 use borrow.Author.Needs.{needs}
@@ -22,7 +22,7 @@ there c =
     prefix-there (a .strict) (a .at) (a .src .now) (sym (c .before .leads .ensures) ∙ not-false (c .before .leads .result) (c .if1 .left))
 
 answer : (c : tie.After-parse-kind) → c .parse-kind .result ≡ kindAt (drop 1 (c .before .before .before .before .before .args .src .now))
-answer c = c .parse-kind .ensures ∙ ap kindAt (rest 1 (c .before .before .before .before .before .args .src .now))
+answer c = c .parse-kind .ensures .0 ∙ ap kindAt (rest 1 (c .before .before .before .before .before .args .src .now))
 
 leads-requires : tie.Need-leads-requires
 leads-requires c κs = search needs

@@ -1,5 +1,5 @@
 -- `replay_table::is_leaves_by_table` is safe: a plan has at most 1,024 records. Assumes nothing.
-use Rattle.leaves_by_table.proofs.Same.{plan-fits}
+use Rattle.programs_by_table.proofs.Same.{plan-fits}
 use borrow.Author.Needs.{needs}
 use Rattle.replay_table.proofs.is_leaves_by_table.Statement.{statement}
 use Rattle.replay_table.proofs.is_leaves_by_table.Tie as tie

@@ -5,7 +5,7 @@ use native.Mathlib.Omega.{arith}
 use lib.ListN.{length, drop}
 use lib.Dec.{eqb}
 use Rattle.format.specs.Bytes.{all}
-use Rattle.stored_cases.proofs.Whole.{spent, stops, goes}
+use Rattle.replay_cases.proofs.Whole.{spent, stops, goes}
 use borrow.Author.Needs.{needs}
 use Rattle.replay_work.proofs.is_cleared.Statement.{statement}
 use Rattle.replay_work.proofs.is_cleared.Tie as tie

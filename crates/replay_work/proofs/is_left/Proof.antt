@@ -8,7 +8,7 @@ use Rattle.replay_work.proofs.is_left.Tie as tie
 use Rattle.replay_work.proofs.is_left.Reads as reads
 use Rattle.replay_work.proofs.is_left.Lts as lts
 use Rattle.replay_work.proofs.is_cleared.Reads as is-cleared-reads
-use Rattle.stored_cases.proofs.is_unlisted.Reads as is-unlisted-reads
+use Rattle.replay_cases.proofs.is_unlisted.Reads as is-unlisted-reads
 
 returns : tie.Need-returns
 returns c = search needs

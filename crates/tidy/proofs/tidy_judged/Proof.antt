@@ -7,16 +7,16 @@ use lib.ListN.{length}
 use Rattle.format.specs.Reading.{readText}
 use Rattle.format.specs.Calls.{tidying}
 use Rattle.accepted.specs.Read.{isAccepted}
-use Rattle.parser.specs.Answers.{answerOf, outputOf}
-use Rattle.judging.proofs.Whole.{text-refused, text-accepted}
-use Rattle.parser.proofs.Told.{refused-answer}
+use Rattle.read.specs.Answers.{answerOf, outputOf}
+use Rattle.read_judge.proofs.Whole.{text-refused, text-accepted}
+use Rattle.read.proofs.Told.{refused-answer}
 use Rattle.tidy.proofs.Writing.{tidy-refused, tidy-accepted}
 use borrow.Author.Needs.{needs}
 use Rattle.tidy.proofs.tidy_judged.Statement.{statement}
 use Rattle.tidy.proofs.tidy_judged.Tie as tie
 use Rattle.tidy.proofs.tidy_judged.Reads as reads
 use Rattle.tidy.proofs.tidy_judged.Lts as lts
-use Rattle.repeat_rule.proofs.is_strict.Reads as is-strict-reads
+use Rattle.read_repeat_rule.proofs.is_strict.Reads as is-strict-reads
 use Rattle.tidy.proofs.write_accepted.Reads as write-accepted-reads
 
 -- the text is accepted

@@ -4,7 +4,7 @@ use lib.ListN.{length}
 use Rattle.format.specs.Tidy.{tidy, unwritable}
 use Rattle.format.specs.Calls.{writing}
 use Rattle.accepted.specs.Read.{recordsOf}
-use Rattle.parser.specs.Answers.{answerOf, outputOf}
+use Rattle.read.specs.Answers.{answerOf, outputOf}
 use Rattle.tidy_text.proofs.Sifting.{sifted-unmarked}
 use borrow.Author.Needs.{needs}
 use Rattle.tidy.proofs.write_accepted.Statement.{statement}

@@ -9,12 +9,12 @@ use Rattle.format.specs.Records.{Record}
 use Rattle.format.specs.Tidy.{tidy, unwritable}
 use Rattle.format.specs.Calls.{Answer, writing}
 use Rattle.accepted.specs.Read.{recordsOf}
-use Rattle.per_kind.specs.Numbers.{total}
+use Rattle.tidy_sizes.specs.Numbers.{total}
 use Rattle.tidy_text.specs.Sizes.{sizesOf}
 use Rattle.tidy_text.proofs.Lines.{opened}
 use Rattle.tidy_text.proofs.Total.{tidy-small}
 use Rattle.tidy_text.proofs.Sizes.{total-size}
-use Rattle.parser.proofs.Told.{refused-answer, written-answer}
+use Rattle.read.proofs.Told.{refused-answer, written-answer}
 use Rattle.tidy.proofs.Writing.{measured-bad, measured-is, write-bad, write-long, write-short, write-fits}
 use Rattle.tidy_text.specs.Sifted.{isMarked, sifted}
 use Rattle.tidy_text.proofs.Sifting.{sifted-small}
@@ -41,7 +41,7 @@ measured : (c : tie.After-sizes) → (let s = from (c .before .before) in (unwri
 measured c =
     let m = c .before .before in
     let s = from m in
-    measured-is (unwritable 0 (all s)) (sizesOf (stay s)) (c .sizes .given .0 .0) (sym (m .measure-marked .ensures) ∙ c .sizes .given .1)
+    measured-is (unwritable 0 (all s)) (sizesOf (stay s)) (c .sizes .given .0 .0) (sym (m .measure-marked .ensures .0) ∙ c .sizes .given .1)
 
 -- how many bytes it has
 sum : (c : tie.After-sizes) → total (c .sizes .given .0 .0) ≡ length (tidy (stay (from (c .before .before))))
@@ -97,7 +97,7 @@ returns-3 c =
     let s = from m in
     let l = c .before .line .given .0 .0 in
     refused-answer (asked s) (s .args .out .now) 24 l
-    (write-bad (length (s .args .out .now)) (unwritable 0 (all s)) (tidy (stay s)) (l .0) (measured-bad (unwritable 0 (all s)) (sizesOf (stay s)) l (sym (m .measure-marked .ensures) ∙ c .before .line .given .1)))
+    (write-bad (length (s .args .out .now)) (unwritable 0 (all s)) (tidy (stay s)) (l .0) (measured-bad (unwritable 0 (all s)) (sizesOf (stay s)) l (sym (m .measure-marked .ensures .0) ∙ c .before .line .given .1)))
 
 same-length : tie.Need-same-length
 same-length c = search needs

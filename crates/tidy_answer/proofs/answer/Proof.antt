@@ -4,8 +4,8 @@ use mathlib.Core.Path.{_≡_, refl, sym, ap, _∙_}
 use native.Mathlib.Omega.{arith}
 use lib.ListN.{length}
 use Rattle.format.specs.Calls.{tidying}
-use Rattle.text.specs.Over.{over}
-use Rattle.tidy_answer.specs.Program.{refusal, said, program}
+use Rattle.byte_slices.specs.Over.{over}
+use Rattle.format.specs.Program.{refusal, said, program}
 use Rattle.tidy_answer.proofs.Refusal.{refusal-fits}
 use Rattle.tidy_answer.proofs.Told.{program-long, program-taken, told-refused, told-count}
 use borrow.Author.Needs.{needs}

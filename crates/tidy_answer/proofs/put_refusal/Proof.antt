@@ -4,7 +4,7 @@ use mathlib.Core.Path.{_≡_, refl, _∙_}
 use native.Mathlib.Omega.{arith}
 use lib.ListN.{length, length-set}
 use Rattle.format.specs.Decimal.{written}
-use Rattle.tidy_answer.specs.Program.{spelledRefused, spelledLine, refusal}
+use Rattle.format.specs.Program.{spelledRefused, spelledLine, refusal}
 use Rattle.tidy_answer.proofs.Refusal.{refusal-size, refusal-wrote}
 use borrow.Author.Needs.{needs}
 use Rattle.tidy_answer.proofs.put_refusal.Statement.{statement}

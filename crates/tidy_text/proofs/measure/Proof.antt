@@ -18,7 +18,7 @@ measure-marked-requires c κs = search needs
 returns : tie.Need-returns
 returns c =
     let rs = recordsOf (c .before .before .before .args .text .now) in
-    c .measure-marked .ensures ∙ ap (λ qs. measuredOf (unwritable 0 rs) (sizesOf qs)) (sifted-unmarked rs)
+    (c .measure-marked .ensures .0 ∙ ap (λ qs. measuredOf (unwritable 0 rs) (sizesOf qs)) (sifted-unmarked rs), c .measure-marked .ensures .1)
 
 pub measure-spec : {M : Type 1} → statement M
 measure-spec = tie.close (tie.spec slice-aggregate-measure-marked measure-marked-requires returns)

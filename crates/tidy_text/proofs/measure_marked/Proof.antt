@@ -12,12 +12,12 @@ use Rattle.format.specs.Tidy.{unwritable}
 use Rattle.format.specs.declared.Kind.{Kind}
 use Rattle.accepted.specs.Read.{recordsOf}
 use Rattle.accepted.proofs.Ahead.{lent}
-use Rattle.writer.specs.Line.{lineText, lineWritable}
+use Rattle.tidy_line.specs.Line.{lineText, lineWritable}
 use Rattle.tidy_text.specs.Accepted.{withRecord, measuredOf, allRead, recordsFrom}
 use Rattle.tidy_text.specs.Kinds.{kindText}
-use Rattle.per_kind.specs.Numbers.{get}
+use Rattle.tidy_sizes.specs.Numbers.{get}
 use Rattle.tidy_text.specs.Sizes.{sizesOf}
-use Rattle.heads.specs.Found.{kindBy}
+use Rattle.accepted_line.specs.Found.{kindBy}
 use Rattle.tidy_text.specs.declared.Measured.the-variants as measured
 use Rattle.tidy_text.proofs.Lines.{Opened, opened, Turn, turn, ended}
 use Rattle.tidy_text.proofs.OfKind.{only, three, line-kind}
@@ -27,6 +27,7 @@ use Rattle.tidy_text.proofs.Names.{cond-is, unwritable-turn, unwritable
 use Rattle.tidy_text.specs.Sifted.{isMarked, sifted, stayBy}
 use Rattle.tidy_text.proofs.Sifting.{is-pg, line-pg, sifted-small, sifted-none, next-le, grow-bad, grow-is, stay-size}
 use borrow.Author.Needs.{needs}
+use Rattle.tidy_text.proofs.Refused.{measured-told}
 use Rattle.tidy_text.proofs.measure_marked.Statement.{statement}
 use Rattle.tidy_text.proofs.measure_marked.Tie as tie
 
@@ -201,7 +202,8 @@ returns c =
     let l = f .before .before .before in
     let a = l .before .before .before .before .args in
     let bad = grow-bad (a .marks .now) (l .loop .k) (kind-at f) (line-of f) (rest-of f) (turned f .read) (goes f) (st .stay-of .result) (steps st) (l .loop .sizes) (sym (w .with-line-if .ensures) ∙ c .enum-told .given .1) in
-    sym (ap (λ o. measuredOf o (sizesOf (sifted (p-of f) 0 (recordsOf (a .text .now))))) (asked f ∙ cond-is (lineWritable (line-of f)) false _ _ bad))
+    measured-told (unwritable 0 (recordsOf (a .text .now))) (sizesOf (sifted (p-of f) 0 (recordsOf (a .text .now)))) _
+    (sym (ap (λ o. measuredOf o (sizesOf (sifted (p-of f) 0 (recordsOf (a .text .now))))) (asked f ∙ cond-is (lineWritable (line-of f)) false _ _ bad)))
 
 add-l : tie.Need-add-l Inv-loop μ-loop
 add-l c =
@@ -239,7 +241,7 @@ returns-2 c =
     let none = unwritable-ended (a .strict) (a .text .now) (l .loop .at) (c .loop-test .left) (l .loop .l) in
     let e = ended (a .strict) (a .text .now) (l .loop .at) (c .loop-test .left) in
     let all : l .loop .sizes ≡ sizesOf rs = each-get (l .loop .sizes) (λ i. size i rs) (λ i. omega (arith, l .loop .inv .4 i, ap (λ xs. size i (sifted p (l .loop .k) xs)) e, ap (size i) (sifted-none p (l .loop .k)), ap length (size-none i))) in
-    ap measured.Is all ∙ sym (ap (λ o. measuredOf o (sizesOf rs)) (l .loop .inv .3 ∙ none))
+    measured-told (unwritable 0 (recordsOf (a .text .now))) (sizesOf rs) _ (ap measured.Is all ∙ sym (ap (λ o. measuredOf o (sizesOf rs)) (l .loop .inv .3 ∙ none)))
 
 pub measure-marked-spec : {M : Type 1} → statement M
 measure-marked-spec =

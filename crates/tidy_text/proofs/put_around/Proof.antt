@@ -5,7 +5,7 @@ use native.Mathlib.Omega.{arith}
 use lib.ListN.{length}
 use Rattle.format.specs.Reading.{readText}
 use Rattle.accepted.specs.Read.{recordsOf}
-use Rattle.per_kind.specs.Numbers.{front, kindStarts}
+use Rattle.tidy_sizes.specs.Numbers.{front, kindStarts}
 use Rattle.tidy_text.specs.Sizes.{sizesOf}
 use Rattle.tidy_text.specs.Placed.{withParts, parts, Apart}
 use Rattle.tidy_text.proofs.Lines.{opened}

@@ -4,10 +4,10 @@ use mathlib.Core.Path.{_≡_, sym, ap, ap₂, _∙_}
 use native.Mathlib.Omega.{arith}
 use lib.ListN.{length, getD}
 use Rattle.format.specs.Records.{line}
-use Rattle.text.specs.Over.{over}
-use Rattle.writer.specs.Line.{lineText}
-use Rattle.per_kind.specs.Numbers.{get, plus}
-use Rattle.heads.specs.Found.{kindBy}
+use Rattle.byte_slices.specs.Over.{over}
+use Rattle.tidy_line.specs.Line.{lineText}
+use Rattle.tidy_sizes.specs.Numbers.{get, plus}
+use Rattle.accepted_line.specs.Found.{kindBy}
 use Rattle.tidy_text.proofs.OfKind.{three}
 use borrow.Author.Tests.{not-true, not-false}
 use Rattle.tidy_text.proofs.Sifting.{places-stay, places-go, written-stays, written-goes}

@@ -10,11 +10,11 @@ use Rattle.format.specs.Records.{Record, Line, line}
 use Rattle.format.specs.declared.Kind.{Kind}
 use Rattle.accepted.specs.Read.{recordsOf}
 use Rattle.accepted.proofs.Ahead.{lent}
-use Rattle.writer.specs.Line.{lineText}
+use Rattle.tidy_line.specs.Line.{lineText}
 use Rattle.tidy_text.specs.Accepted.{withRecord, allRead, recordsFrom}
 use Rattle.tidy_text.specs.Kinds.{kindText}
 use Rattle.tidy_text.specs.Placed.{withParts, parts, Apart}
-use Rattle.heads.specs.Found.{kindBy}
+use Rattle.accepted_line.specs.Found.{kindBy}
 use Rattle.tidy_text.proofs.Lines.{Opened, opened, Turn, turn, ended}
 use Rattle.tidy_text.proofs.OfKind.{only, three, line-kind}
 use Rattle.tidy_text.proofs.Total.{size}

@@ -7,7 +7,7 @@ use lib.ListN.{length}
 use Rattle.format.specs.Records.{Record}
 use Rattle.format.specs.Tidy.{tidy}
 use Rattle.accepted.specs.Read.{recordsOf}
-use Rattle.per_kind.specs.Numbers.{front, total, kindStarts}
+use Rattle.tidy_sizes.specs.Numbers.{front, total, kindStarts}
 use Rattle.tidy_text.specs.Sizes.{sizesOf}
 use Rattle.tidy_text.specs.Placed.{withParts, parts, Apart}
 use Rattle.tidy_text.proofs.Lines.{opened}

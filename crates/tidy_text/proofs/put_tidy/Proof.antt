@@ -3,7 +3,7 @@ use Prim.Native.Nat.{_≤_}
 use mathlib.Core.Path.{_≡_, sym, ap, subst, _∙_}
 use lib.ListN.{length}
 use Rattle.format.specs.Tidy.{tidy}
-use Rattle.text.specs.Over.{over}
+use Rattle.byte_slices.specs.Over.{over}
 use Rattle.accepted.specs.Read.{recordsOf}
 use Rattle.tidy_text.specs.Sizes.{sizesOf}
 use Rattle.tidy_text.proofs.Sifting.{sifted-unmarked}

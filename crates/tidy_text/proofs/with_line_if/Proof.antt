@@ -5,10 +5,10 @@ use native.Mathlib.Omega.{arith}
 use lib.ListN.{length, getD}
 use Rattle.format.specs.Records.{Line, line}
 use Rattle.format.specs.declared.Kind.{Kind}
-use Rattle.writer.specs.Line.{lineText, lineSize}
-use Rattle.writer.specs.declared.Size.the-variants.{Is}
-use Rattle.per_kind.specs.Numbers.{get, plus}
-use Rattle.heads.specs.Found.{kindBy}
+use Rattle.tidy_line.specs.Line.{lineText, lineSize}
+use Rattle.tidy_line.specs.declared.Size.the-variants.{Is}
+use Rattle.tidy_sizes.specs.Numbers.{get, plus}
+use Rattle.accepted_line.specs.Found.{kindBy}
 use Rattle.tidy_text.specs.declared.Grown.the-variants as grown
 use Rattle.tidy_text.proofs.OfKind.{three}
 use Rattle.tidy_text.proofs.Names.{size-is, grown-bad, grown-is}

@@ -8,7 +8,7 @@ use borrow.Author.Tests.{not-true, not-false}
 use Rattle.format.specs.declared.Kind.{Kind}
 use Rattle.field.specs.declared.ParsedField.{ParsedField}
 use Rattle.field_tag.specs.Numbers.{isVersion, isLength}
-use Rattle.accepted.specs.Sound.{isKey}
+use Rattle.format.specs.Keys.{isKey}
 use Rattle.record.specs.declared.Keys.{Keys}
 use Rattle.record.specs.Keys.{withField, withPlace, withVersion, withLength}
 use Rattle.record.proofs.Keys.with.Statement.{statement}

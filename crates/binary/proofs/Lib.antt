@@ -1,4 +1,0 @@
-pub mod Parts
-pub mod Law
-pub mod Example
-pub mod Room

@@ -1,5 +1,0 @@
--- The binary header (Req 09):
---   Binary       its bytes, these taken apart, and what the two calls answer
---   Undone       that in undoes out
-pub mod Binary
-pub mod Undone

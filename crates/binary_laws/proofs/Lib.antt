@@ -1,0 +1,4 @@
+pub mod Low
+pub mod Apart
+pub mod Refusal
+pub mod Tidied

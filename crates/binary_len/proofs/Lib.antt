@@ -1,0 +1,6 @@
+pub mod Turn
+pub mod Grown
+pub mod Apart
+pub mod Resume
+pub mod Laws
+pub mod Cases

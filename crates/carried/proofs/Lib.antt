@@ -1,8 +1,0 @@
-pub mod Judged
-pub mod Keys
-pub mod Skips
-pub mod Kept
-pub mod Faithful
-pub mod Example
-pub mod Count
-pub mod Bound

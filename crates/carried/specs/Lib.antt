@@ -1,3 +1,0 @@
-pub mod Carrying
-pub mod Judged
-pub mod Carried

@@ -1,0 +1,141 @@
+-- `carry_keys::enter` meets its contract: what is left of the block's lines is to enter still.
+use Prim.Native.Nat.{ℕ, _+_, _-_, _≤_, _<_}
+use mathlib.Core.Path.{_≡_, refl, sym, ap, ap₂, subst, _∙_}
+use mathlib.Core.Bool.{true}
+use native.Mathlib.Omega.{arith}
+use lib.ListN.{length, drop}
+use Rattle.format.specs.Lines.{linesFrom}
+use Rattle.format.specs.Records.{line}
+use Rattle.byte_slices.specs.First.{firstLine}
+use Rattle.accepted.specs.First.{firstAt}
+use Rattle.accepted.proofs.Ahead.{next-more, next-within}
+use Rattle.record.specs.Head.{headOf}
+use Rattle.key_index.specs.Told.{afterMeeting}
+use Rattle.key_index.specs.Keyed.{KeyInText}
+use Rattle.key_index.proofs.HeldKeys.{meeting-length}
+use Rattle.carry_keys.specs.Blocks.{headKeys, keyedFront, afterKeyed, entered}
+use Rattle.carry_keys.proofs.Walk.{keys-most, after-end, after-none, after-on, entered-end, entered-none, entered-on, placed-at}
+use borrow.Author.Needs.{needs}
+use Rattle.carry_keys.proofs.enter.Statement.{statement}
+use Rattle.carry_keys.proofs.enter.Tie as tie
+use Rattle.carry_keys.proofs.enter.Reads as reads
+use Rattle.carry_keys.proofs.enter.Lts as lts
+use Rattle.carry_keys.proofs.keys_in.Reads as keys-in-reads
+use Rattle.carry_keys.proofs.parse_at.Reads as parse-at-reads
+use Rattle.key_index.proofs.meet.Reads as meet-reads
+
+abbrev Inv-loop : tie.InvT-loop
+Inv-loop text strict area₀ at many end₀ n₀ area end n =
+    (n ≤ many) × (end ≤ length text) × (length area ≡ length area₀) × (afterKeyed strict many at text ≡ afterKeyed strict (many - n) end text)
+    × (entered strict text area₀ (keyedFront strict many (linesFrom at (drop at text))) ≡ entered strict text area (keyedFront strict (many - n) (linesFrom end (drop end text))))
+
+abbrev μ-loop : tie.MeasureT-loop
+μ-loop text strict area₀ at many end₀ n₀ area end n = length text - end
+
+-- there is a line ahead
+ahead : (c : tie.Else1 Inv-loop μ-loop) → c .before .before .loop .end < length (c .before .before .before .before .before .args .text .now)
+ahead c = omega (arith, c .before .before .loop .inv .1, c .if1 .left)
+
+loop-holds : tie.Need-loop-holds Inv-loop μ-loop
+loop-holds c =
+    let a = c .before .before .args in
+    let z : a .many ≡ a .many - 0 = omega arith in
+    (omega arith, c .before .before .pre .1 .1, refl, ap (λ m. afterKeyed (a .strict) m (a .at) (a .text .now)) z, ap (λ m. entered (a .strict) (a .text .now) (a .area .now) (keyedFront (a .strict) m (linesFrom (a .at) (drop (a .at) (a .text .now))))) z)
+
+same-length : tie.Need-same-length Inv-loop μ-loop
+same-length c = c .before .before .loop .inv .2
+
+returns : tie.Need-returns Inv-loop μ-loop
+returns c =
+    let l = c .before .before in
+    let a = l .before .before .before .args in
+    let v = l .loop .inv in
+    let left : ℕ = a .many - l .loop .n in
+    let e : l .loop .end ≡ length (a .text .now) = omega (arith, c .if1 .taken) in
+    (sym (v .3 ∙ after-end (a .text .now) (l .loop .end) (a .strict) left e), sym (v .4 ∙ entered-end (a .text .now) (l .loop .end) (a .strict) (l .loop .area) left (omega (arith, e))))
+
+parse-at-requires : tie.Need-parse-at-requires Inv-loop μ-loop
+parse-at-requires c κs = (c .before .before .before .before .before .pre .0, ahead c)
+
+meet-requires : tie.Need-meet-requires Inv-loop μ-loop
+meet-requires c κs =
+    let p = c .before in
+    let l = p .before .before .before in
+    let s = l .before .before .before in
+    let t = s .args .text .now in
+    (s .pre .0, (omega (arith, l .loop .inv .2, s .pre .1 .0), subst (KeyInText (length t)) (sym (p .parse-at .ensures .0)) (placed-at (s .args .strict) t (l .loop .end) (s .pre .0) (ahead (p .before)))))
+
+keys-in-requires : tie.Need-keys-in-requires Inv-loop μ-loop
+keys-in-requires c κs = search needs
+
+-- no more keys than may enter
+within : (c : tie.After-keys-in Inv-loop μ-loop)
+    → let l = c .before .before .before .before .before .before .before .before in
+    l .loop .n + c .keys-in .result ≤ l .before .before .before .args .many
+within c =
+    let p = c .before .before .before .before .before in
+    omega (arith, p .before .before .loop-test .taken, c .keys-in .ensures, keys-most (p .parse-at .result .head))
+
+add-n : tie.Need-add-n Inv-loop μ-loop
+add-n c = omega (arith, within c)
+
+loop-less : tie.Need-loop-less Inv-loop μ-loop
+loop-less c =
+    let p = c .before .before .before .before .before in
+    let l = p .before .before .before in
+    let t = l .before .before .before .args .text .now in
+    omega (arith, ahead (p .before), p .parse-at .ensures .1, next-more t (l .loop .end) (ahead (p .before)))
+
+loop-again : tie.Need-loop-again Inv-loop μ-loop
+loop-again c =
+    let m = c .before .before .before in
+    let p = m .before .before in
+    let l = p .before .before .before in
+    let a = l .before .before .before .args in
+    let t = a .text .now in
+    let v = l .loop .inv in
+    let at : ℕ = l .loop .end in
+    let h : at < length t = ahead (p .before) in
+    let left : ℕ = a .many - l .loop .n in
+    let k : ℕ = a .many - (l .loop .n + c .keys-in .result) in
+    let some : 0 < left = omega (arith, p .before .before .loop-test .taken) in
+    let x = p .parse-at .result .head in
+    let n : c .keys-in .result ≡ headKeys (headOf (line (a .strict) (firstAt at t))) = c .keys-in .ensures ∙ ap headKeys (p .parse-at .ensures .0) in
+    let e : left - headKeys (headOf (line (a .strict) (firstAt at t))) ≡ k = omega (arith, n) in
+    let next : at + firstLine (drop at t) .next ≡ p .parse-at .result .next = sym (p .parse-at .ensures .1) in
+    let area : afterMeeting true t (l .loop .area) (headOf (line (a .strict) (firstAt at t))) ≡ m .meet .last .1 .0 = ap (afterMeeting true t (l .loop .area)) (sym (p .parse-at .ensures .0)) ∙ sym (m .meet .ensures .1) in (
+      within c,
+      omega (arith, sym next, next-within t at h),
+      ap length (m .meet .ensures .1) ∙ meeting-length true t (l .loop .area) x ∙ v .2,
+      v .3 ∙ after-on t at (a .strict) left k some e h ∙ ap (λ i. afterKeyed (a .strict) k i t) next,
+      v .4 ∙ entered-on t at (a .strict) (l .loop .area) left k some e h ∙ ap₂ (λ s i. entered (a .strict) t s (keyedFront (a .strict) k (linesFrom i (drop i t)))) area next,
+    )
+
+same-length-2 : tie.Need-same-length-2 Inv-loop μ-loop
+same-length-2 c = c .before .loop .inv .2
+
+returns-2 : tie.Need-returns-2 Inv-loop μ-loop
+returns-2 c =
+    let l = c .before in
+    let a = l .before .before .before .args in
+    let v = l .loop .inv in
+    let z : a .many - l .loop .n ≡ 0 = omega (arith, c .loop-test .left) in
+    (sym (v .3 ∙ after-none (a .text .now) (l .loop .end) (a .strict) (a .many - l .loop .n) z (v .1)), sym (v .4 ∙ entered-none (a .text .now) (l .loop .end) (a .strict) (l .loop .area) (a .many - l .loop .n) z))
+
+pub enter-spec : {M : Type 1} → statement M
+enter-spec =
+    tie.close
+    (tie.spec
+    Inv-loop
+    μ-loop
+    loop-holds
+    same-length
+    returns
+    parse-at-requires
+    meet-requires
+    keys-in-requires
+    add-n
+    loop-less
+    loop-again
+    same-length-2
+    returns-2)

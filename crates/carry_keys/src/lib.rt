@@ -1,0 +1,103 @@
+// Where the keys of a block of lines stood first: each key of the block is told by the offset of its first line there, or by one before
+// the block, where a line before it has the key too.
+use record::Head;
+ghost use mathlib.Core.Path.{_≡_};
+ghost use Prim.Native.Nat.{_≤_, _<_, _+_, _*_, _/_};
+ghost use lib.ListN.{length, drop};
+ghost use Rattle.format.specs.Records.{line};
+ghost use Rattle.byte_slices.specs.First.{firstLine};
+ghost use Rattle.accepted.specs.First.{firstAt};
+ghost use Rattle.record.specs.Head.{headOf};
+ghost use Rattle.carry_keys.specs.Blocks.{headKeys, afterKeyed, enteredFrom, pointedFrom, filledFor};
+
+// A line's head, and the offset of the line after it.
+struct Parsed {
+    head: Head,
+    next: usize,
+}
+
+// The line at the offset `at`, parsed.
+fn parse_at(text: &[u8], strict: bool, at: usize) -> Parsed
+    requires { ⌜ length (now text) ≤ 16777216 ⌝ }
+    requires { ⌜ at < length (now text) ⌝ }
+    ensures head { λ r. ⌜ r .head ≡ headOf (line strict (firstAt at (now (text .entry)))) ⌝ }
+    ensures next { λ r. ⌜ r .next ≡ at + firstLine (drop at (now (text .entry))) .next ⌝ }
+{
+    let cut = byte_slices::first_line(&text[at..]);
+    let end = at + cut.len;
+    let head = record_parser::parse_record(&text[at..end], at, strict);
+    Parsed {
+        head,
+        next: at + cut.next,
+    }
+}
+
+// How many keys a head has that may enter: one, or none.
+fn keys_in(head: Head) -> usize
+    ensures { λ r. ⌜ r ≡ headKeys head ⌝ }
+{
+    match head {
+        Head::Refused(_) => 0,
+        Head::Header(_, _) => 0,
+        Head::ReferenceSequence(_, _, _) => 1,
+        Head::ReadGroup(_, _) => 1,
+        Head::Program(_, _) => 1,
+        Head::Comment(_) => 0,
+    }
+}
+
+// The keys of the lines from the offset `at` on, up to the one with the `many`-th key, enter the area, of equal ones the first; the offset
+// after these lines.
+fn enter(text: &[u8], strict: bool, area: &mut [u32], at: usize, many: usize) -> usize
+    requires { ⌜ length (now text) ≤ 16777216 ⌝ }
+    requires { ⌜ 0 < length (now area) ⌝ }
+    requires { ⌜ at ≤ length (now text) ⌝ }
+    ensures end { λ r. ⌜ r ≡ afterKeyed strict many at (now (text .entry)) ⌝ }
+    ensures wrote { λ _. ⌜ now (area .exit) ≡ enteredFrom strict (now (text .entry)) (now (area .entry)) at many ⌝ }
+{
+    let mut end = at;
+    let mut n: usize = 0;
+    while n < many {
+        if end == text.len() {
+            return end;
+        }
+        let parsed = parse_at(text, strict, end);
+        let head = parsed.head;
+        key_index::meet(text, area, head, true);
+        end = parsed.next;
+        n += keys_in(head);
+    }
+    end
+}
+
+// The lines that start from the offset `from` on and before `to`: a slot that tells the key of one tells it by that line's offset from now on.
+fn point_back(text: &[u8], strict: bool, area: &mut [u32], from: usize, to: usize)
+    requires { ⌜ length (now text) ≤ 16777216 ⌝ }
+    requires { ⌜ 0 < length (now area) ⌝ }
+    requires { ⌜ to ≤ length (now text) ⌝ }
+    ensures { λ _. ⌜ now (area .exit) ≡ pointedFrom strict (now (text .entry)) (now (area .entry)) from to ⌝ }
+{
+    let mut at = from;
+    while at < to {
+        let parsed = parse_at(text, strict, at);
+        let head = parsed.head;
+        key_index::point(text, area, head);
+        at = parsed.next;
+    }
+}
+
+// Fills the area for the block of lines from the offset `at` on, three with a key for each four slots, after the lines from `from` on:
+// whether a line of the block has its key for the first time is told by `key_index::is_first` from now on. The offset after the block.
+pub fn fill(text: &[u8], strict: bool, area: &mut [u32], from: usize, at: usize) -> usize
+    requires { ⌜ length (now text) ≤ 16777216 ⌝ }
+    requires { ⌜ 0 < length (now area) ⌝ }
+    requires { ⌜ at ≤ length (now text) ⌝ }
+    ensures end { λ r. ⌜ r ≡ afterKeyed strict (length (now (area .entry)) / 4 * 3) at (now (text .entry)) ⌝ }
+    ensures wrote { λ _. ⌜ now (area .exit) ≡ filledFor strict (now (text .entry)) (length (now (area .entry))) from at ⌝ }
+{
+    key_index::clear(area);
+    let many = area.len() / 4 * 3;
+    let end = enter(text, strict, area, at, many);
+    point_back(text, strict, area, from, at);
+    end
+}

@@ -1,0 +1,4 @@
+pub mod None
+pub mod Law
+pub mod Early
+pub mod First

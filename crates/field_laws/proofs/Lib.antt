@@ -1,4 +1,0 @@
-pub mod Anywhere
-pub mod Next
-pub mod Answer
-pub mod Shown

@@ -1,0 +1,4 @@
+pub mod Turns
+pub mod Told
+pub mod Laws
+pub mod Names

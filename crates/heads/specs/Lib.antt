@@ -1,3 +1,0 @@
-pub mod Found
-pub mod Keys
-pub mod Form

@@ -1,4 +1,0 @@
-pub mod Turn
-pub mod Split
-pub mod Begun
-pub mod Steps

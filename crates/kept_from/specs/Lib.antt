@@ -1,2 +1,0 @@
-pub mod From
-pub mod Turn

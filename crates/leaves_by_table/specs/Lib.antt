@@ -1,4 +1,0 @@
-pub mod Answers
-pub mod Facts
-pub mod Plans
-pub mod Same

@@ -1,3 +1,0 @@
-pub mod Walks
-pub mod Kept
-pub mod Answers

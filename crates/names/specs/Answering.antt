@@ -1,0 +1,39 @@
+-- What answering asks of a text, its catalogue, a list of names, a work area and a result list, and what it leaves.
+use Prim.Native.Nat.{ℕ, _≤_}
+use mathlib.Core.Path.{_≡_}
+use mathlib.Core.List.{List, map}
+use lib.ListN.{length}
+use Rattle.byte_slices.specs.Stands.{Each}
+use Rattle.catalogue_entries.specs.Entries.{entriesIn}
+use Rattle.format.specs.Asked.{asked}
+use Rattle.format.specs.NameIndex.{nameOrdinal, slotCount, index, looks}
+use Rattle.name_entries.specs.Names.{namesIn}
+use Rattle.names.specs.Told.{Told}
+use Rattle.format.specs.Summed.{summed}
+
+-- the names that the catalogue's SQ entries say
+abbrev pub namesOfSq : List ℕ → List ℕ → List (List ℕ)
+namesOfSq text kept = namesIn text (entriesIn kept)
+
+-- none is too long, the slots are as many as the index has, the results as many as the list has names, the SQ are `m`, and their names are
+-- told by their places
+pub record Answerable (text kept : List ℕ) (m : ℕ) (list slots out : List ℕ) : Type 0 where
+  pub short : length kept ≤ 4294967294
+  pub short-list : length list ≤ 16777216
+  pub few : length (namesOfSq text kept) ≤ 16777216
+  pub size : length slots ≡ slotCount (length (namesOfSq text kept))
+  pub room : length out ≡ length (asked list)
+  pub count : m ≡ length (namesOfSq text kept)
+  pub told : Each (Told text) (entriesIn kept)
+
+-- the index of these names
+abbrev pub nameIndexIn : List ℕ → List ℕ → List ℕ
+nameIndexIn text kept = index (namesOfSq text kept)
+
+-- the ordinal of each asked name among them
+abbrev pub ordinalsIn : List ℕ → List ℕ → List ℕ → List ℕ
+ordinalsIn text kept list = map (nameOrdinal (namesOfSq text kept)) (asked list)
+
+-- how many slots are looked at for the asked names
+abbrev pub looksIn : List ℕ → List ℕ → List ℕ → ℕ
+looksIn text kept list = summed (looks (namesOfSq text kept)) (asked list)

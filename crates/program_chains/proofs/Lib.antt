@@ -1,0 +1,12 @@
+pub mod Arrays
+pub mod Bools
+pub mod Leaf
+pub mod Places
+pub mod Swaps
+pub mod Times
+pub mod Walks
+pub mod Bound
+pub mod Leafed
+pub mod Pairs
+pub mod Paths
+pub mod Some

@@ -1,0 +1,159 @@
+// The parents of the programs that are gathered from a catalogue, and the road along them to the leaves.
+use catalogue_entries::Place;
+use program_chains::Ordinals;
+use program_ids::Named;
+ghost use mathlib.Core.Path.{_≡_};
+ghost use mathlib.Core.Bool.{true};
+ghost use mathlib.Core.List.{List, []};
+ghost use Prim.Native.Nat.{_≤_};
+ghost use lib.ListN.{length};
+ghost use Rattle.format.specs.Reading.{readText};
+ghost use Rattle.format.specs.Catalogue.{catalogue};
+ghost use Rattle.format.specs.Programs.{Program, programs, links, tangled};
+ghost use Rattle.accepted.specs.Read.{isAccepted, recordsOf};
+ghost use Rattle.catalogue_entries.specs.Entries.{entriesIn};
+ghost use Rattle.program_places.specs.Gathered.{notedIn, programsIn, gatheredOf};
+ghost use Rattle.program_ids.specs.Places.{idsAt, PlacesInText};
+ghost use Rattle.program_parents.specs.Parents.{Somewhere, parentOf, parentsOf, AreParents, ordinalsOf, graphOf};
+
+// The parent of a program whose PP equals no ID: no ordinal, and not nobody.
+pub const STRANGER: u32 = 4294967294;
+
+// The parent of a program by the place of its PP: nobody without PP, a stranger where PP equals no ID.
+pub fn find_parent(text: &[u8], ats: &[u32], lens: &[u32], previous: Place) -> u32
+    requires { ⌜ PlacesInText (now text) (now ats) (now lens) ⌝ }
+    requires { ⌜ Somewhere (length (now text)) previous ⌝ }
+    ensures { λ r. ⌜ r ≡ parentOf (now (text .entry)) (idsAt (now (text .entry)) (now (ats .entry)) (now (lens .entry))) previous ⌝ }
+{
+    if previous.at == program_places::NOWHERE {
+        return program_chains::NOBODY;
+    }
+    let start = previous.at as usize;
+    let end = start + previous.len as usize;
+    match program_ids::find_program(text, ats, lens, &text[start..end]) {
+        Named::Nobody => STRANGER,
+        Named::Is(k) => k.0,
+    }
+}
+
+// The parent of each program in order, how many there are, and whether some PP equals no ID.
+pub struct Parents {
+    pub list: [u32; 1024],
+    pub count: usize,
+    pub dangling: bool,
+}
+
+// The parents of the programs of an accepted text, which are gathered in arrays: one search among the IDs for each PP.
+pub fn find_parents(
+    text: &[u8],
+    ats: &[u32],
+    lens: &[u32],
+    from: &[u32],
+    widths: &[u32],
+    count: usize,
+) -> Parents
+    requires { ⌜ isAccepted (readText (now text)) ≡ true ⌝ }
+    requires { ⌜ programsIn (now ats) (now lens) (now from) (now widths) count ≡ gatheredOf (notedIn (entriesIn (catalogue (recordsOf (now text))))) ⌝ }
+    ensures { λ r. ⌜ r ≡ parentsOf (links (programs (recordsOf (now (text .entry))))) ⌝ }
+{
+    let mut list: [u32; 1024] = [0; 1024];
+    let mut dangling = false;
+    let mut i: usize = 0;
+    while i < count {
+        let place = Place {
+            at: from[i],
+            len: widths[i],
+        };
+        let parent = find_parent(text, &ats[..count], &lens[..count], place);
+        if parent == STRANGER {
+            dangling = true;
+        }
+        list[i] = parent;
+        i += 1;
+    }
+    Parents {
+        list,
+        count,
+        dangling,
+    }
+}
+
+// The same by the text's own catalogue, and `more` times again. Nobody asks for more than once: a function that calls itself is compiled by itself, so
+// that its four arrays are on the stack only while it runs, and not while a text is checked (`read_judge::judge_long`).
+fn parents_again(text: &[u8], kept: &[u8], more: usize) -> Parents
+    requires { ⌜ isAccepted (readText (now text)) ≡ true ⌝ }
+    requires { ⌜ now kept ≡ catalogue (recordsOf (now text)) ⌝ }
+    ensures { λ r. ⌜ r ≡ parentsOf (links (programs (recordsOf (now (text .entry))))) ⌝ }
+{
+    let mut ats: [u32; 1024] = [0; 1024];
+    let mut lens: [u32; 1024] = [0; 1024];
+    let mut from: [u32; 1024] = [0; 1024];
+    let mut widths: [u32; 1024] = [0; 1024];
+    let count = program_places::gather(kept, &mut ats, &mut lens, &mut from, &mut widths);
+    if 0 < more {
+        return parents_again(text, kept, more - 1);
+    }
+    find_parents(text, &ats, &lens, &from, &widths, count)
+}
+
+// The parents of the programs of an accepted text, by its own catalogue, which is far shorter than is needed for one time more.
+pub fn parents_of(text: &[u8], kept: &[u8]) -> Parents
+    requires { ⌜ isAccepted (readText (now text)) ≡ true ⌝ }
+    requires { ⌜ now kept ≡ catalogue (recordsOf (now text)) ⌝ }
+    ensures { λ r. ⌜ r ≡ parentsOf (links (programs (recordsOf (now (text .entry))))) ⌝ }
+{
+    parents_again(text, kept, kept.len() / 4294967296)
+}
+
+// 0, or 22 where a PP dangles, or 23 where there is a cycle.
+pub fn tangle(parents: Parents) -> u8
+    requires { ⌜ AreParents parents ⌝ }
+    ensures { λ r. ⌜ ((ps : List Program) → length ps ≤ 1024 → parents ≡ parentsOf (links ps) → r ≡ tangled (links ps)) ⌝ }
+{
+    if parents.dangling {
+        return 22;
+    }
+    let list = parents.list;
+    if program_walks::has_cycle(&list[..parents.count]) {
+        return 23;
+    }
+    0
+}
+
+// The road to the leaves: 0, or 22 or 23 with no leaves; the parents; and the leaves.
+pub struct Graph {
+    pub refusal: u8,
+    pub parents: Parents,
+    pub leaves: Ordinals,
+}
+
+// No leaves, because of a refusal.
+fn refused(refusal: u8, parents: Parents) -> Graph
+    ensures { λ r. ⌜ r ≡ record { refusal = refusal; parents = parents; leaves = ordinalsOf [] } ⌝ }
+{
+    let list: [u32; 1024] = [0; 1024];
+    let leaves = Ordinals { list, count: 0 };
+    Graph {
+        refusal,
+        parents,
+        leaves,
+    }
+}
+
+// The leaves along the parents, in the crate's order: 22 where a PP dangles, then 23 where there is a cycle.
+pub fn find_leaves(parents: Parents) -> Graph
+    requires { ⌜ AreParents parents ⌝ }
+    ensures { λ r. ⌜ ((ps : List Program) → length ps ≤ 1024 → parents ≡ parentsOf (links ps) → r ≡ graphOf (links ps)) ⌝ }
+{
+    let refusal = tangle(parents);
+    if refusal != 0 {
+        return refused(refusal, parents);
+    }
+    let list = parents.list;
+    let leaves = program_chains::leaves(&list[..parents.count]);
+    Graph {
+        refusal: 0,
+        parents,
+        leaves,
+    }
+}

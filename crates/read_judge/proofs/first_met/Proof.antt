@@ -1,0 +1,227 @@
+-- `read_judge::first_met` meets its contract: what is left of the lines ahead decides.
+use Prim.Native.Nat.{ℕ, _+_, _-_, _≤_, _<_}
+use mathlib.Core.Path.{_≡_, refl, sym, ap, subst, _∙_}
+use mathlib.Core.List.{List}
+use native.Mathlib.Omega.{arith}
+use borrow.Author.Needs.{needs}
+use lib.ListN.{length, take, drop, length-take, length-drop}
+use lib.Seq.{length-take-le}
+use Rattle.format.specs.Lines.{Piece, linesFrom}
+use Rattle.format.specs.Records.{line}
+use Rattle.byte_slices.specs.First.{firstLine}
+use Rattle.byte_slices.specs.Stands.{Stands}
+use Rattle.byte_slices.proofs.First.{first-le, first-within, first-some}
+use Rattle.byte_slices.proofs.Before.{rest}
+use Rattle.accepted.proofs.Ahead.{ahead-stands}
+use Rattle.record.specs.Head.{headOf}
+use Rattle.key_index.specs.Told.{isMet}
+use Rattle.key_index.specs.Keyed.{KeyInText}
+use Rattle.key_index.proofs.HeldKeys.{head-placed, meeting-none}
+use Rattle.read_judge.specs.Blocks.{clashOf}
+use Rattle.read_judge.proofs.Blocks.{clash-none, clash-here, clash-met, clash-on}
+use Rattle.read_judge.proofs.first_met.Statement.{statement}
+use Rattle.read_judge.proofs.first_met.Tie as tie
+use Rattle.read_judge.proofs.first_met.Reads as reads
+use Rattle.read_judge.proofs.first_met.Lts as lts
+use Rattle.key_index.proofs.meet.Reads as meet-reads
+use Rattle.record_parser.proofs.parse_record.Reads as parse-record-reads
+use Rattle.byte_slices.proofs.first_line.Reads as first-line-reads
+
+abbrev Inv-loop : tie.InvT-loop
+Inv-loop text strict area₀ from first clash at₀ line₀ area at line =
+    (line ≤ at) × (at ≤ length text) × (area ≡ area₀) × (clashOf strict text area₀ clash first (linesFrom from (drop from text)) ≡ clashOf strict text area₀ clash line (linesFrom at (drop at text)))
+
+abbrev μ-loop : tie.MeasureT-loop
+μ-loop text strict area₀ from first clash at₀ line₀ area at line = length text - at
+
+-- ---- in a turn
+
+cut : (c : tie.After-first-line Inv-loop μ-loop)
+    → let l = c .before .before .before .before in
+    c .first-line .result ≡ firstLine (drop (l .loop .at) (l .before .before .before .args .text .now))
+cut c =
+    let l = c .before .before .before .before in
+    c .first-line .ensures ∙ ap firstLine (rest (l .loop .at) (l .before .before .before .args .text .now))
+
+inside : (c : tie.After-first-line Inv-loop μ-loop)
+    → let l = c .before .before .before .before in
+    let t = l .before .before .before .args .text .now in
+    (l .loop .at + c .first-line .result .len ≤ length t) × (l .loop .at + c .first-line .result .next ≤ length t) × (0 < c .first-line .result .next)
+inside c =
+    let l = c .before .before .before .before in
+    let t = l .before .before .before .args .text .now in
+    let d = length-drop (l .loop .at) t in
+    let h : l .loop .at < length t = omega arith in
+    let e = cut c in
+    rw e (omega (arith, d, h, first-le (drop (l .loop .at) t), first-within (drop (l .loop .at) t)), omega (arith, d, h, first-within (drop (l .loop .at) t)), first-some (drop (l .loop .at) t) (omega (arith, d, h)))
+
+piece : (c : tie.After-first-line Inv-loop μ-loop) → Piece
+piece c =
+    let l = c .before .before .before .before in
+    let t = l .before .before .before .args .text .now in
+    record { at = l .loop .at; bytes = take (firstLine (drop (l .loop .at) t) .len) (drop (l .loop .at) t) }
+
+head-is : (c : tie.After-parse-record Inv-loop μ-loop)
+    → let q = c .before .before .before in
+    let l = q .before .before .before .before in
+    c .parse-record .result ≡ headOf (line (l .before .before .before .args .strict) (piece q))
+unfolding piece
+head-is c =
+    let q = c .before .before .before in
+    let l = q .before .before .before .before in
+    let a = l .before .before .before .args in
+    let n : l .loop .at + q .first-line .result .len - l .loop .at ≡ q .first-line .result .len = omega arith in
+    c .parse-record .ensures ∙ ap (λ b. headOf (line (a .strict) (record { at = l .loop .at; bytes = take b (drop (l .loop .at) (a .text .now)) }))) (n ∙ ap (λ x. x .len) (cut q))
+
+placed-head : (c : tie.After-parse-record Inv-loop μ-loop)
+    → let l = c .before .before .before .before .before .before .before in
+    KeyInText (length (l .before .before .before .args .text .now)) (c .parse-record .result)
+unfolding piece
+placed-head c =
+    let l = c .before .before .before .before .before .before .before in
+    let s = l .before .before .before in
+    let a = s .args in
+    subst (KeyInText (length (a .text .now))) (sym (head-is c)) (head-placed (a .strict) (a .text .now) (l .loop .at) (s .pre .0) (ahead-stands (a .text .now) (l .loop .at) (omega arith)))
+
+-- what the slots say of it
+met-is : (c : tie.After-meet Inv-loop μ-loop)
+    → let l = c .before .before .before .before .before .before .before .before .before in
+    let a = l .before .before .before .args in
+    c .meet .result ≡ isMet (a .text .now) (a .area .now) (c .before .before .parse-record .result)
+met-is c =
+    let l = c .before .before .before .before .before .before .before .before .before in
+    let a = l .before .before .before .args in
+    c .meet .ensures .0 ∙ ap (λ s. isMet (a .text .now) s (c .before .before .parse-record .result)) (l .loop .inv .2)
+
+-- and they stay
+kept : (c : tie.After-meet Inv-loop μ-loop)
+    → let l = c .before .before .before .before .before .before .before .before .before in
+    c .meet .last .1 .0 ≡ l .before .before .before .args .area .now
+kept c =
+    let l = c .before .before .before .before .before .before .before .before .before in
+    let a = l .before .before .before .args in
+    c .meet .ensures .1 ∙ meeting-none (a .text .now) (l .loop .area) (c .before .before .parse-record .result) ∙ l .loop .inv .2
+
+loop-holds : tie.Need-loop-holds Inv-loop μ-loop
+loop-holds c = (omega arith, omega arith, refl, refl)
+
+same-length : tie.Need-same-length Inv-loop μ-loop
+same-length c = ap length (c .before .before .loop .inv .2)
+
+returns : tie.Need-returns Inv-loop μ-loop
+returns c =
+    let l = c .before .before in
+    let a = l .before .before .before .args in
+    (sym (l .loop .inv .3 ∙ clash-here (a .strict) (a .text .now) (a .area .now) (a .clash) (l .loop .at) (l .loop .line) (omega arith) (c .if1 .taken)), l .loop .inv .2)
+
+sub-first-line : tie.Need-sub-first-line Inv-loop μ-loop
+sub-first-line c = omega arith
+
+part-first-line-start : tie.Need-part-first-line-start Inv-loop μ-loop
+part-first-line-start c = omega arith
+
+part-first-line-end : tie.Need-part-first-line-end Inv-loop μ-loop
+part-first-line-end c = omega arith
+
+first-line-requires : tie.Need-first-line-requires Inv-loop μ-loop
+first-line-requires c κs = search needs
+
+add-end : tie.Need-add-end Inv-loop μ-loop
+add-end c = omega (arith, inside (c .before))
+
+sub-parse-record : tie.Need-sub-parse-record Inv-loop μ-loop
+sub-parse-record c = omega arith
+
+part-parse-record-start : tie.Need-part-parse-record-start Inv-loop μ-loop
+part-parse-record-start c = omega arith
+
+part-parse-record-end : tie.Need-part-parse-record-end Inv-loop μ-loop
+part-parse-record-end c = omega (arith, inside (c .before))
+
+parse-record-requires : tie.Need-parse-record-requires Inv-loop μ-loop
+parse-record-requires c κs =
+    let q = c .before .before in
+    let l = q .before .before .before .before in
+    let t = l .before .before .before .args .text .now in
+    omega (arith, inside q, length-take (l .loop .at + q .first-line .result .len - l .loop .at) (drop (l .loop .at) t), l .before .before .before .pre .0)
+
+meet-requires : tie.Need-meet-requires Inv-loop μ-loop
+meet-requires c κs =
+    let q = c .before .before .before .before in
+    let l = q .before .before .before .before in
+    let s = l .before .before .before in
+    (s .pre .0, (omega (arith, s .pre .1 .0, ap length (l .loop .inv .2)), placed-head (c .before)))
+
+same-length-2 : tie.Need-same-length-2 Inv-loop μ-loop
+same-length-2 c = ap length (kept (c .before .before .before))
+
+returns-2 : tie.Need-returns-2 Inv-loop μ-loop
+returns-2 c =
+    let m = c .before .before .before in
+    let p = m .before .before in
+    let l = p .before .before .before .before .before .before .before in
+    let a = l .before .before .before .args in
+    (sym (l .loop .inv .3 ∙ clash-met (a .strict) (a .text .now) (a .area .now) (a .clash) (l .loop .at) (l .loop .line) (omega arith) (p .parse-record .result) (unfold piece in head-is p) (p .before .before .before .before .before .if1 .left) (sym (met-is m) ∙ c .if2 .taken)), kept m)
+
+add-at : tie.Need-add-at Inv-loop μ-loop
+add-at c = omega (arith, inside (c .before .before .before .before .before .before .before .before .before))
+
+add-line : tie.Need-add-line Inv-loop μ-loop
+add-line c = omega (arith, inside (c .before .before .before .before .before .before .before .before .before))
+
+loop-less : tie.Need-loop-less Inv-loop μ-loop
+loop-less c = omega (arith, inside (c .before .before .before .before .before .before .before .before .before))
+
+loop-again : tie.Need-loop-again Inv-loop μ-loop
+loop-again c =
+    let m = c .before .before .before .before in
+    let p = m .before .before in
+    let q = p .before .before .before in
+    let l = q .before .before .before .before in
+    let a = l .before .before .before .args in
+    let t = a .text .now in
+    let n : l .loop .at + q .first-line .result .next ≡ l .loop .at + firstLine (drop (l .loop .at) t) .next = ap (λ x. l .loop .at + x .next) (cut q) in (
+      omega (arith, inside q),
+      omega (arith, inside q),
+      kept m,
+      l .loop .inv .3
+          ∙ clash-on (a .strict) t (a .area .now) (a .clash) (l .loop .at) (l .loop .line) (omega arith) (p .parse-record .result) (unfold piece in head-is p) (q .before .before .if1 .left) (sym (met-is m) ∙ c .before .if2 .left)
+          ∙ ap (λ k. clashOf (a .strict) t (a .area .now) (a .clash) (l .loop .line + 1) (linesFrom k (drop k t))) (sym n),
+    )
+
+same-length-3 : tie.Need-same-length-3 Inv-loop μ-loop
+same-length-3 c = ap length (c .before .loop .inv .2)
+
+returns-3 : tie.Need-returns-3 Inv-loop μ-loop
+returns-3 c =
+    let l = c .before in
+    let a = l .before .before .before .args in
+    (sym (l .loop .inv .3 ∙ clash-none (a .strict) (a .text .now) (a .area .now) (a .clash) (l .loop .at) (l .loop .line) (c .loop-test .left)), l .loop .inv .2)
+
+pub first-met-spec : {M : Type 1} → statement M
+first-met-spec =
+    tie.close
+    (tie.spec
+    Inv-loop
+    μ-loop
+    loop-holds
+    same-length
+    returns
+    sub-first-line
+    part-first-line-start
+    part-first-line-end
+    first-line-requires
+    add-end
+    sub-parse-record
+    part-parse-record-start
+    part-parse-record-end
+    parse-record-requires
+    meet-requires
+    same-length-2
+    returns-2
+    add-at
+    add-line
+    loop-less
+    loop-again
+    same-length-3
+    returns-3)

@@ -1,0 +1,247 @@
+// A whole text, line by line: its first refusal, or how long its catalogue is.
+use format::LineNo;
+use record::Head;
+ghost use mathlib.Core.Path.{_≡_};
+ghost use mathlib.Core.Bool.{_||_, cond};
+ghost use mathlib.Core.List.{[]};
+ghost use Prim.Native.Nat.{_≤_, _<_};
+ghost use lib.ListN.{length, drop};
+ghost use lib.Dec.{ltb};
+ghost use Rattle.format.specs.Lines.{lines, linesFrom};
+ghost use Rattle.format.specs.Reading.{readFrom, readText};
+ghost use Rattle.format.specs.Work.{allZeros};
+ghost use Rattle.format.specs.Slots.{Held};
+ghost use Rattle.read_admission.specs.Admission.{barring};
+ghost use Rattle.key_index.specs.Told.{start};
+ghost use Rattle.read_judge.specs.Blocks.{clashOf, turned, emptied};
+ghost use Rattle.read_judge.specs.Judged.{judgedOf};
+
+// Texts of at most so many bytes are judged with a small area, and with one of 24 KiB.
+pub const SHORT: usize = 8192;
+
+pub const MIDDLE: usize = 262144;
+
+// How many slots that one has.
+pub const OWN_SLOTS: usize = 6144;
+
+// The first refusal and its line, or how many bytes the catalogue has.
+pub enum Judged {
+    Refused(u8, LineNo),
+    Accepted(usize),
+}
+
+// The line before which the index is begun anew, and the first line ahead whose key an earlier block of lines has.
+struct Block {
+    until: usize,
+    clash: usize,
+}
+
+// The first line from `from` on, the line number `first`, that is `clash` or has a key that is in the area; `clash` where none is.
+fn first_met(
+    text: &[u8],
+    strict: bool,
+    area: &mut [u32],
+    from: usize,
+    first: usize,
+    clash: usize,
+) -> usize
+    requires { ⌜ length (now text) ≤ 16777216 ⌝ }
+    requires { ⌜ 0 < length (now area) ⌝ }
+    requires { ⌜ first ≤ from ⌝ }
+    requires { ⌜ from ≤ length (now text) ⌝ }
+    ensures met { λ r. ⌜ r ≡ clashOf strict (now (text .entry)) (now (area .entry)) clash first (linesFrom from (drop from (now (text .entry)))) ⌝ }
+    ensures kept { λ _. ⌜ now (area .exit) ≡ now (area .entry) ⌝ }
+{
+    let mut at = from;
+    let mut line = first;
+    while at < text.len() {
+        if line == clash {
+            return clash;
+        }
+        let cut = byte_slices::first_line(&text[at..]);
+        let end = at + cut.len;
+        let head = record_parser::parse_record(&text[at..end], at, strict);
+        if key_index::meet(text, area, head, false) {
+            return line;
+        }
+        at += cut.next;
+        line += 1;
+    }
+    clash
+}
+
+// The block that a line stands in: where one begins, the keys of the one before are looked for in the lines ahead, and the area is emptied.
+fn turn(text: &[u8], strict: bool, area: &mut [u32], at: usize, line: usize, block: Block) -> Block
+    requires { ⌜ length (now text) ≤ 16777216 ⌝ }
+    requires { ⌜ 0 < length (now area) ⌝ }
+    requires { ⌜ line ≤ at ⌝ }
+    requires { ⌜ at ≤ length (now text) ⌝ }
+    ensures block { λ r. ⌜ r ≡ turned strict (now (text .entry)) (now (area .entry)) at line block ⌝ }
+    ensures wrote { λ _. ⌜ now (area .exit) ≡ emptied (now (area .entry)) line block ⌝ }
+{
+    if line < block.until {
+        return block;
+    }
+    let clash = first_met(text, strict, area, at, line, block.clash);
+    key_index::clear(area);
+    let until = line + area.len() / 4 * 3;
+    Block { until, clash }
+}
+
+// Whether a key was used before: in this block, or in an earlier one.
+fn is_used(known: bool, clashes: bool) -> bool
+    ensures { λ r. ⌜ r ≡ (known || clashes) ⌝ }
+{
+    if known {
+        return true;
+    }
+    clashes
+}
+
+// 0, or the refusal of a line with this head.
+fn barred(count: usize, programs: usize, head: Head, known: bool, clashes: bool) -> u8
+    ensures { λ r. ⌜ r ≡ barring (known || clashes) count programs head ⌝ }
+{
+    read_admission::barred(head, is_used(known, clashes), count, programs)
+}
+
+// Line by line: each line's own refusal, then 17, 18 and 19. The keys of a block of lines, three for each four slots of `area`, are kept there.
+fn judge_indexed(text: &[u8], strict: bool, area: &mut [u32]) -> Judged
+    requires { ⌜ length (now text) ≤ 16777216 ⌝ }
+    requires { ⌜ 4 ≤ length (now area) ⌝ }
+    requires { ⌜ Held (start (now text) (length (now area))) (now area) [] ⌝ }
+    ensures { λ r. ⌜ r ≡ judgedOf (readFrom strict 0 [] (lines (now (text .entry)))) ⌝ }
+{
+    let until = area.len() / 4 * 3;
+    let mut block = Block {
+        until,
+        clash: 16777217,
+    };
+    let mut at: usize = 0;
+    let mut line: usize = 0;
+    let mut programs: usize = 0;
+    let mut size: usize = 0;
+    loop {
+        let cut = byte_slices::first_line(&text[at..]);
+        let next = at + cut.next;
+        if at == text.len() {
+            return Judged::Accepted(size);
+        }
+        let end = at + cut.len;
+        let head = record_parser::parse_record(&text[at..end], at, strict);
+        block = turn(text, strict, area, at, line, block);
+        let known = key_index::meet(text, area, head, true);
+        let n = barred(line, programs, head, known, line == block.clash);
+        if n != 0 {
+            return Judged::Refused(n, LineNo(line as u32));
+        }
+        programs += read_admission::programs_of(head);
+        size += catalogue_lines::record_size(head);
+        at = next;
+        line += 1;
+    }
+}
+
+// A short text, in blocks of 384 lines: little is cleared for it.
+fn judge_short(text: &[u8], strict: bool) -> Judged
+    requires { ⌜ length (now text) ≤ 16777216 ⌝ }
+    ensures { λ r. ⌜ r ≡ judgedOf (readFrom strict 0 [] (lines (now (text .entry)))) ⌝ }
+{
+    let mut area = [0u32; 512];
+    judge_indexed(text, strict, &mut area)
+}
+
+// A text of some thousand lines, in blocks of 4,608.
+fn judge_middle(text: &[u8], strict: bool) -> Judged
+    requires { ⌜ length (now text) ≤ 16777216 ⌝ }
+    ensures { λ r. ⌜ r ≡ judgedOf (readFrom strict 0 [] (lines (now (text .entry)))) ⌝ }
+{
+    let mut area = [0u32; OWN_SLOTS];
+    judge_indexed(text, strict, &mut area)
+}
+
+// Any text, in blocks of 147,456 lines, and `more` times again. Nobody asks for more than once: a function that calls itself is compiled by
+// itself, so that its 768 KiB are on the stack only while it runs, and not in the frames of its callers, which serve short texts too.
+fn judge_long(text: &[u8], strict: bool, more: usize) -> Judged
+    requires { ⌜ length (now text) ≤ 16777216 ⌝ }
+    ensures { λ r. ⌜ r ≡ judgedOf (readFrom strict 0 [] (lines (now (text .entry)))) ⌝ }
+{
+    let mut area = [0u32; 196608];
+    let judged = judge_indexed(text, strict, &mut area);
+    if 0 < more {
+        return judge_long(text, strict, more - 1);
+    }
+    judged
+}
+
+// A text with an area of this function's own, of 24 KiB at most. It is slow where the text has many more lines than a block takes.
+fn judge_small(text: &[u8], strict: bool) -> Judged
+    requires { ⌜ length (now text) ≤ 16777216 ⌝ }
+    ensures { λ r. ⌜ r ≡ judgedOf (readFrom strict 0 [] (lines (now (text .entry)))) ⌝ }
+{
+    if text.len() <= SHORT {
+        return judge_short(text, strict);
+    }
+    judge_middle(text, strict)
+}
+
+// The lines of a text: the first refusal, or the size of the text's catalogue.
+fn judge_lines(text: &[u8], strict: bool) -> Judged
+    requires { ⌜ length (now text) ≤ 16777216 ⌝ }
+    ensures { λ r. ⌜ r ≡ judgedOf (readFrom strict 0 [] (lines (now (text .entry)))) ⌝ }
+{
+    if text.len() <= MIDDLE {
+        return judge_small(text, strict);
+    }
+    judge_long(text, strict, text.len() / (format::LONGEST + 1))
+}
+
+// What any bytes are: 1 where they are too many, the first refusal of their lines, or the size of their catalogue.
+pub fn judge(text: &[u8]) -> Judged
+    ensures { λ r. ⌜ r ≡ judgedOf (readText (now (text .entry))) ⌝ }
+{
+    if format::LONGEST < text.len() {
+        return Judged::Refused(1, LineNo(0));
+    }
+    judge_lines(text, read_repeat_rule::is_strict(text))
+}
+
+// The smaller of two numbers.
+pub fn least(a: usize, b: usize) -> usize
+    ensures { λ r. ⌜ r ≡ cond (ltb a b) a b ⌝ }
+{
+    if a < b { a } else { b }
+}
+
+// The lines of a text by the front of a lent area, where that is longer than an own one: a slot for each eight bytes of the text is enough for all
+// keys in one block.
+fn judge_lent(text: &[u8], strict: bool, area: &mut [u32]) -> Judged
+    requires { ⌜ length (now text) ≤ 16777216 ⌝ }
+    ensures { λ r. ⌜ r ≡ judgedOf (readFrom strict 0 [] (lines (now (text .entry)))) ⌝ }
+    ensures length { λ _. ⌜ length (now (area .exit)) ≡ length (now (area .entry)) ⌝ }
+{
+    if text.len() <= MIDDLE {
+        return judge_small(text, strict);
+    }
+    let n = least(area.len(), text.len() / 8);
+    if n <= OWN_SLOTS {
+        return judge_small(text, strict);
+    }
+    let front = &mut area[..n];
+    key_index::clear(front);
+    judge_indexed(text, strict, front)
+}
+
+// The same as `judge`, by a lent area of any length and with any content, which is all zeros afterwards.
+pub fn judge_with(text: &[u8], area: &mut [u32]) -> Judged
+    ensures judged { λ r. ⌜ r ≡ judgedOf (readText (now (text .entry))) ⌝ }
+    ensures zeros { λ _. ⌜ now (area .exit) ≡ allZeros (now (area .entry)) ⌝ }
+{
+    if format::LONGEST < text.len() {
+        key_index::clear(area);
+        return Judged::Refused(1, LineNo(0));
+    }
+    let judged = judge_lent(text, read_repeat_rule::is_strict(text), area);
+    key_index::clear(area);
+    judged
+}

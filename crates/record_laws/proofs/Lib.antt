@@ -1,4 +1,0 @@
-pub mod Turn
-pub mod Made
-pub mod Walked
-pub mod Step

@@ -1,0 +1,64 @@
+// How long the header at the front of a file or of a stream is: whether the calls answer as a line of stored answers says (`replay` has the
+// lines' form).
+use binary_len::BinaryLen;
+use binary_len::Step;
+use format::LineNo;
+
+// Whether the text header at the front of a line's bytes is as long as it says.
+pub fn is_text_len(line: &[u8]) -> bool {
+    let mut bytes = io::large_buffer();
+    let n = replay_cases::decode(replay_cases::word(line, 1), &mut bytes);
+    replay_answers::is_ok(line, 2, 1)
+        && replay_answers::is_number(
+            replay_cases::word(line, 3),
+            text_len::text_len(&bytes[..n]) as u64,
+        )
+}
+
+// Whether a line says this length of a binary header: `what` is `whole` or `more`.
+fn is_len(line: &[u8], what: &[u8], n: usize) -> bool {
+    replay_answers::is_ok(line, 2, 2)
+        && byte_slices::same(replay_cases::word(line, 3), what)
+        && replay_answers::is_number(replay_cases::word(line, 4), n as u64)
+}
+
+// Whether a line says this of a binary header.
+fn is_told(line: &[u8], len: BinaryLen) -> bool {
+    match len {
+        BinaryLen::Refused(n) => replay_answers::is_refusal(line, 2, n, LineNo(0)),
+        BinaryLen::Whole(n) => is_len(line, b"whole", n),
+        BinaryLen::More(n) => is_len(line, b"more", n),
+    }
+}
+
+// What is told of some bytes where as many as are asked for are lent each time, with the cursor: `Refused(0)` where no more are asked for than
+// were lent.
+fn told_by_fronts(bytes: &[u8]) -> BinaryLen {
+    let mut from = binary_len::first_cursor();
+    let mut lent: usize = 0;
+    while lent < bytes.len() {
+        match binary_len::binary_len_from(&bytes[..lent], from) {
+            Step::Whole(n) => {
+                return BinaryLen::Whole(n);
+            }
+            Step::More(n, next) => {
+                if n <= lent {
+                    return BinaryLen::Refused(0);
+                }
+                from = next;
+                lent = replay_cases::least(n, bytes.len());
+            }
+            Step::Refused(n) => {
+                return BinaryLen::Refused(n);
+            }
+        }
+    }
+    binary_len::without_cursor(binary_len::binary_len_from(bytes, from))
+}
+
+// Whether the binary header at the front of a line's bytes is as long as it says.
+pub fn is_binary_len(line: &[u8]) -> bool {
+    let mut bytes = io::large_buffer();
+    let n = replay_cases::decode(replay_cases::word(line, 1), &mut bytes);
+    is_told(line, binary_len::binary_len(&bytes[..n])) && is_told(line, told_by_fronts(&bytes[..n]))
+}

@@ -1,5 +1,0 @@
-pub mod Bare
-pub mod Line
-pub mod Writable
-pub mod Gathered
-pub mod Faithful

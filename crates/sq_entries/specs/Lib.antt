@@ -1,2 +1,0 @@
-pub mod Next
-pub mod Names

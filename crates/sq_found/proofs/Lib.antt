@@ -1,3 +1,0 @@
-pub mod Recoded
-pub mod Named
-pub mod Found

@@ -1,5 +1,0 @@
-pub mod Upto
-pub mod Over
-pub mod First
-pub mod Stands
-pub mod Run

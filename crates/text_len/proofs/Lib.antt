@@ -1,0 +1,4 @@
+pub mod Turn
+pub mod Behind
+pub mod Laws
+pub mod Cases

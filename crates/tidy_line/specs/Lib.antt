@@ -1,0 +1,5 @@
+-- Words for contracts and laws, and nothing to believe.
+pub mod Line
+pub mod Texts
+pub mod Heads
+pub mod Neat

@@ -1,0 +1,27 @@
+-- A line's bytes say that its keys come first and its LN has no leading zero.
+use Prim.Native.Nat.{ℕ, _+_, _-_}
+use mathlib.Core.Bool.{Bool, true, false, not, _&&_}
+use mathlib.Core.List.{List}
+use lib.ListN.{length, drop, getD}
+use lib.Dec.{eqb, ltb}
+use Rattle.format.specs.declared.Kind.{Kind}
+use Rattle.format.specs.declared.Kind.the-variants.{Header, ReferenceSequence, ReadGroup, Program, Comment}
+use Rattle.byte_slices.specs.Upto.{upto}
+
+-- three bytes and more from `i` on, the second and third of them the tag `a`, `b`
+unfoldable pub hasTag : List ℕ → ℕ → ℕ → ℕ → Bool
+hasTag s i a b = not (ltb (length s - i) 3) && (eqb (getD s (i + 1) 0) a && eqb (getD s (i + 2) 0) b)
+
+-- LN from `i` on, and its value starts with no zero
+unfoldable pub plainLength : List ℕ → ℕ → Bool
+unfolding hasTag
+plainLength s i = hasTag s i 76 78 && (not (ltb (length s - i) 5) && not (eqb (getD s (i + 4) 0) 48))
+
+-- the keys come first: SN and LN, or ID; of an HD it is not asked, and a comment has none
+unfoldable pub neat : Kind → List ℕ → Bool
+unfolding hasTag plainLength upto
+neat Header s = false
+neat ReferenceSequence s = hasTag s 3 83 78 && plainLength s (4 + upto 9 (drop 4 s))
+neat ReadGroup s = hasTag s 3 73 68
+neat Program s = hasTag s 3 73 68
+neat Comment s = true

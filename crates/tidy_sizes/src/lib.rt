@@ -1,0 +1,100 @@
+// A number for each kind of record.
+use format::Kind;
+ghost use mathlib.Core.Path.{_≡_};
+ghost use Prim.Native.Nat.{_≤_, _+_};
+ghost use Rattle.tidy_sizes.specs.Numbers.{noBytes, get, plus, front, total, kindStarts};
+
+// A number for each kind of record: how many bytes its records have, or where its next one goes.
+pub struct PerKind {
+    pub hd: usize,
+    pub sq: usize,
+    pub rg: usize,
+    pub pg: usize,
+    pub co: usize,
+}
+
+impl PerKind {
+    pub fn new() -> Self
+        ensures { λ r. ⌜ r ≡ noBytes ⌝ }
+    {
+        PerKind {
+            hd: 0,
+            sq: 0,
+            rg: 0,
+            pg: 0,
+            co: 0,
+        }
+    }
+
+    // The number of a kind.
+    pub fn get(self, kind: Kind) -> usize
+        ensures { λ r. ⌜ r ≡ get kind self ⌝ }
+    {
+        match kind {
+            Kind::Header => self.hd,
+            Kind::ReferenceSequence => self.sq,
+            Kind::ReadGroup => self.rg,
+            Kind::Program => self.pg,
+            Kind::Comment => self.co,
+        }
+    }
+
+    // With `n` more for a kind.
+    pub fn plus(self, kind: Kind, n: usize) -> PerKind
+        requires { ⌜ get kind self + n ≤ 18446744073709551615 ⌝ }
+        ensures { λ r. ⌜ r ≡ plus kind n self ⌝ }
+    {
+        let mut next = self;
+        match kind {
+            Kind::Header => {
+                next.hd = next.hd + n;
+            }
+            Kind::ReferenceSequence => {
+                next.sq = next.sq + n;
+            }
+            Kind::ReadGroup => {
+                next.rg = next.rg + n;
+            }
+            Kind::Program => {
+                next.pg = next.pg + n;
+            }
+            Kind::Comment => {
+                next.co = next.co + n;
+            }
+        }
+        next
+    }
+
+    // Of all kinds but the comments.
+    pub fn front(self) -> usize
+        requires { ⌜ front self ≤ 18446744073709551615 ⌝ }
+        ensures { λ r. ⌜ r ≡ front self ⌝ }
+    {
+        self.hd + self.sq + self.rg + self.pg
+    }
+
+    // Of all kinds.
+    pub fn total(self) -> usize
+        requires { ⌜ total self ≤ 18446744073709551615 ⌝ }
+        ensures { λ r. ⌜ r ≡ total self ⌝ }
+    {
+        self.hd + self.sq + self.rg + self.pg + self.co
+    }
+
+    // Where the records of each kind start, with `gap` bytes before the comments.
+    pub fn starts(self, gap: usize) -> PerKind
+        requires { ⌜ front self + gap ≤ 18446744073709551615 ⌝ }
+        ensures { λ r. ⌜ r ≡ kindStarts gap self ⌝ }
+    {
+        let sq = self.hd;
+        let rg = sq + self.sq;
+        let pg = rg + self.rg;
+        PerKind {
+            hd: 0,
+            sq,
+            rg,
+            pg,
+            co: pg + self.pg + gap,
+        }
+    }
+}
