@@ -3,8 +3,8 @@
  * Any bytes may be lent. Of the pointers is asked what C asks of a slice: not NULL, also where the length is 0; aligned to their type; fewer bytes than
  * PTRDIFF_MAX; and nothing that a call writes, `*length`, `*inspected` and `seal` included, overlaps anything else that is lent to that call. Calls keep no
  * state and lend nothing on: they may run side by side.
- * Stack: for texts of at most 256 KiB a call takes at most 64 KiB, but for leaves_by_table, which takes 72, and judge_merge, which takes 192; for longer
- * texts any call takes at most 900 KiB. The calls with a work area take at most 64 KiB for any text. examples/stack.c measures it.
+ * Stack: for texts of at most 256 KiB a call takes at most 64 KiB, but for leaves_by_table, which takes 72, faults 136 and judge_merge 208; for longer
+ * texts any call takes at most 900 KiB, faults 912. The calls with a work area take at most 64 KiB for any text. examples/stack.c measures it.
  *
  * Room that always suffices: for read 3 * text_len + 1 bytes; for tidy, prune, carry_on, binary_in, seal and check_sealed as many as the text has and
  * one more, and two numbers for each line in carry_on's table; for binary_out twice text_len and 14; for roots, leaves and leaves_by_table 1,024

@@ -19,8 +19,8 @@
 //! decompression is flate2's.
 //!
 //! # Stack
-//! For texts of up to 256 KiB no call takes more than 72 KiB, [`judge_merge`] 192. For longer texts reading, checking, tidying and carrying on take their
-//! work area from the heap and no more than 64 KiB of stack; the others up to 900 KiB, which every thread of the standard library has.
+//! For texts of up to 256 KiB no call takes more than 72 KiB, [`faults`] 136 and [`judge_merge`] 208. For longer texts reading, checking, tidying and carrying on take their
+//! work area from the heap and no more than 64 KiB of stack; the others up to 912 KiB, which every thread of the standard library has.
 //!
 //! # With noodles
 //! noodles keeps the alignment records; this crate judges and writes the header in front of them. The tidy text is the bridge: the parser of noodles-sam

@@ -75,12 +75,12 @@ fn stacks() {
         ("read and check", read, 64, 64),
         ("tidy", |text| tidy(text).is_ok(), 64, 64),
         ("carry on", |text| carry_on(text).is_ok(), 64, 64),
-        ("faults", |text| faults(text).is_ok(), 136, 900),
+        ("faults", |text| faults(text).is_ok(), 136, 912),
         ("binary", |text| binary_out(text).is_ok_and(|bytes| binary_in(&bytes).is_ok()), 64, 900),
         ("names", asked, 64, 900),
-        ("chains", chains, 136, 900),
+        ("chains", chains, 72, 900),
     ];
-    for (name, call, on_short, on_long) in calls.into_iter().chain([("judge_merge", merged, 640, 900)]) {
+    for (name, call, on_short, on_long) in calls.into_iter().chain([("judge_merge", merged, 208, 900)]) {
         for (text, most) in [(&short, on_short), (&long, on_long)] {
             let kib = taken(text, call) / 1024;
             println!("{name}: {kib} KiB of stack on {} bytes, {most} promised", text.len());
