@@ -1,3 +1,4 @@
 pub mod Fresh
 pub mod Within
 pub mod Tells
+pub mod Additions

@@ -36,12 +36,12 @@ use Rattle.sam_header.proofs.Clear.{carried-clear, leaves-clear, seated-clear, 
 use Rattle.sam_header_laws.specs.Tells.{Tells, WritingTells, NumbersTell, VerdictTells}
 use Rattle.sam_header_laws.proofs.Within.{Within, fitting-within, writing-within, then-within, cond-within, count-small, line-small}
 
-refusal-large : (n l : ℕ) → 2 ^ 63 ≤ refusalWord n l
+pub refusal-large : (n l : ℕ) → 2 ^ 63 ≤ refusalWord n l
 unfolding refusalWord
 refusal-large n l = omega arith
 
 -- a number that is large for every refusal and small for what is answered
-tells : {A : Type 0} (a : Answer A) (word : Answer A → ℕ) → ((n l : ℕ) → 2 ^ 63 ≤ word (refused n l)) → ((x : A) → a ≡ yes x → word a < 2 ^ 63) → Tells a (word a)
+pub tells : {A : Type 0} (a : Answer A) (word : Answer A → ℕ) → ((n l : ℕ) → 2 ^ 63 ≤ word (refused n l)) → ((x : A) → a ≡ yes x → word a < 2 ^ 63) → Tells a (word a)
 tells a word large small = record { refusal = λ n l e. subst (λ z. 2 ^ 63 ≤ word z) (sym e) (large n l); answer = small }
 
 -- what is counted fits in the output

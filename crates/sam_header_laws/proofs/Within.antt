@@ -54,7 +54,7 @@ cond-within room n l false a h xs e = h xs e
 
 -- ---- what is counted
 
-kind-few : (k : ℕ) (rs : List Record) → length (ofKind k rs) ≤ length rs
+pub kind-few : (k : ℕ) (rs : List Record) → length (ofKind k rs) ≤ length rs
 unfolding ofKind
 kind-few k [] = omega arith
 kind-few k (r ∷ rs) = go (eqb (code r) k) (kind-few k rs)

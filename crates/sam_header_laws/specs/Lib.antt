@@ -2,3 +2,4 @@
 -- Words for laws, and nothing to believe.
 pub mod Fresh
 pub mod Tells
+pub mod Additions
