@@ -29,7 +29,8 @@ ghost use Rattle.tidy_text.specs.Sizes.{sizesOf};
 ghost use Rattle.add_lines.specs.Lines.{newText};
 ghost use Rattle.add.specs.Added.{grownText, writingGrown, planning, isNone, isNothing, stray, leavesOf, addingOn};
 
-// What is measured before a byte is written: what the text says of repeated tags, the bytes of each kind, and those of the new programs.
+// What is measured before a byte is written: the rule for repeated tags that the text's lines are read by, the bytes of each kind, and those of
+// the new programs.
 struct Plan {
     strict: bool,
     sizes: PerKind,
