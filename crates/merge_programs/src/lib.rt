@@ -10,6 +10,7 @@ ghost use Rattle.format.specs.Bytes.{all};
 ghost use Rattle.format.specs.Reading.{readText};
 ghost use Rattle.format.specs.Merge.{shapes, keepsParent, isImage, images};
 ghost use Rattle.accepted.specs.Read.{isAccepted, recordsOf};
+ghost use Rattle.accepted_rule.specs.Rule.{ReadsBy};
 ghost use Rattle.program_chains.specs.Parents.{nobody, linkOf};
 ghost use Rattle.merge_programs.specs.Opened.{IsOpened, Untangled};
 ghost use Rattle.merge_programs.specs.Members.{memberOf, shapeAt, IsMember};
@@ -23,11 +24,11 @@ pub struct Opened {
     pub parents: Parents,
 }
 
-pub fn open_text(text: &[u8]) -> Opened
+pub fn open_text(text: &[u8], strict: bool) -> Opened
     requires { ⌜ isAccepted (readText (now text)) ≡ true ⌝ }
+    requires { ⌜ ReadsBy strict (now text) ⌝ }
     ensures { λ r. ⌜ IsOpened (now (text .entry)) r ⌝ }
 {
-    let strict = read_repeat_rule::is_strict(text);
     let gathered = program_lines::gather(text, strict);
     let programs = gathered.programs;
     let lines = gathered.lines;

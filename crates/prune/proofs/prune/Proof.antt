@@ -37,13 +37,13 @@ opens c = let a = c .before .before .before .before .before .before .before .arg
 -- ---- the parents
 
 abbrev ps : tie.After-parents-of → List Program
-ps f = programs (recordsOf (f .before .before .before .before .before .before .before .before .args .text .now))
+ps f = programs (recordsOf (f .before .before .before .before .before .before .before .before .before .args .text .now))
 
 abbrev ls : tie.After-parents-of → List Link
 ls f = links (ps f)
 
 few : (f : tie.After-parents-of) → length (ps f) ≤ 1024
-few f = opens (f .before) .few
+few f = opens (f .before .before) .few
 
 dangles : (f : tie.After-parents-of) → any isDangling (ls f) ≡ f .parents-of .result .dangling
 unfolding parentsOf
@@ -54,10 +54,10 @@ unfolding parentsOf
 counts f = ap (λ q. q .count) (f .parents-of .ensures)
 
 -- is some ordinal too high?
-high : (h : tie.After-has-high) → let f = h .before in any (leb (length (ls f))) (f .before .before .before .before .before .before .before .before .args .used .now) ≡ h .has-high .result
-high h = let f = h .before in sym (h .has-high .ensures ∙ ap (λ n. any (leb n) (f .before .before .before .before .before .before .before .before .args .used .now)) (counts f))
+high : (h : tie.After-has-high) → let f = h .before in any (leb (length (ls f))) (f .before .before .before .before .before .before .before .before .before .args .used .now) ≡ h .has-high .result
+high h = let f = h .before in sym (h .has-high .ensures ∙ ap (λ n. any (leb n) (f .before .before .before .before .before .before .before .before .before .args .used .now)) (counts f))
 
-low : (e : tie.Else1) → let f = e .before .before in any (leb (length (ls f))) (f .before .before .before .before .before .before .before .before .args .used .now) ≡ false
+low : (e : tie.Else1) → let f = e .before .before in any (leb (length (ls f))) (f .before .before .before .before .before .before .before .before .before .args .used .now) ≡ false
 low e = high (e .before) ∙ e .if1 .left
 
 -- where none dangles
@@ -101,19 +101,19 @@ has-high-requires c κs = search needs
 returns : tie.Need-returns
 returns c =
     let h = c .before in
-    let a = h .before .before .before .before .before .before .before .before .before .args in
+    let a = h .before .before .before .before .before .before .before .before .before .before .args in
     let room = length (a .out .now) in
     refused-answer (pruning (a .text .now) (a .catalogue .now) (a .used .now) room) (a .out .now) 25 (record { 0 = 0 })
-    (prune-high (a .text .now) (a .catalogue .now) (a .used .now) room (own (h .before .before)) (high h ∙ c .if1 .taken))
+    (prune-high (a .text .now) (a .catalogue .now) (a .used .now) room (own (h .before .before .before)) (high h ∙ c .if1 .taken))
 
 returns-2 : tie.Need-returns-2
 returns-2 c =
     let e = c .before in
     let f = e .before .before in
-    let a = f .before .before .before .before .before .before .before .before .args in
+    let a = f .before .before .before .before .before .before .before .before .before .args in
     let room = length (a .out .now) in
     refused-answer (pruning (a .text .now) (a .catalogue .now) (a .used .now) room) (a .out .now) 22 (record { 0 = 0 })
-    (prune-tangled (a .text .now) (a .catalogue .now) (a .used .now) room (own (f .before)) (low e) 22 (sym (tangled-dangling (ls f) (dangles f ∙ c .if2 .taken))) (λ q. omega arith))
+    (prune-tangled (a .text .now) (a .catalogue .now) (a .used .now) room (own (f .before .before)) (low e) 22 (sym (tangled-dangling (ls f) (dangles f ∙ c .if2 .taken))) (λ q. omega arith))
 
 array-share-prefix-list : tie.Need-array-share-prefix-list
 array-share-prefix-list c =
@@ -137,10 +137,10 @@ returns-3 : tie.Need-returns-3
 returns-3 c =
     let e = c .before .before .before .before in
     let f = asked e in
-    let a = f .before .before .before .before .before .before .before .before .args in
+    let a = f .before .before .before .before .before .before .before .before .before .args in
     let room = length (a .out .now) in
     refused-answer (pruning (a .text .now) (a .catalogue .now) (a .used .now) room) (a .out .now) 23 (record { 0 = 0 })
-    (prune-tangled (a .text .now) (a .catalogue .now) (a .used .now) room (own (f .before)) (low (e .before)) 23
+    (prune-tangled (a .text .now) (a .catalogue .now) (a .used .now) room (own (f .before .before)) (low (e .before)) 23
     (sym (tangled-loops (ls f) true (linked e) (sym (loops e) ∙ sym (cycle-is _ _ (c .before .find-depths .ensures)) ∙ c .if3 .taken))) (λ q. omega arith))
 
 mark-requires : tie.Need-mark-requires
@@ -152,7 +152,7 @@ mark-requires c κs =
       lent-within (ps f) (few f) q is (e .if2 .left),
       (
         sym (cycle-is _ _ (c .before .find-depths .ensures)) ∙ c .if3 .left,
-        (lent-few (ps f) (few f) q is, ap (λ n. any (leb n) (f .before .before .before .before .before .before .before .before .args .used .now)) (sym (lent-count (ps f) (few f) q is) ∙ counts f) ∙ low (e .before)),
+        (lent-few (ps f) (few f) q is, ap (λ n. any (leb n) (f .before .before .before .before .before .before .before .before .before .args .used .now)) (sym (lent-count (ps f) (few f) q is) ∙ counts f) ∙ low (e .before)),
       ),
     )
 
@@ -161,7 +161,7 @@ slice-aggregate-write-marked c = search needs
 
 write-marked-requires : tie.Need-write-marked-requires
 write-marked-requires c κs =
-    let k = c .before .before .before .before .before .before .before .before .before .before .before in
+    let k = c .before .before .before .before .before .before .before .before .before .before .before .before in
     let a = k .before .before .before .before .before .before .before .args in
     (opens k .accepted, rule-by (a .text .now) (a .catalogue .now) (k .before .before .check-text .ensures) (k .once .given .0 .0) (k .once .given .1))
 
@@ -184,12 +184,12 @@ returns-5 c =
     let n = m .before in
     let e = n .before .before .before .before in
     let f = asked e in
-    let a = f .before .before .before .before .before .before .before .before .args in
+    let a = f .before .before .before .before .before .before .before .before .before .args in
     let room = length (a .out .now) in
     let marks = m .mark .result in
     let whole : tangled (ls f) ≡ 0 = tangled-loops (ls f) false (linked e) (sym (loops e) ∙ sym (cycle-is _ _ (n .before .find-depths .ensures)) ∙ n .if3 .left) in
     let on : writingMarked (a .text .now) marks room ≡ pruning (a .text .now) (a .catalogue .now) (a .used .now) room =
-    sym (prune-on (a .text .now) (a .catalogue .now) (a .used .now) room (own (f .before)) (low (e .before)) whole (few f) marks (m .mark .ensures ∙ ap (λ l. neededMarks l (a .used .now)) (says e))) in
+    sym (prune-on (a .text .now) (a .catalogue .now) (a .used .now) room (own (f .before .before)) (low (e .before)) whole (few f) marks (m .mark .ensures ∙ ap (λ l. neededMarks l (a .used .now)) (says e))) in
     (w .write-marked .ensures .0 ∙ ap answerOf on, w .write-marked .ensures .1 ∙ ap (λ x. outputOf x (a .out .now)) on)
 
 pub prune-spec : {M : Type 1} → statement M

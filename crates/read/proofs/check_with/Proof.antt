@@ -29,8 +29,7 @@ returns : tie.Need-returns
 returns c =
     let k = c .before in
     let j = k .before .before .before in
-    let a = j .before .before .before .before .before .args in
-    (
+    let a = j .before .before .before .before .before .args in (
       c .without-rule .ensures ∙ ap withoutRule (k .check-judged .ensures) ∙ without-rule (isOnce (a .text .now)) (fresh (a .text .now) (a .catalogue .now)),
       j .judge-with .ensures .1,
     )

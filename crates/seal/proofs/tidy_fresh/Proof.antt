@@ -34,7 +34,7 @@ accepted k = ap isAccepted (own k .reads)
 
 write-accepted-requires : tie.Need-write-accepted-requires
 write-accepted-requires c κs =
-    let k = c .before in
+    let k = c .before .before in
     let a = k .before .before .before .before .before .before .args in
     (accepted k, rule-by (a .text .now) (a .catalogue .now) (k .before .before .check-text .ensures) (k .once .given .0 .0) (k .once .given .1))
 
@@ -56,7 +56,7 @@ returns-2 : tie.Need-returns-2
 unfolding tidyingFresh
 returns-2 c =
     let w = c .before .before in
-    let k = w .before .before in
+    let k = w .before .before .before in
     let a = k .before .before .before .before .before .before .args in
     let room = length (a .work .now) in
     let e : writingTidy (a .text .now) room ≡ tidyingFresh (a .text .now) (a .catalogue .now) room =
