@@ -1,12 +1,12 @@
 -- The line of SN and LN alone: two turns of the walk over its fields, and the line ends.
-use Prim.Native.Nat.{ℕ, _+_, _-_, _≤_}
+use Prim.Native.Nat.{ℕ, _+_, _-_, _≤_, _<_, _^_}
 use mathlib.Core.Path.{_≡_, refl, sym, ap, _∙_}
 use mathlib.Core.Bool.{Bool, true, false, _&&_, and-false}
 use mathlib.Core.List.{List}
 use native.Mathlib.Omega.{arith}
 use lib.ListN.{length, drop, getD, set, replicate, length-drop}
 use lib.Seq.{drop-drop, getD-drop}
-use borrow.Author.Tests.{ne-eqb}
+use borrow.Author.Tests.{ne-eqb, lt-ltb}
 use Rattle.format.specs.Bytes.{any}
 use Rattle.format.specs.Decimal.{span}
 use Rattle.format.specs.Fields.{tagged, isTag, isValue, isWide, allows, field, valueField, lengthField}
@@ -16,6 +16,8 @@ use Rattle.format.specs.declared.Kind.the-variants.{ReferenceSequence}
 use Rattle.byte_slices.specs.Upto.{before}
 use Rattle.byte_slices.proofs.Before.{before-length}
 use Rattle.byte_slices.proofs.Lines.{upto-le}
+use Rattle.decimal.specs.Number.{digitsNumber, numberAtFront}
+use Rattle.decimal.specs.declared.Number.the-variants as number
 use Rattle.field.specs.Parsed.{keptBy, sizedBy, lengthFieldBy, parsedOf}
 use Rattle.field.specs.Taken.{takenOf}
 use Rattle.field.proofs.value.Taken.{a-value}
@@ -23,14 +25,15 @@ use Rattle.field.proofs.Judged.{value-kept, value-length}
 use Rattle.field.proofs.Place.{field-in-place, place-colon, colon-value}
 use Rattle.field.proofs.Shown.{valued-length}
 use Rattle.field_length.specs.Parsed.{parsedLengthOf}
-use Rattle.field_length.specs.declared.ParsedLength.the-variants as length
+use Rattle.field_length.specs.declared.ParsedLength.the-variants as parsed
+use Rattle.field_length.proofs.Sized.{lengthBy, length-sized, span-before}
 use Rattle.field_tag.specs.Numbers.{isVersion, isLength}
 use Rattle.record.specs.declared.Keys.{Keys}
 use Rattle.record.specs.declared.Head.the-variants as head
 use Rattle.record.specs.Head.{headOf}
 use Rattle.record.specs.Keys.{noKeys, withField, headFrom}
 use Rattle.record_parser.specs.Marks.{markPlace, marksOf}
-use Rattle.record_parser.specs.Plain.{TagAt}
+use Rattle.record_parser.specs.Plain.{TagAt, LengthTold}
 use Rattle.record_parser.proofs.Walked.{Walked, Turned, turned}
 use Rattle.record_parser.proofs.Step.{walked-start, turn-end, turn-shown, told-again, walked}
 
@@ -60,8 +63,18 @@ name-within src n e z h =
     let v = a-value isValue (before 9 (drop 7 src)) (λ y. z (e ∙ y)) .1 in
     omega (arith, e, v, before-length 9 (drop 7 src), upto-le 9 (drop 7 src), length-drop 7 src)
 
+-- a length that is read whole, and is none too long, is that of LN
+pub length-told : (s : List ℕ) (n : ℕ) → numberAtFront (2 ^ 64) s ≡ number.Is n (length s) → n < 2 ^ 31 → LengthTold s n
+unfolding numberAtFront lengthBy
+length-told s n e h z =
+    sym
+    (length-sized 0 (span (before 9 s) .0) (span (before 9 s) .1)
+    ∙ ap (λ ds. lengthBy (digitsNumber (2 ^ 64) ds)) (span-before s)
+    ∙ ap lengthBy e
+    ∙ simp (ne-eqb n 0 z, lt-ltb n (2 ^ 31) h))
+
 module _ (src : List ℕ) (n l d : ℕ) (sn : TagAt src 3 83) (name : n ≡ takenOf isValue (before 9 (drop 7 src))) (some : n ≡ 0 → ⊥) (ln : TagAt src (7 + n) 76)
-    (number : length.Is l d ≡ parsedLengthOf (lengthField 0 (span (before 9 (drop (11 + n) src))))) (ends : d ≡ length src - (11 + n)) where
+    (number : parsed.Is l d ≡ parsedLengthOf (lengthField 0 (span (before 9 (drop (11 + n) src))))) (ends : d ≡ length src - (11 + n)) where
   name-answer : keptBy 83 78 n ≡ parsedOf ReferenceSequence (field ReferenceSequence 0 (before 9 (drop 4 src)))
   unfolding isTag isLength isVersion takenOf allows isWide
   name-answer =

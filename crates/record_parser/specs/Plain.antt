@@ -4,8 +4,13 @@ use mathlib.Core.Path.{_≡_}
 use mathlib.Core.Bool.{Bool}
 use mathlib.Core.List.{List}
 use lib.ListN.{length, drop, getD}
+use Rattle.format.specs.Decimal.{span}
+use Rattle.format.specs.Fields.{lengthField}
 use Rattle.format.specs.Records.{fielded}
 use Rattle.format.specs.declared.Kind.the-variants.{ReferenceSequence}
+use Rattle.byte_slices.specs.Upto.{before}
+use Rattle.field_length.specs.Parsed.{parsedLengthOf}
+use Rattle.field_length.specs.declared.ParsedLength.the-variants as parsed
 use Rattle.record.specs.declared.Head.{Head}
 use Rattle.record.specs.declared.Head.the-variants as head
 use Rattle.record.specs.Head.{headOf}
@@ -19,6 +24,10 @@ pub record TagAt (src : List ℕ) (at a : ℕ) : Type 0 where
   pub first : getD src (at + 1) 0 ≡ a
   pub second : getD src (at + 2) 0 ≡ 78
   pub colon : getD src (at + 3) 0 ≡ 58
+
+-- LN of SQ whose value is all of `s` has the length `n`, if that is not 0
+abbrev pub LengthTold : List ℕ → ℕ → Type 0
+LengthTold s n = (n ≡ 0 → ⊥) → parsed.Is n (length s) ≡ parsedLengthOf (lengthField 0 (span (before 9 s)))
 
 -- the head of a line at the offset `at`: of another line it is `h`
 unfoldable pub plainHead : ℕ → Head → Plain → Head

@@ -1,5 +1,4 @@
 // The line of most references: SQ with the fields SN and LN in this order, and no other. It is recognised whole; any other line is walked field by field.
-use field_length::ParsedLength;
 use format::Kind;
 use record::Head;
 use record::Stretch;
@@ -10,7 +9,7 @@ ghost use lib.ListN.{length, drop};
 ghost use Rattle.format.specs.Records.{fielded};
 ghost use Rattle.format.specs.declared.Kind.the-variants.{ReferenceSequence};
 ghost use Rattle.record.specs.Head.{headOf};
-ghost use Rattle.record_parser.specs.Plain.{TagAt, PlainTold};
+ghost use Rattle.record_parser.specs.Plain.{TagAt, LengthTold, PlainTold};
 
 // How many bytes the name of such a line has, and its length; or it is another line, perhaps a wrong one.
 pub enum Plain {
@@ -38,6 +37,33 @@ fn has_tag_at(src: &[u8], at: usize, a: u8) -> bool
     src[at + 3] == b':'
 }
 
+// The length that all of `src` spells: 0 for bytes that are not digits alone, and for a length that is refused. The largest is 2,147,483,647; one digit
+// more after a number above a tenth of it is always too much.
+fn whole_length(src: &[u8]) -> u64
+    ensures { λ r. ⌜ LengthTold (now (src .entry)) r ⌝ }
+{
+    let mut n: u64 = 0;
+    let mut i: usize = 0;
+    while i < src.len() {
+        let b = src[i];
+        if b < b'0' {
+            return 0;
+        }
+        if b'9' < b {
+            return 0;
+        }
+        if 214748364 < n {
+            return 0;
+        }
+        n = n * 10 + (b - b'0') as u64;
+        i += 1;
+    }
+    if 2147483647 < n {
+        return 0;
+    }
+    n
+}
+
 // Whether the fields of a line of SQ are SN and LN alone. No tag is repeated in such a line, so it is accepted under either rule for those.
 fn parse_plain(src: &[u8]) -> Plain
     requires { ⌜ 3 ≤ length (now src) ⌝ }
@@ -54,10 +80,8 @@ fn parse_plain(src: &[u8]) -> Plain
         return Plain::Other;
     }
     let from = 11 + name_len;
-    let ParsedLength::Is(length, digits) = field_length::parse_length(&src[from..]) else {
-        return Plain::Other;
-    };
-    if digits != src.len() - from {
+    let length = whole_length(&src[from..]);
+    if length == 0 {
         return Plain::Other;
     }
     Plain::Is(name_len, length)

@@ -1,5 +1,4 @@
 -- `record_parser::plain::has_tag_at` meets its contract: each of the four bytes was looked at.
-use mathlib.Core.Path.{sym, _∙_}
 use mathlib.Core.Bool.{false≢true}
 use native.Mathlib.Omega.{arith}
 use borrow.Author.Needs.{needs}

@@ -1,17 +1,15 @@
 -- `record_parser::plain::parse_plain` meets its contract: a line that passes every test is one of SN and LN alone.
 use Prim.Native.Nat.{_+_, _≤_}
-use mathlib.Core.Path.{_≡_, refl, sym, ap, _∙_}
+use mathlib.Core.Path.{_≡_, refl, ap, _∙_}
 use native.Mathlib.Omega.{arith}
-use lib.ListN.{length, drop}
+use lib.ListN.{length, drop, length-drop}
 use borrow.Author.Needs.{needs}
 use borrow.Author.Tests.{not-false}
-use Rattle.format.specs.Decimal.{span}
-use Rattle.format.specs.Fields.{isValue, lengthField}
+use Rattle.format.specs.Fields.{isValue}
 use Rattle.byte_slices.specs.Upto.{before}
 use Rattle.byte_slices.proofs.Before.{rest}
 use Rattle.field.specs.Taken.{takenOf}
-use Rattle.field_length.specs.Parsed.{parsedLengthOf}
-use Rattle.record_parser.specs.Plain.{TagAt, plainHead}
+use Rattle.record_parser.specs.Plain.{TagAt, LengthTold, plainHead}
 use Rattle.record_parser.proofs.Alone.{name-within, plain-made}
 use Rattle.record_parser.proofs.plain.parse_plain.Statement.{statement}
 use Rattle.record_parser.proofs.plain.parse_plain.Tie as tie
@@ -75,44 +73,33 @@ returns-3 c at strict = refl
 add-from : tie.Need-add-from
 add-from c = omega (arith, ln c .room)
 
-sub-parse-length : tie.Need-sub-parse-length
-sub-parse-length c = omega (arith, ln c .room)
+sub-whole-length : tie.Need-sub-whole-length
+sub-whole-length c = omega (arith, ln c .room)
 
-part-parse-length-start : tie.Need-part-parse-length-start
-part-parse-length-start c = omega (arith, ln c .room)
+part-whole-length-start : tie.Need-part-whole-length-start
+part-whole-length-start c = omega (arith, ln c .room)
 
-part-parse-length-end : tie.Need-part-parse-length-end
-part-parse-length-end c = search needs
+part-whole-length-end : tie.Need-part-whole-length-end
+part-whole-length-end c = search needs
 
-parse-length-requires : tie.Need-parse-length-requires
-parse-length-requires c κs = search needs
-
-enum-known-length : tie.Need-enum-known-length
-enum-known-length c = search needs
+whole-length-requires : tie.Need-whole-length-requires
+whole-length-requires c κs = search needs
 
 returns-4 : tie.Need-returns-4
 unfolding plainHead
 returns-4 c at strict = refl
 
-sub-if4 : tie.Need-sub-if4
-sub-if4 c = omega (arith, ln (c .before .before .before .before .before) .room)
-
 returns-5 : tie.Need-returns-5
 unfolding plainHead
-returns-5 c at strict = refl
-
-returns-6 : tie.Need-returns-6
-unfolding plainHead
-returns-6 c at strict =
-    let k = c .before .before in
-    let p = k .before .before in
-    let t = p .before .before in
+returns-5 c at strict =
+    let w = c .before in
+    let t = w .before .before in
     let y = t .before .before in
     let s = y .before .before .before .before .before .before .args .src .now in
     let n = y .before .value-len .result in
-    plain-made s n _ _ (sn (y .before .before .before)) (name y) (y .if2 .left) (ln t)
-    (sym (k .length .given .1) ∙ p .parse-length .ensures .0 ∙ ap (λ v. parsedLengthOf (lengthField 0 (span (before 9 v)))) (rest (11 + n) s))
-    (c .if4 .left) at strict
+    let l = w .whole-length .result in
+    let e : LengthTold (drop (11 + n) s) l = rw (rest (11 + n) s) at (w .whole-length .ensures) in
+    plain-made s n l _ (sn (y .before .before .before)) (name y) (y .if2 .left) (ln t) (e (c .if4 .left)) (length-drop (11 + n) s) at strict
 
 pub parse-plain-spec : {M : Type 1} → statement M
 parse-plain-spec =
@@ -129,12 +116,9 @@ parse-plain-spec =
     has-tag-at-requires-2
     returns-3
     add-from
-    sub-parse-length
-    part-parse-length-start
-    part-parse-length-end
-    parse-length-requires
-    enum-known-length
+    sub-whole-length
+    part-whole-length-start
+    part-whole-length-end
+    whole-length-requires
     returns-4
-    sub-if4
-    returns-5
-    returns-6)
+    returns-5)

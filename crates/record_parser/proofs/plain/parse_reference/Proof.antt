@@ -34,7 +34,8 @@ returns-2 c =
     let k = c .before in
     let p = k .before .before in
     let a = p .before .before .args in
-    ap (plainHead (a .at) (headOf (fielded (a .strict) ReferenceSequence (a .at + 3) (drop 3 (a .src .now))))) (sym (k .name-len .given .1)) ∙ p .parse-plain .ensures (a .at) (a .strict)
+    ap (plainHead (a .at) (headOf (fielded (a .strict) ReferenceSequence (a .at + 3) (drop 3 (a .src .now))))) (sym (k .name-len .given .1))
+    ∙ p .parse-plain .ensures (a .at) (a .strict)
 
 pub parse-reference-spec : {M : Type 1} → statement M
 parse-reference-spec =
