@@ -23,5 +23,5 @@ module _ (k : Kind) (at : ℕ) (s : List ℕ) (h : LineOf k at s) (n : isComment
   noting = (of-fields .0, (of-fields .1, (omega (arith, h .short), length-replicate {A = ℕ} 6448 0)))
 
   -- and then it can be walked
-  pub noted-line : (t : List ℕ) → t ≡ noted (replicate 6448 0) (at + 3) (fieldsFrom at s 3) → Walkable false at s t
+  pub noted-line : (t : List ℕ) → t ≡ noted (replicate 6448 0) (at + 3) (fieldsFrom at s 3) → Walkable at s t
   noted-line t e = noted-walkable false at s (replicate 6448 0) t (of-fields .0) (of-fields .1) blank-tables e

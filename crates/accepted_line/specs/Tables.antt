@@ -5,6 +5,7 @@ use mathlib.Core.Bool.{Bool, true, false, cond}
 use mathlib.Core.List.{List, [], _∷_}
 use lib.ListN.{length, getD, set}
 use lib.Dec.{eqb}
+use Rattle.format.specs.Bytes.{none?}
 use Rattle.format.specs.Fields.{Field, isTag}
 use Rattle.byte_slices.specs.Stands.{Each}
 use Rattle.accepted_line.specs.Number.{tagNumber}
@@ -52,7 +53,7 @@ pub record Noted (at : ℕ) (line t : List ℕ) : Type 0 where
   pub tags : Each HasTag (fieldsFrom at line 3)
   pub is : t ≡ noted blank (at + 3) (fieldsFrom at line 3)
 
--- a walk over a line may start: no tag stands twice in it, or its tables are lent
-pub record Walkable (once : Bool) (at : ℕ) (line t : List ℕ) : Type 0 where
-  pub start : AtField once at line 3
-  pub tables : once ≡ false → Noted at line t
+-- a walk over a line may start with the tables `t`: they are none and no tag stands twice in the line, or they are the line's
+pub record Walkable (at : ℕ) (line t : List ℕ) : Type 0 where
+  pub start : AtField (none? t) at line 3
+  pub tables : none? t ≡ false → Noted at line t

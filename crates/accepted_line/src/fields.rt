@@ -4,6 +4,7 @@ ghost use mathlib.Core.Bool.{true, false, _||_};
 ghost use mathlib.Core.List.{List};
 ghost use Prim.Native.Nat.{_≤_, _<_, _+_};
 ghost use lib.ListN.{length, drop, replicate};
+ghost use Rattle.format.specs.Bytes.{none?};
 ghost use Rattle.format.specs.Fields.{isTag};
 ghost use Rattle.byte_slices.specs.Stands.{Each};
 ghost use Rattle.byte_slices.specs.Upto.{upto};
@@ -116,29 +117,36 @@ fn noted_value(line: &[u8], at: usize, a: u8, b: u8, tables: &[u32]) -> Value
     value_at(at, i, field_end(line, i))
 }
 
+// Whether it is known that no tag stands twice in a line that is walked with these tables: then there are none.
+fn has_no_repeat(tables: &[u32]) -> bool
+    ensures { λ r. ⌜ r ≡ none? (now (tables .entry)) ⌝ }
+{
+    tables.len() == 0
+}
+
 // Whether the field at `i` stands at its tag's first place: where no tag stands twice, it does.
-pub fn is_first(line: &[u8], at: usize, i: usize, once: bool, tables: &[u32]) -> bool
-    requires { ⌜ Walkable once at (now line) (now tables) ⌝ }
-    requires { ⌜ AtField once at (now line) i ⌝ }
+pub fn is_first(line: &[u8], at: usize, i: usize, tables: &[u32]) -> bool
+    requires { ⌜ Walkable at (now line) (now tables) ⌝ }
+    requires { ⌜ AtField (none? (now tables)) at (now line) i ⌝ }
     requires { ⌜ i < length (now line) ⌝ }
     requires { ⌜ at + length (now line) ≤ 4294967295 ⌝ }
     ensures { λ r. ⌜ r ≡ isFirst at (now (line .entry)) i ⌝ }
 {
-    if once {
+    if has_no_repeat(tables) {
         return true;
     }
     tables[super::tag_number::tag_number(line[i + 1], line[i + 2])] as usize == at + i
 }
 
 // The last value of the tag of the field from `i` up to `end`: its own, where no tag stands twice.
-pub fn kept_value(line: &[u8], at: usize, i: usize, end: usize, once: bool, tables: &[u32]) -> Value
-    requires { ⌜ Walkable once at (now line) (now tables) ⌝ }
-    requires { ⌜ AtField once at (now line) i ⌝ }
+pub fn kept_value(line: &[u8], at: usize, i: usize, end: usize, tables: &[u32]) -> Value
+    requires { ⌜ Walkable at (now line) (now tables) ⌝ }
+    requires { ⌜ AtField (none? (now tables)) at (now line) i ⌝ }
     requires { ⌜ (i < length (now line)) × (end ≡ i + 1 + upto 9 (drop (i + 1) (now line))) ⌝ }
     requires { ⌜ at + length (now line) ≤ 4294967295 ⌝ }
     ensures { λ r. ⌜ r ≡ keptAt at (now (line .entry)) i end ⌝ }
 {
-    if once {
+    if has_no_repeat(tables) {
         return value_at(at, i, end);
     }
     noted_value(line, at, line[i + 1], line[i + 2], tables)
@@ -162,13 +170,13 @@ fn only_value(line: &[u8], at: usize, a: u8, b: u8) -> Value
 }
 
 // The last value with the tag `a`, `b` in the accepted line at the offset `at`.
-pub fn find_value(line: &[u8], at: usize, a: u8, b: u8, once: bool, tables: &[u32]) -> Value
-    requires { ⌜ Walkable once at (now line) (now tables) ⌝ }
+pub fn find_value(line: &[u8], at: usize, a: u8, b: u8, tables: &[u32]) -> Value
+    requires { ⌜ Walkable at (now line) (now tables) ⌝ }
     requires { ⌜ isTag a b ≡ true ⌝ }
     requires { ⌜ at + length (now line) ≤ 4294967295 ⌝ }
     ensures { λ r. ⌜ r ≡ lastIn at (now (line .entry)) a b ⌝ }
 {
-    if once {
+    if has_no_repeat(tables) {
         return only_value(line, at, a, b);
     }
     noted_value(line, at, a, b, tables)

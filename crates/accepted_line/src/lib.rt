@@ -125,27 +125,27 @@ pub fn form_of(src: &[u8], at: usize, strict: bool) -> Form
 }
 
 // The keys of an accepted line of fields.
-pub fn find_keys(kind: Kind, src: &[u8], at: usize, once: bool, tables: &[u32]) -> KeyValues
-    requires { ⌜ Walkable once at (now src) (now tables) ⌝ }
+pub fn find_keys(kind: Kind, src: &[u8], at: usize, tables: &[u32]) -> KeyValues
+    requires { ⌜ Walkable at (now src) (now tables) ⌝ }
     requires { ⌜ at + length (now src) ≤ 4294967295 ⌝ }
     ensures { λ r. ⌜ r ≡ keysIn kind (fieldsFrom at (now (src .entry)) 3) ⌝ }
 {
     let nowhere = Value { at: 0, len: 0 };
     match kind {
         Kind::Header => KeyValues {
-            key: fields::find_value(src, at, b'V', b'N', once, tables),
+            key: fields::find_value(src, at, b'V', b'N', tables),
             number: nowhere,
         },
         Kind::ReferenceSequence => KeyValues {
-            key: fields::find_value(src, at, b'S', b'N', once, tables),
-            number: fields::find_value(src, at, b'L', b'N', once, tables),
+            key: fields::find_value(src, at, b'S', b'N', tables),
+            number: fields::find_value(src, at, b'L', b'N', tables),
         },
         Kind::ReadGroup => KeyValues {
-            key: fields::find_value(src, at, b'I', b'D', once, tables),
+            key: fields::find_value(src, at, b'I', b'D', tables),
             number: nowhere,
         },
         Kind::Program => KeyValues {
-            key: fields::find_value(src, at, b'I', b'D', once, tables),
+            key: fields::find_value(src, at, b'I', b'D', tables),
             number: nowhere,
         },
         Kind::Comment => KeyValues::new(),

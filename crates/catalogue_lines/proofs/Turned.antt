@@ -5,6 +5,7 @@ use mathlib.Core.Bool.{Bool, true, false, not, _||_}
 use mathlib.Core.List.{List, [], _++_}
 use native.Mathlib.Omega.{arith}
 use lib.ListN.{length, drop, getD}
+use Rattle.format.specs.Bytes.{none?}
 use Rattle.format.specs.Fields as fields
 use Rattle.format.specs.Catalogue.{tails}
 use Rattle.format.specs.declared.Kind.{Kind}
@@ -32,9 +33,9 @@ pub record Walked (once : Bool) (at : ℕ) (line : List ℕ) (k : Kind) (i : ℕ
   pub here : AtField once at line i
   pub keys : keysFrom k ks (fieldsFrom at line i) ≡ keysIn k (fieldsFrom at line 3)
 
-pub walked-start : (once : Bool) (at : ℕ) (line : List ℕ) (k : Kind) (t : List ℕ) (ks : KeyValues) → Walkable once at line t → ks ≡ noKeyValues → Walked once at line k 3 ks
+pub walked-start : (at : ℕ) (line : List ℕ) (k : Kind) (t : List ℕ) (ks : KeyValues) → Walkable at line t → ks ≡ noKeyValues → Walked (none? t) at line k 3 ks
 unfolding keysIn
-walked-start once at line k t ks w e = record { here = w .start; keys = ap (λ ks. keysFrom k ks (fieldsFrom at line 3)) e }
+walked-start at line k t ks w e = record { here = w .start; keys = ap (λ ks. keysFrom k ks (fieldsFrom at line 3)) e }
 
 -- a field is next, with the value at `v`
 pub record Turned (at : ℕ) (line : List ℕ) (k : Kind) (i end : ℕ) (v : Value) : Type 0 where

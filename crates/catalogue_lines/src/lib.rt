@@ -31,6 +31,12 @@ pub enum Matched {
     Upto(usize),
 }
 
+// Where a line is: its offset in the text, and its number.
+struct LinePlace {
+    at: usize,
+    number: u32,
+}
+
 // Where a walk over a line met its keys, and the place after the entries of its other fields.
 struct Met {
     next: usize,
@@ -141,16 +147,8 @@ fn comment_entry(src: &[u8], at: usize, number: u32) -> Entry
 }
 
 // Writes the entries of an accepted line's other fields from `o` on. The same walk meets the keys.
-fn put_fields(
-    out: &mut [u8],
-    o: usize,
-    kind: Kind,
-    src: &[u8],
-    at: usize,
-    once: bool,
-    tables: &[u32],
-) -> Met
-    requires { ⌜ Walkable once at (now src) (now tables) ⌝ }
+fn put_fields(out: &mut [u8], o: usize, kind: Kind, src: &[u8], at: usize, tables: &[u32]) -> Met
+    requires { ⌜ Walkable at (now src) (now tables) ⌝ }
     requires { ⌜ at + length (now src) ≤ 16777216 ⌝ }
     requires { ⌜ o + length (fieldBytes kind at (now src) 3) ≤ length (now out) ⌝ }
     ensures met { λ r. ⌜ r ≡ metIn kind at (now (src .entry)) o ⌝ }
@@ -165,8 +163,8 @@ fn put_fields(
         let b = src[i + 2];
         if record_tags::is_key(kind, a, b) {
             keys = keys.with(a, accepted_line::fields::value_at(at, i, end));
-        } else if accepted_line::fields::is_first(src, at, i, once, tables) {
-            let v = accepted_line::fields::kept_value(src, at, i, end, once, tables);
+        } else if accepted_line::fields::is_first(src, at, i, tables) {
+            let v = accepted_line::fields::kept_value(src, at, i, end, tables);
             catalogue_put::put_field(out, next, a, b, narrow(v.at, v.len));
             next += 11;
         }
@@ -181,20 +179,22 @@ fn put_line(
     o: usize,
     kind: Kind,
     src: &[u8],
-    at: usize,
-    number: u32,
-    once: bool,
+    place: LinePlace,
     tables: &[u32],
 ) -> usize
-    requires { ⌜ LineOf kind at (now src) ⌝ }
+    requires { ⌜ LineOf kind (place .at) (now src) ⌝ }
     requires { ⌜ isComment kind ≡ false ⌝ }
-    requires { ⌜ Walkable once at (now src) (now tables) ⌝ }
-    requires { ⌜ o + length (lineBytes false number at (now src)) ≤ length (now out) ⌝ }
-    ensures next { λ r. ⌜ r ≡ o + length (lineBytes false number at (now (src .entry))) ⌝ }
-    ensures wrote { λ _. ⌜ now (out .exit) ≡ over (now (out .entry)) o (lineBytes false number at (now (src .entry))) ⌝ }
+    requires { ⌜ Walkable (place .at) (now src) (now tables) ⌝ }
+    requires { ⌜ o + length (lineBytes false (place .number) (place .at) (now src)) ≤ length (now out) ⌝ }
+    ensures next { λ r. ⌜ r ≡ o + length (lineBytes false (place .number) (place .at) (now (src .entry))) ⌝ }
+    ensures wrote { λ _. ⌜ now (out .exit) ≡ over (now (out .entry)) o (lineBytes false (place .number) (place .at) (now (src .entry))) ⌝ }
 {
-    let met = put_fields(out, o + own_size(kind), kind, src, at, once, tables);
-    catalogue_put::put_entry(out, o, line_entry(kind, src, at, number, met.keys));
+    let met = put_fields(out, o + own_size(kind), kind, src, place.at, tables);
+    catalogue_put::put_entry(
+        out,
+        o,
+        line_entry(kind, src, place.at, place.number, met.keys),
+    );
     met.next
 }
 
@@ -215,11 +215,11 @@ pub fn put_record(
 {
     match accepted_line::form_of(src, at, strict) {
         Form::Comment => catalogue_put::put_entry(out, o, comment_entry(src, at, number)),
-        Form::Once(kind) => put_line(out, o, kind, src, at, number, true, &[]),
+        Form::Once(kind) => put_line(out, o, kind, src, LinePlace { at, number }, &[]),
         Form::Repeating(kind) => {
             let mut tables = [0u32; 6448];
             accepted_line::fields::note_tags(src, at, &mut tables);
-            put_line(out, o, kind, src, at, number, false, &tables)
+            put_line(out, o, kind, src, LinePlace { at, number }, &tables)
         }
     }
 }
@@ -231,10 +231,9 @@ fn same_fields(
     kind: Kind,
     src: &[u8],
     at: usize,
-    once: bool,
     tables: &[u32],
 ) -> Compared
-    requires { ⌜ Walkable once at (now src) (now tables) ⌝ }
+    requires { ⌜ Walkable at (now src) (now tables) ⌝ }
     requires { ⌜ at + length (now src) ≤ 16777216 ⌝ }
     requires { ⌜ o ≤ length (now catalogue) ⌝ }
     ensures { λ r. ⌜ r ≡ comparedOf (starts (fieldBytes kind at (now (src .entry)) 3) (drop o (now (catalogue .entry))))
@@ -249,8 +248,8 @@ fn same_fields(
         let b = src[i + 2];
         if record_tags::is_key(kind, a, b) {
             keys = keys.with(a, accepted_line::fields::value_at(at, i, end));
-        } else if accepted_line::fields::is_first(src, at, i, once, tables) {
-            let v = accepted_line::fields::kept_value(src, at, i, end, once, tables);
+        } else if accepted_line::fields::is_first(src, at, i, tables) {
+            let v = accepted_line::fields::kept_value(src, at, i, end, tables);
             if !catalogue_same::same_field(catalogue, next, a, b, narrow(v.at, v.len)) {
                 return Compared::Differs;
             }
@@ -267,26 +266,28 @@ fn same_line(
     o: usize,
     kind: Kind,
     src: &[u8],
-    at: usize,
-    number: u32,
-    once: bool,
+    place: LinePlace,
     tables: &[u32],
 ) -> Matched
-    requires { ⌜ LineOf kind at (now src) ⌝ }
+    requires { ⌜ LineOf kind (place .at) (now src) ⌝ }
     requires { ⌜ isComment kind ≡ false ⌝ }
-    requires { ⌜ Walkable once at (now src) (now tables) ⌝ }
+    requires { ⌜ Walkable (place .at) (now src) (now tables) ⌝ }
     requires { ⌜ o ≤ length (now catalogue) ⌝ }
-    ensures { λ r. ⌜ r ≡ matched o (drop o (now (catalogue .entry))) (lineBytes false number at (now (src .entry))) ⌝ }
+    ensures { λ r. ⌜ r ≡ matched o (drop o (now (catalogue .entry))) (lineBytes false (place .number) (place .at) (now (src .entry))) ⌝ }
 {
     let n = own_size(kind);
     if catalogue.len() - o < n {
         return Matched::Differs;
     }
-    let compared = same_fields(catalogue, o + n, kind, src, at, once, tables);
+    let compared = same_fields(catalogue, o + n, kind, src, place.at, tables);
     let Compared::Same(met) = compared else {
         return Matched::Differs;
     };
-    if catalogue_same::same_entry(catalogue, o, line_entry(kind, src, at, number, met.keys)) {
+    if catalogue_same::same_entry(
+        catalogue,
+        o,
+        line_entry(kind, src, place.at, place.number, met.keys),
+    ) {
         return Matched::Upto(met.next);
     }
     Matched::Differs
@@ -313,11 +314,11 @@ pub fn same_record(
             }
             Matched::Differs
         }
-        Form::Once(kind) => same_line(catalogue, o, kind, src, at, number, true, &[]),
+        Form::Once(kind) => same_line(catalogue, o, kind, src, LinePlace { at, number }, &[]),
         Form::Repeating(kind) => {
             let mut tables = [0u32; 6448];
             accepted_line::fields::note_tags(src, at, &mut tables);
-            same_line(catalogue, o, kind, src, at, number, false, &tables)
+            same_line(catalogue, o, kind, src, LinePlace { at, number }, &tables)
         }
     }
 }

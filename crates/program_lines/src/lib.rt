@@ -102,20 +102,13 @@ fn narrow_previous(v: Value) -> Place
 }
 
 // The ID and the PP of an accepted PG line, by a walk.
-fn find_places(line: &[u8], at: usize, once: bool, tables: &[u32]) -> Noted
-    requires { ⌜ Walkable once at (now line) (now tables) ⌝ }
+fn find_places(line: &[u8], at: usize, tables: &[u32]) -> Noted
+    requires { ⌜ Walkable at (now line) (now tables) ⌝ }
     requires { ⌜ at + length (now line) ≤ 16777216 ⌝ }
     ensures { λ r. ⌜ (r .id ≡ placeOf (lastIn at (now (line .entry)) 73 68)) × (r .previous ≡ previousOf (lastIn at (now (line .entry)) 80 80)) ⌝ }
 {
-    let id = narrow(accepted_line::fields::find_value(line, at, b'I', b'D', once, tables));
-    let previous = narrow_previous(accepted_line::fields::find_value(
-        line,
-        at,
-        b'P',
-        b'P',
-        once,
-        tables,
-    ));
+    let id = narrow(accepted_line::fields::find_value(line, at, b'I', b'D', tables));
+    let previous = narrow_previous(accepted_line::fields::find_value(line, at, b'P', b'P', tables));
     Noted { id, previous }
 }
 
@@ -125,11 +118,11 @@ pub fn places_of(line: &[u8], at: usize, strict: bool) -> Noted
     ensures { λ r. ⌜ (r .id ≡ placeOf (lastIn at (now (line .entry)) 73 68)) × (r .previous ≡ previousOf (lastIn at (now (line .entry)) 80 80)) ⌝ }
 {
     if accepted_line::fields::is_once(line, at, strict) {
-        return find_places(line, at, true, &[]);
+        return find_places(line, at, &[]);
     }
     let mut tables = [0u32; 6448];
     accepted_line::fields::note_tags(line, at, &mut tables);
-    find_places(line, at, false, &tables)
+    find_places(line, at, &tables)
 }
 
 // The programs of an accepted text; `strict` is the rule for repeated tags that its lines are read by.

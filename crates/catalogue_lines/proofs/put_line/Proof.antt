@@ -17,19 +17,19 @@ use Rattle.catalogue_lines.proofs.put_line.Statement.{statement}
 use Rattle.catalogue_lines.proofs.put_line.Tie as tie
 
 -- the entries of the line
-bytes : (s : tie.Start) → (let a = s .args in lineBytes false (a .number) (a .at) (a .src .now) ≡ entryBytes (own (a .number) (a .at) (a .src .now) (s .pre .0 .accepted)) ++ fieldBytes (a .kind) (a .at) (a .src .now) 3)
-bytes s = let a = s .args in line-bytes (a .number) (a .at) (a .src .now) (s .pre .0 .accepted) (a .kind) (s .pre .0 .kind) (s .pre .1 .0)
+bytes : (s : tie.Start) → (let a = s .args in lineBytes false (a .place .number) (a .place .at) (a .src .now) ≡ entryBytes (own (a .place .number) (a .place .at) (a .src .now) (s .pre .0 .accepted)) ++ fieldBytes (a .kind) (a .place .at) (a .src .now) 3)
+bytes s = let a = s .args in line-bytes (a .place .number) (a .place .at) (a .src .now) (s .pre .0 .accepted) (a .kind) (s .pre .0 .kind) (s .pre .1 .0)
 
 -- how long they are
 parts : (c : tie.After-own-size)
     → (let s = c .before .before .before .before .before in let a = s .args in
-    (c .own-size .result ≡ entrySize (own (a .number) (a .at) (a .src .now) (s .pre .0 .accepted)))
-    × (length (lineBytes false (a .number) (a .at) (a .src .now)) ≡ c .own-size .result + length (fieldBytes (a .kind) (a .at) (a .src .now) 3)))
+    (c .own-size .result ≡ entrySize (own (a .place .number) (a .place .at) (a .src .now) (s .pre .0 .accepted)))
+    × (length (lineBytes false (a .place .number) (a .place .at) (a .src .now)) ≡ c .own-size .result + length (fieldBytes (a .kind) (a .place .at) (a .src .now) 3)))
 parts c =
     let s = c .before .before .before .before .before in
     let a = s .args in
-    let n = c .own-size .ensures ∙ sym (own-size (a .number) (a .at) (a .src .now) (s .pre .0 .accepted) (a .kind) (s .pre .0 .kind)) in
-    (n, entry-then (own (a .number) (a .at) (a .src .now) (s .pre .0 .accepted)) _ _ (bytes s) ∙ ap (λ m. m + length (fieldBytes (a .kind) (a .at) (a .src .now) 3)) (sym n))
+    let n = c .own-size .ensures ∙ sym (own-size (a .place .number) (a .place .at) (a .src .now) (s .pre .0 .accepted) (a .kind) (s .pre .0 .kind)) in
+    (n, entry-then (own (a .place .number) (a .place .at) (a .src .now) (s .pre .0 .accepted)) _ _ (bytes s) ∙ ap (λ m. m + length (fieldBytes (a .kind) (a .place .at) (a .src .now) 3)) (sym n))
 
 -- the lent slice is no longer than a slice can be
 lent : (k : tie.After-slice-known) → length (k .before .args .out .now) ≤ 18446744073709551615
@@ -73,7 +73,7 @@ returns c =
     let s = o .before .before .before .before .before in
     let a = s .args in (
       ap (λ m. m .next) (p .put-fields .ensures .0) ∙ omega (arith, parts o .1),
-      wrote-before (own (a .number) (a .at) (a .src .now) (s .pre .0 .accepted)) _ _ (bytes s) (a .out .now) (p .put-fields .last .0) (q .put-entry .last .0) (a .o) (o .own-size .result) (parts o .0) (s .pre .1 .1 .1) (p .put-fields .ensures .1)
+      wrote-before (own (a .place .number) (a .place .at) (a .src .now) (s .pre .0 .accepted)) _ _ (bytes s) (a .out .now) (p .put-fields .last .0) (q .put-entry .last .0) (a .o) (o .own-size .result) (parts o .0) (s .pre .1 .1 .1) (p .put-fields .ensures .1)
           (q .put-entry .ensures .1 ∙ ap (λ d. over (p .put-fields .last .0) (a .o) (entryBytes d)) (e .line-entry .ensures)),
     )
 

@@ -53,7 +53,7 @@ put-line-requires c κs =
     let f = k .before .before in
     let s = f .before .before .before in
     let i = formed f _ (k .kind .given .1) in
-    (i .0, (i .1, (once-walkable (s .args .at) (s .args .src .now) _ (i .2), room s)))
+    (i .0, (i .1, (once-walkable (s .args .at) (s .args .src .now) (i .2), room s)))
 
 enum-known-kind-2 : tie.Need-enum-known-kind-2
 enum-known-kind-2 c = search needs

@@ -5,6 +5,7 @@ use mathlib.Core.Bool.{not, _&&_}
 use native.Mathlib.Omega.{arith}
 use lib.ListN.{length}
 use borrow.Author.Needs.{needs}
+use Rattle.format.specs.Bytes.{none?}
 use Rattle.accepted_line.specs.Next.{isFirst}
 use Rattle.accepted_line.proofs.fields.Place.{bounds}
 use Rattle.tidy_fields.proofs.is_other.Statement.{statement}
@@ -14,7 +15,7 @@ use Rattle.tidy_fields.proofs.is_other.Tie as tie
 reach : (s : tie.Start) → (let a = s .args in a .i + 4 ≤ length (a .line .now))
 reach s =
     let a = s .args in
-    let b = bounds (a .once) (a .at) (a .line .now) (a .i) (s .pre .1 .0) (s .pre .1 .1 .0) _ refl in
+    let b = bounds (none? (a .tables .now)) (a .at) (a .line .now) (a .i) (s .pre .1 .0) (s .pre .1 .1 .0) _ refl in
     omega (arith, b)
 
 add-is-key : tie.Need-add-is-key
