@@ -2,12 +2,17 @@
 use carry_early::Begin;
 use carry_passes::KeptSizes;
 use format::LineNo;
+use read::CountAnswer;
+use read_judge::Judged;
 use tidy_sizes::PerKind;
 ghost use mathlib.Core.Path.{_≡_};
+ghost use mathlib.Core.Bool.{true};
 ghost use mathlib.Core.Option.{none};
 ghost use Prim.Native.Nat.{_≤_};
 ghost use lib.ListN.{length};
+ghost use Rattle.format.specs.Reading.{readText};
 ghost use Rattle.format.specs.Work.{allZeros};
+ghost use Rattle.accepted.specs.Read.{isAccepted};
 ghost use Rattle.tidy_text.specs.Sizes.{sizesOf};
 ghost use Rattle.format.specs.Carrying.{carriedLines, unwritableLine};
 ghost use Rattle.carry_early.specs.First.{First};
@@ -163,10 +168,8 @@ fn carry_lines(text: &[u8], out: &mut [u8], table: &mut [u32]) -> Carried
     carry_long(text, b, out, table, b.line as usize / (format::LONGEST + 1))
 }
 
-// Writes the tidy text of the lines of `text` that are not refused to the front of `out`, and for each line that is, its number and why, to
-// the front of `table`. 1 for a text that is too long, then 24, 1 for a tidy text that is too long, 20 for a short output or a short table; a
-// refusal changes nothing.
-pub fn carry_on(text: &[u8], out: &mut [u8], table: &mut [u32]) -> Carried
+// A text that reading refuses, of any length.
+fn carry_refused(text: &[u8], out: &mut [u8], table: &mut [u32]) -> Carried
     ensures answer { λ r. ⌜ r ≡ carriedAnswer (now (text .entry)) (now (out .entry)) (now (table .entry)) ⌝ }
     ensures wrote { λ _. ⌜ now (out .exit) ≡ textLeft (now (text .entry)) (now (out .entry)) (now (table .entry)) ⌝ }
     ensures listed { λ _. ⌜ now (table .exit) ≡ tableLeft (now (text .entry)) (now (out .entry)) (now (table .entry)) ⌝ }
@@ -175,6 +178,33 @@ pub fn carry_on(text: &[u8], out: &mut [u8], table: &mut [u32]) -> Carried
         return Carried::Refused(1, LineNo(0));
     }
     carry_lines(text, out, table)
+}
+
+// A text that reading accepts: no line is skipped, so this is tidying, and the table stays as it is.
+fn carry_accepted(text: &[u8], out: &mut [u8], table: &mut [u32]) -> Carried
+    requires { ⌜ isAccepted (readText (now text)) ≡ true ⌝ }
+    ensures answer { λ r. ⌜ r ≡ carriedAnswer (now (text .entry)) (now (out .entry)) (now (table .entry)) ⌝ }
+    ensures wrote { λ _. ⌜ now (out .exit) ≡ textLeft (now (text .entry)) (now (out .entry)) (now (table .entry)) ⌝ }
+    ensures listed { λ _. ⌜ now (table .exit) ≡ tableLeft (now (text .entry)) (now (out .entry)) (now (table .entry)) ⌝ }
+{
+    match tidy::write_accepted(text, read_repeat_rule::is_strict(text), out) {
+        CountAnswer::Refused(n, line) => Carried::Refused(n, line),
+        CountAnswer::Count(n) => Carried::Written(n, 0),
+    }
+}
+
+// Writes the tidy text of the lines of `text` that are not refused to the front of `out`, and for each line that is, its number and why, to
+// the front of `table`. 1 for a text that is too long, then 24, 1 for a tidy text that is too long, 20 for a short output or a short table; a
+// refusal changes nothing. The text is read first, up to its first refusal: most have none.
+pub fn carry_on(text: &[u8], out: &mut [u8], table: &mut [u32]) -> Carried
+    ensures answer { λ r. ⌜ r ≡ carriedAnswer (now (text .entry)) (now (out .entry)) (now (table .entry)) ⌝ }
+    ensures wrote { λ _. ⌜ now (out .exit) ≡ textLeft (now (text .entry)) (now (out .entry)) (now (table .entry)) ⌝ }
+    ensures listed { λ _. ⌜ now (table .exit) ≡ tableLeft (now (text .entry)) (now (out .entry)) (now (table .entry)) ⌝ }
+{
+    match read_judge::judge(text) {
+        Judged::Refused(_, _) => carry_refused(text, out, table),
+        Judged::Accepted(_) => carry_accepted(text, out, table),
+    }
 }
 
 // A text by the front of a lent area, where that is longer than an own one: a slot for each eight bytes of the text is enough for all keys in one
@@ -197,8 +227,8 @@ fn carry_lent(text: &[u8], out: &mut [u8], table: &mut [u32], area: &mut [u32]) 
     carry_indexed(text, front, out, table)
 }
 
-// The same as `carry_on`, by a lent area of any length and with any content, which is all zeros afterwards.
-pub fn carry_on_with(text: &[u8], out: &mut [u8], table: &mut [u32], work: &mut [u32]) -> Carried
+// A text that reading refuses, of any length, by a lent area.
+fn carry_refused_with(text: &[u8], out: &mut [u8], table: &mut [u32], work: &mut [u32]) -> Carried
     ensures answer { λ r. ⌜ r ≡ carriedAnswer (now (text .entry)) (now (out .entry)) (now (table .entry)) ⌝ }
     ensures wrote { λ _. ⌜ now (out .exit) ≡ textLeft (now (text .entry)) (now (out .entry)) (now (table .entry)) ⌝ }
     ensures listed { λ _. ⌜ now (table .exit) ≡ tableLeft (now (text .entry)) (now (out .entry)) (now (table .entry)) ⌝ }
@@ -211,4 +241,17 @@ pub fn carry_on_with(text: &[u8], out: &mut [u8], table: &mut [u32], work: &mut 
     let carried = carry_lent(text, out, table, work);
     key_index::clear(work);
     carried
+}
+
+// The same as `carry_on`, by a lent area of any length and with any content, which is all zeros afterwards.
+pub fn carry_on_with(text: &[u8], out: &mut [u8], table: &mut [u32], work: &mut [u32]) -> Carried
+    ensures answer { λ r. ⌜ r ≡ carriedAnswer (now (text .entry)) (now (out .entry)) (now (table .entry)) ⌝ }
+    ensures wrote { λ _. ⌜ now (out .exit) ≡ textLeft (now (text .entry)) (now (out .entry)) (now (table .entry)) ⌝ }
+    ensures listed { λ _. ⌜ now (table .exit) ≡ tableLeft (now (text .entry)) (now (out .entry)) (now (table .entry)) ⌝ }
+    ensures zeros { λ _. ⌜ now (work .exit) ≡ allZeros (now (work .entry)) ⌝ }
+{
+    match read_judge::judge_with(text, work) {
+        Judged::Refused(_, _) => carry_refused_with(text, out, table, work),
+        Judged::Accepted(_) => carry_accepted(text, out, table),
+    }
 }

@@ -1,64 +1,98 @@
--- `carry_on::carry_on_with` meets its contract: 1 first, then by the area's length; and the area is emptied last.
-use mathlib.Core.Path.{_≡_, ap, _∙_}
-use lib.ListN.{length, replicate}
+-- `carry_on::carry_on_with` meets its contract: by what reading says of the text; the area is all zeros after that, and stays so.
+use mathlib.Core.Path.{sym, ap, _∙_}
+use lib.ListN.{replicate}
 use Rattle.format.specs.Work.{allZeros}
-use Rattle.format.specs.Carrying.{carrying}
-use Rattle.carry_on.proofs.Told.{told-long, refused-all}
+use Rattle.accepted.specs.Read.{isAccepted}
+use Rattle.read_judge.proofs.Whole.{text-accepted}
+use Rattle.carry_on.proofs.Told.{zeros-long}
 use borrow.Author.Needs.{needs}
 use Rattle.carry_on.proofs.carry_on_with.Statement.{statement}
 use Rattle.carry_on.proofs.carry_on_with.Tie as tie
 use Rattle.carry_on.proofs.carry_on_with.Reads as reads
 use Rattle.carry_on.proofs.carry_on_with.Lts as lts
-use Rattle.carry_on.proofs.carry_lent.Reads as carry-lent-reads
-use Rattle.key_index.proofs.clear.Reads as clear-reads
+use Rattle.carry_on.proofs.carry_accepted.Reads as carry-accepted-reads
+use Rattle.carry_on.proofs.carry_refused_with.Reads as carry-refused-with-reads
+use Rattle.read_judge.proofs.judge_with.Reads as judge-with-reads
 
-clear-requires : tie.Need-clear-requires
-clear-requires c κs = search needs
+-- src/lib.rt:253:11
+judge-with-requires : tie.Need-judge-with-requires
+judge-with-requires c κs = search needs
 
+-- src/lib.rt:254:59
+enum-told : tie.Need-enum-told
+enum-told c = search needs
+
+-- src/lib.rt:254:34
+carry-refused-with-requires : tie.Need-carry-refused-with-requires
+carry-refused-with-requires c κs = search needs
+
+-- src/lib.rt:255:53
+enum-told-2 : tie.Need-enum-told-2
+enum-told-2 c = search needs
+
+-- src/lib.rt:255:32
+carry-accepted-requires : tie.Need-carry-accepted-requires
+unfolding isAccepted
+carry-accepted-requires c κs =
+    let j = c .before .before .before .before .before .before in
+    let g = c .before .before .enum-told2 .given in
+    ap isAccepted (text-accepted (j .before .before .before .before .before .before .args .text .now) (g .0 .0) (sym (j .judge-with .ensures .0) ∙ g .1) .0)
+
+-- src/lib.rt:247:1
 same-length : tie.Need-same-length
 same-length c = search needs
 
-returns : tie.Need-returns
-unfolding allZeros
-returns c =
-    let k = c .before .before in
-    let a = k .before .before .before .before .before .before .before .args in
-    let t = a .text .now in
-    let r = refused-all (carrying t (length (a .out .now)) (length (a .table .now))) (a .out .now) (a .table .now) 1 (record { 0 = 0 }) (told-long t (length (a .out .now)) (length (a .table .now)) (k .before .before .if1 .taken)) in
-    (r .0, (r .1 .0, (r .1 .1, k .clear .ensures)))
-
-carry-lent-requires : tie.Need-carry-lent-requires
-carry-lent-requires c κs = search needs
-
-clear-requires-2 : tie.Need-clear-requires-2
-clear-requires-2 c κs = search needs
-
+-- src/lib.rt:247:1
 same-length-2 : tie.Need-same-length-2
 same-length-2 c = search needs
 
+-- src/lib.rt:247:1
 same-length-3 : tie.Need-same-length-3
 same-length-3 c = search needs
 
+-- src/lib.rt:247:1
+returns : tie.Need-returns
+unfolding allZeros
+returns c =
+    let w = c .before .before .before .before .before .before in
+    let j = w .before .before .before .before .before .before .before .before in
+    let e = w .carry-refused-with .ensures in
+    (e .0, (e .1 .0, (e .1 .1 .0, e .1 .1 .1 ∙ ap (λ n. replicate n 0) (zeros-long (j .judge-with .last .1 .0) (j .before .before .before .before .before .before .args .work .now) (j .judge-with .ensures .1)))))
+
+-- src/lib.rt:247:1
 same-length-4 : tie.Need-same-length-4
 same-length-4 c = search needs
 
+-- src/lib.rt:247:1
+same-length-5 : tie.Need-same-length-5
+same-length-5 c = search needs
+
+-- src/lib.rt:247:1
+same-length-6 : tie.Need-same-length-6
+same-length-6 c = search needs
+
+-- src/lib.rt:247:1
 returns-2 : tie.Need-returns-2
-unfolding allZeros
 returns-2 c =
-    let k = c .before .before in
-    let j = k .before .before .before .before .before .before .before .before .carry-lent .ensures in
-    (j .0, (j .1 .0, (j .1 .1 .0, k .clear2 .ensures ∙ ap (λ n. replicate n 0) (j .1 .1 .1))))
+    let w = c .before .before .before .before in
+    let j = w .before .before .before .before .before .before .before in
+    let e = w .carry-accepted .ensures in
+    (e .0, (e .1 .0, (e .1 .1, j .judge-with .ensures .1)))
 
 pub carry-on-with-spec : {M : Type 1} → statement M
 carry-on-with-spec =
     tie.close
     (tie.spec
-    clear-requires
+    judge-with-requires
+    enum-told
+    carry-refused-with-requires
+    enum-told-2
+    carry-accepted-requires
     same-length
-    returns
-    carry-lent-requires
-    clear-requires-2
     same-length-2
     same-length-3
+    returns
     same-length-4
+    same-length-5
+    same-length-6
     returns-2)
