@@ -1,4 +1,4 @@
-// Carrying on after refused lines: they are skipped and listed in a table, and the tidy text of the rest is written.
+// Carrying on after refused lines: they are skipped and listed in a table, and the tidy text of the other lines is written.
 use carry_early::Begin;
 use carry_passes::KeptSizes;
 use format::LineNo;
@@ -15,13 +15,14 @@ ghost use Rattle.carry_passes.specs.From.{keptFrom, skippedFrom};
 ghost use Rattle.carry_passes.specs.Measured.{measuredFrom};
 ghost use Rattle.carry_on.specs.Answers.{carriedAnswer, textLeft, tableLeft};
 
-// A refusal and its line, or how many bytes are written and how many lines are skipped.
+// A refusal and its line, or how many bytes were written and how many lines were skipped.
 pub enum Carried {
     Refused(u8, LineNo),
     Written(usize, usize),
 }
 
-// Once each name can be written: 1, then 20 for a short output, then 20 for a short table; or both are written.
+// Once every name is known to be writable: answers 1 for a tidy text that is too long, then 20 for a short output, then 20 for a short table, or
+// writes both.
 fn write_kept(
     text: &[u8],
     b: Begin,
@@ -56,7 +57,7 @@ fn write_kept(
     Carried::Written(n, lines)
 }
 
-// Once the lines from the first that is kept on have been measured: 24, or as `write_kept`.
+// Once the lines from the first kept line on have been measured: answers 24, or what `write_kept` answers.
 fn write_measured(
     text: &[u8],
     b: Begin,
@@ -79,7 +80,7 @@ fn write_measured(
     }
 }
 
-// Carries on over a text that is not too long, with slots lent for the keys of a block of lines.
+// Carries on over a text that is not too long, with lent slots for the keys of a block of lines.
 fn carry_indexed(text: &[u8], area: &mut [u32], out: &mut [u8], table: &mut [u32]) -> Carried
     requires { ⌜ length (now text) ≤ 16777216 ⌝ }
     requires { ⌜ 4 ≤ length (now area) ⌝ }
@@ -92,7 +93,7 @@ fn carry_indexed(text: &[u8], area: &mut [u32], out: &mut [u8], table: &mut [u32
     write_measured(text, b, area, measured, out, table)
 }
 
-// A short text, in blocks of 384 lines with a key: little is cleared for it.
+// A short text, in blocks of 384 lines with a key. Its area is small, so little has to be cleared.
 fn carry_short(text: &[u8], out: &mut [u8], table: &mut [u32]) -> Carried
     requires { ⌜ length (now text) ≤ 16777216 ⌝ }
     ensures answer { λ r. ⌜ r ≡ carriedAnswer (now (text .entry)) (now (out .entry)) (now (table .entry)) ⌝ }
@@ -103,7 +104,7 @@ fn carry_short(text: &[u8], out: &mut [u8], table: &mut [u32]) -> Carried
     carry_indexed(text, &mut area, out, table)
 }
 
-// A text of some thousand lines, in blocks of 4,608.
+// A text of some thousands of lines, in blocks of 4,608.
 fn carry_middle(text: &[u8], out: &mut [u8], table: &mut [u32]) -> Carried
     requires { ⌜ length (now text) ≤ 16777216 ⌝ }
     ensures answer { λ r. ⌜ r ≡ carriedAnswer (now (text .entry)) (now (out .entry)) (now (table .entry)) ⌝ }
@@ -114,7 +115,7 @@ fn carry_middle(text: &[u8], out: &mut [u8], table: &mut [u32]) -> Carried
     carry_indexed(text, &mut area, out, table)
 }
 
-// A text with an area of this function's own, of 24 KiB at most. It is slow where the text has many more lines than a block takes.
+// A text with an area of this function's own, of 24 KiB at most. This is slow if the text has many more lines than a block takes.
 fn carry_small(text: &[u8], out: &mut [u8], table: &mut [u32]) -> Carried
     requires { ⌜ length (now text) ≤ 16777216 ⌝ }
     ensures answer { λ r. ⌜ r ≡ carriedAnswer (now (text .entry)) (now (out .entry)) (now (table .entry)) ⌝ }
@@ -127,9 +128,9 @@ fn carry_small(text: &[u8], out: &mut [u8], table: &mut [u32]) -> Carried
     carry_middle(text, out, table)
 }
 
-// Any text, in blocks of 147,456 lines; it is measured `more` times again before it is written. Nobody asks for more than once: a function that
-// calls itself is compiled by itself, so that its 768 KiB are on the stack only while it runs, and not in the frames of its callers. The call of
-// itself is not its last step: such a call would be compiled as a loop.
+// Any text, in blocks of 147,456 lines; it is measured `more` times again before it is written. Nobody asks for more than once. The function calls
+// itself so that it is compiled as a function of its own: its 768 KiB are on the stack only while it runs, and not in the frames of its callers. The
+// call of itself is not the last step, because the compiler would turn such a call into a loop.
 fn carry_long(text: &[u8], b: Begin, out: &mut [u8], table: &mut [u32], more: usize) -> Carried
     requires { ⌜ length (now text) ≤ 16777216 ⌝ }
     requires { ⌜ First (now text) b ⌝ }
@@ -148,8 +149,8 @@ fn carry_long(text: &[u8], b: Begin, out: &mut [u8], table: &mut [u32], more: us
     write_measured(text, b, &mut area, measured, out, table)
 }
 
-// A text that is not too long, by its length. No text has as many lines as are needed for one time more; the compiler can't know that, and it
-// would put `carry_long` in its caller's place if it could.
+// Picks the area by the length of a text that is not too long. No text is long enough to be measured twice, but the compiler can't know that; if it
+// could, it would inline `carry_long` into its caller.
 fn carry_lines(text: &[u8], out: &mut [u8], table: &mut [u32]) -> Carried
     requires { ⌜ length (now text) ≤ 16777216 ⌝ }
     ensures answer { λ r. ⌜ r ≡ carriedAnswer (now (text .entry)) (now (out .entry)) (now (table .entry)) ⌝ }
@@ -163,9 +164,9 @@ fn carry_lines(text: &[u8], out: &mut [u8], table: &mut [u32]) -> Carried
     carry_long(text, b, out, table, b.line as usize / (format::LONGEST + 1))
 }
 
-// Writes the tidy text of the lines of `text` that are not refused to the front of `out`, and for each line that is, its number and why, to
-// the front of `table`. 1 for a text that is too long, then 24, 1 for a tidy text that is too long, 20 for a short output or a short table; a
-// refusal changes nothing.
+// Writes the tidy text of the lines of `text` that are not refused to the front of `out`, and the number and refusal of each other line to the front
+// of `table`. Refuses with 1 if the text is too long, then with 24, then with 1 if the tidy text is too long, then with 20 if the output or the table
+// is too short. A refusal changes nothing.
 pub fn carry_on(text: &[u8], out: &mut [u8], table: &mut [u32]) -> Carried
     ensures answer { λ r. ⌜ r ≡ carriedAnswer (now (text .entry)) (now (out .entry)) (now (table .entry)) ⌝ }
     ensures wrote { λ _. ⌜ now (out .exit) ≡ textLeft (now (text .entry)) (now (out .entry)) (now (table .entry)) ⌝ }
@@ -177,8 +178,8 @@ pub fn carry_on(text: &[u8], out: &mut [u8], table: &mut [u32]) -> Carried
     carry_lines(text, out, table)
 }
 
-// A text by the front of a lent area, where that is longer than an own one: a slot for each eight bytes of the text is enough for all keys in one
-// block.
+// Carries on with the front of a lent area if that is longer than an area of this crate's own. One slot per eight bytes of the text is enough for all
+// keys in one block.
 fn carry_lent(text: &[u8], out: &mut [u8], table: &mut [u32], area: &mut [u32]) -> Carried
     requires { ⌜ length (now text) ≤ 16777216 ⌝ }
     ensures answer { λ r. ⌜ r ≡ carriedAnswer (now (text .entry)) (now (out .entry)) (now (table .entry)) ⌝ }
@@ -197,7 +198,7 @@ fn carry_lent(text: &[u8], out: &mut [u8], table: &mut [u32], area: &mut [u32]) 
     carry_indexed(text, front, out, table)
 }
 
-// The same as `carry_on`, by a lent area of any length and with any content, which is all zeros afterwards.
+// The same as `carry_on`, with a lent area of any length and any content. The area is all zeros afterwards.
 pub fn carry_on_with(text: &[u8], out: &mut [u8], table: &mut [u32], work: &mut [u32]) -> Carried
     ensures answer { λ r. ⌜ r ≡ carriedAnswer (now (text .entry)) (now (out .entry)) (now (table .entry)) ⌝ }
     ensures wrote { λ _. ⌜ now (out .exit) ≡ textLeft (now (text .entry)) (now (out .entry)) (now (table .entry)) ⌝ }
