@@ -1,4 +1,4 @@
-// The fields of two accepted PG lines compared: all but ID and PP, each tag with its last value, in order.
+// Compares the fields of two accepted PG lines: all but ID and PP, each tag with its last value, in order.
 ghost use mathlib.Core.Path.{_≡_};
 ghost use Prim.Native.Nat.{_≤_, _+_};
 ghost use lib.ListN.{length};
@@ -8,7 +8,7 @@ ghost use Rattle.format.specs.Merge.{sameField, keepsFields};
 ghost use Rattle.program_lines.specs.Line.{FieldsOf};
 ghost use Rattle.merge_fields.specs.Kept.{isPassed, keptFrom, toldField, toldFields, NextInLine};
 
-// The next field: its tag, where its value stands in the line, and where the field after it starts; `found` is false where none is left.
+// The next field: its tag, where its value is in the line, and where the field after it starts; `found` is false if no field is left.
 struct NextField {
     found: bool,
     first: u8,
@@ -28,7 +28,7 @@ fn is_passed(a: u8, b: u8) -> bool
     field_tag::is_same_tag(a, b, b'P', b'P')
 }
 
-// The first field from the place `start` on that is not passed over and stands at its tag's first place, with its tag's last value.
+// The first field from the place `start` on that is neither ID nor PP and is the first with its tag, with the last value of that tag.
 fn next_field(line: &[u8], at: usize, start: usize, once: bool, tables: &[u32]) -> NextField
     requires { ⌜ Walkable once at (now line) (now tables) ⌝ }
     requires { ⌜ AtField once at (now line) start ⌝ }
@@ -66,7 +66,7 @@ fn next_field(line: &[u8], at: usize, start: usize, once: bool, tables: &[u32]) 
     }
 }
 
-// Whether two fields have one tag and one value.
+// Whether two fields have the same tag and value.
 fn same_field(a: &[u8], f: NextField, b: &[u8], g: NextField) -> bool
     requires { ⌜ f .from + f .len ≤ length (now a) ⌝ }
     requires { ⌜ g .from + g .len ≤ length (now b) ⌝ }
@@ -82,13 +82,13 @@ fn same_field(a: &[u8], f: NextField, b: &[u8], g: NextField) -> bool
     byte_slices::same(&a[from..to], &b[start..end])
 }
 
-// Where a line starts in its text, and whether no tag stands twice in it.
+// Where a line starts in its text, and whether it is known to repeat no tag.
 struct Walked {
     at: usize,
     once: bool,
 }
 
-// Whether two lines have the same fields, by a walk over both.
+// Whether two lines have the same fields, found by walking over both.
 fn same_walks(
     a: &[u8],
     of_a: Walked,
@@ -122,7 +122,7 @@ fn same_walks(
     }
 }
 
-// The same, where the second line's tables are still to be made.
+// The same, if the tables of the second line still have to be made.
 fn same_as_line(a: &[u8], of_a: Walked, tables: &[u32], b: &[u8], at_b: usize, strict: bool) -> bool
     requires { ⌜ Walkable («of_a» .once) («of_a» .at) (now a) (now tables) ⌝ }
     requires { ⌜ «of_a» .at + length (now a) ≤ 16777216 ⌝ }
@@ -145,8 +145,8 @@ fn same_as_line(a: &[u8], of_a: Walked, tables: &[u32], b: &[u8], at_b: usize, s
     same_walks(a, of_a, tables, b, of_b, &tables_b)
 }
 
-// Whether two accepted PG lines have the same fields in the same order, but for ID and PP. Each starts at an offset of its own text, which says
-// of repeated tags what `strict` says.
+// Whether two accepted PG lines have the same fields in the same order, apart from ID and PP. Each line is at an offset of its own text, and `strict`
+// is the rule of that text for repeated tags.
 pub fn same_fields(
     a: &[u8],
     at_a: usize,

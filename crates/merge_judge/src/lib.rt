@@ -1,5 +1,5 @@
-// Judging a merge of two headers that was made elsewhere: the headers A and B, the merged header, and for each program of A and of B its
-// ordinal in the merged header.
+// Judges a merge of two headers that another tool made: the headers A and B, the merged header, and for each program of A and of B its ordinal in the
+// merged header.
 use format::LineNo;
 use merge_joined::Rules;
 use merge_programs::Opened;
@@ -19,21 +19,22 @@ pub enum Which {
     Merged,
 }
 
-// Accepted; refused for one of the texts, with a number and a line; or refused for how they go together, with a number.
+// The merge is accepted; refused because of one of the texts, with a number and a line; or refused because the texts do not fit together, with a
+// number.
 pub enum Verdict {
     Accepted,
     Unfit(Which, u8, LineNo),
     Unmerged(u8),
 }
 
-// What each of the three accepted texts is judged by.
+// What is known of each of the three accepted texts.
 struct Texts {
     a: Opened,
     b: Opened,
     merged: Opened,
 }
 
-// Three accepted texts in which nothing is tangled: 30, 31 and 32.
+// Judges three accepted texts without dangling PPs and cycles: refuses with 30, 31 or 32.
 fn judge_untangled(
     a: &[u8],
     b: &[u8],
@@ -74,7 +75,7 @@ fn judge_untangled(
     Verdict::Accepted
 }
 
-// Three accepted texts: 22 and 23 for each, then how they go together.
+// Judges three accepted texts: refuses with 22 or 23 for each, then judges whether they fit together.
 fn judge_accepted(a: &[u8], b: &[u8], m: &[u8], list_a: &[u32], list_b: &[u32]) -> Verdict
     requires { ⌜ isAccepted (readText (now a)) ≡ true ⌝ }
     requires { ⌜ isAccepted (readText (now b)) ≡ true ⌝ }
@@ -102,7 +103,7 @@ fn judge_accepted(a: &[u8], b: &[u8], m: &[u8], list_a: &[u32], list_b: &[u32]) 
     judge_untangled(a, b, m, of, list_a, list_b)
 }
 
-// The merged text is read, after A and B were.
+// Reads the merged text, after A and B were read.
 fn judge_merged(a: &[u8], b: &[u8], m: &[u8], list_a: &[u32], list_b: &[u32]) -> Verdict
     requires { ⌜ isAccepted (readText (now a)) ≡ true ⌝ }
     requires { ⌜ isAccepted (readText (now b)) ≡ true ⌝ }
@@ -115,7 +116,7 @@ fn judge_merged(a: &[u8], b: &[u8], m: &[u8], list_a: &[u32], list_b: &[u32]) ->
     }
 }
 
-// B is read, after A was.
+// Reads B, after A was read.
 fn judge_second(a: &[u8], b: &[u8], m: &[u8], list_a: &[u32], list_b: &[u32]) -> Verdict
     requires { ⌜ isAccepted (readText (now a)) ≡ true ⌝ }
     ensures { λ r. ⌜ r ≡ verdictOf (afterFirst (recordsOf (now (a .entry))) (now (b .entry)) (now (m .entry))
@@ -127,7 +128,7 @@ fn judge_second(a: &[u8], b: &[u8], m: &[u8], list_a: &[u32], list_b: &[u32]) ->
     }
 }
 
-// Judges a merge: reading's refusals for A, B and the merged text, then 22 and 23 for each in that order, then 30, 31 and 32.
+// Judges a merge. The refusals, in this order: those of reading A, B and the merged text, then 22 and 23 for each, then 30, 31 and 32.
 pub fn judge_merge(a: &[u8], b: &[u8], m: &[u8], list_a: &[u32], list_b: &[u32]) -> Verdict
     ensures { λ r. ⌜ r ≡ verdictOf (judgingMerge (now (a .entry)) (now (b .entry)) (now (m .entry))
         (now («list_a» .entry)) (now («list_b» .entry))) ⌝ }
