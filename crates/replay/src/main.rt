@@ -1,5 +1,5 @@
-// Replays stored answers: each line of the files that its arguments name is a question with its answer, and what the library answers is
-// compared with it. One line of counts is written for each file.
+// Replays stored answers. Each line of the files that its arguments name is a question with its answer, and the library's answer is compared with it.
+// One line of counts is written for each file.
 //
 // `vectors.txt`: 373 questions to `count`, `key`, `length`, `field`, `roots`, `leaves`, `add` and `answer`, answered by a model written from
 // document 01 alone.
@@ -117,7 +117,7 @@ fn is_call(line: &[u8], asked: usize, text: &[u8], kept: &[u8], out: &mut [u32])
     }
 }
 
-// Whether a call over text and catalogue answers as the line says.
+// Whether a call on a text and its catalogue answers as the line says.
 fn is_answer(line: &[u8], asked: usize, text: &[u8]) -> bool {
     let mut kept = io::large_buffer();
     let n = replay_calls::keep(replay_cases::word(line, 2), text, &mut kept);
@@ -137,7 +137,7 @@ fn is_answer(line: &[u8], asked: usize, text: &[u8]) -> bool {
     is_call(line, asked, text, &kept[..n], &mut out)
 }
 
-// Whether a call over a text, or a binary header, alone answers as the line says.
+// Whether a call on only a text or a binary header answers as the line says.
 fn is_written(line: &[u8], asked: usize, text: &[u8]) -> bool {
     if asked == PROGRAM {
         return replay_texts::is_program(line, text);
@@ -163,7 +163,7 @@ fn is_written(line: &[u8], asked: usize, text: &[u8]) -> bool {
     }
 }
 
-// Whether the library says of a text what the crate says.
+// Whether the library says the same of a text as noodles-sam.
 fn is_sample(line: &[u8], asked: usize, text: &[u8]) -> bool {
     let mut kept = replay_answers::bytes();
     let mut out = replay_answers::bytes();
@@ -182,7 +182,7 @@ fn is_sample(line: &[u8], asked: usize, text: &[u8]) -> bool {
     }
 }
 
-// Whether the library's answer is the one that stands in the line.
+// Whether the library's answer is the one in the line.
 fn is_right(line: &[u8], asked: usize) -> bool {
     if asked == MERGED {
         return replay_merged::is_merged(line);
@@ -223,7 +223,7 @@ fn case(line: &[u8], tally: &mut [u32])
     }
 }
 
-// One line that is marked: it asks something, and its answer must be found wrong.
+// A marked line: it asks something, and its answer must be found wrong.
 fn marked_case(line: &[u8], tally: &mut [u32])
     ensures { λ _. ⌜ length (now (tally .exit)) ≡ length (now (tally .entry)) ⌝ }
 {
@@ -237,7 +237,7 @@ fn marked_case(line: &[u8], tally: &mut [u32])
     }
 }
 
-// A line of a file: a case, a marked one, or a note.
+// A line of a file: a case, a marked case, or a note.
 fn any_case(line: &[u8], tally: &mut [u32])
     ensures { λ _. ⌜ length (now (tally .exit)) ≡ length (now (tally .entry)) ⌝ }
 {
@@ -255,7 +255,7 @@ fn any_case(line: &[u8], tally: &mut [u32])
     case(line, tally);
 }
 
-// The whole lines of `input`. Answers how many bytes they are.
+// Replays the whole lines of `input`. Answers how many bytes they are.
 fn block(input: &[u8], tally: &mut [u32]) -> usize
     ensures { λ r. ⌜ (r ≤ length (now (input .entry))) × (length (now (tally .exit)) ≡ length (now (tally .entry))) ⌝ }
 {
@@ -271,8 +271,8 @@ fn block(input: &[u8], tally: &mut [u32]) -> usize
     at
 }
 
-// Replays the whole lines of the part of a file that starts at `at`, and answers how many bytes they are: 0 at the file's end. A last line
-// without LF, and a line that is longer than the space, is counted as wrong.
+// Replays the whole lines of the part of a file that starts at `at`, and answers how many bytes they are: 0 at the end of the file. A last line
+// without LF, or a line that is longer than the buffer, is counted as wrong.
 fn next_block(fd: i32, at: usize, tally: &mut [u32]) -> usize
     requires { ⌜ at < 16777216 ⌝ }
     ensures { λ r. ⌜ (r ≤ 131072) × (length (now (tally .exit)) ≡ length (now (tally .entry))) ⌝ }
@@ -290,7 +290,7 @@ fn next_block(fd: i32, at: usize, tally: &mut [u32]) -> usize
     done
 }
 
-// All lines of a file of less than 16,777,216 bytes: nothing says that a file ends, and a proved loop has to.
+// Replays all lines of a file of less than 16,777,216 bytes. Nothing guarantees that a file ends, and a proved loop has to.
 fn all_blocks(fd: i32, tally: &mut [u32])
     ensures { λ _. ⌜ length (now (tally .exit)) ≡ length (now (tally .entry)) ⌝ }
 {
@@ -304,7 +304,7 @@ fn all_blocks(fd: i32, tally: &mut [u32])
     }
 }
 
-// One file: the argument at a place names it.
+// Replays one file, which the argument at a place names.
 fn replay(place: usize) {
     let mut name = io::buffer();
     let n = os::arg(place, &mut name);
@@ -323,7 +323,7 @@ fn replay(place: usize) {
     replay_asked::print_found(&tally);
 }
 
-// Each argument is a file.
+// Replays the file that each argument names.
 fn main() {
     let count = os::arg_count();
     let mut place: usize = 1;
