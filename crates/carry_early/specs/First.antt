@@ -7,7 +7,7 @@ use Rattle.format.specs.Lines.{Piece, linesFrom}
 use Rattle.carry_early.specs.Early.{earlyOf}
 use Rattle.carry_early.specs.declared.Begin.{Begin}
 
--- where the first of some lines starts, or the end of the text where there is none
+-- where the first of some lines starts, or the end of the text if there are none
 unfoldable pub startOf : ℕ → List Piece → ℕ
 startOf end [] = end
 startOf end (p ∷ ps) = p .at

@@ -71,7 +71,7 @@ pub fn is_at(text: &[u8], at: usize, key: &[u8]) -> bool
 {
     let end = at + key.len();
     if text.len() < end {
-        return key.len() == 0; // behind the text there is but the empty key
+        return key.len() == 0; // after the text there is only the empty key
     }
     if !ends(text, end) {
         return false; // a key that goes on
@@ -83,7 +83,7 @@ pub fn is_at(text: &[u8], at: usize, key: &[u8]) -> bool
             return false;
         }
         if b < 32 {
-            return false; // a key that ended before
+            return false; // the key in the text ended before
         }
         i += 1;
     }

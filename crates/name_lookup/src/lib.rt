@@ -56,7 +56,7 @@ pub fn find_slot(text: &[u8], slots: &[u32], name: &[u8]) -> Looked
         if is_told(text, v, told, name) {
             return Looked {
                 slot: at as u32,
-                looks: (i + 1) as u32, // and no slot behind it
+                looks: (i + 1) as u32, // and no slot after it
             };
         }
         i += 1;

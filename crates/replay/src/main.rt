@@ -17,7 +17,7 @@
 // `lens.txt`: fronts of SAM files and of uncompressed BAM streams, to `text_len` and `binary_len`: answered by that model, written by samtools, and
 // corners written by hand.
 //
-// Words are parted by one space; byte strings are in hex, `-` for none. A line is a call, its text, its catalogue (`=` for the one that
+// Words are separated by one space; byte strings are in hex, `-` for none. A line is a call, its text, its catalogue (`=` for the one that
 // `read::read` gives), its other arguments, and the answer:
 //     count TEXT KEPT KIND ok COUNT
 //     key TEXT KEPT KIND ORDINAL ok OFFSET LENGTH
@@ -33,9 +33,9 @@
 //     find TEXT KEPT KIND KEY ok ORDINAL
 //     references TEXT KEPT ROOM ok COUNT ROWS
 //     check_sealed TEXT KEPT ROOM SEAL ok
-// or `refused NUMBER LINE` in place of `ok ..`. ORDINALS have four hex digits each; those of names and of USED have eight, and so have the
-// slots of INDEX, the parent and the depth of each program in ROWS, and each number of a row of references; SEATS is how many records the
-// table has; LOOKS is `-` where it is not stored. Over a text alone:
+// or `refused NUMBER LINE` in place of `ok ..`. ORDINALS have four hex digits each; those of names and of USED have eight, and so have the slots of
+// INDEX, the parent and the depth of each program in ROWS, and each number of a row of references. SEATS is how many records the table has. LOOKS is
+// `-` if it is not stored. Calls that take only a text:
 //     program TEXT BYTES
 //     tidy TEXT ROOM ok BYTES
 //     carry_on TEXT ROOM TABLE ok BYTES ROWS
@@ -45,24 +45,23 @@
 //     binary_out TEXT ROOM ok BYTES
 //     binary_in BYTES ROOM ok BYTES
 //     seal TEXT ROOM ok SEAL
-// have what the program on standard input writes, the tidy text, the tidy text of what is kept with the table of what is skipped, eight
-// digits for each number, the table of the faulty lines, the catalogue, which the check must then take, and refuse when its last byte is another,
-// the catalogue again, by
-// a work area of SLOTS numbers, which is all zeros afterwards, the binary header, the tidy text of a binary header, and the seal, by a work area
-// of ROOM bytes, which must be as tidying leaves it, and after the check of a seal too unless that is refused before 33. A line of the oracle
-// has its text first; each such text is read, tidied, and asked for its roots and leaves. Of an output that is lent every element is looked at:
-// what is not the answer must be as it was. Where the field call's answer stands no program can see: its contract says it. Over three texts and
-// two lists:
+// `program` has what the program on standard input writes, `tidy` the tidy text, `carry_on` the tidy text of what is kept and the table of what is
+// skipped, eight digits per number, `faults` the table of the faulty lines, and `read` the catalogue. The check must take that catalogue, and refuse
+// it with another last byte. `read_with` has the catalogue again, made with a work area of SLOTS numbers, which is all zeros afterwards. `binary_out`
+// has the binary header, and `binary_in` the tidy text of a binary header. `seal` has the seal, made with a work area of ROOM bytes, which must be as
+// tidying leaves it; so it must be after the check of a seal, unless that is refused before 33. A line of the oracle has its text first; each such
+// text is read, tidied, and asked for its roots and leaves. Every element of a lent output is looked at: what is not the answer must be as it was. No
+// program can see where the answer of `field` is; its contract says it. Calls that take three texts and two lists:
 //     judge_merge A B MERGED LIST_A LIST_B ok
 // or `refused NUMBER LINE ABOUT` in place of `ok`: ABOUT is `A`, `B` or `M` for the text that it is about, or `-`; each number of a list has eight
-// hex digits. Over the front of a file or of a stream:
+// hex digits. Calls that take the front of a file or of a stream:
 //     text_len BYTES ok COUNT
 //     binary_len BYTES ok whole COUNT
 //     binary_len BYTES ok more COUNT
-// or `refused 28 0`. The same must be said where as many bytes as are asked for are lent each time, with the cursor.
+// or `refused 28 0`. The answer must be the same if as many bytes as are asked for are lent each time, with the cursor.
 //
-// A line that starts with `!` holds a wrong answer, and the program must find it wrong: so it is seen that each comparison can fail. One that
-// starts with `#` is a note.
+// A line that starts with `!` holds a wrong answer, and the program must find it wrong, which shows that each comparison can fail. A line that starts
+// with `#` is a note.
 use libc::STDOUT_FILENO;
 use replay_asked::ACCEPTED;
 use replay_asked::ADDED;
