@@ -5,7 +5,7 @@ ghost use Prim.Native.Nat.{_≤_, _+_};
 ghost use lib.ListN.{length, drop};
 ghost use Rattle.catalogue_entries.specs.Entries.{kindByte, kindSize, entrySize, versionFrom, placeFrom, entryWith, entryOf};
 
-// Where a piece of the text is, in the numbers of 32 bits that a catalogue stores (`record::Stretch` is the same in the code's own sizes).
+// Where a piece of the text is. The numbers have 32 bits because a catalogue stores them so; everywhere else such a place is a `record::Stretch`.
 pub struct Place {
     pub at: u32,
     pub len: u32,

@@ -1,4 +1,4 @@
--- The index beside the loop over lines: it holds the keys of the lines of one block, and of the lines ahead it is known which one, if any,
+-- The index during the loop over lines: it holds the keys of the lines of one block, and of the lines ahead it is known which one, if any,
 -- is the first with a key of an earlier block.
 use Prim.Native.Nat.{ℕ, zero, suc, _+_, _*_, _/_, _≤_, _<_}
 use mathlib.Core.Path.{_≡_, refl, sym, ap, ap₂, subst, _∙_}

@@ -140,7 +140,7 @@ module _ (a b : ℕ) (tag : isTag a b ≡ true) where
       (first-other t (fieldNumber d) p number small (other-number d (h .0) (or-left (tagged a b d) (any (tagged a b) ds) n)) ∙ z)
       (or-right (tagged a b d) (any (tagged a b) ds) n)
 
-  -- one has it: its place is none after them
+  -- one has it: its place is not after them
   first-some : (t : List ℕ) (p : ℕ) (ds : List Field) → Each HasTag ds → length t ≡ 6448 → 0 < p → getD t number 0 ≡ 0 → any (tagged a b) ds ≡ true
       → (0 < getD (noted t p ds) number 0) × (getD (noted t p ds) number 0 < p + length (fieldsText ds))
   unfolding noted any Each number fieldLength fieldText
