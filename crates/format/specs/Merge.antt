@@ -111,7 +111,7 @@ unfoldable pub isImage : List ℕ → ProgramShape → ProgramShape → Bool
 unfolding keepsFields keepsParent
 isImage list n m = keepsFields (n .fields) (m .fields) && keepsParent list (n .parent) (m .parent)
 
--- a program for ordinals that are not valid
+-- a placeholder, which a valid ordinal never finds
 unfoldable pub noShape : ProgramShape
 noShape = record { fields = []; parent = root }
 
