@@ -30,11 +30,11 @@ spread seen (f ∷ fs) = cond (getD seen (fieldNumber f % 112) false) false (spr
 
 -- ---- two tables in one list: 3,224 first places, then 3,224 last places, 0 for a tag that does not occur
 
--- a field whose tag has the number `n` is at the offset `p`
+-- the tables after noting a field at the offset `p` whose tag has the number `n`
 unfoldable pub marked : List ℕ → ℕ → ℕ → List ℕ
 marked t n p = set (cond (eqb (getD t n 0) 0) (set t n p) t) (3224 + n) p
 
--- the fields from the offset `p` on are noted
+-- the tables after noting the fields from the offset `p` on
 unfoldable pub noted : List ℕ → ℕ → List Field → List ℕ
 unfolding marked fieldNumber fieldLength
 noted t p [] = t
