@@ -56,7 +56,7 @@ module _ (P : Field → Type 0) where
   unfolding settled Each
   each-settled fs h = each-settledOn [] fs tt h
 
--- the values alone
+-- only the values
 pub each-values : (P : Piece → Type 0) (fs : List Field) → Each (λ f. P (f .value)) fs → Each P (values fs)
 unfolding Each values
 each-values P [] h = tt

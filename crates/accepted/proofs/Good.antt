@@ -52,7 +52,7 @@ span-join (b ∷ s) = go (digit b) (span-join s)
 
 -- ---- values
 
--- the value `v` was kept as it stands
+-- the value `v` was kept as it is
 record Kept (k : Kind) (a b at : ℕ) (v : List ℕ) (f : Field) : Type 0 where
   same : f ≡ record { tag₀ = a; tag₁ = b; value = record { at = at; bytes = v } }
   value : allows k a b v ≡ true

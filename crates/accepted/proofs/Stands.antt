@@ -1,4 +1,4 @@
--- The pieces of an accepted record stand in its line.
+-- The pieces of an accepted record are in its line.
 use Prim.Native.Nat.{ℕ, zero, suc, _+_, _-_, _≤_}
 use mathlib.Core.Path.{_≡_, refl, ap, subst, _∙_}
 use mathlib.Core.Bool.{Bool}

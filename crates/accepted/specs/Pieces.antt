@@ -1,4 +1,4 @@
--- The pieces of a record, and two lists whose elements belong together one by one.
+-- The pieces of a record, and two lists whose elements belong together in pairs.
 use mathlib.Core.List.{List, [], _∷_, map}
 use Rattle.format.specs.Lines.{Piece}
 use Rattle.format.specs.Fields.{Field}
@@ -16,7 +16,7 @@ pieces (group p fs) = p ∷ values fs
 pieces (program p fs) = p ∷ values fs
 pieces (comment p) = p ∷ []
 
--- as many in the one list as in the other, and `R` holds of those at one place
+-- the lists have the same length, and `R` holds of the two elements at each place
 unfoldable pub Pairs : {A B : Type 0} → (A → B → Type 0) → List A → List B → Type 0
 Pairs R [] [] = Unit
 Pairs R [] (y ∷ ys) = ⊥

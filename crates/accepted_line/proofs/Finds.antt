@@ -1,4 +1,4 @@
--- What an accepted line of each kind holds: the fields that its head is made from, and where they stand.
+-- What an accepted line of each kind holds: the fields that its head is made from, and where they are.
 use Prim.Native.Nat.{ℕ, _+_, _-_, _≤_, _<_, _^_}
 use mathlib.Core.Path.{_≡_, refl, sym, ap, subst, _∙_}
 use mathlib.Core.Bool.{Bool, true, false, not, _&&_}
@@ -169,7 +169,7 @@ module _ (strict : Bool) (at : ℕ) (s : List ℕ) (h : isRead (line strict (rec
   pub three : 3 ≤ length s
   three = by-accepted (λ l. 3 ≤ length s) (λ r a. accepted-byte strict at s r a .0)
 
-  -- the head by the kind that the second byte tells
+  -- the head by the kind that the second byte gives
   pub held : (k : Kind) → kindBy (getD s 1 0) ≡ k → Held strict k at s (uncounted (headOf (line strict (record { at = at; bytes = s }))))
   unfolding headOf
   held k e =

@@ -1,4 +1,4 @@
--- An accepted line of fields can be walked, by its tables where a tag may stand twice.
+-- An accepted line of fields can be walked, by its tables where a tag may be repeated.
 use Prim.Native.Nat.{ℕ, _+_, _≤_}
 use mathlib.Core.Path.{_≡_, ap, _∙_}
 use mathlib.Core.Bool.{false}

@@ -1,4 +1,4 @@
--- The keys of a line: where the last value of each stands.
+-- The keys of a line: where the last value of each is.
 use Prim.Native.Nat.{ℕ}
 use mathlib.Core.Bool.{cond}
 use mathlib.Core.List.{List}
@@ -30,7 +30,7 @@ lastNumber ReadGroup fs = none
 lastNumber Program fs = none
 lastNumber Comment fs = none
 
--- the keys among fields, or else `ks`
+-- the last values of the keys among some fields, or those in `ks` where there are none
 unfoldable pub keysFrom : Kind → KeyValues → List Field → KeyValues
 unfolding orValue lastKey lastNumber
 keysFrom k ks fs = record { key = orValue (ks .key) (lastKey k fs); number = orValue (ks .number) (lastNumber k fs) }
@@ -42,6 +42,6 @@ unfoldable pub keysIn : Kind → List Field → KeyValues
 unfolding keysFrom
 keysIn k fs = keysFrom k noKeyValues fs
 
--- one key more: LN is told by its first letter
+-- with the value of one more key: the first letter of the tag is enough to recognize LN
 unfoldable pub withKey : KeyValues → ℕ → Value → KeyValues
 withKey ks a v = cond (eqb a 76) (record { key = ks .key; number = v }) (record { key = v; number = ks .number })

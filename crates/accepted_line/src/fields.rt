@@ -1,4 +1,4 @@
-// The fields of an accepted line, one after another: which stand at their tag's first place, and each tag's last value.
+// Walks over the fields of an accepted line: which field is the first with its tag, and the last value of each tag.
 ghost use mathlib.Core.Path.{_≡_};
 ghost use mathlib.Core.Bool.{true, false, _||_};
 ghost use mathlib.Core.List.{List};
@@ -12,13 +12,13 @@ ghost use Rattle.accepted_line.specs.Run.{AtField, fieldsFrom};
 ghost use Rattle.accepted_line.specs.Next.{isFirst, valueAt, keptAt, lastIn};
 ghost use Rattle.accepted_line.specs.Tables.{HasTag, spread, marked, noted, Noted, Walkable};
 
-// Where a value stands in the text.
+// Where a value is in the text.
 pub struct Value {
     pub at: usize,
     pub len: usize,
 }
 
-// Where the field ends that starts with the tab at `i`.
+// Where the field that starts with the tab at `i` ends.
 pub fn field_end(line: &[u8], i: usize) -> usize
     requires { ⌜ i < length (now line) ⌝ }
     ensures { λ r. ⌜ r ≡ i + 1 + upto 9 (drop (i + 1) (now (line .entry))) ⌝ }
@@ -37,8 +37,8 @@ pub fn value_at(at: usize, i: usize, end: usize) -> Value
     }
 }
 
-// Whether the tags of the accepted line at the offset `at` take different marks of 112: then none stands twice. So few are soon cleared, and no
-// two tags that the SAM specification has for one kind share a mark.
+// Whether the tags of the accepted line at the offset `at` have different marks out of 112. If they do, no tag is repeated. So few marks are quickly
+// cleared, and no two tags that the SAM specification has for one kind share a mark.
 fn is_spread(line: &[u8], at: usize) -> bool
     requires { ⌜ AtField false at (now line) 3 ⌝ }
     requires { ⌜ at + length (now line) ≤ 4294967295 ⌝ }
@@ -58,7 +58,7 @@ fn is_spread(line: &[u8], at: usize) -> bool
     true
 }
 
-// Whether it is known that no tag stands twice in the accepted line at the offset `at`: where it is not forbidden, the line may tell.
+// Whether the accepted line at the offset `at` is known to repeat no tag: because that is forbidden, or because its tags have different marks.
 pub fn is_once(line: &[u8], at: usize, strict: bool) -> bool
     requires { ⌜ AtField strict at (now line) 3 ⌝ }
     requires { ⌜ at + length (now line) ≤ 4294967295 ⌝ }
@@ -70,7 +70,7 @@ pub fn is_once(line: &[u8], at: usize, strict: bool) -> bool
     is_spread(line, at)
 }
 
-// Notes that a field whose tag has the number `n` stands at the offset `place`.
+// Notes that a field whose tag has the number `n` is at the offset `place`.
 fn mark(tables: &mut [u32], n: usize, place: u32)
     requires { ⌜ (n < 3224) × (length (now tables) ≡ 6448) ⌝ }
     ensures { λ _. ⌜ now (tables .exit) ≡ marked (now (tables .entry)) n place ⌝ }
@@ -81,7 +81,7 @@ fn mark(tables: &mut [u32], n: usize, place: u32)
     tables[3224 + n] = place;
 }
 
-// Notes the tags of an accepted line at the offset `at`: where each stands first, and last.
+// Notes where each tag of the accepted line at the offset `at` occurs first and last.
 pub fn note_tags(line: &[u8], at: usize, tables: &mut [u32])
     requires { ⌜ AtField false at (now line) 3 ⌝ }
     requires { ⌜ Each HasTag (fieldsFrom at (now line) 3) ⌝ }
@@ -101,7 +101,7 @@ pub fn note_tags(line: &[u8], at: usize, tables: &mut [u32])
     }
 }
 
-// The last value with the tag `a`, `b`, from the tables of the line.
+// The last value of the tag `a`, `b`, from the tables of the line.
 fn noted_value(line: &[u8], at: usize, a: u8, b: u8, tables: &[u32]) -> Value
     requires { ⌜ AtField false at (now line) 3 ⌝ }
     requires { ⌜ Noted at (now line) (now tables) ⌝ }
@@ -152,7 +152,7 @@ pub fn kept_value(line: &[u8], at: usize, i: usize, end: usize, tables: &[u32]) 
     noted_value(line, at, line[i + 1], line[i + 2], tables)
 }
 
-// The first value with the tag `a`, `b` in a line in which no tag stands twice.
+// The first value of the tag `a`, `b` in a line that repeats no tag.
 fn only_value(line: &[u8], at: usize, a: u8, b: u8) -> Value
     requires { ⌜ AtField true at (now line) 3 ⌝ }
     requires { ⌜ at + length (now line) ≤ 4294967295 ⌝ }

@@ -1,4 +1,4 @@
-// The head of an accepted line: its kind, its key and its number, by where their values stand. Nothing is judged again.
+// The head of an accepted line: its kind, its key and its number, found from where their values are. Nothing is judged again.
 pub mod fields;
 pub mod tag_number;
 
@@ -22,14 +22,14 @@ ghost use Rattle.accepted_line.specs.Found.{kindBy, isComment, uncounted
 ghost use Rattle.accepted_line.specs.Keys.{noKeyValues, withKey, keysIn};
 ghost use Rattle.accepted_line.specs.Form.{LineOf, IsForm, formOf};
 
-// The form of an accepted line: a comment, or fields in which no tag stands twice, or in which one may.
+// The form of an accepted line: a comment, fields that repeat no tag, or fields that may repeat one.
 pub enum Form {
     Comment,
     Once(Kind),
     Repeating(Kind),
 }
 
-// Where the last values of a line's keys stand: VN, SN or ID, and LN of SQ.
+// Where the last values of a line's keys are: VN, SN or ID, and LN of SQ.
 pub struct KeyValues {
     pub key: Value,
     pub number: Value,
@@ -45,7 +45,7 @@ impl KeyValues {
         }
     }
 
-    // With the value of a key whose tag starts with `a`: that of LN alone starts with L.
+    // With the value of a key whose tag starts with `a`. Of the keys, only LN starts with L.
     pub fn with(self, a: u8, v: Value) -> KeyValues
         ensures { λ r. ⌜ r ≡ withKey self a v ⌝ }
     {
@@ -73,7 +73,7 @@ impl KeyValues {
     }
 }
 
-// The kind of an accepted line: its second byte tells it.
+// The kind of an accepted line, from its second byte.
 pub fn kind_of(src: &[u8]) -> Kind
     requires { ⌜ 3 ≤ length (now src) ⌝ }
     ensures { λ r. ⌜ r ≡ kindBy (getD (now (src .entry)) 1 0) ⌝ }
@@ -152,8 +152,7 @@ pub fn find_keys(kind: Kind, src: &[u8], at: usize, tables: &[u32]) -> KeyValues
     }
 }
 
-// The head of an accepted HD: the version that its VN spells. It spells one, since the line is accepted; the arm for the other case is there because a
-// `match` has one for each.
+// The head of an accepted HD: the version in its VN. An accepted line has one; the other arm is there because a `match` needs an arm for every case.
 fn header_of(src: &[u8], at: usize, version: Value) -> Head
     requires { ⌜ LineOf Header at (now src) ⌝ }
     requires { ⌜ version ≡ keysIn Header (fieldsFrom at (now src) 3) .key ⌝ }
@@ -167,8 +166,8 @@ fn header_of(src: &[u8], at: usize, version: Value) -> Head
     }
 }
 
-// The head of an accepted SQ: where its SN stands, and the number that its LN spells. It spells one, since the line is accepted; the arms for the other
-// cases are there because a `match` has one for each.
+// The head of an accepted SQ: where its SN is, and the number in its LN. An accepted line has one; the other arms are there because a `match` needs
+// an arm for every case.
 fn sequence_of(src: &[u8], at: usize, keys: KeyValues) -> Head
     requires { ⌜ LineOf ReferenceSequence at (now src) ⌝ }
     requires { ⌜ keys ≡ keysIn ReferenceSequence (fieldsFrom at (now src) 3) ⌝ }
@@ -189,7 +188,7 @@ fn sequence_of(src: &[u8], at: usize, keys: KeyValues) -> Head
     }
 }
 
-// The head of an accepted line at the offset `at` by its keys, without the number of its other fields.
+// The head of an accepted line at the offset `at`, from its keys. The number of other fields is left out.
 pub fn head_of(kind: Kind, src: &[u8], at: usize, keys: KeyValues) -> Head
     requires { ⌜ LineOf kind at (now src) ⌝ }
     requires { ⌜ keys ≡ keysIn kind (fieldsFrom at (now src) 3) ⌝ }

@@ -1,4 +1,4 @@
--- The tidy text with new programs, and why nothing is added once the leaves are known.
+-- The tidy text with new programs, and the reasons to add nothing once the leaves are known.
 use Prim.Native.Nat.{ℕ, _+_}
 use mathlib.Core.Bool.{Bool, true, false, not, cond}
 use mathlib.Core.List.{List, _++_}
@@ -25,16 +25,16 @@ use Rattle.add.specs.declared.Plan.{Plan}
 use Rattle.add.specs.declared.Planned.{Planned}
 use Rattle.add.specs.declared.Planned.the-variants as planned
 
--- the new programs stand behind the old ones, and the comments last
+-- the new programs come after the old ones, and the comments last
 unfoldable pub withAdded : List Record → List ℕ → List ℕ
 unfolding frontText textOfKind
 withAdded rs new = frontText rs ++ new ++ textOfKind Comment rs
 
--- the tidy text of `t` with new programs, after the leaves `ks` of those whose IDs stand in it at these offsets, with these lengths
+-- the tidy text of `t` with a new program after each of the leaves `ks`; the IDs of the old programs are at these offsets, with these lengths
 abbrev pub grownText : List ℕ → List ℕ → List ℕ → Shape → List ℕ → List ℕ → List ℕ → List ℕ
 grownText t ats lens shape prefix fields ks = withAdded (recordsOf t) (newText t ats lens shape prefix fields ks)
 
--- it is written, or why not: 24, 1, 20
+-- it is written, or the refusal: 24, 1, 20
 abbrev pub writingGrown : List ℕ → List ℕ → List ℕ → Shape → List ℕ → List ℕ → List ℕ → ℕ → Answer (List ℕ)
 writingGrown t ats lens shape prefix fields ks room = writing room (unwritable 0 (recordsOf t)) (grownText t ats lens shape prefix fields ks)
 
@@ -50,17 +50,17 @@ planning t ats lens shape prefix fields ks room =
     (record { sizes = sizesOf (recordsOf t); more = length (newText t ats lens shape prefix fields ks) })
     (writingGrown t ats lens shape prefix fields ks room)
 
--- is there none?
+-- is no PP given?
 unfoldable pub isNone : Option Piece → Bool
 isNone none = true
 isNone (some p) = false
 
--- the same of where a given PP stands
+-- the same, from where a given PP is
 unfoldable pub isNothing : Given → Bool
 isNothing given.Nothing = true
 isNothing (given.At at len) = false
 
--- a given PP that equals no ID
+-- a PP is given that equals no ID
 unfoldable pub stray : List (List ℕ) → Option Piece → Bool
 unfolding isAmong
 stray ids none = false
@@ -76,7 +76,7 @@ unfoldable pub crowded : List Program → List Record → ℕ
 unfolding used programs
 crowded ps new = cond (used ps (programs new)) 18 (cond (ltb 1024 (length ps + length new)) 19 0)
 
--- what adding comes to where the programs that are there are in order: 18, 19, 24, 1, 20
+-- the answer of adding if the chains of the old programs are in order: 18, 19, 24, 1, 20, or the text
 unfoldable pub addingOn : List Record → List ℕ → List Field → ℕ → Answer (List ℕ)
 unfolding then untangled crowded added programs writing unwritable tidy
 addingOn rs prefix fs room =

@@ -1,4 +1,4 @@
-// Adding programs: one after each leaf, and then the tidy text with the new programs behind the old ones.
+// Adds programs: one after each leaf, written in the tidy text after the old programs.
 use add_input::Given;
 use add_lines::Shape;
 use format::LineNo;
@@ -53,8 +53,8 @@ enum Planned {
     Is(Plan),
 }
 
-// Writes the tidy text with the new programs behind the old ones, and answers its length: the new ones go to the gap that is left
-// before the comments.
+// Writes the tidy text with the new programs after the old ones, and answers its length. The new programs go into a gap that is left before the
+// comments.
 fn put_all(
     text: &[u8],
     ats: &[u32],
@@ -95,14 +95,14 @@ fn put_all(
     n + sizes.co
 }
 
-// Whether a prefix or fields alone are longer than a text may be.
+// Whether the prefix or the fields by themselves are longer than a text may be.
 fn is_too_long(prefix: &[u8], fields: &[u8]) -> bool
     ensures { λ r. ⌜ r ≡ (ltb 16777216 (length (now (prefix .entry))) || ltb 16777216 (length (now (fields .entry)))) ⌝ }
 {
     format::LONGEST < prefix.len() || format::LONGEST < fields.len()
 }
 
-// Whether two lengths together are more than a text may have.
+// Whether two lengths together are greater than a text may have.
 fn is_over(n: usize, more: usize) -> bool
     ensures { λ r. ⌜ r ≡ ltb 16777216 (n + more) ⌝ }
 {
@@ -112,7 +112,7 @@ fn is_over(n: usize, more: usize) -> bool
     format::LONGEST - n < more
 }
 
-// Measures what is to be written for an output of `room` bytes: 24, then 1, then 20.
+// Measures what is to be written to an output of `room` bytes, or refuses with 24, then 1, then 20.
 fn measure_all(
     text: &[u8],
     ats: &[u32],
@@ -149,7 +149,7 @@ fn measure_all(
     }
 }
 
-// Writes the tidy text with the new programs, or answers why not, and then changes nothing.
+// Writes the tidy text with the new programs, or answers a refusal and changes nothing.
 fn write_added(
     text: &[u8],
     ats: &[u32],
@@ -181,7 +181,7 @@ fn write_added(
     }
 }
 
-// Whether an ID is no program's yet.
+// Whether no program has this ID yet.
 fn is_free(text: &[u8], ats: &[u32], lens: &[u32], id: &[u8]) -> bool
     requires { ⌜ PlacesInText (now text) (now ats) (now lens) ⌝ }
     ensures { λ r. ⌜ r ≡ not (isAmong (now (id .entry)) (idsAt (now (text .entry)) (now (ats .entry)) (now (lens .entry)))) ⌝ }
@@ -192,7 +192,7 @@ fn is_free(text: &[u8], ats: &[u32], lens: &[u32], id: &[u8]) -> bool
     }
 }
 
-// Whether no PP is given, so that a new program's PP is its leaf's ID.
+// Whether no PP is given, so that the PP of a new program is the ID of its leaf.
 fn is_linked(previous: Given) -> bool
     ensures { λ r. ⌜ r ≡ isNothing previous ⌝ }
 {
@@ -202,7 +202,7 @@ fn is_linked(previous: Given) -> bool
     }
 }
 
-// Whether a PP is given that equals no ID.
+// Whether a PP is given and it equals no ID.
 fn is_stray(text: &[u8], ats: &[u32], lens: &[u32], fields: &[u8], previous: Given) -> bool
     requires { ⌜ PlacesInText (now text) (now ats) (now lens) ⌝ }
     requires { ⌜ previous ≡ givenOf (lastOf 80 80 (given (now fields) .fields)) ⌝ }
@@ -214,7 +214,7 @@ fn is_stray(text: &[u8], ats: &[u32], lens: &[u32], fields: &[u8], previous: Giv
     }
 }
 
-// Which leaves' IDs are joined to the prefix: all from here on, since the first one's is the prefix alone where that is free.
+// The first leaf whose ID is joined to the prefix. If the prefix is free, it is by itself the first new ID, and joining starts at the second leaf.
 fn first_joined(count: usize, alone: bool) -> usize
     ensures { λ r. ⌜ r ≡ cond alone (min 1 count) 0 ⌝ }
 {
@@ -227,7 +227,7 @@ fn first_joined(count: usize, alone: bool) -> usize
     1
 }
 
-// How many programs are added: one after each leaf, or one where there is none.
+// How many programs are added: one after each leaf, or one if there are no programs.
 fn new_count(leaves: usize, empty: bool) -> usize
     ensures { λ r. ⌜ r ≡ cond empty 1 leaves ⌝ }
 {
@@ -237,7 +237,7 @@ fn new_count(leaves: usize, empty: bool) -> usize
     leaves
 }
 
-// What is left to do once the leaves are known: 18, 19, 24, 1, 20, and then the text.
+// What is left to do once the leaves are known: refuses with 18, 19, 24, 1 or 20, or writes the text.
 fn add_after(
     text: &[u8],
     ats: &[u32],
@@ -323,7 +323,8 @@ fn add_fresh(
     add_after(text, ats, lens, prefix, fields, leaves, known, out)
 }
 
-// Adds a program after each leaf, and writes the tidy text to the front of `out`: reading's refusals, 21, 26, 22, 23, 18, 19, 24, 1, 20.
+// Adds a program after each leaf, and writes the tidy text to the front of `out`. The refusals, in this order: those of reading, 21, 26, 22, 23, 18,
+// 19, 24, 1, 20.
 pub fn add(
     text: &[u8],
     catalogue: &[u8],

@@ -56,6 +56,6 @@ unfolding joined same
 joined-same [] a b = refl
 joined-same (x ∷ prefix) a b = rw (eq-eqb x x refl) (joined-same prefix a b)
 
--- the prefix alone is another
+-- the prefix by itself is another
 pub joined-prefix : (prefix id : List ℕ) → same (joined prefix id) prefix ≡ false
 joined-prefix prefix id = joined-other prefix id prefix (λ e. omega arith)

@@ -29,7 +29,7 @@ module _ (t ats lens : List ℕ) (p : PlacesInText t ats lens) (k : ℕ) where
       let z : getD lens k 0 ≡ getD ats k 0 + getD lens k 0 - getD ats k 0 = omega arith in
       ids-at t ats lens p k h ∙ ap (λ n. take n (drop (getD ats k 0) t)) z
 
-  -- where no bytes stand
+  -- where there are no bytes
   pub standing-none : (text : ℕ × ℕ) → length ats ≤ k → text ≡ idStanding ats k text
   unfolding idStanding
   standing-none text h = let z : text .1 ≡ getD ats k 0 + text .1 = omega (arith, List·getD-eq-default ats 0 h) in ap (λ n. (text .0, n)) z

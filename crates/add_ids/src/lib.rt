@@ -1,11 +1,11 @@
-// The IDs that adding makes: whether a program has one of them already. None is built: each is compared in its parts.
+// The IDs that adding makes, and whether a program has one of them already. They are not built: each is compared part by part.
 use format::ProgramNo;
 ghost use mathlib.Core.Path.{_≡_};
 ghost use Rattle.format.specs.Bytes.{same};
 ghost use Rattle.program_ids.specs.Places.{idsAt, PlacesInText};
 ghost use Rattle.add_ids.specs.Taken.{joined, isAmong, idIn, idStanding, taken};
 
-// Whether an ID is the prefix, `-` and another ID: the lengths first, then part by part.
+// Whether an ID is the prefix, `-` and another ID: compares the lengths first, and then part by part.
 fn is_joined(id: &[u8], prefix: &[u8], other: &[u8]) -> bool
     ensures { λ r. ⌜ r ≡ same (joined (now (prefix .entry)) (now (other .entry))) (now (id .entry)) ⌝ }
 {
@@ -27,7 +27,7 @@ fn is_joined(id: &[u8], prefix: &[u8], other: &[u8]) -> bool
     byte_slices::same(other, rest)
 }
 
-// The ID of the program with an ordinal, as a part of the text: no bytes where there is none.
+// The ID of the program with an ordinal, as a part of the text. It is empty if there is no such program.
 pub fn find_id<'a>(text: &'a [u8], ats: &[u32], lens: &[u32], program: ProgramNo) -> &'a [u8]
     requires { ⌜ PlacesInText (now text) (now ats) (now lens) ⌝ }
     ensures value { λ r. ⌜ now r ≡ idIn (idsAt (now (text .entry)) (now (ats .entry)) (now (lens .entry))) (program .0) ⌝ }
@@ -42,7 +42,7 @@ pub fn find_id<'a>(text: &'a [u8], ats: &[u32], lens: &[u32], program: ProgramNo
     &text[start..end]
 }
 
-// Whether some program's ID is the prefix, `-` and another ID: the search stops at the first.
+// Whether the ID of some program is the prefix, `-` and another ID. The search stops at the first.
 fn is_known(text: &[u8], ats: &[u32], lens: &[u32], prefix: &[u8], other: &[u8]) -> bool
     requires { ⌜ PlacesInText (now text) (now ats) (now lens) ⌝ }
     ensures { λ r. ⌜ r ≡ isAmong (joined (now (prefix .entry)) (now (other .entry))) (idsAt (now (text .entry)) (now (ats .entry)) (now (lens .entry))) ⌝ }
@@ -58,7 +58,7 @@ fn is_known(text: &[u8], ats: &[u32], lens: &[u32], prefix: &[u8], other: &[u8])
     false
 }
 
-// Whether an ID that is made of the prefix and a leaf's ID is there already.
+// Whether a program has an ID that is made of the prefix and the ID of a leaf.
 pub fn is_taken(text: &[u8], ats: &[u32], lens: &[u32], prefix: &[u8], leaves: &[u32]) -> bool
     requires { ⌜ PlacesInText (now text) (now ats) (now lens) ⌝ }
     ensures { λ r. ⌜ r ≡ taken (idsAt (now (text .entry)) (now (ats .entry)) (now (lens .entry))) (now (prefix .entry)) (now (leaves .entry)) ⌝ }

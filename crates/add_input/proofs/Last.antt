@@ -1,4 +1,4 @@
--- The last PP of given fields in form, one field after another: what holds at a place, and one turn from there.
+-- The last PP of given fields in form, one field after another: what holds at a place, and one step from there.
 use Prim.Native.Nat.{ℕ, suc, _+_, _-_, _≤_, _<_}
 use mathlib.Core.Path.{_≡_, refl, sym, ap, subst, _∙_}
 use mathlib.Core.Bool.{true, false, _&&_}

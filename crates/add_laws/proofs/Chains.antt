@@ -135,7 +135,7 @@ module _ (ls : List Link) (acyclic : loopsFrom ls 0 ls ≡ false) (below : (k : 
   abbrev grown : List Link
   grown = ls ++ map child (leaves ls)
 
-  -- the old programs, and they alone, are parents now
+  -- the old programs, and only they, are parents now
   parents-now : (x : ℕ) → named x ls || any (eqb x) (leaves ls) ≡ ltb x (length ls)
   parents-now x = ap (λ b. named x ls || b) (leaves-exactly ls x) ∙ go (named x ls) refl (ltb x (length ls)) refl
     where

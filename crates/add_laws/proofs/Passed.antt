@@ -30,7 +30,7 @@ pub record Passed (rs : List Record) (prefix : List ℕ) (s : Scan) : Type 0 whe
   pub unused : used (programs rs) (programs (added prefix (s .fields) (programs rs))) ≡ false
   pub few : length (programs rs) + length (added prefix (s .fields) (programs rs)) ≤ 1024
 
--- of a refusal that is none
+-- a refusal that is not one
 clear : (t : Bool) (n m : ℕ) → cond t (suc n) m ≡ 0 → (t ≡ false) × (m ≡ 0)
 clear true n m e = absurd (omega arith)
 clear false n m e = (refl, e)

@@ -1,4 +1,4 @@
-// New programs as lines of a tidy text.
+// The lines of new programs in a tidy text.
 use format::Kind;
 use format::ProgramNo;
 ghost use mathlib.Core.Path.{_≡_};
@@ -9,14 +9,15 @@ ghost use Rattle.program_ids.specs.Places.{PlacesInText};
 ghost use Rattle.add_lines.specs.Line.{joining, linking, ending, newLine};
 ghost use Rattle.add_lines.specs.Lines.{newText};
 
-// How new programs look: there are none yet; the first one's ID is the prefix alone; PP with the leaf's ID is added.
+// How new programs look: whether there are no programs yet, whether the first new ID is the prefix by itself, and whether a PP with the ID of the
+// leaf is added.
 pub struct Shape {
     pub empty: bool,
     pub alone: bool,
     pub linked: bool,
 }
 
-// Writes bytes, and answers the place after them.
+// Writes bytes, and returns the place after them.
 fn put_slice(out: &mut [u8], o: usize, from: &[u8]) -> usize
     requires { ⌜ o + length (now from) ≤ length (now out) ⌝ }
     ensures next { λ r. ⌜ r ≡ o + length (now (from .entry)) ⌝ }
@@ -26,7 +27,7 @@ fn put_slice(out: &mut [u8], o: usize, from: &[u8]) -> usize
     o + from.len()
 }
 
-// Writes what follows the prefix in an ID: nothing, or `-` and the leaf's ID.
+// Writes what follows the prefix in an ID: nothing, or `-` and the ID of the leaf.
 fn put_joining(out: &mut [u8], o: usize, id: &[u8], alone: bool) -> usize
     requires { ⌜ o + length (joining alone (now id)) ≤ length (now out) ⌝ }
     ensures next { λ r. ⌜ r ≡ o + length (joining alone (now (id .entry))) ⌝ }
@@ -39,7 +40,7 @@ fn put_joining(out: &mut [u8], o: usize, id: &[u8], alone: bool) -> usize
     put_slice(out, o + 1, id)
 }
 
-// Writes PP with the leaf's ID, where none is given.
+// Writes a PP with the ID of the leaf, if no PP is given.
 fn put_linking(out: &mut [u8], o: usize, id: &[u8], linked: bool) -> usize
     requires { ⌜ o + length (linking linked (now id)) ≤ length (now out) ⌝ }
     ensures next { λ r. ⌜ r ≡ o + length (linking linked (now (id .entry))) ⌝ }
@@ -51,7 +52,7 @@ fn put_linking(out: &mut [u8], o: usize, id: &[u8], linked: bool) -> usize
     o
 }
 
-// Writes what follows the ID: the given fields, PP, and the LF.
+// Writes what follows the ID: the given fields, the PP, and the LF.
 fn put_ending(out: &mut [u8], o: usize, fields: &[u8], id: &[u8], linked: bool) -> usize
     requires { ⌜ o + length (ending linked (now fields) (now id)) ≤ length (now out) ⌝ }
     ensures next { λ r. ⌜ r ≡ o + length (ending linked (now (fields .entry)) (now (id .entry))) ⌝ }
@@ -63,7 +64,7 @@ fn put_ending(out: &mut [u8], o: usize, fields: &[u8], id: &[u8], linked: bool) 
     n + 1
 }
 
-// Writes the line of a new program after the leaf `id`, and answers the place after it.
+// Writes the line of a new program after the leaf `id`, and returns the place after it.
 pub fn put_line(
     out: &mut [u8],
     o: usize,
@@ -95,7 +96,7 @@ fn joining_len(id: &[u8], alone: bool) -> usize
     1 + id.len()
 }
 
-// How many bytes PP with the leaf's ID has, where none is given.
+// How many bytes a PP with the ID of the leaf takes, if no PP is given.
 fn linking_len(id: &[u8], linked: bool) -> usize
     requires { ⌜ length (now id) ≤ 16777216 ⌝ }
     ensures { λ r. ⌜ r ≡ length (linking linked (now (id .entry))) ⌝ }
@@ -106,7 +107,7 @@ fn linking_len(id: &[u8], linked: bool) -> usize
     0
 }
 
-// How many bytes the line of a new program has.
+// How many bytes the line of a new program takes.
 pub fn line_len(prefix: &[u8], fields: &[u8], id: &[u8], alone: bool, linked: bool) -> usize
     requires { ⌜ (length (now prefix) ≤ 16777216) × (length (now fields) ≤ 16777216) × (length (now id) ≤ 16777216) ⌝ }
     ensures { λ r. ⌜ r ≡ length (newLine alone linked (now (prefix .entry)) (now (fields .entry)) (now (id .entry))) ⌝ }
@@ -116,8 +117,8 @@ pub fn line_len(prefix: &[u8], fields: &[u8], id: &[u8], alone: bool, linked: bo
     8 + prefix.len() + fields.len() + joined + previous
 }
 
-// How many bytes the new programs have: one line after each leaf. With no programs there is one, whose ID is the prefix and to
-// which no PP is added.
+// How many bytes the new programs take: one line after each leaf. If there are no programs, one is added, whose ID is the prefix and which gets no
+// PP.
 pub fn added_len(
     text: &[u8],
     ats: &[u32],
@@ -148,7 +149,7 @@ pub fn added_len(
     n
 }
 
-// Writes the new programs, and answers the place after them.
+// Writes the new programs, and returns the place after them.
 pub fn put_added(
     out: &mut [u8],
     o: usize,

@@ -1,4 +1,4 @@
-// Reading a binary header in: the tidy text of its text, if its reference list is that text's SQ list.
+// Reads a binary header: answers the tidy text of its text, if its reference list is that text's SQ list.
 use format::LineNo;
 use read::CountAnswer;
 use read_judge::Judged;
@@ -7,7 +7,7 @@ ghost use lib.ListN.{length};
 ghost use Rattle.format.specs.Binary.{binaryIn};
 ghost use Rattle.read.specs.Answers.{answerOf, outputOf};
 
-// Reads a binary header: the tidy text at the front of `out`, or the first refusal, which changes nothing.
+// Reads a binary header: writes the tidy text to the front of `out`, or answers the first refusal and changes nothing.
 pub fn binary_in(bytes: &[u8], out: &mut [u8]) -> CountAnswer
     ensures answer { λ r. ⌜ r ≡ answerOf (binaryIn (now (bytes .entry)) (length (now (out .entry)))) ⌝ }
     ensures wrote { λ _. ⌜ now (out .exit) ≡ outputOf (binaryIn (now (bytes .entry)) (length (now (out .entry)))) (now (out .entry)) ⌝ }

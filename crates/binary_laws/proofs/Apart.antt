@@ -61,7 +61,7 @@ of-below (b ∷ s) h = omega (arith, h .0, pow-suc 256 (length s), of-below s (h
 
 -- ---- the front of some bytes
 
--- `s` starts with `front`, and `rest` is behind it
+-- `s` starts with `front`, and `rest` is after it
 record Front (s front rest : List ℕ) : Type 0 where
   whole : s ≡ front ++ rest
   behind : AllBytes rest

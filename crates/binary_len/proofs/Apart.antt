@@ -43,7 +43,7 @@ is-or-not m n = go (eqb m n) refl
     go true q = inl (eqb-true m n q)
     go false q = inr (eqb-false m n q)
 
--- ---- what is left behind what was taken
+-- ---- what is left after what was taken
 
 unfoldable rest : {A : Type 0} → Option (A × List ℕ) → Option (List ℕ)
 rest none = none

@@ -1,4 +1,4 @@
--- More bytes behind those that are there: a length and a refusal stay, and a part that was cut ends no earlier.
+-- More bytes after those that are there: a length and a refusal stay, and a part that was cut ends no earlier.
 use Prim.Native.Nat.{ℕ, zero, suc, _+_, _-_, _≤_, _<_}
 use mathlib.Core.Path.{_≡_, refl, sym, ap, _∙_}
 use mathlib.Core.Bool.{Bool, true, false, _&&_, cond, false≢true}
@@ -66,7 +66,7 @@ start-none : (s : List ℕ) → starts magic s ≡ false → starts s magic ≡ 
 unfolding start
 start-none s e f = rw (e, f) refl
 
--- ---- the parts behind the count, behind the text's length and behind the start
+-- ---- the parts after the count, after the text's length and after the start
 
 counted : List ℕ → ℕ → BinaryLen
 counted s end = onward (part s (end + 4)) (λ list. referencesAt s list (numberAt s end))

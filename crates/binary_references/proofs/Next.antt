@@ -61,12 +61,12 @@ pub sq-all : (strict : Bool) (t : List ℕ) (rs : List Record) → readText t �
 unfolding lines
 sq-all strict t rs e s = pairs-list strict (lines t) rs (lines-by strict t rs e s)
 
--- behind the last line there is none
+-- there is no line after the last
 pub sq-none : (strict : Bool) (t : List ℕ) (at : ℕ) → length t ≤ at → sqFrom strict t at ≡ []
 unfolding lineReferences
 sq-none strict t at h = ap (λ s. lineReferences strict (linesFrom at s)) (drop-of-length-le t h) ∙ ap (lineReferences strict) (lines-none at)
 
--- and none is told
+-- and none is answered
 pub next-none : (strict : Bool) (t : List ℕ) (at : ℕ) → at ≤ length t → length t ≤ at → nextFrom strict t at ≡ record { found = false; name = record { at = 0; len = 0 }; length = 0; next = at }
 unfolding nextIn
 next-none strict t at h k =
@@ -124,7 +124,7 @@ turn strict t at h c f =
 
 -- ---- by the line's head
 
--- an SQ: its name stands in the text, its LN is small, and its reference comes first
+-- an SQ: its name is in the text, its LN is small, and its reference comes first
 pub record IsSq (t : List ℕ) (q : Stretch) (n : ℕ) (l : Line) : Type 0 where
   pub inside : q .at + q .len ≤ length t
   pub small : n < 2147483648
@@ -211,10 +211,10 @@ sq-never strict p h = go (records.line strict p) refl
     go (refusedLine n) e = record { list = λ rest. refl; next = λ k rest. refl }
     go (read r) e = no-sq (p .bytes) r (second-byte strict (p .at) (p .bytes) r (line-accepted strict p r e)) h
 
--- ---- by what the next reference tells
+-- ---- by what the next reference is
 
 module _ (strict : Bool) (t : List ℕ) (r : NextReference) where
-  -- it is found: it comes before those behind it
+  -- it is found: it comes before those after it
   pub told-one : r .found ≡ true → toldList strict t r ≡ toldReference t r ∷ sqFrom strict t (r .next)
   unfolding toldList
   told-one e = ap (λ b. cond b (toldReference t r ∷ sqFrom strict t (r .next)) []) e

@@ -1,4 +1,4 @@
--- One turn of the comparison: a reference of the binary header and the next SQ of the text.
+-- One step of the comparison: a reference of the binary header and the next SQ of the text.
 use Prim.Native.Nat.{ℕ, _-_, _<_}
 use mathlib.Core.Path.{_≡_, refl, sym, ap, _∙_}
 use mathlib.Core.Bool.{Bool, true, false, not}

@@ -1,4 +1,4 @@
--- The line that is answered is the one on which the record stands: what is cut out of the text there reads as this record.
+-- The line in the answer is the line of the record: that line of the text reads as this record.
 use Prim.Native.Nat.{ℕ, zero, suc, _+_}
 use mathlib.Core.Path.{_≡_, refl, sym, ap, _∙_}
 use mathlib.Core.Bool.{Bool, true, false, cond}
@@ -40,7 +40,7 @@ record From (strict : Bool) (ps : List Piece) (qs : List Record) (i l m : ℕ) :
   pub stands : getElem? ps ahead ≡ some cut
   pub reads : line strict cut ≡ read here
 
--- one line more in front
+-- one more line in front
 further : (strict : Bool) (p : Piece) (ps : List Piece) (qs rs : List Record) (i j l m : ℕ) → getElem? rs i ≡ getElem? qs j → From strict ps qs j (l + 1) m → From strict (p ∷ ps) rs i l m
 further strict p ps qs rs i j l m q x = record {
   ahead = suc (x .ahead);

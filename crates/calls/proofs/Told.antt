@@ -43,7 +43,7 @@ unfolding there
 there-some none x e = absurd (never cc)
 there-some (some y) x e = let z : y ≡ x = cc in ap some z
 
--- it is a piece, and that is where it stands
+-- it is a piece, and that is where it is
 pub record Piece-at (o : Option Piece) (q : Place) : Type 0 where
   pub piece : Piece
   pub is : o ≡ some piece
@@ -194,7 +194,7 @@ module _ (t c : List ℕ) (own : Current t c) where
         let s : Piece-at value q = found-some value q (value-told ∙ e) in
         ap valuePlaceOf (values ∙ ap there (s .is)) ∙ ap (λ (p : Place). place.At (p .at) (p .len)) (s .place)
 
--- ---- what is answered stands in a text that is not too long, whatever the text and the catalogue are
+-- ---- what is answered is in a text that is not too long, whatever the text and the catalogue are
 
 module _ (t c : List ℕ) (k i : ℕ) where
   pub key-short : (p : Piece) → keying t c k i ≡ yes p → p .at + length (p .bytes) ≤ 16777216
@@ -205,7 +205,7 @@ module _ (t c : List ℕ) (k i : ℕ) where
       omega (arith, s .within, text-fits t (recordsOf t) (own .reads))
 
 module _ (t c : List ℕ) (k i a b : ℕ) where
-  -- a value that is answered stands in the text
+  -- a value that is answered is in the text
   pub value-stands : (p : Piece) → valuing t c k i a b ≡ yes p → Stands t 0 p
   unfolding valuing
   value-stands p e =
@@ -230,7 +230,7 @@ module _ (t c : List ℕ) (k i a b : ℕ) where
           let y : length (p .bytes) ≡ len = cc in
           omega (arith, x, y, value-stands p is .within)
 
-  -- ---- the bytes that a lookup answers with, and where they stand
+  -- ---- the bytes that a lookup answers with, and where they are
 
   module _ (stand : List ℕ) (at-text at-stand : ℕ × ℕ) where
     pub stood : valuePlaceOf (valuing t c k i a b) ≡ place.StandIn

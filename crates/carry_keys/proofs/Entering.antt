@@ -1,4 +1,4 @@
--- The slots after the keys of some lines entered: each key is told by the first of the lines that has it.
+-- The slots after the keys of some lines entered: each key has the offset of the first of the lines that has it.
 use Prim.Native.Nat.{ℕ, zero, suc, _+_, _-_, _≤_, _<_}
 use mathlib.Core.Path.{_≡_, refl, sym, ap, ap₂, subst, _∙_}
 use mathlib.Core.Bool.{Bool, true, false, cond, false≢true}
@@ -27,7 +27,7 @@ use Rattle.carry_keys.proofs.Lines.{Sits, sits-stand, sits-ended}
 
 -- ---- the first of some values that is accepted
 
--- it is the first of these, or of those behind them
+-- it is the first of these, or of those after them
 pub pick-split : (hit : ℕ → Bool) (vs ws : List ℕ) → pick hit (vs ++ ws) ≡ cond (ltb 0 (pick hit vs)) (pick hit vs) (pick hit ws)
 unfolding pick
 pick-split hit [] ws = refl
@@ -44,9 +44,9 @@ unfolding pick
 pick-one hit zero z = absurd (z refl)
 pick-one hit (suc j) z = refl
 
--- ---- one record more
+-- ---- one more record
 
--- the slots tell the keys of some records, each by the first record that has it
+-- the slots hold the keys of some records, each with the offset of the first record that has it
 record Holds (t slots : List ℕ) (rs : List Record) : Type 0 where
   vs : List ℕ
   held : Held (start t (length slots)) slots vs

@@ -1,4 +1,4 @@
--- What the slots that are filled for a block tell: a line of the block has its key for the first time exactly if the slot that tells the
+-- What the slots that are filled for a block say: a line of the block has its key for the first time exactly if the slot that holds the
 -- key has this line's offset.
 use Prim.Native.Nat.{ℕ, zero, suc, _+_, _-_, _*_, _/_, _%_, _≤_, _<_}
 use mathlib.Core.Path.{_≡_, refl, sym, ap, ap₂, subst, _∙_}
@@ -67,7 +67,7 @@ pointed-told strict t small slots h (p ∷ ps) s k id = go (line strict p) refl 
         ∙ ap (λ w. latest (tellsKey t k id) w (keyValuesOf (readIn strict ps))) (pointing-told t slots h k id r (sits-ended strict t small p (s .0) r e) (sits-stand strict t small p (s .0) r e))
         ∙ latest-append (tellsKey t k id) (toldBy t slots k id) (valuesOf r) (keyValuesOf (readIn strict ps))
 
--- ---- the value that tells a key, among earlier ones
+-- ---- the value that holds a key, among earlier ones
 
 low-pick : (hit : ℕ → Bool) (n : ℕ) (vs : List ℕ) → Each (Low n) vs → 0 < pick hit vs → Low n (pick hit vs)
 unfolding pick Each
@@ -121,7 +121,7 @@ latest-low hit n w (suc j ∷ vs) e h l = go (hit (suc j)) l (latest-low hit n w
     go true l ih = latest-kept hit n (cond (ltb 0 w) (suc j) w) vs (e .1) (subst (λ b. Low n (cond b (suc j) w)) (sym (lt-ltb 0 w h)) (e .0))
     go false l ih = ih l
 
--- the value `v`, which is accepted, after values `xs` of its block, and others `es` of earlier lines: all of these stand before it
+-- the value `v`, which is accepted, after values `xs` of its block, and others `es` of earlier lines: all of these come before it
 module _ (hit : ℕ → Bool) (n at : ℕ) (es xs ys : List ℕ) (v : ℕ) (told : hit v ≡ true) (some : v ≡ 0 → ⊥) (place : v % 16777216 ≡ at) (far : n ≤ at)
     (e : Each (Low n) es) (x : Each (Low n) xs) where
   own : pick hit (v ∷ ys) ≡ v
@@ -238,7 +238,7 @@ module _ (strict : Bool) (t : List ℕ) (small : length t ≤ 16777216) (n from 
   slots-some : 0 < length slots
   slots-some = omega (arith, ap length slots-are, pointed-length strict t (entered strict t (replicate n 0) (xs ++ (p ∷ ys))) es, entered-some)
 
-  -- what tells a key
+  -- the value that holds a key
   told-by : (k : ℕ) (id : List ℕ) → toldBy t slots k id ≡ latest (tellsKey t k id) (pick (tellsKey t k id) (keyValuesOf (readIn strict (xs ++ (p ∷ ys))))) (keyValuesOf (readIn strict es))
   told-by k id =
       let b : Each (Sits t) (xs ++ (p ∷ ys)) =
@@ -255,7 +255,7 @@ module _ (strict : Bool) (t : List ℕ) (small : length t ≤ 16777216) (n from 
   before : Each (Sits t) (es ++ xs)
   before = each-left (Sits t) (es ++ xs) (p ∷ rest) sits
 
-  -- the keys of the lines before `p` stand before it
+  -- the keys of the lines before `p` come before it
   low : Each (Low (p .at)) (keyValuesOf (readIn strict es) ++ keyValuesOf (readIn strict xs))
   low =
       subst (Each (Low (p .at))) (ap keyValuesOf (read-append strict es xs) ∙ keys-append (readIn strict es) (readIn strict xs))
@@ -308,7 +308,7 @@ module _ (strict : Bool) (t : List ℕ) (small : length t ≤ 16777216) (n from 
       first-told r is
       ∙ ap not (told-taken t (readIn strict (es ++ xs)) (reads-ended strict t small (es ++ xs) before) (recordHead r) ∙ taken-clash t (readIn strict (es ++ xs)) r (sits-stand strict t small p sit r is))
 
--- a line of the block from `at` on is the first with its key exactly where no line before it, from `from` on, clashes with it
+-- a line of the block from `at` on is the first with its key exactly if no line before it, from `from` on, clashes with it
 module _ (strict : Bool) (t : List ℕ) (n from at : ℕ) (es xs ys : List Piece) (p : Piece)
     (split : linesFrom from (drop from t) ≡ es ++ linesFrom at (drop at t))
     (block : keyedFront strict (n / 4 * 3) (linesFrom at (drop at t)) ≡ xs ++ (p ∷ ys)) where

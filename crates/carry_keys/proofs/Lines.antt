@@ -1,4 +1,4 @@
--- Where the lines of a text and their keys stand: the key of a line stands before every later line.
+-- Where the lines of a text and their keys are: the key of a line comes before every later line.
 use Prim.Native.Nat.{ℕ, zero, suc, _+_, _%_, _≤_, _<_}
 use mathlib.Core.Path.{_≡_, refl, sym, ap, subst, _∙_}
 use mathlib.Core.Bool.{Bool, true, false, cond, false≢true}
@@ -91,7 +91,7 @@ reads-ended strict t small (q ∷ qs) s = go (line strict q) refl (reads-ended s
 unfoldable pub Before : ℕ → Piece → Type 0
 Before n q = (q .at < n) × (q .at + length (q .bytes) ≤ n)
 
--- a line that others stand before
+-- a line that others come before
 pub lines-before : (t : List ℕ) (from : ℕ) (qs : List Piece) (p : Piece) (ps : List Piece) → linesFrom from (drop from t) ≡ qs ++ (p ∷ ps) → Each (Before (p .at)) qs
 unfolding Each Before
 lines-before t from [] p ps e = tt

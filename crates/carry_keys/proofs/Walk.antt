@@ -20,7 +20,7 @@ use Rattle.key_index.specs.Keyed.{KeyInText}
 use Rattle.key_index.proofs.HeldKeys.{head-placed}
 use Rattle.carry_keys.specs.Blocks.{headKeys, keyedFront, keyedBehind, startOf, afterKeyed, earlier, entered, pointedBack}
 
--- the key of the line at an offset stands in the text
+-- the key of the line at an offset is in the text
 pub placed-at : (strict : Bool) (t : List ℕ) (at : ℕ) → length t ≤ 16777216 → at < length t → KeyInText (length t) (headOf (line strict (firstAt at t)))
 placed-at strict t at small h = head-placed strict t at small (ahead-stands t at h)
 
@@ -110,7 +110,7 @@ module _ (t : List ℕ) (at : ℕ) (strict : Bool) where
         ap (λ l. entered strict t slots (keyedFront strict m l)) (ahead-one t at h) ∙ ap (entered strict t slots) (front-one strict (firstAt at t) (linesFrom next (drop next t)) m k p e)
 
 module _ (strict : Bool) (t : List ℕ) where
-  -- the lines behind the block are those from the offset after it on
+  -- the lines after the block are those from the offset after it on
   abbrev Behind : ℕ → ℕ → Type 0
   Behind m at = keyedBehind strict m (linesFrom at (drop at t)) ≡ linesFrom (afterKeyed strict m at t) (drop (afterKeyed strict m at t) t)
 

@@ -1,5 +1,5 @@
-// Where the keys of a block of lines stood first: each key of the block is told by the offset of its first line there, or by one before
-// the block, where a line before it has the key too.
+// Finds where each key of a block of lines occurs first. The slots hold one offset for each key of the block: that of its first line in the block, or
+// of an earlier line if the key occurs before the block.
 use record::Head;
 ghost use mathlib.Core.Path.{_≡_};
 ghost use Prim.Native.Nat.{_≤_, _<_, _+_, _*_, _/_};
@@ -10,13 +10,13 @@ ghost use Rattle.accepted.specs.First.{firstAt};
 ghost use Rattle.record.specs.Head.{headOf};
 ghost use Rattle.carry_keys.specs.Blocks.{headKeys, afterKeyed, enteredFrom, pointedFrom, filledFor};
 
-// A line's head, and the offset of the line after it.
+// The head of a line, and the offset of the line after it.
 struct Parsed {
     head: Head,
     next: usize,
 }
 
-// The line at the offset `at`, parsed.
+// Parses the line at the offset `at`.
 fn parse_at(text: &[u8], strict: bool, at: usize) -> Parsed
     requires { ⌜ length (now text) ≤ 16777216 ⌝ }
     requires { ⌜ at < length (now text) ⌝ }
@@ -32,7 +32,7 @@ fn parse_at(text: &[u8], strict: bool, at: usize) -> Parsed
     }
 }
 
-// How many keys a head has that may enter: one, or none.
+// How many keys a head puts into the index: one or none.
 fn keys_in(head: Head) -> usize
     ensures { λ r. ⌜ r ≡ headKeys head ⌝ }
 {
@@ -46,8 +46,8 @@ fn keys_in(head: Head) -> usize
     }
 }
 
-// The keys of the lines from the offset `at` on, up to the one with the `many`-th key, enter the area, of equal ones the first; the offset
-// after these lines.
+// Puts the keys of the lines from the offset `at` on into the area, up to the line with the `many`-th key. Of equal keys only the first is put in.
+// Returns the offset after these lines.
 fn enter(text: &[u8], strict: bool, area: &mut [u32], at: usize, many: usize) -> usize
     requires { ⌜ length (now text) ≤ 16777216 ⌝ }
     requires { ⌜ 0 < length (now area) ⌝ }
@@ -70,7 +70,7 @@ fn enter(text: &[u8], strict: bool, area: &mut [u32], at: usize, many: usize) ->
     end
 }
 
-// The lines that start from the offset `from` on and before `to`: a slot that tells the key of one tells it by that line's offset from now on.
+// Goes through the lines that start at `from` or later and before `to`. A slot that holds the key of such a line gets the offset of that line.
 fn point_back(text: &[u8], strict: bool, area: &mut [u32], from: usize, to: usize)
     requires { ⌜ length (now text) ≤ 16777216 ⌝ }
     requires { ⌜ 0 < length (now area) ⌝ }
@@ -86,8 +86,8 @@ fn point_back(text: &[u8], strict: bool, area: &mut [u32], from: usize, to: usiz
     }
 }
 
-// Fills the area for the block of lines from the offset `at` on, three with a key for each four slots, after the lines from `from` on:
-// whether a line of the block has its key for the first time is told by `key_index::is_first` from now on. The offset after the block.
+// Fills the area for the block of lines that starts at the offset `at`; the lines before it start at `from`. A block has three lines with a key for
+// every four slots. Afterwards `key_index::is_first` says whether a line of the block is the first with its key. Returns the offset after the block.
 pub fn fill(text: &[u8], strict: bool, area: &mut [u32], from: usize, at: usize) -> usize
     requires { ⌜ length (now text) ≤ 16777216 ⌝ }
     requires { ⌜ 0 < length (now area) ⌝ }

@@ -1,4 +1,4 @@
--- Carrying on is what is demanded of it.
+-- Carrying on satisfies its laws.
 use Prim.Native.Nat.{ℕ, _≤_}
 use mathlib.Core.Path.{_≡_, refl, sym, ap, _∙_}
 use mathlib.Core.Bool.{Bool, true, false}

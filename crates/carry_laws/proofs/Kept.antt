@@ -50,7 +50,7 @@ carried-gathered t = record { from = carried-from none [] (lines t); unbarred = 
 
 -- ---- reference names
 
--- where all that is kept can be written, so can the records alone
+-- if all that is kept can be written, so can the records by themselves
 pub kept-names : (l m : ℕ) (ls : List Line) → unwritableLine l ls ≡ none → unwritable m (keptOf ls) ≡ none
 unfolding unwritableLine unwritable keptOf
 kept-names l m [] h = refl

@@ -1,4 +1,4 @@
--- The slots of the programs that are kept: what they tell of a line's ID, and what they hold after the line.
+-- The slots of the programs that are kept: what they say of a line's ID, and what they hold after the line.
 use Prim.Native.Nat.{ℕ, _+_, _≤_, _<_}
 use mathlib.Core.Path.{_≡_, refl, sym, ap, subst, _∙_}
 use mathlib.Core.Bool.{Bool, true, false, _&&_, _||_, cond}

@@ -1,4 +1,4 @@
--- Where judging stands after a line, and at the beginning of a block: by what is tested.
+-- The cursor after a line and at the beginning of a block, for each outcome of the tests.
 use Prim.Native.Nat.{ℕ, zero, suc, _+_, _*_, _/_}
 use mathlib.Core.Path.{_≡_, refl, ap, _∙_}
 use mathlib.Core.Bool.{Bool, true, cond}

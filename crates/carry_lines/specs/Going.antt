@@ -1,4 +1,4 @@
--- What holds where judging stands, among the lines from the offset `from` on.
+-- What holds of the cursor, among the lines from the offset `from` on.
 use Prim.Native.Nat.{ℕ, _*_, _/_, _≤_}
 use mathlib.Core.Path.{_≡_}
 use mathlib.Core.Bool.{Bool}
@@ -18,7 +18,7 @@ use Rattle.key_index.specs.HeldKeys.{keyValuesOf}
 use Rattle.carry_keys.specs.Blocks.{keyedFront, filledFor}
 use Rattle.carry_lines.specs.declared.Cursor.{Cursor}
 
--- the lines from an offset on, each judged
+-- the verdict on each line from an offset on
 unfoldable pub judgedLines : Bool → List ℕ → ℕ → List Line
 unfolding judgedFrom linesFrom
 judgedLines strict t from = judgedFrom strict [] (linesFrom from (drop from t))
@@ -34,8 +34,8 @@ unfoldable pub refusalAt : ℕ → List Line → ℕ
 unfolding refusalFirst
 refusalAt n ls = refusalFirst (drop n ls)
 
--- the block: the area is filled for the lines from the offset `begin` on and before `until`, of which `done` are judged and `rest` are
--- not, after the lines `old`
+-- the block: the area is filled for the lines that start at `begin` or later and before `until`, after the lines `old`. Of the block, the lines
+-- `done` are judged and the lines `rest` are not
 pub record Block (strict : Bool) (t : List ℕ) (from : ℕ) (area : List ℕ) (passed : List Piece) (at until : ℕ) : Type 0 where
   pub begin : ℕ
   pub old : List Piece

@@ -1,4 +1,4 @@
--- What the slots tell of a line's key, and where judging stands after the line.
+-- What the slots say of a line's key, and the cursor after the line.
 use Prim.Native.Nat.{ℕ, zero, suc, _+_, _*_, _/_}
 use mathlib.Core.Bool.{Bool, not, cond}
 use mathlib.Core.List.{List}
@@ -18,7 +18,8 @@ use Rattle.carry_lines.specs.declared.Cursor.{Cursor}
 abbrev pub headAt : Bool → List ℕ → ℕ → Head
 headAt strict t at = headOf (line strict (firstAt at t))
 
--- is a head's key used? Programs that are kept are in the slots `ids`; the slots `area` tell where other keys stood first
+-- does an earlier kept line have the key of a head? The IDs of kept programs are in the slots `ids`; the slots `area` say where other keys occur
+-- first
 unfoldable pub usedBy : List ℕ → List ℕ → List ℕ → Head → Bool
 unfolding isMet isFirstKey
 usedBy t area ids (head.Refused n) = not (isFirstKey t area (head.Refused n))
@@ -28,7 +29,7 @@ usedBy t area ids (head.ReadGroup p n) = not (isFirstKey t area (head.ReadGroup 
 usedBy t area ids (head.Program p n) = isMet t ids (head.Program p n)
 usedBy t area ids (head.Comment p) = not (isFirstKey t area (head.Comment p))
 
--- the slots `ids` after it
+-- the slots `ids` after that
 unfoldable pub idsAfter : Bool → List ℕ → List ℕ → Head → List ℕ
 unfolding afterMeeting
 idsAfter room t ids (head.Refused n) = ids
@@ -38,17 +39,17 @@ idsAfter room t ids (head.ReadGroup p n) = ids
 idsAfter room t ids (head.Program p n) = afterMeeting room t ids (head.Program p n)
 idsAfter room t ids (head.Comment p) = ids
 
--- where the block ends that the line at an offset is in, with `n` slots: at the end of a block the next one begins
+-- the end of the block that the line at an offset is in, with `n` slots: at the end of a block the next one begins
 unfoldable pub untilAt : Bool → List ℕ → ℕ → ℕ → ℕ → ℕ
 unfolding afterKeyed
 untilAt strict t n at until = cond (eqb at until) (afterKeyed strict (n / 4 * 3) at t) until
 
--- and the area
+-- the area after that
 unfoldable pub filledAt : Bool → List ℕ → ℕ → List ℕ → ℕ → ℕ → List ℕ
 unfolding filledFor
 filledAt strict t from area at until = cond (eqb at until) (filledFor strict t (length area) from at) area
 
--- where judging stands after a line: `n` is 0 where it is kept
+-- the cursor after a line: `n` is 0 if the line is kept
 unfoldable pub advanced : Cursor → ℕ → ℕ → Head → ℕ → Cursor
 unfolding programsOf
 advanced c next until x zero =

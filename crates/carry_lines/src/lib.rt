@@ -1,4 +1,4 @@
-// Carrying on, line by line from the first that is kept: each line is judged after the lines that were kept before it.
+// Carrying on line by line, from the first kept line on: each line is judged after the lines that were kept before it.
 use record::Head;
 ghost use mathlib.Core.Path.{_≡_};
 ghost use Prim.Native.Nat.{_≤_, _<_, _+_};
@@ -9,8 +9,8 @@ ghost use Rattle.key_index.specs.Keyed.{KeyInText};
 ghost use Rattle.carry_lines.specs.Kept.{headAt, usedBy, idsAfter, advanced, filledAt, untilAt};
 ghost use Rattle.carry_lines.specs.Going.{Going, judgedLines, refusalAt};
 
-// Where judging stands: the offset of the next line, how many lines are judged, the offset where the block ends for which the area is
-// filled, and how many lines, and programs among them, are kept. Where judging begins no block has begun, and both offsets are the same.
+// How far judging has come: the offset of the next line, the number of lines judged, the end of the block that the area is filled for, and the
+// numbers of lines and of programs that were kept. At the start there is no block yet, and both offsets are equal.
 pub struct Cursor {
     pub at: usize,
     pub line: usize,
@@ -19,14 +19,15 @@ pub struct Cursor {
     pub programs: usize,
 }
 
-// A line judged: where it ends, 0 or why it is skipped, and where judging stands after it.
+// The verdict on a line: where the line ends, 0 or the reason why it is skipped, and the cursor after it.
 pub struct Step {
     pub end: usize,
     pub refusal: u8,
     pub next: Cursor,
 }
 
-// Whether the key of a head stood in a line that was kept. Programs that are kept enter `ids`; where other keys stood first is in `area`.
+// Whether a kept line before this one has the key of this head. The IDs of kept programs are in `ids`; `area` says where every other key occurs
+// first.
 fn is_used(text: &[u8], area: &[u32], ids: &mut [u32], head: Head, programs: usize) -> bool
     requires { ⌜ length (now text) ≤ 16777216 ⌝ }
     requires { ⌜ (0 < length (now area)) × (0 < length (now ids)) ⌝ }
@@ -40,7 +41,8 @@ fn is_used(text: &[u8], area: &[u32], ids: &mut [u32], head: Head, programs: usi
     }
 }
 
-// At the end of a block, `until`, the next one begins, and the area is filled for it. The offset where the block ends that the line is in.
+// Returns the end of the block that the line at `at` is in. If the line is at the end of the last block, `until`, a new block begins, and the area is
+// filled for it.
 fn turn(text: &[u8], strict: bool, from: usize, area: &mut [u32], at: usize, until: usize) -> usize
     requires { ⌜ length (now text) ≤ 16777216 ⌝ }
     requires { ⌜ 4 ≤ length (now area) ⌝ }
@@ -54,7 +56,7 @@ fn turn(text: &[u8], strict: bool, from: usize, area: &mut [u32], at: usize, unt
     carry_keys::fill(text, strict, area, from, at)
 }
 
-// After a line with this head, which ends before `next`; `n` is 0 where it is kept.
+// The cursor after a line with this head, where the next line starts at `next`; `n` is 0 if the line is kept.
 fn advance(c: Cursor, next: usize, until: usize, head: Head, n: u8) -> Cursor
     requires { ⌜ (c .line < 16777216) × (c .kept < 16777216) × (c .programs < 16777216) ⌝ }
     ensures { λ r. ⌜ r ≡ advanced c next until head n ⌝ }
@@ -70,7 +72,7 @@ fn advance(c: Cursor, next: usize, until: usize, head: Head, n: u8) -> Cursor
     after
 }
 
-// Judges the next line of those from the offset `from` on, where the first that is kept stands.
+// Judges the next line. The first line that is kept starts at the offset `from`.
 pub fn next_line(
     text: &[u8],
     strict: bool,

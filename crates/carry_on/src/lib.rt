@@ -1,4 +1,4 @@
-// Carrying on after refused lines: they are skipped and listed in a table, and the tidy text of the rest is written.
+// Carrying on after refused lines: they are skipped and listed in a table, and the tidy text of the other lines is written.
 use carry_early::Begin;
 use carry_passes::KeptSizes;
 use format::LineNo;
@@ -20,13 +20,14 @@ ghost use Rattle.carry_passes.specs.From.{keptFrom, skippedFrom};
 ghost use Rattle.carry_passes.specs.Measured.{measuredFrom};
 ghost use Rattle.carry_on.specs.Answers.{carriedAnswer, textLeft, tableLeft};
 
-// A refusal and its line, or how many bytes are written and how many lines are skipped.
+// A refusal and its line, or how many bytes were written and how many lines were skipped.
 pub enum Carried {
     Refused(u8, LineNo),
     Written(usize, usize),
 }
 
-// Once each name can be written: 1, then 20 for a short output, then 20 for a short table; or both are written.
+// Once every name is known to be writable: answers 1 for a tidy text that is too long, then 20 for a short output, then 20 for a short table, or
+// writes both.
 fn write_kept(
     text: &[u8],
     b: Begin,
@@ -61,7 +62,7 @@ fn write_kept(
     Carried::Written(n, lines)
 }
 
-// Once the lines from the first that is kept on have been measured: 24, or as `write_kept`.
+// Once the lines from the first kept line on have been measured: answers 24, or what `write_kept` answers.
 fn write_measured(
     text: &[u8],
     b: Begin,
@@ -84,7 +85,7 @@ fn write_measured(
     }
 }
 
-// Carries on over a text that is not too long, with slots lent for the keys of a block of lines.
+// Carries on over a text that is not too long, with lent slots for the keys of a block of lines.
 fn carry_indexed(text: &[u8], area: &mut [u32], out: &mut [u8], table: &mut [u32]) -> Carried
     requires { ⌜ length (now text) ≤ 16777216 ⌝ }
     requires { ⌜ 4 ≤ length (now area) ⌝ }
@@ -97,7 +98,7 @@ fn carry_indexed(text: &[u8], area: &mut [u32], out: &mut [u8], table: &mut [u32
     write_measured(text, b, area, measured, out, table)
 }
 
-// A short text, in blocks of 384 lines with a key: little is cleared for it.
+// A short text, in blocks of 384 lines with a key. Its area is small, so little has to be cleared.
 fn carry_short(text: &[u8], out: &mut [u8], table: &mut [u32]) -> Carried
     requires { ⌜ length (now text) ≤ 16777216 ⌝ }
     ensures answer { λ r. ⌜ r ≡ carriedAnswer (now (text .entry)) (now (out .entry)) (now (table .entry)) ⌝ }
@@ -108,7 +109,7 @@ fn carry_short(text: &[u8], out: &mut [u8], table: &mut [u32]) -> Carried
     carry_indexed(text, &mut area, out, table)
 }
 
-// A text of some thousand lines, in blocks of 4,608.
+// A text of some thousands of lines, in blocks of 4,608.
 fn carry_middle(text: &[u8], out: &mut [u8], table: &mut [u32]) -> Carried
     requires { ⌜ length (now text) ≤ 16777216 ⌝ }
     ensures answer { λ r. ⌜ r ≡ carriedAnswer (now (text .entry)) (now (out .entry)) (now (table .entry)) ⌝ }
@@ -119,7 +120,7 @@ fn carry_middle(text: &[u8], out: &mut [u8], table: &mut [u32]) -> Carried
     carry_indexed(text, &mut area, out, table)
 }
 
-// A text with an area of this function's own, of 24 KiB at most. It is slow where the text has many more lines than a block takes.
+// A text with an area of this function's own, of 24 KiB at most. This is slow if the text has many more lines than a block takes.
 fn carry_small(text: &[u8], out: &mut [u8], table: &mut [u32]) -> Carried
     requires { ⌜ length (now text) ≤ 16777216 ⌝ }
     ensures answer { λ r. ⌜ r ≡ carriedAnswer (now (text .entry)) (now (out .entry)) (now (table .entry)) ⌝ }
@@ -132,9 +133,9 @@ fn carry_small(text: &[u8], out: &mut [u8], table: &mut [u32]) -> Carried
     carry_middle(text, out, table)
 }
 
-// Any text, in blocks of 147,456 lines; it is measured `more` times again before it is written. Nobody asks for more than once: a function that
-// calls itself is compiled by itself, so that its 768 KiB are on the stack only while it runs, and not in the frames of its callers. The call of
-// itself is not its last step: such a call would be compiled as a loop.
+// Any text, in blocks of 147,456 lines; it is measured `more` times again before it is written. Nobody asks for more than once. The function calls
+// itself so that it is compiled as a function of its own: its 768 KiB are on the stack only while it runs, and not in the frames of its callers. The
+// call of itself is not the last step, because the compiler would turn such a call into a loop.
 fn carry_long(text: &[u8], b: Begin, out: &mut [u8], table: &mut [u32], more: usize) -> Carried
     requires { ⌜ length (now text) ≤ 16777216 ⌝ }
     requires { ⌜ First (now text) b ⌝ }
@@ -153,8 +154,8 @@ fn carry_long(text: &[u8], b: Begin, out: &mut [u8], table: &mut [u32], more: us
     write_measured(text, b, &mut area, measured, out, table)
 }
 
-// A text that is not too long, by its length. No text has as many lines as are needed for one time more; the compiler can't know that, and it
-// would put `carry_long` in its caller's place if it could.
+// Picks the area by the length of a text that is not too long. No text is long enough to be measured twice, but the compiler can't know that; if it
+// could, it would inline `carry_long` into its caller.
 fn carry_lines(text: &[u8], out: &mut [u8], table: &mut [u32]) -> Carried
     requires { ⌜ length (now text) ≤ 16777216 ⌝ }
     ensures answer { λ r. ⌜ r ≡ carriedAnswer (now (text .entry)) (now (out .entry)) (now (table .entry)) ⌝ }

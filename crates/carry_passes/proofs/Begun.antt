@@ -1,4 +1,4 @@
--- Before the first turn nothing is judged.
+-- Before the first step nothing is judged.
 use Prim.Native.Nat.{ℕ}
 use mathlib.Core.Path.{refl, sym, subst}
 use mathlib.Core.List.{List, []}

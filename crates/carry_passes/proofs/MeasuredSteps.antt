@@ -1,4 +1,4 @@
--- What a turn of measuring adds: the names and the sizes, a line further.
+-- What a step of measuring adds: the names and the sizes, one line further.
 use Prim.Native.Nat.{ℕ, zero, suc, _+_, _≤_}
 use mathlib.Core.Path.{_≡_, refl, sym, ap, _∙_}
 use mathlib.Core.Bool.{Bool, true, false, cond}
@@ -40,7 +40,7 @@ module _ (n : ℕ) (j : Kind) (l : Line) where
       go zero h = absurd (h refl)
       go (suc n) h = refl
 
--- ---- a turn
+-- ---- a step
 
 line-names : (k : ℕ) (l : Line) (ls : List Line) → unwritableLine k (l ∷ ls) ≡ cond (lineWritable l) (unwritableLine (k + 1) ls) (some k)
 unfolding unwritableLine lineWritable

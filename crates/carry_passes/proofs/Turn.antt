@@ -1,4 +1,4 @@
--- The next line, judged after the lines that were kept before it, and the lines behind it.
+-- The next line, judged after the lines that were kept before it, and the lines after it.
 use Prim.Native.Nat.{ℕ, _+_, _-_, _≤_, _<_}
 use mathlib.Core.Path.{_≡_, sym, ap, _∙_}
 use mathlib.Core.Bool.{Bool}
@@ -24,7 +24,7 @@ use Rattle.carry_lines.specs.Going.{Going, judgedLines, refusalAt, refusalFirst
 use Rattle.carry_lines.specs.declared.Cursor.{Cursor}
 use Rattle.carry_passes.specs.Turn.{lentTo, Turn}
 
--- what stands behind the first of some lines
+-- what comes after the first of some lines
 next-of : (ls : List Line) (k : ℕ) (l : Line) (ms : List Line) → drop k ls ≡ l ∷ ms → drop k ls ≡ l ∷ drop (k + 1) ls
 next-of ls k l ms e = e ∙ ap (λ ms. l ∷ ms) (sym (ap (drop 1) e) ∙ drop-drop 1 k ls)
 
@@ -92,7 +92,7 @@ module _ (strict : Bool) (t : List ℕ) (from : ℕ) (area ids : List ℕ) (c : 
         }
 
 module _ (strict : Bool) (t : List ℕ) (from : ℕ) (area ids : List ℕ) (c : Cursor) (g : Going strict t from area ids c) where
-  -- a line more is kept, or not
+  -- one more line is kept, or not
   pub kept-next : (l : Line) → drop (c .line) (judgedLines strict t from) ≡ l ∷ drop (c .line + 1) (judgedLines strict t from) → (a i : List ℕ) (d : Cursor) → Going strict t from a i d → d .line ≡ c .line + 1
       → d .kept ≡ c .kept + length (keptOf (l ∷ []))
   kept-next l more a i d g′ e =

@@ -1,4 +1,4 @@
--- A turn of a pass over the lines from the offset `from` on: the next line, judged after the lines that were kept before it.
+-- One step of a pass over the lines from the offset `from` on: the next line, judged after the lines that were kept before it.
 use Prim.Native.Nat.{ℕ, _+_, _-_, _≤_, _<_}
 use mathlib.Core.Path.{_≡_}
 use mathlib.Core.Bool.{Bool, true}
@@ -10,11 +10,11 @@ use Rattle.accepted.specs.Read.{isRead}
 use Rattle.carry_lines.specs.Going.{judgedLines}
 use Rattle.carry_lines.specs.declared.Cursor.{Cursor}
 
--- the part of the text that a line is lent as
+-- the part of the text that is lent as a line
 abbrev pub lentTo : List ℕ → ℕ → ℕ → List ℕ
 lentTo t at end = take (end - at) (drop at t)
 
--- the line `judged` stands next, from the cursor to `end`; `n` is 0 where it is kept
+-- the line `judged` is next, from the cursor to `end`; `n` is 0 if it is kept
 pub record Turn (strict : Bool) (t : List ℕ) (from : ℕ) (c : Cursor) (end n : ℕ) : Type 0 where
   pub onward : 0 < firstLine (drop (c .at) t) .next
   pub start : c .at ≤ end

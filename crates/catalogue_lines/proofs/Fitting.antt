@@ -22,7 +22,7 @@ use Rattle.accepted.proofs.Stands.{line-stand}
 use Rattle.accepted.proofs.Sound.{line-sound}
 use Rattle.catalogue_entries.specs.Entries.{FitsPlace, FitsEntry, pieceAt, headEntry, fieldEntry}
 
--- ---- where a piece stands
+-- ---- where a piece is
 
 piece-fits : (s : List ℕ) (at : ℕ) → at + length s ≤ 16777216 → (p : Piece) → Stands s at p → FitsPlace (pieceAt p)
 unfolding pieceAt

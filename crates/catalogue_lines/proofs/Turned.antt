@@ -1,4 +1,4 @@
--- A turn of the walk over the fields of an accepted line: the entries of the other fields that are left, and the keys that are met.
+-- A step of the walk over the fields of an accepted line: the entries of the other fields that are left, and the keys that are met.
 use Prim.Native.Nat.{ℕ, _+_, _-_, _^_, _≤_, _<_}
 use mathlib.Core.Path.{_≡_, refl, sym, ap, _∙_}
 use mathlib.Core.Bool.{Bool, true, false, not, _||_}
@@ -70,7 +70,7 @@ module _ (once : Bool) (at : ℕ) (line : List ℕ) (k : Kind) (i : ℕ) (ks : K
     pub walked-past : isKey k (getD line (i + 1) 0) (getD line (i + 2) 0) ≡ false → Walked once at line k end ks
     walked-past t = record { here = next-at once at line i (w .here) l end q; keys = sym (keys-past once at line i (w .here) l end q k ks t) ∙ w .keys }
 
-    -- a key, or a tag that stands before, has no entry
+    -- a key, or a tag that comes before, has no entry
     pub same-bytes : isKey k (getD line (i + 1) 0) (getD line (i + 2) 0) || not (isFirst at line i) ≡ true → fieldBytes k at line i ≡ fieldBytes k at line end
     unfolding fieldBytes
     same-bytes t = ap tails (passed-at once at line i (w .here) l end q k t)

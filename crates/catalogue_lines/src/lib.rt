@@ -1,4 +1,4 @@
-// One line of a text in its catalogue: how many bytes its entries have, the entries written, and the entries compared.
+// One line of a text in its catalogue: measures, writes and compares its entries.
 use accepted_line::Form;
 use accepted_line::KeyValues;
 use catalogue_entries::Entry;
@@ -25,7 +25,7 @@ ghost use Rattle.catalogue_lines.specs.Line.{lineBytes};
 ghost use Rattle.catalogue_lines.specs.Parts.{ownEntry, othersOf, sizeOfHead, ownSize, fieldBytes};
 ghost use Rattle.catalogue_lines.specs.Matched.{metIn, comparedOf, matched};
 
-// Whether a catalogue has the expected bytes at a place, and then the place after them.
+// Whether a catalogue has the expected bytes at a place, and if so, the place after them.
 pub enum Matched {
     Differs,
     Upto(usize),
@@ -43,7 +43,7 @@ struct Met {
     keys: KeyValues,
 }
 
-// Whether a catalogue has those entries, and then what the walk met.
+// Whether a catalogue has those entries, and if so, what the walk found.
 enum Compared {
     Differs,
     Same(Met),
@@ -63,7 +63,7 @@ fn others_of(head: Head) -> usize
     }
 }
 
-// An entry of the kind of a record's own, with no place and no line in it: as long as the record's own.
+// An entry of the same kind as a record's own entry, with no place and no line in it. It has the same length.
 fn blank_entry(head: Head) -> Entry
     ensures { λ r. ⌜ entrySize r ≡ entrySize (ownEntry 0 head) ⌝ }
 {
@@ -78,7 +78,7 @@ fn blank_entry(head: Head) -> Entry
     }
 }
 
-// How many bytes the entries of a record have: its own, and one of a field for each of its other fields.
+// How many bytes the entries of a record take: its own entry, and one entry per other field.
 pub fn record_size(head: Head) -> usize
     requires { ⌜ othersOf head < 2 ^ 32 ⌝ }
     ensures { λ r. ⌜ r ≡ sizeOfHead head ⌝ }
@@ -129,7 +129,7 @@ fn own_size(kind: Kind) -> usize
     }
 }
 
-// The own entry of an accepted line, by its keys; its number is `number`.
+// The own entry of an accepted line, from its keys; `number` is the number of the line.
 fn line_entry(kind: Kind, src: &[u8], at: usize, number: u32, keys: KeyValues) -> Entry
     requires { ⌜ LineOf kind at (now src) ⌝ }
     requires { ⌜ keys ≡ keysIn kind (fieldsFrom at (now src) 3) ⌝ }
@@ -173,7 +173,8 @@ fn put_fields(out: &mut [u8], o: usize, kind: Kind, src: &[u8], at: usize, table
     Met { next, keys }
 }
 
-// Writes the entries of an accepted line of fields from `o` on, and gives the place after them: the own entry last, when its keys are met.
+// Writes the entries of an accepted line of fields from `o` on, and returns the place after them. The own entry is written last, once its keys are
+// found.
 fn put_line(
     out: &mut [u8],
     o: usize,
@@ -198,7 +199,8 @@ fn put_line(
     met.next
 }
 
-// Writes the entries of the accepted line `src`, the line `number`, which starts at the offset `at`, from `o` on, and gives the place after them.
+// Writes the entries of the accepted line `src` from `o` on, and returns the place after them. The line has the number `number` and starts at the
+// offset `at`.
 pub fn put_record(
     out: &mut [u8],
     o: usize,
@@ -224,7 +226,7 @@ pub fn put_record(
     }
 }
 
-// Whether the catalogue has the entries of an accepted line's other fields at `o`. The same walk meets the keys.
+// Whether the catalogue has the entries of an accepted line's other fields at `o`. The same walk finds the keys.
 fn same_fields(
     catalogue: &[u8],
     o: usize,
@@ -260,7 +262,8 @@ fn same_fields(
     Compared::Same(Met { next, keys })
 }
 
-// Whether the catalogue has the entries of an accepted line of fields at `o`, and then the place after them: the own entry last, when its keys are met.
+// Whether the catalogue has the entries of an accepted line of fields at `o`, and if so, the place after them. The own entry is compared last, once
+// its keys are found.
 fn same_line(
     catalogue: &[u8],
     o: usize,
@@ -293,7 +296,8 @@ fn same_line(
     Matched::Differs
 }
 
-// Whether the catalogue has the entries of the accepted line `src`, the line `number`, which starts at the offset `at`, at `o`, and then the place after them.
+// Whether the catalogue has the entries of the accepted line `src` at `o`, and if so, the place after them. The line has the number `number` and
+// starts at the offset `at`.
 pub fn same_record(
     catalogue: &[u8],
     o: usize,

@@ -241,7 +241,7 @@ tag-same a b f q = (
   eqb-true (f .tag₁) b (and-right (eqb (f .tag₀) a) (eqb (f .tag₁) b) q),
 )
 
--- no tag stands twice, so the first value is the last
+-- no tag is repeated, so the first value is the last
 pub value-fields : (a b : ℕ) (fs : List Field) (l : ℕ) (rs : List Record) → repeats fs ≡ false → valueIn a b (map fieldEntry fs ++ entriesOn l rs) ≡ foundOf (lastOf a b fs)
 unfolding valueIn fieldEntry lastOf later repeats foundOf
 value-fields a b [] l rs h = no-value a b l rs

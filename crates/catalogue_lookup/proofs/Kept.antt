@@ -1,4 +1,4 @@
--- What holds of the entries of an accepted text: their numbers fit, and no more than 1,024 are programs. Keys and values stand in the text.
+-- What holds of the entries of an accepted text: their numbers fit, and no more than 1,024 are programs. Keys and values are in the text.
 use Prim.Native.Nat.{ℕ, zero, suc, _+_, _^_, _≤_, _<_}
 use mathlib.Core.Path.{_≡_, refl, subst}
 use mathlib.Core.List.{List, [], _∷_, _++_, map}

@@ -1,4 +1,4 @@
--- What is found in the catalogue of an accepted text is what the calls answer: 25 where there is nothing.
+-- What is found in the catalogue of an accepted text is what the calls answer: 25 if there is nothing.
 use Prim.Native.Nat.{ℕ}
 use mathlib.Core.Path.{_≡_}
 use mathlib.Core.List.{List}
@@ -17,7 +17,7 @@ use Rattle.catalogue_lookup.specs.declared.Sized.the-variants as sized
 use Rattle.catalogue_lookup.specs.declared.Located.{Located}
 use Rattle.catalogue_lookup.specs.declared.Located.the-variants as located
 
--- ---- what each case is
+-- ---- what each case means
 
 unfoldable pub foundAnswer : Found → Answer Place
 foundAnswer Nothing = refused 25 0
@@ -33,13 +33,13 @@ locatedAnswer (located.On l) = yes (l .0)
 
 -- ---- what the calls answer
 
--- where the piece that is answered stands
+-- where the piece in an answer is
 unfoldable pub standing : Answer Piece → Answer Place
 unfolding pieceAt
 standing (refused n l) = refused n l
 standing (yes p) = yes (pieceAt p)
 
--- `c` is the catalogue of a text that is read as `rs`
+-- `c` is the catalogue of a text that reads as `rs`
 pub record CatalogueOf (rs : List Record) (c : List ℕ) : Type 0 where
   pub text : List ℕ
   pub reads : readText text ≡ accept rs

@@ -1,4 +1,4 @@
--- Whether bytes start with a byte, with a number in bytes, and with one run and another behind it.
+-- Whether bytes start with a byte, with a number in bytes, and with one run and another after it.
 use Prim.Native.Nat.{ℕ, zero, suc, _+_, _*_, _/_, _%_, _^_, _≤_, _<_}
 use mathlib.Core.Path.{_≡_, refl, sym, ap, ap₂, _∙_}
 use mathlib.Core.Bool.{Bool, true, false, _&&_}

@@ -75,7 +75,7 @@ module _ (t : List ℕ) (small : length t ≤ 16777215) where
   unskipped [] qs e = (refl, cc)
   unskipped (s ∷ ss) qs e = absurd (never cc)
 
-  -- an answer that is no refusal comes from one
+  -- an answer that is not a refusal comes from one
   then-yes : {A B : Type 0} (x : Answer A) (f : A → Answer B) (b : B) → then x f ≡ yes b → ({C : Type 0} → ((a : A) → x ≡ yes a → f a ≡ yes b → C) → C)
   unfolding then
   then-yes (refused n l) f b e g = absurd (never cc)

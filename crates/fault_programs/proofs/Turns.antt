@@ -1,4 +1,4 @@
--- A turn of the pass over the lines: a program that is kept is the next one, and its places go to the end of the arrays.
+-- A step of the pass over the lines: a program that is kept is the next one, and its places go to the end of the arrays.
 use Prim.Native.Nat.{ℕ, zero, suc, _+_, _-_, _≤_, _<_}
 use mathlib.Core.Path.{_≡_, refl, sym, ap, ap₂, subst, _∙_}
 use mathlib.Core.Bool.{Bool, true, false, cond}
@@ -83,7 +83,7 @@ unfolding oneIf
 one-le zero = omega arith
 one-le (suc n) = omega arith
 
--- of the line of a turn
+-- of the line of a step
 module _ (strict : Bool) (t : List ℕ) (from : ℕ) (c : Cursor) (end n : ℕ) (u : Turn strict t from c end n) where
   abbrev pub pieceAtTurn : Piece
   pieceAtTurn = record { at = c .at; bytes = lentTo t (c .at) end }
@@ -173,7 +173,7 @@ module _ (strict : Bool) (t : List ℕ) (from : ℕ) (area ids : List ℕ) (c : 
   pub programs-room : (d .programs ≡ c .programs → ⊥) → c .programs < 1024
   programs-room e = let p = programs-one e in omega (arith, programs-count, ap length (p .one), h .few)
 
--- the line of a turn that adds a program
+-- the line of a step that adds a program
 module _ (strict : Bool) (t : List ℕ) (from : ℕ) (c : Cursor) (end n : ℕ) (u : Turn strict t from c end n) (p : ReadProgram (u .judged)) where
   kept-turn : n ≡ 0
   kept-turn = go n refl
@@ -265,7 +265,7 @@ all-taken zero ls e = sym e
 all-taken (suc k) [] e = refl
 all-taken (suc k) (l ∷ ls) e = ap (λ ms. l ∷ ms) (all-taken k ls e)
 
--- the line of a turn stands in the text
+-- the line of a step is in the text
 pub turn-stands : (strict : Bool) (t : List ℕ) (from : ℕ) (c : Cursor) (end n : ℕ) → Turn strict t from c end n → Stands t 0 (record { at = c .at; bytes = lentTo t (c .at) end })
 turn-stands strict t from c end n u =
     let k : length (lentTo t (c .at) end) ≡ end - c .at = omega (arith, u .size, u .start) in

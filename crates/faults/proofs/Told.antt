@@ -1,4 +1,4 @@
--- The rows of the faults by where the first line that is kept stands, and the answer in the code's numbers.
+-- The rows of the faults by where the first line that is kept is, and the answer in the code's numbers.
 use Prim.Native.Nat.{ℕ, zero, suc, _+_, _*_, _/_, _≤_, _<_}
 use mathlib.Core.Path.{_≡_, refl, sym, ap, ap₂, subst, _∙_}
 use mathlib.Core.List.{List, [], _∷_, _++_, map}
@@ -159,7 +159,7 @@ module _ (t : List ℕ) (b : Begin) (f : First t b) where
     pub left-is : rows (faultsFrom (linksIn ps) (b .line) 0 (linesKeptFrom t b)) ≡ left
     left-is = ap (λ ks. rows (faultsFrom ks (b .line) 0 (linesKeptFrom t b))) same
 
-    -- two numbers for each faulty line
+    -- two numbers per faulty line
     pub all-count : (n : ℕ) → n ≡ linkCount (linksIn ps) 0 (length ps) → length (rows (faultsIn (carriedLines t))) ≡ (b .line + (k .plain + n)) * 2
     unfolding keptFrom
     all-count n e =

@@ -26,7 +26,7 @@ use Rattle.calls.proofs.Told.{there-some}
 use Rattle.format.specs.Finding.{equalsKey, keyOrdinalFrom, finding}
 use Rattle.find.proofs.Told.{finds}
 
--- ---- a key stands once among the records of its kind
+-- ---- a key occurs once among the records of its kind
 
 -- no later record of the kind has this one's key
 other-key : (r : Record) (qs : List Record) (i : ℕ) (p : Piece) (k : ℕ) → eqb (code r) k ≡ true → Each (λ q. eqb (code q) k ≡ true) qs

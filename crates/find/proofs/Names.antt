@@ -1,4 +1,4 @@
--- Where `names` answers, it answers for each name of the list what `find` answers, and 4,294,967,295 exactly where that is 25.
+-- Where `names` answers, it answers for each name of the list what `find` answers, and 4,294,967,295 exactly if that is 25.
 use Prim.Native.Nat.{ℕ, suc, _+_, _<_}
 use mathlib.Core.Path.{_≡_, refl, sym, ap, _∙_}
 use mathlib.Core.Bool.{Bool, true, false, cond}
@@ -61,7 +61,7 @@ module _ (t c : List ℕ) (own : Current t c) (x : List ℕ) where
   unfolding nameOrdinal references
   plain-finds = plain 0 x (recordsOf t) ∙ ap orAbsent (sym (finds t c own 2 x))
 
-  -- and nothing exactly where that is 25
+  -- and nothing exactly if that is 25
   pub absent-is-25 : nameOrdinal (references (recordsOf t)) x ≡ absent → finding t c 2 x ≡ refused 25 0
   unfolding orAbsent absent there
   absent-is-25 e = go (keyOrdinalFrom 0 x sq) refl

@@ -1,4 +1,4 @@
--- A turn of the search for a key: what the entries ahead say is the answer, and the bytes at an entry's place decide.
+-- A step of the search for a key: what the entries ahead say is the answer, and the bytes at an entry's place decide.
 use Prim.Native.Nat.{ℕ, suc, _+_, _≤_, _<_}
 use mathlib.Core.Path.{_≡_, refl, sym, ap, subst, _∙_}
 use mathlib.Core.Bool.{Bool, true, false, cond}

@@ -1,4 +1,4 @@
--- What looking along the slots finds of the values that entered.
+-- What a search along the slots finds of the values that entered.
 use Prim.Native.Nat.{ℕ, zero, suc, _+_, _/_, _%_, _<_}
 use mathlib.Core.Path.{_≡_, refl, sym, ap, ap₂, subst, _∙_}
 use mathlib.Core.Bool.{Bool, true, false, _&&_, cond}
@@ -89,7 +89,7 @@ module _ (t slots vs : List ℕ) (p : 0 < length slots) (g : Held (start t (leng
   pub found : seek (tellsKey t k id) (around (firstSlot (length slots) k id) slots) ≡ pick (tellsKey t k id) vs
   found = g .finds (tellsKey t k id) (firstSlot (length slots) k id) begins-lt starts
 
-  -- it is known exactly where one of them tells it
+  -- it is known exactly if one of them holds it
   pub sought-known : saysKnown (sought t slots k id) ≡ ltb 0 (pick (tellsKey t k id) vs)
   unfolding sought
   sought-known = known-seek (tellsKey t k id) (length slots) (firstSlot (length slots) k id) (around (firstSlot (length slots) k id) slots) ∙ ap (ltb 0) found

@@ -1,4 +1,4 @@
--- The slots that hold the keys of some records: a key is met exactly where one of them has it, and one more enters.
+-- The slots that hold the keys of some records: a key is met exactly if one of them has it, and one more enters.
 use Prim.Native.Nat.{ℕ, zero, suc, _+_, _-_, _*_, _/_, _≤_, _<_}
 use mathlib.Core.Path.{_≡_, refl, sym, ap, subst, _∙_}
 use mathlib.Core.Bool.{Bool, true, false, _&&_, _||_, cond, false≢true}
@@ -86,7 +86,7 @@ unfolding Each
 ended-snoc t [] r a e = (e, tt)
 ended-snoc t (q ∷ rs) r a e = (a .0, ended-snoc t rs r (a .1) e)
 
--- ---- a key that one of some values tells
+-- ---- a key that one of some values holds
 
 pub pick-append : (hit : ℕ → Bool) (vs ws : List ℕ) → ltb 0 (pick hit (vs ++ ws)) ≡ (ltb 0 (pick hit vs) || ltb 0 (pick hit ws))
 unfolding pick
@@ -147,7 +147,7 @@ told-taken t rs e (head.ReadGroup q n) = keys-have t 3 (take (q .len) (drop (q .
 told-taken t rs e (head.Program q n) = keys-have t 4 (take (q .len) (drop (q .at) t)) rs e
 told-taken t rs e (head.Comment q) = refl
 
--- ---- one record more
+-- ---- one more record
 
 after-length : (room : Bool) (v : ℕ) (slots : List ℕ) (s : Sought) → length (afterLooking room v slots s) ≡ length slots
 unfolding afterLooking
@@ -231,7 +231,7 @@ module _ (t slots vs : List ℕ) (p : 0 < length slots) (g : Held (start t (leng
   meeting-holds (program q fs) e s m = one-enters 4 (omega arith) q e (s .0) m
   meeting-holds (comment q) e s m = subst (Held (start t (length slots)) slots) (sym (append-nil vs)) g
 
--- ---- where the key of a line stands
+-- ---- where the key of a line is
 
 record-placed : (t : List ℕ) (r : Record) → Ended t r → Each (Stands t 0) (pieces r) → KeyInText (length t) (recordHead r)
 unfolding Ended KeyInText recordHead stretchOf pieces Each

@@ -1,4 +1,4 @@
--- A slot that tells a key is set to another offset of that key: it tells the key by this one from now on, and every other key is told as before.
+-- A slot that holds a key is set to another offset of that key: it then holds the key with this offset, and every other key is held as before.
 use Prim.Native.Nat.{ℕ, zero, suc, _+_, _-_, _/_, _%_, _<_}
 use mathlib.Core.Path.{_≡_, refl, sym, ap, ap₂, _∙_}
 use mathlib.Core.Bool.{Bool, true, false, _&&_, cond, false≢true}
@@ -29,7 +29,7 @@ use Rattle.key_index.specs.HeldKeys.{valuesOf}
 use Rattle.key_index.proofs.Held.{mark-kind, known-seek, value-tells}
 use Rattle.key_index.proofs.HeldKeys.{value-some}
 
--- ---- the slot at which looking for a key ends
+-- ---- the slot at which a search for a key ends
 
 slotOf : Sought → ℕ
 slotOf (Known i) = i
@@ -82,14 +82,14 @@ ends hit n at (suc k ∷ ss) i a e = go (hit (suc k)) refl e (ends hit n ((at + 
           again = λ v z y. ap (λ b. cond b (suc k) (seek hit (set ss (x .q) v))) h ∙ x .again v z y;
         }
 
--- ---- what tells a key
+-- ---- the value that holds a key
 
--- the value that tells the key `id` of kind `k`, or 0
+-- the value that holds the key `id` of kind `k`, or 0
 unfoldable pub toldBy : List ℕ → List ℕ → ℕ → List ℕ → ℕ
 unfolding tellsKey firstSlot around seek
 toldBy t slots k id = seek (tellsKey t k id) (around (firstSlot (length slots) k id) slots)
 
--- a value tells one key alone
+-- a value holds only one key
 pub tells-one : (t : List ℕ) (k j : ℕ) (id ib : List ℕ) (v : ℕ) → tellsKey t k id v ≡ true → tellsKey t j ib v ≡ true → (k ≡ j) × (id ≡ ib)
 unfolding tellsKey
 tells-one t k j id ib v e f =
@@ -99,7 +99,7 @@ tells-one t k j id ib v e f =
     let b : ib ≡ keyTold t v = same-equal ib (keyTold t v) (and-right (eqb (mark j ib) (v / 16777216)) (same ib (keyTold t v)) f) in
     (sym (mark-kind k id) ∙ ap (λ x. x / 32) (m ∙ sym n) ∙ mark-kind j ib, a ∙ sym b)
 
--- the value of a key tells it
+-- the value of a key holds it
 pub tells-own : (t : List ℕ) (k : ℕ) (id : List ℕ) (at : ℕ) → at < 16777216 → word (drop at t) ≡ id → tellsKey t k id (value (mark k id) at) ≡ true
 tells-own t k id at h e = value-tells t k id (mark k id) at h ∙ ap₂ (λ b c. b && c) (eq-eqb (mark k id) (mark k id) refl) (ap (same id) e ∙ same-self id)
 
@@ -111,7 +111,7 @@ module _ (t slots : List ℕ) (p : 0 < length slots) (k : ℕ) (id : List ℕ) w
   unfolding s firstSlot
   s-lt = mod-lt _ p
 
-  -- looking ends at a slot exactly where the key is told
+  -- a search ends at a slot exactly if the key is held
   pub known-told : saysKnown (sought t slots k id) ≡ ltb 0 (toldBy t slots k id)
   unfolding sought toldBy
   known-told = known-seek (tellsKey t k id) (length slots) (firstSlot (length slots) k id) (around (firstSlot (length slots) k id) slots)
@@ -165,7 +165,7 @@ module _ (t slots : List ℕ) (p : 0 < length slots) (j : ℕ) (ib : List ℕ) (
   v : ℕ
   v = value (mark j ib) at
 
-  -- a key that `v` tells is the one
+  -- a key that `v` holds is the one
   one : tellsKey t k id v ≡ true → (k ≡ j) × (id ≡ ib)
   unfolding v
   one e = tells-one t k j id ib v e (tells-own t j ib at small is)
@@ -173,7 +173,7 @@ module _ (t slots : List ℕ) (p : 0 < length slots) (j : ℕ) (ib : List ℕ) (
   after : ℕ
   after = cond (tellsKey t k id v && ltb 0 (toldBy t slots k id)) v (toldBy t slots k id)
 
-  -- no slot tells it
+  -- no slot holds it
   none : saysKnown (sought t slots j ib) ≡ false → toldBy t slots k id ≡ after
   unfolding after
   none e = go (tellsKey t k id v) refl
@@ -224,7 +224,7 @@ module _ (t slots : List ℕ) (p : 0 < length slots) (j : ℕ) (ib : List ℕ) (
 
 -- ---- the same of records
 
--- a value that tells a key, after others of that key took its place, one after the other
+-- a value that holds a key, after others of that key took its place, one after the other
 unfoldable pub latest : (ℕ → Bool) → ℕ → List ℕ → ℕ
 latest hit w [] = w
 latest hit w (zero ∷ vs) = latest hit w vs

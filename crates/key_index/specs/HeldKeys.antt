@@ -1,4 +1,4 @@
--- The values that tell the keys of records.
+-- The values of the slots that hold the keys of records.
 use Prim.Native.Nat.{ℕ}
 use mathlib.Core.List.{List, [], _∷_, _++_}
 use Rattle.format.specs.Records.{Record, header, reference, group, program, comment}

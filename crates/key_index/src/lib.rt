@@ -1,5 +1,5 @@
-// An exact index of the keys that stood: a slot is 0, or tells a key by its kind and its offset in the text. A key ends at the
-// first byte below 32, or with the text, so that no length is kept.
+// An exact index of the keys seen so far. A slot is 0, or holds a key: its kind and its offset in the text. A key ends before the first byte below 32
+// or at the end of the text, so no length is kept.
 use key_at::OFFSETS;
 use key_look::Sought;
 use record::Head;
@@ -11,7 +11,7 @@ ghost use Rattle.key_look.specs.Sought.{soughtAt};
 ghost use Rattle.key_index.specs.Told.{saysKnown, afterMeetingAt, isMet, afterMeeting, soughtOf, offsetOf, afterPointing, isFirstKey};
 ghost use Rattle.key_index.specs.Keyed.{KeyInText};
 
-// Whether the key of this kind at a place of the text is in the area. One that is not enters, where there is `room`.
+// Whether the area holds the key of this kind at a place of the text. If not, the key is put in where there is `room`.
 fn meet_at(text: &[u8], area: &mut [u32], kind: u8, place: Stretch, room: bool) -> bool
     requires { ⌜ length (now text) ≤ 16777216 ⌝ }
     requires { ⌜ 0 < length (now area) ⌝ }
@@ -36,7 +36,7 @@ fn meet_at(text: &[u8], area: &mut [u32], kind: u8, place: Stretch, room: bool) 
     }
 }
 
-// Whether the key of a head is in the area. One that is not enters, where there is `room`; a head without a key changes nothing.
+// Whether the area holds the key of a head. If not, the key is put in where there is `room`. A head without a key changes nothing.
 pub fn meet(text: &[u8], area: &mut [u32], head: Head, room: bool) -> bool
     requires { ⌜ length (now text) ≤ 16777216 ⌝ }
     requires { ⌜ 0 < length (now area) ⌝ }
@@ -60,7 +60,7 @@ pub fn meet(text: &[u8], area: &mut [u32], head: Head, room: bool) -> bool
     }
 }
 
-// Looks for the key of a head. No slot tells a head without a key.
+// Looks for the key of a head. No slot holds the key of a head without one.
 fn look_for(text: &[u8], area: &[u32], head: Head) -> Sought
     requires { ⌜ length (now text) ≤ 16777216 ⌝ }
     requires { ⌜ 0 < length (now area) ⌝ }
@@ -82,7 +82,7 @@ fn look_for(text: &[u8], area: &[u32], head: Head) -> Sought
     }
 }
 
-// The offset of a head's key; 0 where it has none.
+// The offset of a head's key; 0 if it has none.
 fn offset_of(head: Head) -> usize
     ensures { λ r. ⌜ r ≡ offsetOf head ⌝ }
 {
@@ -96,7 +96,7 @@ fn offset_of(head: Head) -> usize
     }
 }
 
-// The slot that tells the key of a head, if one does, tells it by the head's own offset from now on.
+// If a slot holds the key of a head, that slot gets the head's own offset.
 pub fn point(text: &[u8], area: &mut [u32], head: Head)
     requires { ⌜ length (now text) ≤ 16777216 ⌝ }
     requires { ⌜ 0 < length (now area) ⌝ }
@@ -113,7 +113,7 @@ pub fn point(text: &[u8], area: &mut [u32], head: Head)
     }
 }
 
-// Whether no slot tells the key of a head by another offset than the head's own.
+// Whether no slot holds the key of a head with an offset other than the head's own.
 pub fn is_first(text: &[u8], area: &[u32], head: Head) -> bool
     requires { ⌜ length (now text) ≤ 16777216 ⌝ }
     requires { ⌜ 0 < length (now area) ⌝ }

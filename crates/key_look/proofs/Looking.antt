@@ -1,4 +1,4 @@
--- Looking along the slots: one slot after another, and the slot at which it ends.
+-- A search along the slots: one slot after another, and the slot at which it ends.
 use Prim.Native.Nat.{ℕ, zero, suc, _+_, _%_, _≤_, _<_}
 use mathlib.Core.Path.{_≡_, refl, sym, ap, subst, _∙_}
 use mathlib.Core.Bool.{Bool, true, false, cond}

@@ -1,4 +1,4 @@
-// Looks for a key in the slots of an exact index. A slot is 0, or tells a key by its kind and its offset in the text.
+// Looks for a key in the slots of an exact index. A slot is 0, or holds a key: its kind and its offset in the text.
 pub mod hash;
 
 use key_at::OFFSETS;
@@ -12,21 +12,21 @@ ghost use Rattle.format.specs.Bytes.{same};
 ghost use Rattle.key_look.specs.Hash.{keyHash};
 ghost use Rattle.key_look.specs.Sought.{keyTold, sought, soughtAt};
 
-// How looking for a key ends: at a slot that tells it, at an empty one, or after all slots.
+// How a search for a key ends: at a slot that holds it, at an empty slot, or after all slots.
 pub enum Sought {
     Known(usize),
     Free(usize),
     Full,
 }
 
-// What a slot keeps of a key besides its place, by the key's number.
+// What a slot keeps of a key besides its place, from the key's hash.
 pub fn mark(kind: u8, number: usize) -> u32
     ensures { λ r. ⌜ r ≡ kind * 32 + number / 134217728 % 32 ⌝ }
 {
     (kind as u32) * 32 + (number / 134217728 % 32) as u32
 }
 
-// Whether a slot tells the key `id` with this mark: only where the marks are equal the text is looked at.
+// Whether a slot holds the key `id` with this mark. The text is looked at only if the marks are equal.
 fn is_told(text: &[u8], slot: u32, mark: u32, id: &[u8]) -> bool
     requires { ⌜ length (now id) ≤ 16777216 ⌝ }
     ensures { λ r. ⌜ r ≡ (eqb mark (slot / 16777216) && same (now (id .entry)) (keyTold (now (text .entry)) slot)) ⌝ }
@@ -37,7 +37,7 @@ fn is_told(text: &[u8], slot: u32, mark: u32, id: &[u8]) -> bool
     key_at::is_at(text, (slot % OFFSETS) as usize, id)
 }
 
-// The slot after `at` of `n`, round the end.
+// The slot after `at` of `n` slots; the first slot comes after the last.
 fn next(at: usize, n: usize) -> usize
     requires { ⌜ at < n ⌝ }
     ensures { λ r. ⌜ r ≡ (at + 1) % n ⌝ }
@@ -48,7 +48,7 @@ fn next(at: usize, n: usize) -> usize
     at + 1
 }
 
-// Looks for the key `id` of this kind, whose number is given: from the slot of its number on, round the end.
+// Looks for the key `id` of this kind, given its hash: starts at the slot of the hash and goes round the end.
 pub fn look(text: &[u8], area: &[u32], kind: u8, id: &[u8], number: usize) -> Sought
     requires { ⌜ length (now id) ≤ 16777216 ⌝ }
     requires { ⌜ 0 < length (now area) ⌝ }

@@ -1,4 +1,4 @@
--- A turn of the walk over a PG line: a field that is passed over, and the next of the fields that an image keeps.
+-- A step of the walk over a PG line: a field that is passed over, and the next of the fields that an image keeps.
 use Prim.Native.Nat.{ℕ, _+_, _-_, _≤_, _<_}
 use mathlib.Core.Path.{_≡_, refl, sym, ap, ap₂, _∙_}
 use mathlib.Core.Bool.{Bool, true, false, not, _&&_, _||_, cond}
@@ -51,7 +51,7 @@ module _ (once : Bool) (at : ℕ) (line : List ℕ) (i : ℕ) (h : AtField once 
   unfolding tagged
   tag-of v g = ap₂ (λ a b. eqb a 80 && eqb b 80) (g .tag-0) (g .tag-1)
 
-  -- a tag that stands before
+  -- a tag that comes before
   pub kept-later : isFirst at line i ≡ false → keptFrom at line i ≡ keptFrom at line end
   unfolding keptFrom
   kept-later f = ap (without 80 80) (passed-at once at line i h l end q Program (ap (λ t. isKey Program x y || not t) f ∙ or-true (isKey Program x y)))
@@ -89,7 +89,7 @@ module _ (once : Bool) (at : ℕ) (line : List ℕ) (i : ℕ) (h : AtField once 
       made : {a b c d : ℕ} {p q : Piece} → a ≡ b → c ≡ d → p ≡ q → _≡_ {A = Field} (record { tag₀ = a; tag₁ = c; value = p }) (record { tag₀ = b; tag₁ = d; value = q })
       made e f g = rw (e, f, g) refl
 
--- ---- by what the next field tells
+-- ---- by what the next field is
 
 module _ (at : ℕ) (line : List ℕ) (r : NextField) where
   pub told-one : r .found ≡ true → toldFields at line r ≡ toldField at line r ∷ keptFrom at line (r .next)

@@ -1,4 +1,4 @@
-// The fields of two accepted PG lines compared: all but ID and PP, each tag with its last value, in order.
+// Compares the fields of two accepted PG lines: all but ID and PP, each tag with its last value, in order.
 ghost use mathlib.Core.Path.{_≡_};
 ghost use Prim.Native.Nat.{_≤_, _+_};
 ghost use lib.ListN.{length};
@@ -9,7 +9,7 @@ ghost use Rattle.format.specs.Merge.{sameField, keepsFields};
 ghost use Rattle.program_lines.specs.Line.{FieldsOf};
 ghost use Rattle.merge_fields.specs.Kept.{isPassed, keptFrom, toldField, toldFields, NextInLine};
 
-// The next field: its tag, where its value stands in the line, and where the field after it starts; `found` is false where none is left.
+// The next field: its tag, where its value is in the line, and where the field after it starts; `found` is false if no field is left.
 struct NextField {
     found: bool,
     first: u8,
@@ -67,7 +67,7 @@ fn next_field(line: &[u8], at: usize, start: usize, tables: &[u32]) -> NextField
     }
 }
 
-// Whether two fields have one tag and one value.
+// Whether two fields have the same tag and value.
 fn same_field(a: &[u8], f: NextField, b: &[u8], g: NextField) -> bool
     requires { ⌜ f .from + f .len ≤ length (now a) ⌝ }
     requires { ⌜ g .from + g .len ≤ length (now b) ⌝ }
@@ -132,8 +132,8 @@ fn same_as_line(a: &[u8], at_a: usize, tables: &[u32], b: &[u8], at_b: usize, st
     same_walks(a, at_a, tables, b, at_b, &tables_b)
 }
 
-// Whether two accepted PG lines have the same fields in the same order, but for ID and PP. Each starts at an offset of its own text, which says
-// of repeated tags what `strict` says.
+// Whether two accepted PG lines have the same fields in the same order, apart from ID and PP. Each line is at an offset of its own text, and `strict`
+// is the rule of that text for repeated tags.
 pub fn same_fields(
     a: &[u8],
     at_a: usize,

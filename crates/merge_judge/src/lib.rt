@@ -1,5 +1,5 @@
-// Judging a merge of two headers that was made elsewhere: the headers A and B, the merged header, and for each program of A and of B its
-// ordinal in the merged header.
+// Judges a merge of two headers that another tool made: the headers A and B, the merged header, and for each program of A and of B its ordinal in the
+// merged header.
 use format::LineNo;
 use merge_joined::Rules;
 use merge_programs::Opened;
@@ -20,14 +20,15 @@ pub enum Which {
     Merged,
 }
 
-// Accepted; refused for one of the texts, with a number and a line; or refused for how they go together, with a number.
+// The merge is accepted; refused because of one of the texts, with a number and a line; or refused because the texts do not fit together, with a
+// number.
 pub enum Verdict {
     Accepted,
     Unfit(Which, u8, LineNo),
     Unmerged(u8),
 }
 
-// What each of the three accepted texts is judged by.
+// What is known of each of the three accepted texts.
 struct Texts {
     a: Opened,
     b: Opened,
@@ -168,7 +169,7 @@ fn judge_second(a: &[u8], b: &[u8], m: &[u8], rule: bool, list_a: &[u32], list_b
     }
 }
 
-// Judges a merge: reading's refusals for A, B and the merged text, then 22 and 23 for each in that order, then 30, 31 and 32.
+// Judges a merge. The refusals, in this order: those of reading A, B and the merged text, then 22 and 23 for each, then 30, 31 and 32.
 pub fn judge_merge(a: &[u8], b: &[u8], m: &[u8], list_a: &[u32], list_b: &[u32]) -> Verdict
     ensures { λ r. ⌜ r ≡ verdictOf (judgingMerge (now (a .entry)) (now (b .entry)) (now (m .entry))
         (now («list_a» .entry)) (now («list_b» .entry))) ⌝ }

@@ -1,4 +1,4 @@
--- A merge is accepted exactly if document 02's conditions hold; each number is given exactly where its condition is the first that fails.
+-- A merge is accepted exactly if document 02's conditions hold; each number is given exactly if its condition is the first that fails.
 use Prim.Native.Nat.{ℕ}
 use mathlib.Core.Path.{_≡_, refl, sym, ap, _∙_}
 use mathlib.Core.Logic.{_↔_, _⊎_, inl, inr}

@@ -1,4 +1,4 @@
--- What an accepted text is judged by.
+-- What is known of an accepted text.
 use Prim.Native.Nat.{ℕ}
 use mathlib.Core.Path.{_≡_}
 use mathlib.Core.Bool.{true}
@@ -18,7 +18,7 @@ pub record IsOpened (t : List ℕ) (o : Opened) : Type 0 where
   pub lines-are : o .lines ≡ linesOf (pgFrom t 0)
   pub parents-are : o .parents ≡ parentsOf (links (programs (recordsOf t)))
 
--- and nothing is tangled
+-- no PP dangles and there is no cycle
 pub record Untangled (t : List ℕ) (o : Opened) : Type 0 where
   pub is : IsOpened t o
   pub none : o .refusal ≡ 0

@@ -1,4 +1,5 @@
-// The programs of a merge: what an accepted text has of them, and whether they have their images in the merged text, by a list of ordinals.
+// The programs of a merge: what is known of those of an accepted text, and whether each has its image in the merged text, given by a list of
+// ordinals.
 use program_parents::Parents;
 use program_places::Places;
 ghost use mathlib.Core.Path.{_≡_};
@@ -56,7 +57,7 @@ struct Member {
     parent: u32,
 }
 
-// The program `i` of a text, by the arrays of all.
+// The program `i` of a text, from the arrays of all.
 fn member_at(
     strict: bool,
     ats: &[u32; 1024],
@@ -75,7 +76,7 @@ fn member_at(
     }
 }
 
-// Whether an image's parent is the image of the parent, or both have none.
+// Whether the parent of the image is the image of the parent, or neither has a parent.
 fn keeps_parent(list: &[u32], parent: u32, image: u32) -> bool
     requires { ⌜ (eqb parent nobody || ltb parent (length (now list))) ≡ true ⌝ }
     ensures { λ r. ⌜ r ≡ keepsParent (now (list .entry)) (linkOf parent) (linkOf image) ⌝ }
@@ -113,7 +114,7 @@ fn is_image(a: &[u8], p: Member, m: &[u8], image: Member, list: &[u32]) -> bool
     keeps_parent(list, p.parent, image.parent)
 }
 
-// Whether each program of a text has its image in the merged one: the list has an ordinal there for each, and none is too high.
+// Whether each program of a text has its image in the merged text. The list has one ordinal for each, and none is too high.
 pub fn has_images(a: &[u8], of_a: Opened, m: &[u8], of_m: Opened, list: &[u32]) -> bool
     requires { ⌜ Untangled (now a) «of_a» ⌝ }
     requires { ⌜ Untangled (now m) «of_m» ⌝ }

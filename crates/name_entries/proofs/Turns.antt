@@ -1,4 +1,4 @@
--- Walks from one SQ entry to the next: where it stands, and how many there are.
+-- Walks from one SQ entry to the next: where it is, and how many there are.
 use Prim.Native.Nat.{ℕ, suc, _+_, _≤_}
 use mathlib.Core.Path.{_≡_, refl, sym, ap, _∙_}
 use mathlib.Core.Bool.{Bool, true, false, cond}
@@ -15,9 +15,9 @@ use Rattle.catalogue_lookup.specs.Lookup.{entriesFrom, firstEntry}
 use Rattle.catalogue_lookup.proofs.Walks.{front-entry, from-entries}
 use Rattle.name_entries.specs.Next.{nextSq}
 
--- ---- where the next SQ entry stands
+-- ---- where the next SQ entry is
 
--- a turn of a walk that is at `at` and found `e` there, `len` bytes long
+-- a step of a walk that is at `at` and found `e` there, `len` bytes long
 module _ (c : List ℕ) (at len : ℕ) (e : Entry) (found : e ≡ entryOf (drop at c)) (long : len ≡ entrySize e) where
   pub next-end : len ≡ 0 → nextSq c at ≡ at
   unfolding entriesBefore sizes
@@ -53,7 +53,7 @@ next-field c at h q =
     let k : kindByte (entryOf (drop at c)) ≡ 6 = ap kindByte (field-entry c at h q) ∙ field-kind (drop (suc at) c) in
     next-on c at 11 (entryOf (drop at c)) refl (sym (ap kindSize k)) (λ z. omega (arith, z)) (λ z. omega (arith, k, z))
 
--- ---- what stands there
+-- ---- what is there
 
 -- the first SQ entry, if there is one, is of that kind
 from-none : (es : List Entry) → (kindByte (firstEntry (entriesFrom 2 0 es)) ≡ 2 → ⊥) → entriesFrom 2 0 es ≡ []

@@ -21,7 +21,7 @@ use Rattle.name_index.proofs.Indexed.{indexed, index-length}
 use Rattle.names.proofs.Recoded.{recode, none-recode, landed-recode, looks-recode, landed-holds}
 use Rattle.names.proofs.Named.{with-ordinals, code, code-tells, filled-codes, filled-seats}
 
--- no slot is the one that says that there is none
+-- no slot number is the one that means that there is none
 below-absent : (n : ℕ) → n ≤ 33554432 → n ≤ absent
 unfolding absent
 below-absent n h = omega (arith, h)

@@ -1,4 +1,4 @@
--- The names of a text's own catalogue are told by their places: each ends where the next byte is below 32.
+-- The names of a text's own catalogue are given by their places: each ends before the first byte below 32.
 use Prim.Native.Nat.{ℕ, _+_, _≤_, _<_}
 use mathlib.Core.Path.{_≡_, refl, sym, ap, subst, _∙_}
 use mathlib.Core.Bool.{Bool, true, false}

@@ -1,4 +1,4 @@
--- Names that are told by their places.
+-- Names that are given by their places.
 use Prim.Native.Nat.{ℕ, _<_}
 use mathlib.Core.Path.{_≡_}
 use mathlib.Core.List.{List}
@@ -8,7 +8,7 @@ use Rattle.catalogue_entries.specs.declared.Entry.the-variants.{End, Header, Re
 use Rattle.key_at.specs.Word.{word}
 use Rattle.name_entries.specs.Names.{nameAt}
 
--- a name is told by its place: below 2 ^ 24, and it ends where the next byte is below 32
+-- a name is given by its place: the offset is below 2 ^ 24, and the name ends before the first byte below 32
 unfoldable pub Told : List ℕ → Entry → Type 0
 unfolding word
 Told t End = Unit

@@ -1,4 +1,4 @@
--- The laws of the search for a program: the IDs stand one after another, and what is still ahead decides.
+-- The laws of the search for a program: the IDs come one after another, and what is still ahead decides.
 use Prim.Native.Nat.{ℕ, zero, suc, _+_, _-_, _≤_, _<_}
 use mathlib.Core.Path.{_≡_, refl, sym, ap, ap₂, _∙_}
 use mathlib.Core.Bool.{Bool, true, false, _&&_, cond, and-true, and-false}
@@ -124,7 +124,7 @@ module _ (id : List ℕ) (ids : List (List ℕ)) (k : ℕ) (a : Ahead id ids k) 
     ahead-on : same id (getD ids k []) ≡ false → Ahead id ids (k + 1)
     ahead-on e = (omega arith, first ∙ rw e refl)
 
--- ---- a turn at `k`: the bytes there decide
+-- ---- a step at `k`: the bytes there decide
 
 module _ (t ats lens id : List ℕ) (p : PlacesInText t ats lens) (k : ℕ) (h : k < length ats) (a : Ahead id (idsAt t ats lens) k) where
   abbrev start : ℕ

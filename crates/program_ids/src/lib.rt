@@ -1,4 +1,4 @@
-// The search for the program with an ID, among IDs that stand at places of a text.
+// Searches for the program with an ID, among IDs at places of a text.
 use format::ProgramNo;
 ghost use mathlib.Core.Path.{_≡_};
 ghost use Rattle.program_ids.specs.Places.{idsAt, PlacesInText};
@@ -10,7 +10,7 @@ pub enum Named {
     Is(ProgramNo),
 }
 
-// The program whose ID is `id`: the search stops at the first. Bytes are compared from the last one on: long IDs often begin alike.
+// The first program whose ID is `id`. Bytes are compared from the last to the first, because long IDs often begin alike.
 pub fn find_program(text: &[u8], ats: &[u32], lens: &[u32], id: &[u8]) -> Named
     requires { ⌜ PlacesInText (now text) (now ats) (now lens) ⌝ }
     ensures { λ r. ⌜ r ≡ namedOf (idOrdinalFrom (now (id .entry)) 0 (idsAt (now (text .entry)) (now (ats .entry)) (now (lens .entry)))) ⌝ }

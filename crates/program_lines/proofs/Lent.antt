@@ -1,4 +1,4 @@
--- What the walks over an accepted line of fields are lent: nothing where no tag stands twice, and else the line's tables.
+-- What the walks over an accepted line of fields are lent: nothing where no tag is repeated, and otherwise the line's tables.
 use Prim.Native.Nat.{ℕ, _+_, _≤_}
 use mathlib.Core.Path.{_≡_, sym, _∙_}
 use mathlib.Core.Bool.{Bool, true, false, _||_}

@@ -1,4 +1,4 @@
--- The laws of gathering: a turn passes a PG line, which goes to the end of the arrays.
+-- The laws of gathering: a step passes a PG line, which goes to the end of the arrays.
 use Prim.Native.Nat.{ℕ, suc, _+_, _-_, _≤_, _<_, _^_}
 use mathlib.Core.Path.{_≡_, refl, sym, ap, ap₂, subst, _∙_}
 use mathlib.Core.Bool.{Bool, true, false}
@@ -35,7 +35,7 @@ use Rattle.program_lines.proofs.Accepted.{IsProgram, fielded, text-prog
 abbrev Kept : (Piece → ℕ) → List Piece → List ℕ → Type 0
 Kept f ps xs = xs ≡ inArray (map f ps)
 
--- and that of one line more
+-- and that of one more line
 kept-more : (f : Piece → ℕ) (ps : List Piece) (p : Piece) (xs : List ℕ) (count v : ℕ) → Kept f ps xs → length ps ≡ count → count < 1024 → v ≡ f p → Kept f (ps ++ (p ∷ [])) (set xs count v)
 kept-more f ps p xs count v k l h e =
     let m : length (map f ps) ≡ count = length-map ps f ∙ l in
@@ -131,7 +131,7 @@ module _ (t : List ℕ) (strict : Bool) (starts sizes ats lens from widths : Lis
     unfolding Each
     split-each = subst (Each (IsProgramLine strict)) opened (x .each)
 
-    -- the line of a turn, as it is lent
+    -- the line of a step, as it is lent
     pub listed-fields : FieldsOf strict (r .at) (take (r .at + r .len - r .at) (drop (r .at) t))
     unfolding toldLine
     listed-fields =

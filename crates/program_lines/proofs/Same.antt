@@ -40,7 +40,7 @@ use Rattle.program_lines.specs.Found.{pgFrom, placeOf, previousOf, notes
 use Rattle.program_lines.proofs.Accepted.{IsProgram, spelled, text-program-lines}
 use Rattle.program_lines.proofs.Last.{last-after}
 
--- ---- the last value of a tag, where each tag stands once
+-- ---- the last value of a tag, where each tag occurs once
 
 abbrev own : ℕ → ℕ → Field → Option Piece
 own a b f = cond (tagged a b f) (some (f .value)) none

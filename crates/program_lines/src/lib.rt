@@ -1,4 +1,4 @@
-// The programs of an accepted text, gathered from its PG lines: where each line stands, its ID and its PP.
+// The programs of an accepted text, gathered from its PG lines: where each line is, its ID and its PP.
 use accepted_line::fields::Value;
 use catalogue_entries::Place;
 use program_places::Places;
@@ -17,7 +17,7 @@ ghost use Rattle.program_places.specs.Gathered.{gatheredOf};
 ghost use Rattle.program_lines.specs.Line.{FieldsOf};
 ghost use Rattle.program_lines.specs.Found.{mayBeProgram, pgFrom, toldLines, NextLineInText, placeOf, previousOf, notesOf, linesOf};
 
-// The next PG line, where it stands, and the offset of the line after it; `found` is false where none is left.
+// The next PG line, where it is, and the offset of the line after it; `found` is false if none is left.
 struct NextLine {
     found: bool,
     at: usize,
@@ -25,19 +25,19 @@ struct NextLine {
     next: usize,
 }
 
-// Where the ID and the PP of a program stand.
+// Where the ID and the PP of a program are.
 pub struct Noted {
     pub id: Place,
     pub previous: Place,
 }
 
-// The programs of a text, and where their lines stand.
+// The programs of a text, and where their lines are.
 pub struct ProgramLines {
     pub programs: Programs,
     pub lines: Places,
 }
 
-// Whether a line is a program's: an accepted line's second byte tells its kind.
+// Whether a line is a program. The second byte of an accepted line determines its kind.
 fn may_be_program(line: &[u8]) -> bool
     ensures { λ r. ⌜ r ≡ mayBeProgram (now (line .entry)) ⌝ }
 {
@@ -47,7 +47,7 @@ fn may_be_program(line: &[u8]) -> bool
     line[1] == b'P'
 }
 
-// The first PG line from the offset `start` on, where a line starts.
+// The first PG line from the offset `start` on, at which a line starts.
 fn next_program(text: &[u8], start: usize) -> NextLine
     requires { ⌜ start ≤ length (now text) ⌝ }
     ensures list { λ r. ⌜ pgFrom (now (text .entry)) start ≡ toldLines (now (text .entry)) r ⌝ }
@@ -87,7 +87,7 @@ fn narrow(v: Value) -> Place
     }
 }
 
-// Where a PP stands: nowhere where there is none.
+// Where a PP is, or a place that is in no text if there is none.
 fn narrow_previous(v: Value) -> Place
     requires { ⌜ (v .at < 2 ^ 32) × (v .len < 2 ^ 32) ⌝ }
     ensures { λ r. ⌜ r ≡ previousOf v ⌝ }

@@ -43,7 +43,7 @@ module _ (t : List ℕ) where
 
 -- ---- one program
 
--- where a PP stands: nowhere without PP
+-- where a PP is: nowhere without PP
 unfoldable pub Before : List ℕ → Place → Option Piece → Type 0
 unfolding pieceAt nowhere
 Before t q none = q ≡ nowhere

@@ -1,4 +1,4 @@
-// The parents of the programs that are gathered from a catalogue, and the road along them to the leaves.
+// The parents of the programs that were gathered from a catalogue, and from the parents the leaves.
 use catalogue_entries::Place;
 use program_chains::Ordinals;
 use program_ids::Named;
@@ -16,10 +16,10 @@ ghost use Rattle.program_places.specs.Gathered.{notedIn, programsIn, gatheredOf
 ghost use Rattle.program_ids.specs.Places.{idsAt, PlacesInText};
 ghost use Rattle.program_parents.specs.Parents.{Somewhere, parentOf, parentsOf, AreParents, ordinalsOf, graphOf};
 
-// The parent of a program whose PP equals no ID: no ordinal, and not nobody.
+// The parent of a program whose PP equals no ID. It is neither an ordinal nor `NOBODY`.
 pub const STRANGER: u32 = 4294967294;
 
-// The parent of a program by the place of its PP: nobody without PP, a stranger where PP equals no ID.
+// The parent of a program, from the place of its PP: `NOBODY` without a PP, `STRANGER` if the PP equals no ID.
 pub fn find_parent(text: &[u8], ats: &[u32], lens: &[u32], previous: Place) -> u32
     requires { ⌜ PlacesInText (now text) (now ats) (now lens) ⌝ }
     requires { ⌜ Somewhere (length (now text)) previous ⌝ }
@@ -43,7 +43,7 @@ pub struct Parents {
     pub dangling: bool,
 }
 
-// The parents of the programs of an accepted text, which are gathered in arrays: one search among the IDs for each PP.
+// The parents of the programs of an accepted text, which are gathered in arrays. The IDs are searched once per PP.
 pub fn find_parents(
     text: &[u8],
     ats: &[u32],
@@ -78,8 +78,8 @@ pub fn find_parents(
     }
 }
 
-// The same by the text's own catalogue, and `more` times again. Nobody asks for more than once: a function that calls itself is compiled by itself, so
-// that its four arrays are on the stack only while it runs, and not while a text is checked (`read_judge::judge_long`).
+// The same, from the text's own catalogue, done `more` times again. Nobody asks for more than once. The function calls itself so that it is compiled
+// as a function of its own: its four arrays are on the stack only while it runs, and not while a text is checked (see `read_judge::judge_long`).
 fn parents_again(text: &[u8], kept: &[u8], more: usize) -> Parents
     requires { ⌜ isAccepted (readText (now text)) ≡ true ⌝ }
     requires { ⌜ now kept ≡ catalogue (recordsOf (now text)) ⌝ }
@@ -96,7 +96,7 @@ fn parents_again(text: &[u8], kept: &[u8], more: usize) -> Parents
     find_parents(text, &ats, &lens, &from, &widths, count)
 }
 
-// The parents of the programs of an accepted text, by its own catalogue, which is far shorter than is needed for one time more.
+// The parents of the programs of an accepted text, from its own catalogue. No catalogue is long enough for a second time.
 pub fn parents_of(text: &[u8], kept: &[u8]) -> Parents
     requires { ⌜ isAccepted (readText (now text)) ≡ true ⌝ }
     requires { ⌜ now kept ≡ catalogue (recordsOf (now text)) ⌝ }
@@ -105,7 +105,7 @@ pub fn parents_of(text: &[u8], kept: &[u8]) -> Parents
     parents_again(text, kept, kept.len() / 4294967296)
 }
 
-// 0, or 22 where a PP dangles, or 23 where there is a cycle.
+// 0, or 22 if a PP dangles, or 23 if there is a cycle.
 pub fn tangle(parents: Parents) -> u8
     requires { ⌜ AreParents parents ⌝ }
     ensures { λ r. ⌜ ((ps : List Program) → length ps ≤ 1024 → parents ≡ parentsOf (links ps) → r ≡ tangled (links ps)) ⌝ }
@@ -120,7 +120,7 @@ pub fn tangle(parents: Parents) -> u8
     0
 }
 
-// The road to the leaves: 0, or 22 or 23 with no leaves; the parents; and the leaves.
+// What is found on the way to the leaves: 0, or 22 or 23 with no leaves; the parents; and the leaves.
 pub struct Graph {
     pub refusal: u8,
     pub parents: Parents,
@@ -140,7 +140,7 @@ fn refused(refusal: u8, parents: Parents) -> Graph
     }
 }
 
-// The leaves along the parents, in the crate's order: 22 where a PP dangles, then 23 where there is a cycle.
+// The leaves, from the parents, in the order of noodles-sam. Refuses with 22 if a PP dangles, then with 23 if there is a cycle.
 pub fn find_leaves(parents: Parents) -> Graph
     requires { ⌜ AreParents parents ⌝ }
     ensures { λ r. ⌜ ((ps : List Program) → length ps ≤ 1024 → parents ≡ parentsOf (links ps) → r ≡ graphOf (links ps)) ⌝ }

@@ -1,4 +1,4 @@
-// Pruning: the tidy text with the programs in use and all their ancestors, in the old order, and nothing else changed.
+// Pruning: writes the tidy text with only the programs in use and all their ancestors, in the old order. Nothing else is changed.
 use format::LineNo;
 use read::CheckedText;
 use read::CountAnswer;
@@ -9,7 +9,7 @@ ghost use Rattle.format.specs.Bytes.{any};
 ghost use Rattle.read.specs.Answers.{answerOf, outputOf};
 ghost use Rattle.format.specs.Prune.{pruning};
 
-// Whether some ordinal in a list is `count` or more: no program has it.
+// Whether some ordinal in a list is `count` or more, so that no program has it.
 fn has_high(used: &[u32], count: usize) -> bool
     ensures { λ r. ⌜ r ≡ any (leb count) (now (used .entry)) ⌝ }
 {
@@ -24,8 +24,8 @@ fn has_high(used: &[u32], count: usize) -> bool
     false
 }
 
-// Writes the tidy text with only the programs `used`, by their ordinals, and all their ancestors to the front of `out`: reading's
-// refusals, 21, 25 for an ordinal that no program has, 22, 23, 24, 1, 20.
+// Writes the tidy text with only the programs `used`, given by their ordinals, and all their ancestors to the front of `out`. The refusals, in this
+// order: those of reading, 21, 25 for an ordinal that no program has, 22, 23, 24, 1, 20.
 pub fn prune(text: &[u8], catalogue: &[u8], used: &[u32], out: &mut [u8]) -> CountAnswer
     ensures answer { λ r. ⌜ r ≡ answerOf (pruning (now (text .entry)) (now (catalogue .entry)) (now (used .entry)) (length (now (out .entry)))) ⌝ }
     ensures wrote { λ _. ⌜ now (out .exit) ≡ outputOf

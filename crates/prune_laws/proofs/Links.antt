@@ -19,7 +19,7 @@ use Rattle.prune_laws.proofs.Graph.{renumber, pruneLinks}
 
 -- ---- the first program with an ID
 
--- it stands at the place `d`, and at none before
+-- it is at the place `d`, and at none before
 record First (id : List ℕ) (ps : List Program) (d : ℕ) : Type 0 where
   inside : d < length ps
   here : same id (getD ps d noProgram .id) ≡ true

@@ -1,4 +1,4 @@
--- The lines of an accepted text, one after another: the records behind a line, and those ahead of it.
+-- The lines of an accepted text, one after another: the records before a line, and those from it on.
 use Prim.Native.Nat.{ℕ, zero, suc, _+_, _-_, _≤_, _<_}
 use mathlib.Core.Path.{_≡_, refl, sym, ap, subst, _∙_}
 use mathlib.Core.Bool.{Bool, true, false}

@@ -1,4 +1,4 @@
--- The answers of the calls in the code's numbers, and what they leave in an output.
+-- The answers of the calls in the code's numbers, and what the calls leave in an output.
 use Prim.Native.Nat.{ℕ}
 use mathlib.Core.Bool.{Bool, true, false}
 use mathlib.Core.List.{List, [], _∷_, _++_}
@@ -18,12 +18,12 @@ unfoldable pub answerOf : calls.Answer (List ℕ) → CountAnswer
 answerOf (calls.refused n l) = Refused n (record { 0 = l })
 answerOf (calls.yes xs) = Count (length xs)
 
--- what is answered stands at the front of the output, the rest stays; a refusal changes nothing
+-- the answer is at the front of the output and the rest stays as it was; a refusal changes nothing
 unfoldable pub outputOf : calls.Answer (List ℕ) → List ℕ → List ℕ
 outputOf (calls.refused n l) out = out
 outputOf (calls.yes xs) out = xs ++ drop (length xs) out
 
--- the catalogue is this text's, or why not
+-- the catalogue is this text's, or the reason why not
 unfoldable pub checkedOf : calls.Answer (List Record) → Checked
 checkedOf (calls.refused n l) = checked.Refused n (record { 0 = l })
 checkedOf (calls.yes rs) = checked.Fresh

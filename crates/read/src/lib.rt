@@ -1,4 +1,4 @@
-// The whole text: judged line by line, its catalogue written, and a catalogue compared with it.
+// A whole text: judges it line by line, writes its catalogue, and compares a catalogue with it.
 use catalogue_lines::Matched;
 use format::LineNo;
 use read_judge::Judged;
@@ -16,7 +16,7 @@ ghost use Rattle.read_judge.specs.Judged.{judgement};
 ghost use Rattle.read.specs.Accepted.{AcceptedText};
 ghost use Rattle.read.specs.Answers.{answerOf, outputOf, checkedOf, checkedTextOf, withoutRule};
 
-// A refusal and its line, or how many bytes or ordinals are written.
+// A refusal and its line, or how many bytes or ordinals were written.
 pub enum CountAnswer {
     Refused(u8, LineNo),
     Count(usize),
@@ -52,7 +52,7 @@ fn put_catalogue(text: &[u8], strict: bool, out: &mut [u8])
     }
 }
 
-// Whether `kept` is the catalogue of an accepted text: nothing is read out of it that has not been compared.
+// Whether `kept` is the catalogue of an accepted text. Nothing in it is used before it has been compared.
 fn is_catalogue(text: &[u8], strict: bool, kept: &[u8]) -> bool
     requires { ⌜ AcceptedText strict (now text) ⌝ }
     ensures { λ r. ⌜ r ≡ same (now (kept .entry)) (catalogue (recordsOf (now (text .entry)))) ⌝ }
@@ -98,7 +98,7 @@ fn read_judged(text: &[u8], judged: Judged, kept: &mut [u8]) -> CountAnswer
     }
 }
 
-// Reads `text`: its catalogue at the front of `kept`, or the first refusal, which changes nothing.
+// Reads `text`: writes its catalogue to the front of `kept`, or answers the first refusal and changes nothing.
 pub fn read(text: &[u8], catalogue: &mut [u8]) -> CountAnswer
     ensures answer { λ r. ⌜ r ≡ answerOf (reading (now (text .entry)) (length (now (catalogue .entry)))) ⌝ }
     ensures wrote { λ _. ⌜ now (catalogue .exit) ≡ outputOf (reading (now (text .entry)) (length (now (catalogue .entry)))) (now (catalogue .entry)) ⌝ }
@@ -106,7 +106,7 @@ pub fn read(text: &[u8], catalogue: &mut [u8]) -> CountAnswer
     read_judged(text, read_judge::judge(text), catalogue)
 }
 
-// The same with a lent work area, which is all zeros afterwards.
+// The same as `read`, with a lent work area, which is all zeros afterwards.
 pub fn read_with(text: &[u8], catalogue: &mut [u8], work: &mut [u32]) -> CountAnswer
     ensures answer { λ r. ⌜ r ≡ answerOf (readingWith (now (text .entry)) (length (now (catalogue .entry))) (now (work .entry)) .0) ⌝ }
     ensures wrote { λ _. ⌜ now (catalogue .exit)
@@ -160,7 +160,7 @@ pub fn check(text: &[u8], catalogue: &[u8]) -> Checked
     without_rule(check_text(text, catalogue))
 }
 
-// The same with a lent work area, which is all zeros afterwards.
+// The same as `check`, with a lent work area, which is all zeros afterwards.
 pub fn check_with(text: &[u8], catalogue: &[u8], work: &mut [u32]) -> Checked
     ensures checked { λ r. ⌜ r ≡ checkedOf (fresh (now (text .entry)) (now (catalogue .entry))) ⌝ }
     ensures zeros { λ _. ⌜ now (work .exit) ≡ allZeros (now (work .entry)) ⌝ }

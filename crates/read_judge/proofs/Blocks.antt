@@ -1,4 +1,4 @@
--- The index beside the loop over lines: it holds the keys of the lines of one block, and of the lines ahead it is known which one, if any,
+-- The index during the loop over lines: it holds the keys of the lines of one block, and of the lines ahead it is known which one, if any,
 -- is the first with a key of an earlier block.
 use Prim.Native.Nat.{ℕ, zero, suc, _+_, _*_, _/_, _≤_, _<_}
 use mathlib.Core.Path.{_≡_, refl, sym, ap, ap₂, subst, _∙_}
@@ -37,7 +37,7 @@ use Rattle.read_judge.proofs.Judging.{Judging, judging-start, judging-o
 
 -- ---- which line ahead has a key of an earlier block
 
--- of the lines `ps`, counted from `n`, up to `clash`: that one alone has a key among the values `vs`
+-- of the lines `ps`, counted from `n`, up to `clash`: only that one has a key among the values `vs`
 unfoldable pub Ahead : Bool → List ℕ → List ℕ → ℕ → ℕ → List Piece → Type 0
 unfolding toldIn headOf
 Ahead strict t vs clash n [] = Unit
@@ -178,7 +178,7 @@ module _ (strict : Bool) (t area₀ area : List ℕ) (b : Block) (at n programs 
     now-ahead : Ahead strict t (x .old) (b .clash) n (record { at = at; bytes = take (firstLine (drop at t) .len) (drop at t) } ∷ linesFrom (at + firstLine (drop at t) .next) (drop (at + firstLine (drop at t) .next) t))
     now-ahead = subst (Ahead strict t (x .old) (b .clash) n) (ahead-one t at h) (x .ahead)
 
-    -- the index and the line that is known tell whether its key was used
+    -- the index and the line that is known say whether its key was used
     pub used-known : (y : Head) → y ≡ headOf (records.line strict (record { at = at; bytes = take (firstLine (drop at t) .len) (drop at t) })) → (isMet t area y || eqb n (b .clash)) ≡ isTaken (j .before) t y
     unfolding Ahead
     used-known y e =

@@ -1,4 +1,4 @@
--- What holds of the loop over a text's lines at a line, and one turn of it.
+-- What holds of the loop over a text's lines at a line, and one step of it.
 use Prim.Native.Nat.{ℕ, zero, suc, _+_, _-_, _*_, _≤_, _<_}
 use mathlib.Core.Path.{_≡_, refl, sym, ap, ap₂, subst, _∙_}
 use mathlib.Core.Bool.{Bool, true, false, cond}
@@ -119,7 +119,7 @@ module _ (strict : Bool) (t : List ℕ) (at n programs size : ℕ) (j : Judging 
     unfolding judgedBy judgedOf readOn
     judging-refused m e = sym (ap (judgedOf (isOnce t)) (onward ∙ ap (readOn n (λ r. readFrom strict (n + 1) (j .before ++ (r ∷ [])) (linesFrom (at + firstLine (drop at t) .next) (drop (at + firstLine (drop at t) .next) t)))) e))
 
-    -- the line is a record more
+    -- the line is one more record
     module _ (r : Record) (is : records.line strict (record { at = at; bytes = take (firstLine (drop at t) .len) (drop at t) }) ≡ read r)
         (ok : admitted strict (j .before) (record { at = at; bytes = take (firstLine (drop at t) .len) (drop at t) }) ≡ read r)
         (entry : ℕ) (long : length (catalogue (j .before ++ (r ∷ []))) ≡ length (catalogue (j .before)) + entry) (bound : entry ≤ 32 * firstLine (drop at t) .next) where

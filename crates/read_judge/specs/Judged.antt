@@ -1,4 +1,4 @@
--- What judging a text answers.
+-- The answer of judging a text.
 use Prim.Native.Nat.{ℕ}
 use mathlib.Core.Bool.{Bool}
 use mathlib.Core.List.{List, []}

@@ -1,4 +1,4 @@
-// A whole text, line by line: its first refusal, or how long its catalogue is.
+// Judges a whole text line by line: answers its first refusal, or the size of its catalogue.
 use format::LineNo;
 use record::Head;
 ghost use mathlib.Core.Path.{_≡_};
@@ -16,7 +16,7 @@ ghost use Rattle.read_judge.specs.Blocks.{clashOf, turned, emptied};
 ghost use Rattle.read_judge.specs.Judged.{judgedBy, judgement};
 ghost use Rattle.read_judge.specs.Parsed.{parsedBy};
 
-// Texts of at most so many bytes are judged with a small area, and with one of 24 KiB.
+// Texts of at most `SHORT` bytes are judged with a small area, and texts of at most `MIDDLE` bytes with one of 24 KiB.
 pub const SHORT: usize = 8192;
 
 pub const MIDDLE: usize = 262144;
@@ -34,13 +34,14 @@ pub enum Judged {
     Accepted(usize, bool),
 }
 
-// The line before which the index is begun anew, and the first line ahead whose key an earlier block of lines has.
+// The line at which the next block begins, and the first later line whose key an earlier block has.
 struct Block {
     until: usize,
     clash: usize,
 }
 
-// The first line from `from` on, the line number `first`, that is `clash` or has a key that is in the area; `clash` where none is.
+// The first line that is `clash` or whose key is in the area, among the lines that start at `from`, the first of which has the number `first`. It is
+// `clash` if there is none.
 fn first_met(
     text: &[u8],
     strict: bool,
@@ -74,7 +75,7 @@ fn first_met(
     clash
 }
 
-// The block that a line stands in: where one begins, the keys of the one before are looked for in the lines ahead, and the area is emptied.
+// The block that a line is in. If the line begins a new block, the lines ahead are searched for keys of the block before it, and the area is emptied.
 fn turn(text: &[u8], strict: bool, area: &mut [u32], at: usize, line: usize, block: Block) -> Block
     requires { ⌜ length (now text) ≤ 16777216 ⌝ }
     requires { ⌜ 0 < length (now area) ⌝ }
@@ -92,7 +93,7 @@ fn turn(text: &[u8], strict: bool, area: &mut [u32], at: usize, line: usize, blo
     Block { until, clash }
 }
 
-// Whether a key was used before: in this block, or in an earlier one.
+// Whether an earlier line has the key: a line of this block, or one of an earlier block.
 fn is_used(known: bool, clashes: bool) -> bool
     ensures { λ r. ⌜ r ≡ (known || clashes) ⌝ }
 {
@@ -188,7 +189,7 @@ fn judge_indexed(text: &[u8], strict: bool, area: &mut [u32]) -> Judged
     }
 }
 
-// A short text, in blocks of 384 lines: little is cleared for it.
+// A short text, in blocks of 384 lines. Its area is small, so little has to be cleared.
 fn judge_short(text: &[u8], strict: bool) -> Judged
     requires { ⌜ length (now text) ≤ 16777216 ⌝ }
     ensures { λ r. ⌜ r ≡ judgedBy strict (now (text .entry)) ⌝ }
@@ -197,7 +198,7 @@ fn judge_short(text: &[u8], strict: bool) -> Judged
     judge_indexed(text, strict, &mut area)
 }
 
-// A text of some thousand lines, in blocks of 4,608.
+// A text of some thousands of lines, in blocks of 4,608.
 fn judge_middle(text: &[u8], strict: bool) -> Judged
     requires { ⌜ length (now text) ≤ 16777216 ⌝ }
     ensures { λ r. ⌜ r ≡ judgedBy strict (now (text .entry)) ⌝ }
@@ -206,8 +207,8 @@ fn judge_middle(text: &[u8], strict: bool) -> Judged
     judge_indexed(text, strict, &mut area)
 }
 
-// Any text, in blocks of 147,456 lines, and `more` times again. Nobody asks for more than once: a function that calls itself is compiled by
-// itself, so that its 768 KiB are on the stack only while it runs, and not in the frames of its callers, which serve short texts too.
+// Any text, in blocks of 147,456 lines, judged `more` times again. Nobody asks for more than once. The function calls itself so that it is compiled
+// as a function of its own: its 768 KiB are on the stack only while it runs, and not in the frames of its callers, which serve short texts too.
 fn judge_long(text: &[u8], strict: bool, more: usize) -> Judged
     requires { ⌜ length (now text) ≤ 16777216 ⌝ }
     ensures { λ r. ⌜ r ≡ judgedBy strict (now (text .entry)) ⌝ }
@@ -220,7 +221,7 @@ fn judge_long(text: &[u8], strict: bool, more: usize) -> Judged
     judged
 }
 
-// A text with an area of this function's own, of 24 KiB at most. It is slow where the text has many more lines than a block takes.
+// A text with an area of this function's own, of 24 KiB at most. This is slow if the text has many more lines than a block takes.
 fn judge_small(text: &[u8], strict: bool) -> Judged
     requires { ⌜ length (now text) ≤ 16777216 ⌝ }
     ensures { λ r. ⌜ r ≡ judgedBy strict (now (text .entry)) ⌝ }
@@ -231,7 +232,7 @@ fn judge_small(text: &[u8], strict: bool) -> Judged
     judge_middle(text, strict)
 }
 
-// The lines of a text: the first refusal, or the size of the text's catalogue.
+// Judges the lines of a text: answers the first refusal, or the size of the text's catalogue.
 fn judge_lines(text: &[u8], strict: bool) -> Judged
     requires { ⌜ length (now text) ≤ 16777216 ⌝ }
     ensures { λ r. ⌜ r ≡ judgedBy strict (now (text .entry)) ⌝ }
@@ -242,7 +243,7 @@ fn judge_lines(text: &[u8], strict: bool) -> Judged
     judge_long(text, strict, text.len() / (format::LONGEST + 1))
 }
 
-// What any bytes are: 1 where they are too many, the first refusal of their lines, or the size of their catalogue.
+// Judges any bytes: answers 1 if there are too many, the first refusal of their lines, or the size of their catalogue.
 pub fn judge(text: &[u8]) -> Judged
     ensures { λ r. ⌜ r ≡ judgement (now (text .entry)) ⌝ }
 {
@@ -259,8 +260,8 @@ pub fn least(a: usize, b: usize) -> usize
     if a < b { a } else { b }
 }
 
-// The lines of a text by the front of a lent area, where that is longer than an own one: a slot for each eight bytes of the text is enough for all
-// keys in one block.
+// Judges the lines of a text with the front of a lent area if that is longer than an area of this crate's own. One slot per eight bytes of the text
+// is enough for all keys in one block.
 fn judge_lent(text: &[u8], strict: bool, area: &mut [u32]) -> Judged
     requires { ⌜ length (now text) ≤ 16777216 ⌝ }
     ensures { λ r. ⌜ r ≡ judgedBy strict (now (text .entry)) ⌝ }
@@ -278,7 +279,7 @@ fn judge_lent(text: &[u8], strict: bool, area: &mut [u32]) -> Judged
     judge_indexed(text, strict, front)
 }
 
-// The same as `judge`, by a lent area of any length and with any content, which is all zeros afterwards.
+// The same as `judge`, with a lent area of any length and any content. The area is all zeros afterwards.
 pub fn judge_with(text: &[u8], area: &mut [u32]) -> Judged
     ensures judged { λ r. ⌜ r ≡ judgement (now (text .entry)) ⌝ }
     ensures zeros { λ _. ⌜ now (area .exit) ≡ allZeros (now (area .entry)) ⌝ }

@@ -1,4 +1,4 @@
--- The front of a line: `@`, the kind, and what follows it; and lines in which LF or CR stands.
+-- The front of a line: `@`, the kind, and what follows it; and lines with an LF or a CR.
 use Prim.Native.Nat.{ℕ, zero, suc, _+_, _-_, _≤_, _<_}
 use mathlib.Core.Path.{_≡_, refl, sym, ap, _∙_}
 use mathlib.Core.Bool.{Bool, true, false, _&&_, _||_, cond}

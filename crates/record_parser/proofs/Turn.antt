@@ -59,7 +59,7 @@ fielded-tail strict k at (b ∷ s) = go (eqb b 9)
     go true = refl
     go false = six strict
 
--- ---- one turn
+-- ---- one step
 
 module _ (k : Kind) (at : ℕ) (s : List ℕ) where
   -- what is left after the first piece
@@ -109,14 +109,14 @@ module _ (k : Kind) (at : ℕ) (s : List ℕ) where
 -- ---- what is judged with some fields read
 
 module _ (k : Kind) (fs : List Field) where
-  -- nothing stands twice, and reading stops
+  -- nothing is repeated, and reading stops
   pub judged-stop : (strict : Bool) (n : ℕ) → strict && repeats fs ≡ false → (n ≡ 0 → ⊥)
       → judged strict k (prepend fs (record { fields = []; stop = n })) ≡ refusedLine n
   unfolding judged prepend stopped
   judged-stop strict zero h m = absurd (m refl)
   judged-stop strict (suc n) h m = rw (append-nil fs, h) refl
 
-  -- a tag stands twice, whatever follows
+  -- a tag is repeated, whatever follows
   pub judged-twice : (gs : List Field) (n : ℕ) → repeats fs ≡ true → judged true k (prepend fs (record { fields = gs; stop = n })) ≡ refusedLine 14
   unfolding judged prepend
   judged-twice gs n h = rw (repeats-more fs gs h) refl

@@ -1,4 +1,4 @@
--- What holds of the field loop at a place of the line, and one turn of it.
+-- What holds of the field loop at a place of the line, and one step of it.
 use Prim.Native.Nat.{ℕ, _+_, _-_, _≤_}
 use mathlib.Core.Path.{_≡_, sym, ap, _∙_}
 use mathlib.Core.Bool.{Bool, true, false, _&&_}
@@ -72,7 +72,7 @@ pub record Turned (kind : Kind) (at : ℕ) (s : List ℕ) (g : code.ParsedField)
       ≡ prepend (field ∷ []) (tailScan kind (at + 1 + (3 + length (field .value .bytes))) (drop (3 + length (field .value .bytes)) s))
 
 module _ (kind : Kind) (at : ℕ) (s : List ℕ) (g : code.ParsedField) (e : g ≡ parsedOf kind (field kind 0 (before 9 s))) where
-  -- wherever the line stands
+  -- wherever the line is
   answered : g ≡ parsedOf kind (field kind (at + 1) (before 9 s))
   answered = e ∙ sym (field-anywhere kind (at + 1) (before 9 s))
 

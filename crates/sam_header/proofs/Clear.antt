@@ -1,4 +1,4 @@
--- An answer of carrying on, leaves, key or field that is no refusal and not the stand-in keeps bit 63 clear.
+-- An answer of carrying on, leaves, key or field that is not a refusal and not the stand-in keeps bit 63 clear.
 use Prim.Native.Nat.{ℕ, _+_, _*_, _/_, _^_, _≤_, _<_}
 use mathlib.Core.Path.{_≡_, refl, sym, ap, subst}
 use mathlib.Core.List.{List}

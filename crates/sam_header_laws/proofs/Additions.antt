@@ -1,4 +1,4 @@
--- The number of an answer is 2^63 or more exactly where the call refuses: the calls that were added.
+-- The number of an answer is 2^63 or more exactly if the call refuses: the calls that were added.
 use Prim.Native.Nat.{ℕ, suc, _+_, _/_, _^_, _≤_, _<_}
 use mathlib.Core.Path.{_≡_, refl, sym, ap, subst, _∙_}
 use mathlib.Core.Bool.{Bool, true, false, cond}

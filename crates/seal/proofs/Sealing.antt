@@ -22,7 +22,7 @@ use Rattle.format.specs.Seal.{sealing, tidyingFresh, ownSeal, checkingSealed}
 
 -- ---- by the word of a call that writes
 
--- what it counts stands at the front of its output
+-- what it counts is at the front of its output
 pub record Written (a : Answer (List ℕ)) (n : ℕ) (last : List ℕ) : Type 0 where
   pub bytes : List ℕ
   pub says : a ≡ yes bytes

@@ -1,4 +1,4 @@
-// Tidying: the text of the same records with the keys first, one LF after each line, kind by kind.
+// Tidying: writes the same records with the keys first and one LF after each line, kind by kind.
 use format::LineNo;
 use read::CountAnswer;
 use read_judge::Judged;
@@ -16,7 +16,7 @@ ghost use Rattle.read_judge.specs.Judged.{judgement};
 ghost use Rattle.read.specs.Answers.{answerOf, outputOf};
 ghost use Rattle.tidy.specs.Written.{writingTidy, writingMarked};
 
-// Writes the tidy text of an accepted text without the programs whose mark is false: 24, then 1, then 20.
+// Writes the tidy text of an accepted text without the programs whose mark is false, or refuses with 24, then 1, then 20.
 pub fn write_marked(text: &[u8], strict: bool, marks: &[bool], out: &mut [u8]) -> CountAnswer
     requires { ⌜ isAccepted (readText (now text)) ≡ true ⌝ }
     requires { ⌜ ReadsBy strict (now text) ⌝ }
@@ -41,7 +41,7 @@ pub fn write_marked(text: &[u8], strict: bool, marks: &[bool], out: &mut [u8]) -
     }
 }
 
-// Writes the tidy text of an accepted text: 24, then 1, then 20.
+// Writes the tidy text of an accepted text, or refuses with 24, then 1, then 20.
 pub fn write_accepted(text: &[u8], strict: bool, out: &mut [u8]) -> CountAnswer
     requires { ⌜ isAccepted (readText (now text)) ≡ true ⌝ }
     requires { ⌜ ReadsBy strict (now text) ⌝ }
@@ -63,7 +63,7 @@ fn tidy_judged(text: &[u8], judged: Judged, out: &mut [u8]) -> CountAnswer
     }
 }
 
-// Tidies `text` into the front of `out`, or answers the first refusal, which changes nothing.
+// Tidies `text` into the front of `out`, or answers the first refusal and changes nothing.
 pub fn tidy(text: &[u8], out: &mut [u8]) -> CountAnswer
     ensures answer { λ r. ⌜ r ≡ answerOf (tidying (now (text .entry)) (length (now (out .entry)))) ⌝ }
     ensures wrote { λ _. ⌜ now (out .exit) ≡ outputOf (tidying (now (text .entry)) (length (now (out .entry)))) (now (out .entry)) ⌝ }
@@ -71,7 +71,7 @@ pub fn tidy(text: &[u8], out: &mut [u8]) -> CountAnswer
     tidy_judged(text, read_judge::judge(text), out)
 }
 
-// The same with a lent work area, which is all zeros afterwards.
+// The same as `tidy`, with a lent work area, which is all zeros afterwards.
 pub fn tidy_with(text: &[u8], out: &mut [u8], work: &mut [u32]) -> CountAnswer
     ensures answer { λ r. ⌜ r ≡ answerOf (tidying (now (text .entry)) (length (now (out .entry)))) ⌝ }
     ensures wrote { λ _. ⌜ now (out .exit) ≡ outputOf (tidying (now (text .entry)) (length (now (out .entry)))) (now (out .entry)) ⌝ }

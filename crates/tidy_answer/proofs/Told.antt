@@ -82,7 +82,7 @@ program-length t out last w h =
     let short : 0 + length (program t) ≤ length out = omega (arith, program-fits t) in
     omega (arith, ap length w, over-length out 0 (program t) short)
 
--- the program writes 65,536 bytes at most: they stand within the output
+-- the program writes 65,536 bytes at most: they are within the output
 pub program-within : (t out last : List ℕ) (n : ℕ) → n ≡ length (program t) → last ≡ over out 0 (program t) → 65536 ≤ length out → n ≤ length last
 program-within t out last n e w h = omega (arith, program-fits t, program-length t out last w h)
 

@@ -61,7 +61,7 @@ module _ (once : Bool) (at : ℕ) (line : List ℕ) (k : Kind) (i : ℕ) (h : At
     pub rest-size : length (restText k at line i) ≡ 4 + v .len + length (restText k at line end)
     rest-size = ap (λ l. length (fieldsText l)) (taken .first) ∙ omega (arith, one-more (taken .field) (firsts k (fieldsTo at line end) (fieldsFrom at line end)), taken .size)
 
-    -- its value stands in the line
+    -- its value is in the line
     pub value-inside : (at ≤ v .at) × (v .at - at + v .len ≤ length line)
     value-inside = (omega (arith, taken .stands .from, taken .place), omega (arith, taken .stands .within, taken .stands .from, taken .place, taken .size))
 

@@ -1,4 +1,4 @@
-// The fields of an accepted line that are no keys, each tag at its first place with its last value: written, or measured.
+// The fields of an accepted line other than its keys, each tag at its first place with its last value: writes or measures them.
 use format::Kind;
 ghost use mathlib.Core.Path.{_≡_};
 ghost use mathlib.Core.Bool.{not, _&&_};
@@ -27,7 +27,7 @@ fn is_other(kind: Kind, line: &[u8], at: usize, i: usize, tables: &[u32]) -> boo
     accepted_line::fields::is_first(line, at, i, tables)
 }
 
-// Writes the fields of an accepted line that are no keys, each tag at its first place with its last value, and the LF that ends its record.
+// Writes the fields of an accepted line other than its keys, each tag at its first place with its last value, and the LF that ends the record.
 pub fn put_rest(
     out: &mut [u8],
     o: usize,
@@ -58,7 +58,7 @@ pub fn put_rest(
     n + 1
 }
 
-// How many bytes the other fields of an accepted line have, by its tables.
+// How many bytes the other fields of an accepted line take, from its tables.
 pub fn other_fields_len(kind: Kind, line: &[u8], at: usize, tables: &[u32]) -> usize
     requires { ⌜ Walkable at (now line) (now tables) ⌝ }
     requires { ⌜ at + length (now line) ≤ 16777216 ⌝ }

@@ -1,4 +1,4 @@
--- The fields of a line of the tidy text are read where they stand: VN and LN as they are written, other keys and values as they are.
+-- The fields of a line of the tidy text are read where they are: VN and LN as they are written, other keys and values as they are.
 use Prim.Native.Nat.{ℕ, _+_, _^_, _≤_, _<_}
 use mathlib.Core.Path.{_≡_, refl, _∙_}
 use mathlib.Core.Bool.{true, false, not, _&&_}
@@ -111,7 +111,7 @@ fine-length n l u =
 
 -- ---- versions
 
--- the first dot stands behind the digits
+-- the first dot comes after the digits
 sides-digits : (l r : List ℕ) → all digit l ≡ true → sides 46 (l ++ (46 ∷ r)) ≡ some (l, r)
 unfolding sides grow all
 sides-digits [] r h = refl

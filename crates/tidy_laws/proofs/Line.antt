@@ -153,7 +153,7 @@ module _ (strict : Bool) (at : ℕ) where
         same = refl;
       }
 
--- whatever the rule for repeated tags, and wherever the line stands
+-- whatever the rule for repeated tags, and wherever the line is
 pub line-back : (strict : Bool) (at : ℕ) (r : Record) → Sound r → Unbroken r → Reads strict at (recordLine r) r
 line-back strict at (header v fs) s u = line-header strict at v fs s
 line-back strict at (reference p n fs) s u = line-reference strict at p n fs s

@@ -29,7 +29,7 @@ unfolding any lastOf later
 last-absent a b [] h = refl
 last-absent a b (f ∷ fs) h = rw (or-left (tagged a b f) (any (tagged a b) fs) h, last-absent a b fs (or-right (tagged a b f) (any (tagged a b) fs) h)) refl
 
--- ---- no tag stands twice
+-- ---- no tag is repeated
 
 put-new : (f : Field) (gs : List Field) → any (tagged (f .tag₀) (f .tag₁)) gs ≡ false → put f gs ≡ gs ++ (f ∷ [])
 unfolding any put
@@ -60,7 +60,7 @@ settled-on done (f ∷ fs) h =
     let j : (done ++ (f ∷ [])) ++ fs ≡ done ++ (f ∷ fs) = append-snoc done f fs in
     rw e (settled-on (done ++ (f ∷ [])) fs (rw j h) ∙ j)
 
--- such fields stand as they are
+-- such fields stay as they are
 pub settled-once : (fs : List Field) → repeats fs ≡ false → settled fs ≡ fs
 unfolding settled
 settled-once fs h = settled-on [] fs h

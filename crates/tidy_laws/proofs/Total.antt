@@ -130,7 +130,7 @@ accepted-length strict at s r (sp.of-fields a) = spelled-length strict at s r a
 
 -- ---- all lines
 
--- lines, and one byte more for each
+-- lines, and one more byte for each
 ended : List Piece → ℕ
 ended [] = 0
 ended (p ∷ ps) = suc (length (p .bytes)) + ended ps

@@ -1,4 +1,4 @@
--- A line in which no tag stands twice: its fields but the keys are its record's other fields, byte for byte.
+-- A line in which no tag is repeated: its fields but the keys are its record's other fields, byte for byte.
 use Prim.Native.Nat.{ℕ, _+_}
 use mathlib.Core.Path.{_≡_, refl, sym, ap, ap₂, subst, _∙_}
 use mathlib.Core.Bool.{Bool, true, false, _&&_, _||_, cond}

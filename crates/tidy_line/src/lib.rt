@@ -1,4 +1,4 @@
-// One record of the tidy text: written from its accepted line, or measured.
+// One record of the tidy text: writes it from its accepted line, or measures it.
 pub mod already;
 
 use accepted_line::Form;
@@ -25,7 +25,7 @@ ghost use Rattle.tidy_fields.specs.Others.{othersText};
 ghost use Rattle.tidy_line.specs.Heads.{placeLength, headLength, keysLength};
 ghost use Rattle.tidy_line.specs.Texts.{InsideLine, headerText, sequenceText, mapText};
 
-// How many bytes a record has, if it can be written.
+// How many bytes a record takes, if it can be written.
 pub enum Size {
     Unwritable,
     Is(usize),
@@ -57,7 +57,7 @@ fn put_header(out: &mut [u8], o: usize, v: Version, line: &[u8], at: usize, tabl
     tidy_fields::put_rest(out, n, Kind::Header, line, at, tables)
 }
 
-// Writes an SQ: the name that stands in its line, its length, then the other fields.
+// Writes an SQ: the name from its line, its length, then the other fields.
 fn put_reference_sequence(
     out: &mut [u8],
     o: usize,
@@ -140,7 +140,7 @@ fn put_whole(out: &mut [u8], o: usize, line: &[u8]) -> usize
     n + 1
 }
 
-// Writes the record of a line in which no tag stands twice: the line itself, where that is tidy.
+// Writes the record of a line that repeats no tag: the line as it is, if that is tidy.
 fn put_once(out: &mut [u8], o: usize, kind: Kind, src: &[u8], at: usize) -> usize
     requires { ⌜ LineOf kind at (now src) ⌝ }
     requires { ⌜ isComment kind ≡ false ⌝ }
@@ -155,7 +155,7 @@ fn put_once(out: &mut [u8], o: usize, kind: Kind, src: &[u8], at: usize) -> usiz
     put_parts(out, o, kind, src, at, &[])
 }
 
-// Writes the record of an accepted line, which stands at the offset `at` without its ending, and answers the place after it.
+// Writes the record of an accepted line, which starts at the offset `at` and is given without its ending. Returns the place after the record.
 pub fn put_record(out: &mut [u8], o: usize, src: &[u8], at: usize, strict: bool) -> usize
     requires { ⌜ isRead (line strict (record { at = at; bytes = now src })) ≡ true ⌝ }
     requires { ⌜ at + length (now src) ≤ 16777216 ⌝ }
@@ -174,7 +174,7 @@ pub fn put_record(out: &mut [u8], o: usize, src: &[u8], at: usize, strict: bool)
     }
 }
 
-// How many bytes the fields of a kind's keys have in their line: four before each value.
+// How many bytes the key fields of a line of this kind take: four before each value.
 fn keys_len(kind: Kind, keys: KeyValues) -> usize
     requires { ⌜ keysLength kind keys ≤ 16777216 ⌝ }
     ensures { λ r. ⌜ r ≡ keysLength kind keys ⌝ }
@@ -190,7 +190,7 @@ fn keys_len(kind: Kind, keys: KeyValues) -> usize
     }
 }
 
-// How many bytes the record with this head has, whose other fields have `others`: a prefix of three, four before each value, and the LF.
+// How many bytes the record with this head takes if its other fields take `others`: a prefix of three, four before each value, and the LF.
 fn head_len(head: Head, others: usize) -> usize
     requires { ⌜ (others ≤ 16777216) × (placeLength head ≤ 16777216) ⌝ }
     ensures { λ r. ⌜ r ≡ headLength head others ⌝ }
@@ -232,7 +232,7 @@ fn is_writable(kind: Kind, src: &[u8], at: usize, tables: &[u32]) -> bool
     }
 }
 
-// How many bytes the record of an accepted line of fields has, whose other fields have `others`.
+// How many bytes the record of an accepted line of fields takes if its other fields take `others`.
 fn parts_len(kind: Kind, src: &[u8], at: usize, keys: KeyValues, others: usize) -> usize
     requires { ⌜ LineOf kind at (now src) ⌝ }
     requires { ⌜ isComment kind ≡ false ⌝ }
@@ -243,7 +243,7 @@ fn parts_len(kind: Kind, src: &[u8], at: usize, keys: KeyValues, others: usize) 
     head_len(accepted_line::head_of(kind, src, at, keys), others)
 }
 
-// How many bytes the record of a line in which no tag stands twice has: none of its fields but the keys is looked at.
+// How many bytes the record of a line that repeats no tag takes. Only the key fields are looked at.
 fn once_size(kind: Kind, src: &[u8], at: usize) -> Size
     requires { ⌜ LineOf kind at (now src) ⌝ }
     requires { ⌜ isComment kind ≡ false ⌝ }
@@ -261,7 +261,7 @@ fn once_size(kind: Kind, src: &[u8], at: usize) -> Size
     Size::Is(parts_len(kind, src, at, keys, others))
 }
 
-// How many bytes the record of a line in which a tag may stand twice has: its tables are made first.
+// How many bytes the record of a line that may repeat a tag takes. Its tables are made first.
 fn noted_size(kind: Kind, src: &[u8], at: usize) -> Size
     requires { ⌜ LineOf kind at (now src) ⌝ }
     requires { ⌜ isComment kind ≡ false ⌝ }
@@ -277,7 +277,7 @@ fn noted_size(kind: Kind, src: &[u8], at: usize) -> Size
     Size::Is(parts_len(kind, src, at, keys, others))
 }
 
-// How many bytes the record of an accepted line has, or that it can't be written, in one look.
+// How many bytes the record of an accepted line takes, or that it can't be written.
 pub fn record_size(src: &[u8], at: usize, strict: bool) -> Size
     requires { ⌜ isRead (line strict (record { at = at; bytes = now src })) ≡ true ⌝ }
     requires { ⌜ at + length (now src) ≤ 16777216 ⌝ }

@@ -1,4 +1,4 @@
--- An accepted text, line by line: each line is read, and a turn takes the first line of what is left.
+-- An accepted text, line by line: each line is read, and a step takes the first line of what is left.
 use Prim.Native.Nat.{ℕ, _+_, _-_, _≤_, _<_}
 use mathlib.Core.Path.{_≡_, refl, sym, ap, _∙_}
 use mathlib.Core.Bool.{Bool, true}
@@ -30,7 +30,7 @@ pairs-records strict (p ∷ ps) (r ∷ rs) h =
     let i = pairs-records strict ps rs (h .1) in
     (rw (h .0) (ap (λ l. r ∷ l) (i .0)), rw (h .0) (i .1))
 
--- before the first turn
+-- before the first step
 pub record Opened (strict : Bool) (t : List ℕ) : Type 0 where
   pub fits : length t ≤ 16777216
   pub reads : readText t ≡ accept (recordsOf t)
@@ -44,7 +44,7 @@ opened strict t h s =
     let p = pairs-records strict (lines t) (recordsOf t) (lines-by strict t (recordsOf t) e s) in
     record { fits = text-fits t (recordsOf t) e; reads = e; records = p .0; lines = p .1 }
 
--- ---- one turn
+-- ---- one step
 
 -- the first line of what is left, at `at`, was cut to `c`
 pub record Turn (strict : Bool) (t : List ℕ) (at : ℕ) (c : Cut) : Type 0 where

@@ -1,4 +1,4 @@
--- The first SQ whose name can't be written, a line further.
+-- The first SQ whose name can't be written, one line further.
 use Prim.Native.Nat.{ℕ, _+_, _≤_}
 use mathlib.Core.Path.{_≡_, refl, ap, _∙_}
 use mathlib.Core.Bool.{Bool, true, false, cond}

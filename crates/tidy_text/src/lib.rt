@@ -1,6 +1,6 @@
-// The tidy text of an accepted text: HD, then all SQ, RG, PG, CO, each kind in text order. One pass measures each kind, and one
-// puts each record at its kind's own place. Marks can be given, one for each program in text order: a program whose mark is false is left
-// out, and a program past the last mark stays, so that no marks leave all in.
+// The tidy text of an accepted text: HD, then all SQ, RG, PG and CO, each kind in text order. One pass measures each kind, and one puts each record
+// at the place of its kind. Marks can be given, one per program in text order: a program whose mark is false is left out. A program after the last
+// mark stays, so with no marks all programs stay.
 use format::LineNo;
 use tidy_line::Size;
 use tidy_sizes::PerKind;
@@ -21,25 +21,25 @@ ghost use Rattle.tidy_text.specs.Sizes.{grownBy, sizesOf};
 ghost use Rattle.tidy_text.specs.Placed.{withParts, parts, Apart, withGap};
 ghost use Rattle.tidy_text.specs.Sifted.{isMarked, sifted, stayBy, isProgramLine, grownIf, placesIf, writtenIf};
 
-// How many bytes each kind has in the tidy text, or the line of the first SQ whose name can't be written.
+// How many bytes each kind takes in the tidy text, or the line of the first SQ whose name can't be written.
 pub enum Measured {
     Unwritable(LineNo),
     Is(PerKind),
 }
 
-// The same of the lines so far.
+// The sizes of the lines so far, or that a name can't be written.
 pub enum Grown {
     Unwritable,
     Is(PerKind),
 }
 
-// Whether a line's record stays, and the ordinal of the next program.
+// Whether the record of a line stays, and the ordinal of the next program.
 struct Stay {
     stays: bool,
     next: usize,
 }
 
-// Whether the record of an accepted line stays, where the next program is the one with the ordinal `k`.
+// Whether the record of an accepted line stays, if the next program has the ordinal `k`.
 fn stay_of(src: &[u8], marks: &[bool], k: usize) -> Stay
     requires { ⌜ 3 ≤ length (now src) ⌝ }
     requires { ⌜ k < 18446744073709551615 ⌝ }
@@ -61,7 +61,7 @@ fn stay_of(src: &[u8], marks: &[bool], k: usize) -> Stay
     }
 }
 
-// The sizes with one accepted line more, if its record stays and can be written.
+// The sizes with one more accepted line, if its record stays and can be written.
 fn with_line_if(sizes: PerKind, src: &[u8], at: usize, strict: bool, stays: bool) -> Grown
     requires { ⌜ isRead (line strict (record { at = at; bytes = now src })) ≡ true ⌝ }
     requires { ⌜ at + length (now src) ≤ 16777216 ⌝ }
@@ -78,7 +78,7 @@ fn with_line_if(sizes: PerKind, src: &[u8], at: usize, strict: bool, stays: bool
     Grown::Is(sizes.plus(accepted_line::kind_of(src), n))
 }
 
-// The same of a line that stays.
+// The same for a line that stays.
 pub fn with_line(sizes: PerKind, src: &[u8], at: usize, strict: bool) -> Grown
     requires { ⌜ isRead (line strict (record { at = at; bytes = now src })) ≡ true ⌝ }
     requires { ⌜ at + length (now src) ≤ 16777216 ⌝ }
@@ -116,7 +116,7 @@ pub fn measure_marked(text: &[u8], strict: bool, marks: &[bool]) -> Measured
     Measured::Is(sizes)
 }
 
-// How many bytes the records of each kind have in the tidy text, or the line of the first SQ whose name can't be written.
+// How many bytes the records of each kind take in the tidy text, or the line of the first SQ whose name can't be written.
 pub fn measure(text: &[u8], strict: bool) -> Measured
     requires { ⌜ isAccepted (readText (now text)) ≡ true ⌝ }
     requires { ⌜ ReadsBy strict (now text) ⌝ }
@@ -126,7 +126,7 @@ pub fn measure(text: &[u8], strict: bool) -> Measured
     measure_marked(text, strict, &[])
 }
 
-// Writes the record of an accepted line at its kind's place, if it stays, and answers the places after it.
+// Writes the record of an accepted line at the place of its kind, if it stays. Returns the places after it.
 fn put_line_if(
     out: &mut [u8],
     places: PerKind,
@@ -150,7 +150,7 @@ fn put_line_if(
     places.plus(kind, n - o)
 }
 
-// The same of a line that stays.
+// The same for a line that stays.
 pub fn put_line(out: &mut [u8], places: PerKind, src: &[u8], at: usize, strict: bool) -> PerKind
     requires { ⌜ isRead (line strict (record { at = at; bytes = now src })) ≡ true ⌝ }
     requires { ⌜ at + length (now src) ≤ 16777216 ⌝ }
@@ -161,7 +161,7 @@ pub fn put_line(out: &mut [u8], places: PerKind, src: &[u8], at: usize, strict: 
     put_line_if(out, places, src, at, strict, true)
 }
 
-// Writes the records of each kind that stay, in text order, from the kind's place on, in one pass.
+// Writes the records that stay, each kind in text order from its place on, in one pass.
 fn put_lines(text: &[u8], strict: bool, marks: &[bool], places: PerKind, out: &mut [u8])
     requires { ⌜ isAccepted (readText (now text)) ≡ true ⌝ }
     requires { ⌜ ReadsBy strict (now text) ⌝ }
@@ -181,8 +181,8 @@ fn put_lines(text: &[u8], strict: bool, marks: &[bool], places: PerKind, out: &m
     }
 }
 
-// Writes the tidy text but for `gap` bytes before the comments, which stay as they are: other records go there.
-// `sizes` are those that measuring gives.
+// Writes the tidy text with a gap of `gap` bytes before the comments, which are left as they were: other records go there. `sizes` are those that
+// measuring gives.
 pub fn put_around(text: &[u8], strict: bool, sizes: PerKind, gap: usize, out: &mut [u8])
     requires { ⌜ isAccepted (readText (now text)) ≡ true ⌝ }
     requires { ⌜ ReadsBy strict (now text) ⌝ }
@@ -194,7 +194,7 @@ pub fn put_around(text: &[u8], strict: bool, sizes: PerKind, gap: usize, out: &m
     put_lines(text, strict, &[], sizes.starts(gap), out);
 }
 
-// Writes the tidy text of the records that stay, and answers its length. `sizes` are those that measuring by the same marks gives.
+// Writes the tidy text of the records that stay, and answers its length. `sizes` are those that measuring with the same marks gives.
 pub fn put_marked(
     text: &[u8],
     strict: bool,

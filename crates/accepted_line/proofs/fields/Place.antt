@@ -1,4 +1,4 @@
--- A turn of a walk over a line, as its bytes say it: from the tab at `i` to the end of the field there.
+-- A step of a walk over a line, as its bytes say it: from the tab at `i` to the end of the field there.
 use Prim.Native.Nat.{ℕ, _+_, _%_, _≤_, _<_}
 use mathlib.Core.Path.{_≡_, refl, sym, ap, ap₂, subst, _∙_}
 use mathlib.Core.Bool.{Bool, true, false, not, _&&_, _||_, cond}

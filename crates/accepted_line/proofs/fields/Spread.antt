@@ -1,4 +1,4 @@
--- Fields that all take different marks: no tag stands twice among them.
+-- Fields that all take different marks: no tag is repeated among them.
 use Prim.Native.Nat.{ℕ, _%_, _<_}
 use mathlib.Core.Path.{_≡_, refl, sym, ap, ap₂, _∙_}
 use mathlib.Core.Bool.{Bool, true, false, _&&_, _||_, cond}

@@ -114,7 +114,7 @@ made-others fs k r (sp.of-program p e) = ap settled (unkeyed-one Program 73 68 (
 
 -- ---- an accepted line of fields
 
--- no field stands before the first
+-- no field comes before the first
 pub start-none : (at : ℕ) (s : List ℕ) → fieldsTo at s 3 ≡ []
 unfolding fieldsOf
 start-none at s = refl
@@ -163,7 +163,7 @@ module _ (strict : Bool) (at : ℕ) (s : List ℕ) (r : Record) (a : Spelled str
 
 -- ---- what a walk is lent
 
--- no tag stands twice: it is forbidden, or the marks tell
+-- no tag is repeated: it is forbidden, or the marks show it
 pub once-start : (strict : Bool) (at : ℕ) (s : List ℕ) → AtField strict at s 3 → strict || spread (replicate 112 false) (fieldsFrom at s 3) ≡ true → AtField true at s 3
 unfolding fieldsOf
 once-start strict at s h t = record {

@@ -21,7 +21,7 @@ use Rattle.accepted_line.proofs.fields.Here.{Here}
 
 -- ---- no tag twice
 
--- a field's tag stands neither before nor after it
+-- a field's tag comes neither before nor after it
 apart : (d : List Field) (f : Field) (fs : List Field) → repeats (d ++ (f ∷ fs)) ≡ false
     → (any (tagged (f .tag₀) (f .tag₁)) d ≡ false) × (any (tagged (f .tag₀) (f .tag₁)) fs ≡ false)
 unfolding repeats any
@@ -59,7 +59,7 @@ unfolding orValue orLast
 or-latest p none = refl
 or-latest p (some q) = refl
 
--- ---- a field further
+-- ---- one field further
 
 module _ (strict : Bool) (at : ℕ) (line : List ℕ) (pos : ℕ) (h : AtField strict at line pos) (f : Field) (e : Here strict at line pos f) where
   -- where repeats are forbidden
@@ -68,7 +68,7 @@ module _ (strict : Bool) (at : ℕ) (line : List ℕ) (pos : ℕ) (h : AtField s
       apart (fieldsTo at line pos) f (fieldsFrom at line (pos + fieldLength f))
       (ap (λ l. repeats (fieldsTo at line pos ++ l)) (sym (e .rest)) ∙ ap (λ t. t && repeats (fieldsTo at line pos ++ fieldsFrom at line pos)) (sym s) ∙ h .once)
 
-  -- does its tag stand before it?
+  -- does its tag come before it?
   pub first-here : isFirst at line pos ≡ not (any (tagged (f .tag₀) (f .tag₁)) (fieldsTo at line pos))
   unfolding isFirst
   first-here = rw (e .tag-0, e .tag-1) refl
@@ -76,7 +76,7 @@ module _ (strict : Bool) (at : ℕ) (line : List ℕ) (pos : ℕ) (h : AtField s
   pub first-once : strict ≡ true → isFirst at line pos ≡ true
   first-once s = first-here ∙ ap not (alone s .0)
 
-  -- the other fields that are still to come, a field further
+  -- the other fields that are still to come, one field further
   pub further : (k : Kind) → firsts k (fieldsTo at line pos) (fieldsFrom at line pos)
       ≡ cond (isKey k (f .tag₀) (f .tag₁) || any (tagged (f .tag₀) (f .tag₁)) (fieldsTo at line pos))
       (firsts k (fieldsTo at line (pos + fieldLength f)) (fieldsFrom at line (pos + fieldLength f)))

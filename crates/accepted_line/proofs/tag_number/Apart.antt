@@ -58,7 +58,7 @@ module _ (a b : ℕ) (h : isTag a b ≡ true) where
   unfolding tagNumber
   tag-below = omega (arith, first .0, second .0)
 
--- the number tells the tag
+-- the number determines the tag
 pub tag-apart : (a b c d : ℕ) → isTag a b ≡ true → isTag c d ≡ true → tagNumber a b ≡ tagNumber c d → (a ≡ c) × (b ≡ d)
 unfolding tagNumber
 tag-apart a b c d h k e =

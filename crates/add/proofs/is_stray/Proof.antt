@@ -1,4 +1,4 @@
--- `add::is_stray` meets its contract: the PP that is given stands among the fields, and nobody has it as ID.
+-- `add::is_stray` meets its contract: the PP that is given is among the fields, and nobody has it as ID.
 use lib.ListN.{length, take, drop}
 use Rattle.format.specs.Fields.{lastOf}
 use Rattle.format.specs.Adding.{given}
@@ -14,7 +14,7 @@ use borrow.Author.Needs.{needs}
 use Rattle.add.proofs.is_stray.Statement.{statement}
 use Rattle.add.proofs.is_stray.Tie as tie
 
--- where the PP stands
+-- where the PP is
 stands : (c : tie.After-previous)
     → let a = c .before .before .before .before .before .before .args in
     let g = c .previous .given .0 in

@@ -59,7 +59,7 @@ shared-slice-read-t22 c = omega arith
 find-id-requires : tie.Need-find-id-requires Inv-loop μ-loop
 find-id-requires c κs = c .before .before .before .before .before .before .before .before .before .before .before .pre .0
 
--- the line of a turn, and those still to come
+-- the line of a step, and those still to come
 more : (c : tie.After-find-id Inv-loop μ-loop)
     → let l = c .before .before .before .loop in
     let a = c .before .before .before .before .before .before .before .before .before .before .before .before .args in

@@ -1,4 +1,4 @@
--- `binary_in::binary_in` meets its contract: the parts, the judgement of the text and the comparison of the lists decide in turn.
+-- `binary_in::binary_in` meets its contract: the parts, the judgement of the text and the comparison of the lists decide one after another.
 use Prim.Native.Nat.{ℕ, _+_, _-_, _≤_}
 use mathlib.Core.Path.{_≡_, sym, ap, _∙_}
 use mathlib.Core.List.{List}

@@ -1,4 +1,4 @@
--- `carry_lines::advance` meets its contract: a line further, and a record more where it is kept.
+-- `carry_lines::advance` meets its contract: one line further, and one more record where it is kept.
 use mathlib.Core.Path.{sym}
 use native.Mathlib.Omega.{arith}
 use Rattle.read_admission.proofs.Programs.{programs-most}

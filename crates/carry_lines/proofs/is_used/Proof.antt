@@ -20,7 +20,7 @@ use Rattle.carry_lines.proofs.is_used.Lts as lts
 use Rattle.key_index.proofs.is_first.Reads as is-first-reads
 use Rattle.key_index.proofs.meet.Reads as meet-reads
 
--- no program: the area tells
+-- not a program: the area decides
 module _ (t area ids : List ℕ) (room : Bool) where
   elsewhere : (x : Head) → OneOf (0 ∷ 1 ∷ 2 ∷ 3 ∷ 5 ∷ []) (tagOf the-type x) → (not (isFirstKey t area x) ≡ usedBy t area ids x) × (ids ≡ idsAfter room t ids x)
   unfolding usedBy idsAfter
@@ -31,7 +31,7 @@ module _ (t area ids : List ℕ) (room : Bool) where
   elsewhere (head.Program p n) k = absurd (miss (0 ∷ 1 ∷ 2 ∷ 3 ∷ 5 ∷ []) 4 tt k)
   elsewhere (head.Comment p) k = (refl, refl)
 
-  -- a program: the kept ones do
+  -- a program: the kept ones decide
   here : (x : Head) (p : Stretch) (n : ℕ) → x ≡ head.Program p n → (isMet t ids x ≡ usedBy t area ids x) × (afterMeeting room t ids x ≡ idsAfter room t ids x)
   unfolding usedBy idsAfter
   here x p n e = rw e (refl, refl)

@@ -1,4 +1,4 @@
--- `carry_lines::next_line` meets its contract: the line is judged by what the slots tell of its key, and judging stands after it.
+-- `carry_lines::next_line` meets its contract: the line is judged by what the slots say of its key, and the cursor is after it.
 use Prim.Native.Nat.{_+_, _-_, _≤_}
 use mathlib.Core.Path.{_≡_, refl, sym, ap, ap₂, subst, _∙_}
 use native.Mathlib.Omega.{arith}

@@ -21,7 +21,7 @@ use Rattle.carry_on.proofs.write_kept.Tie as tie
 abbrev kept : List ℕ → List ℕ
 kept t = tidy (keptOf (carriedLines t))
 
--- the sum of the sizes is its length, a byte more than the text's at most
+-- the sum of the sizes is its length, at most one byte more than the text's
 sum : (c : tie.Start) → (let a = c .args in (total (a .sizes) ≡ length (kept (a .text .now))) × (length (kept (a .text .now)) ≤ 16777217))
 sum c =
     let a = c .args in

@@ -35,7 +35,7 @@ Inv-loop t b area₀ ids₀ sizes₀ c₀ area ids sizes c =
 abbrev μ-loop : tie.MeasureT-loop
 μ-loop t b area₀ ids₀ sizes₀ c₀ area ids sizes c = length t - c .at
 
--- the line of a turn
+-- the line of a step
 turned : (c : tie.After-next-line Inv-loop μ-loop)
     → (let l = c .before .before .before .before .before in let a = c .before .before .before .before .before .before .before .before .before .before .args in
     Turn (a .b .strict) (a .text .now) (a .b .at) (l .loop .c) (c .next-line .result .end) (c .next-line .result .refusal))

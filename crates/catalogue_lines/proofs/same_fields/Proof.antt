@@ -32,7 +32,7 @@ Inv-loop catalogue o kind src at tables keys₀ next₀ i₀ keys next i =
 abbrev μ-loop : tie.MeasureT-loop
 μ-loop catalogue o kind src at tables keys₀ next₀ i₀ keys next i = length src - i
 
--- the field of a turn ends in the line
+-- the field of a step ends in the line
 reach : (f : tie.After-field-end Inv-loop μ-loop)
     → (let l = f .before .before in let a = l .before .before .before .before .before .args in (l .loop .i + 4 ≤ f .field-end .result) × (f .field-end .result ≤ length (a .src .now)))
 reach f =

@@ -1,4 +1,4 @@
--- `catalogue_lookup::find_field` meets its contract: the fields stand behind the entry that is found.
+-- `catalogue_lookup::find_field` meets its contract: the fields come after the entry that is found.
 use mathlib.Core.Path.{refl, ap, _∙_}
 use mathlib.Core.Logic.{⊎-elim}
 use native.Mathlib.Omega.{arith}

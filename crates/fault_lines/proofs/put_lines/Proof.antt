@@ -39,7 +39,7 @@ Inv-loop t b area₀ ids₀ parents table₀ row₀ c₀ area ids table row c =
 abbrev μ-loop : tie.MeasureT-loop
 μ-loop t b area₀ ids₀ parents table₀ row₀ c₀ area ids table row c = length t - c .at
 
--- the line of a turn
+-- the line of a step
 turned : (c : tie.After-next-line Inv-loop μ-loop)
     → (let l = c .before .before .before .before .before .loop in let a = c .before .before .before .before .before .before .before .before .before .before .before .before .args in Turn (a .b .strict) (a .text .now) (a .b .at) (l .c) (c .next-line .result .end) (c .next-line .result .refusal))
 turned c =
@@ -48,7 +48,7 @@ turned c =
     turn (a .b .strict) (a .text .now) (a .b .at) (l .area) (l .ids) (l .c) (l .inv .0) (c .before .before .before .if1 .taken) (c .next-line .result .end) (c .next-line .result .refusal)
     (c .next-line .ensures .0) (c .next-line .ensures .1 .0)
 
--- its rows, and those behind it
+-- its rows, and those after it
 come : (c : tie.After-step-fault Inv-loop μ-loop)
     → (let l = c .before .before .before .before .before .before .before .before .before .before .before .before .before .before .before .loop in let a = c .before .before .before .before .before .before .before .before .before .before .before .before .before .before .before .before .before .before .before .before .before .before .args in let d = c .before .before .before .before .before .before .before .before .before .before .next-line .result .next in
     toCome (a .text .now) (a .b) (a .parents .now) (l .c) ≡ rows (ifFaulty (a .b .line + l .c .line) (c .step-fault .result) (faultsFrom (linksIn (a .parents .now)) (a .b .line + d .line) (d .programs) (drop (d .line) (linesKeptFrom (a .text .now) (a .b))))))

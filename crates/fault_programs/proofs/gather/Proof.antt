@@ -37,7 +37,7 @@ Inv-loop t b area₀ ids₀ ats₀ lens₀ from₀ widths₀ plain₀ c₀ area 
 abbrev μ-loop : tie.MeasureT-loop
 μ-loop t b area₀ ids₀ ats₀ lens₀ from₀ widths₀ plain₀ c₀ area ids ats lens from widths plain c = length t - c .at
 
--- the line of a turn
+-- the line of a step
 turned : (c : tie.After-next-line Inv-loop μ-loop)
     → (let l = c .before .before .before .before .before .loop in let a = c .before .before .before .before .before .before .before .before .before .args in Turn (a .b .strict) (a .text .now) (a .b .at) (l .c) (c .next-line .result .end) (c .next-line .result .refusal))
 turned c =
@@ -92,7 +92,7 @@ add-plain c =
 loop-less : tie.Need-loop-less Inv-loop μ-loop
 loop-less c = omega (arith, c .before .before .before .before .before .before .before .before .before .before .before .before .before .if1 .taken, turned (c .before .before .before .before .before .before .before .before .before .before) .onward, c .before .before .before .before .before .before .before .before .before .before .next-line .ensures .1 .1 .0)
 
--- the faults that are counted, a line further
+-- the faults that are counted, one line further
 counted : (c : tie.After-one-if Inv-loop μ-loop)
     → (let l = c .before .before .before .before .before .before .before .before .before .before .before .before .loop in let a = c .before .before .before .before .before .before .before .before .before .before .before .before .before .before .before .before .args in let d = c .before .before .before .before .before .before .before .next-line .result .next in
     (l .plain + c .one-if .result + plainCount (drop (d .line) (linesKeptFrom (a .text .now) (a .b))) ≡ plainCount (linesKeptFrom (a .text .now) (a .b))) × (l .plain + c .one-if .result ≤ d .line))
@@ -142,7 +142,7 @@ part-places-of-start c = turned (c .before .before .before .before .before .befo
 part-places-of-end : tie.Need-part-places-of-end Inv-loop μ-loop
 part-places-of-end c = turned (c .before .before .before .before .before .before .before .before .before .before) .inside
 
--- the program of a turn
+-- the program of a step
 one : (c : tie.Else2 Inv-loop μ-loop) → ReadProgram (turned (c .before .before .before .before .before .before .before .before .before .before) .judged)
 one c =
     let l = c .before .before .before .before .before .before .before .before .before .before .before .before .before .before .before .loop in

@@ -1,4 +1,4 @@
--- `fault_programs::plain_fault` meets its contract: a refusal is the fault, and else the name is looked at.
+-- `fault_programs::plain_fault` meets its contract: a refusal is the fault, and otherwise the name is looked at.
 use mathlib.Core.Path.{_≡_, sym, _∙_}
 use native.Mathlib.Omega.{arith}
 use borrow.Author.Needs.{needs}

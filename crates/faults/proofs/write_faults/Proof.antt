@@ -48,7 +48,7 @@ small c =
     counts-small (a .text .now) (a .b) (a .links) f (s .pre .1 .1 .1) (s .pre .0) (c .count-links .result) _ _ (c .count-links .ensures)
     (omega (arith, front-length (a .text .now) (a .b) f (a .links) (s .pre .1 .1 .1), few (a .text .now) (a .b) f))
 
--- two numbers for each faulty line
+-- two numbers per faulty line
 counted : (c : tie.After-count-links)
     → (let a = c .before .before .before .before .before .before .before .args in length (rows (faultsIn (carriedLines (a .text .now)))) ≡ (a .b .line + (a .links .plain + c .count-links .result)) * 2)
 counted c =

@@ -42,7 +42,7 @@ kind-of-requires c κs = search needs
 key-place-requires : tie.Need-key-place-requires Inv-loop μ-loop Inv-search μ-search
 key-place-requires c κs = search needs
 
--- ---- in a turn
+-- ---- in a step of the loop
 
 abbrev start : tie.After-size Inv-loop μ-loop Inv-search μ-search → tie.Start Inv-loop μ-loop Inv-search μ-search
 start z = z .before .before .before .before .before .before

@@ -1,4 +1,4 @@
--- `key_index::is_first` meets its contract, by how the looking ends.
+-- `key_index::is_first` meets its contract, by how the search ends.
 use Prim.Native.Nat.{_<_}
 use mathlib.Core.Path.{_≡_, sym, ap₂, _∙_}
 use native.Mathlib.Omega.{arith}
@@ -15,14 +15,14 @@ use Rattle.key_index.proofs.is_first.Lts as lts
 use Rattle.key_index.proofs.look_for.Reads as look-for-reads
 use Rattle.key_index.proofs.offset_of.Reads as offset-of-reads
 
--- the slot that tells the key is one of the slots
+-- the slot that holds the key is one of the slots
 below : (c : tie.After-i) → c .i .given .0 .0 < length (c .before .before .before .before .before .before .args .area .now)
 below c =
     let k = c .before .before in
     let s = k .before .before .before .before in
     known-below (s .args .text .now) (s .args .area .now) (s .args .head) (c .i .given .0 .0) (s .pre .1 .0) (sym (k .look-for .ensures) ∙ c .i .given .1)
 
--- what is told, by how the looking ended
+-- what is answered, by how the search ended
 told : (c : tie.After-look-for) (s : Sought) → c .look-for .result ≡ s
     → let a = c .before .before .before .before .args in
     isOwn (c .before .offset-of .result) (a .area .now) s ≡ isFirstKey (a .text .now) (a .area .now) (a .head)

@@ -1,4 +1,4 @@
--- `key_index::meet_at` meets its contract, by how the looking ends.
+-- `key_index::meet_at` meets its contract, by how the search ends.
 use Prim.Native.Nat.{ℕ, _+_, _-_, _*_, _/_, _%_, _≤_, _<_}
 use mathlib.Core.Path.{_≡_, refl, sym, ap, _∙_}
 use mathlib.Core.Bool.{cond}

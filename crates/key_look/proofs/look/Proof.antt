@@ -68,7 +68,7 @@ returns c =
 is-told-requires : tie.Need-is-told-requires Inv-loop μ-loop
 is-told-requires c κs = search needs
 
--- what the slot tells
+-- what the slot holds
 told-is : (c : tie.After-is-told Inv-loop μ-loop)
     → let l = c .before .before .before .before in
     let a = l .before .before .before .before .before .args in

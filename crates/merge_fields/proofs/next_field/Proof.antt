@@ -21,7 +21,7 @@ Inv-loop line at start tables i₀ i = AtField (none? tables) at line i × (star
 abbrev μ-loop : tie.MeasureT-loop
 μ-loop line at start tables i₀ i = length line - i
 
--- the field of a turn ends in the line
+-- the field of a step ends in the line
 reach : (f : tie.After-field-end Inv-loop μ-loop)
     → (let l = f .before .before in let a = l .before .before .before .args in (l .loop .i + 4 ≤ f .field-end .result) × (f .field-end .result ≤ length (a .line .now)))
 reach f =

@@ -66,7 +66,7 @@ returns-2 c =
 same-field-requires : tie.Need-same-field-requires Inv-loop μ-loop
 same-field-requires c κs = let g = c .before .before .before .before in (g .before .next-field .ensures .1 .value, g .next-field2 .ensures .1 .value)
 
--- the fields of a turn decide, and then those that are left
+-- the fields of a step decide, and then those that are left
 told : (c : tie.After-same-field Inv-loop μ-loop)
     → (let g = c .before .before .before .before .before in let f = g .before in let l = f .before in let a = l .before .before .before .before .before .args in
     keepsFields (keptFrom (a .at-a) (a .a .now) 3) (keptFrom (a .at-b) (a .b .now) 3)

@@ -1,4 +1,4 @@
--- `merge_lists::mark_list` meets its contract: what the marks and the ordinals from the place on tell stays.
+-- `merge_lists::mark_list` meets its contract: what the marks and the ordinals from the place on say stays.
 use Prim.Native.Nat.{ℕ, _+_, _-_, _≤_, _<_}
 use mathlib.Core.Path.{_≡_, refl, sym, ap, _∙_}
 use mathlib.Core.Bool.{Bool, true, false}

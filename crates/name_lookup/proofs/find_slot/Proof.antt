@@ -1,4 +1,4 @@
--- `name_lookup::find_slot` meets its contract: what looking along the slots that are left finds is what looking along all finds.
+-- `name_lookup::find_slot` meets its contract: a search along the slots that are left finds what a search along all finds.
 use Prim.Native.Nat.{ℕ, _+_, _-_, _/_, _%_, _≤_, _<_}
 use mathlib.Core.Path.{_≡_, refl, sym, ap, _∙_}
 use mathlib.Core.Bool.{_&&_}
@@ -70,7 +70,7 @@ long c = path-length _ _ (some (start c))
 turned-requires : tie.Need-turned-requires Inv-loop μ-loop
 turned-requires c κs = let f = c .before .before in (begins f, (omega arith, start f .pre .0))
 
--- ---- in a turn
+-- ---- in a step of the loop
 
 abbrev looking : tie.After-turned Inv-loop μ-loop → tie.At-loop Inv-loop μ-loop
 looking c = c .before .before
@@ -124,7 +124,7 @@ is-told-requires c κs = (positive _ (c .if1 .left), args (looking (c .before .b
     positive : (v : ℕ) → (v ≡ 0 → ⊥) → 0 < v
     positive v n = omega (arith, n)
 
--- whether the slot tells the name
+-- whether the slot holds the name
 is-said : (c : tie.After-is-told Inv-loop μ-loop) →
     let t = c .before .before .before in
     let a = args (looking t) .args in

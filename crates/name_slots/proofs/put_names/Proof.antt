@@ -85,7 +85,7 @@ place c =
     let p = c .e .given .0 .0 in
     seat (first (length slots) (take (p .len) (drop (p .at) (start (loop c) .args .text .now)))) slots
 
--- the entry of a turn in which it entered
+-- the entry of a step in which it entered
 abbrev sq : tie.Joined1 Inv-loop μ-loop → tie.After-e Inv-loop μ-loop
 sq c = c .before .before .before .before .before .before
 

@@ -43,7 +43,7 @@ module _ (t c slots₀ slots₁ : List ℕ) (size : length slots₀ ≡ slotCoun
   pub long₁ : length slots₁ ≡ slotCount (length names)
   long₁ = ap length by-places ∙ places-length t c
 
-  -- the notes that were taken beside tell where ordinals go
+  -- the notes say where ordinals go
   pub notes-told : (m : ℕ) → m ≡ length names → (notes₀ notes₁ : List ℕ) → notes₁ ≡ sets notes₀ 0 (seats false t 0 (entriesIn c) (replicate (length slots₀) 0))
       → m ≤ length notes₁ → take m notes₁ ≡ seats true t 0 (entriesIn c) (replicate (length slots₁) 0)
   notes-told m e notes₀ notes₁ is room =

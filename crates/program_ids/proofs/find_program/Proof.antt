@@ -25,7 +25,7 @@ abbrev μ-search : tie.MeasureT-search
 search-holds : tie.Need-search-holds Inv-loop μ-loop Inv-search μ-search
 search-holds c = (omega arith, refl)
 
--- ---- in a turn
+-- ---- in a step of the loop
 
 -- the place is one of those that are given
 row : (c : tie.Else1 Inv-loop μ-loop Inv-search μ-search) → c .before .search .k < length (c .before .before .args .ats .now)

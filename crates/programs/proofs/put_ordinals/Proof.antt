@@ -1,4 +1,4 @@
--- `program_places::put_ordinals` meets its contract: 20, or after i turns the first i ordinals are pasted.
+-- `program_places::put_ordinals` meets its contract: 20, or after i steps the first i ordinals are pasted.
 use Prim.Native.Nat.{ℕ, _+_, _-_, _≤_}
 use mathlib.Core.Path.{_≡_, refl, sym, ap, _∙_}
 use mathlib.Core.List.{List}

@@ -34,7 +34,7 @@ Inv-loop text strict area₀ from first clash at₀ line₀ area at line =
 abbrev μ-loop : tie.MeasureT-loop
 μ-loop text strict area₀ from first clash at₀ line₀ area at line = length text - at
 
--- ---- in a turn
+-- ---- in a step of the loop
 
 cut : (c : tie.After-first-line Inv-loop μ-loop)
     → let l = c .before .before .before .before in

@@ -53,7 +53,7 @@ Inv-loop text strict area₀ until block₀ at₀ line₀ programs₀ size₀ on
 abbrev μ-loop : tie.MeasureT-loop
 μ-loop text strict area₀ until block₀ at₀ line₀ programs₀ size₀ once₀ area block at line programs size once = length text - at
 
--- ---- in a turn
+-- ---- in a step of the loop
 
 -- the first of the lines ahead
 cut-at : (c : tie.After-first-line Inv-loop μ-loop) → c .first-line .result ≡ firstLine (drop (c .before .before .loop .at) (c .before .before .before .before .before .args .text .now))
@@ -177,7 +177,7 @@ number c =
     ∙ ap (λ n. barring (isTaken (j .before) (a .text .now) h) (length (j .before)) n h) (j .told)
     ∙ barring-is (a .text .now) (j .before) (a .strict) (piece q) (stands q)
 
--- it is a record more
+-- it is one more record
 accepted : (c : tie.Else2 Inv-loop μ-loop)
     → let q = c .before .before .before .before .before .before .before .before .before .before .before .before .before .before in
     let l = q .before .before .before .before in

@@ -1,4 +1,4 @@
--- `record_parser::has_break` meets its contract: LF or CR stands in a line where the bytes before the first of it are not all.
+-- `record_parser::has_break` meets its contract: a line has an LF or a CR if not all of its bytes come before the first one.
 use Prim.Native.Nat.{ℕ, suc}
 use mathlib.Core.Path.{_≡_, refl, sym, ap, _∙_}
 use mathlib.Core.Bool.{Bool, true, false, _||_, cond}

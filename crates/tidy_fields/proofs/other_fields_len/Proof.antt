@@ -17,7 +17,7 @@ Inv-loop kind line at tables n₀ i₀ n i = AtField (none? tables) at line i ×
 abbrev μ-loop : tie.MeasureT-loop
 μ-loop kind line at tables n₀ i₀ n i = length line - i
 
--- the field of a turn ends in the line
+-- the field of a step ends in the line
 reach : (f : tie.After-field-end Inv-loop μ-loop) → (let l = f .before .before in (l .loop .i + 4 ≤ f .field-end .result) × (f .field-end .result ≤ length (l .before .before .before .args .line .now)))
 reach f =
     let l = f .before .before in

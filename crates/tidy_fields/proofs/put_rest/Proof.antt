@@ -27,7 +27,7 @@ Inv-loop out₀ o kind line at tables n₀ i₀ out n i =
 abbrev μ-loop : tie.MeasureT-loop
 μ-loop out₀ o kind line at tables n₀ i₀ out n i = length line - i
 
--- the field of a turn ends in the line
+-- the field of a step ends in the line
 reach : (f : tie.After-field-end Inv-loop μ-loop)
     → (let l = f .before .before in (l .loop .i + 4 ≤ f .field-end .result) × (f .field-end .result ≤ length (l .before .before .before .before .args .line .now)))
 reach f =
@@ -77,7 +77,7 @@ kept-value-requires c κs =
     let s = l .before .before .before .before in
     (s .pre .0, (l .loop .inv .0, ((omega arith, f .field-end .ensures), omega (arith, s .pre .1 .0))))
 
--- the value of the field stands in the line
+-- the value of the field is in the line
 value : (c : tie.After-kept-value Inv-loop μ-loop)
     → (let f = c .before .before .before .before .before in let a = f .before .before .before .before .before .before .args in let v = c .kept-value .result in
     (a .at ≤ v .at) × (v .at - a .at + v .len ≤ length (a .line .now)))

@@ -17,7 +17,7 @@ digit-bottom : (b : ℕ) → digit b ≡ true → 48 ≤ b
 unfolding digit between
 digit-bottom b h = leb-true 48 b (and-left (leb 48 b) (leb b 57) h)
 
--- digits behind a number that is not 0
+-- digits after a number that is not 0
 behind : (n : ℕ) (ds : List ℕ) → 1 ≤ n → all digit ds ≡ true → worthFrom n ds < 10 ^ 20 → written (worthFrom n ds) ≡ written n ++ ds
 unfolding all worthFrom
 behind n [] h d l = sym (append-nil (written n))

@@ -1,4 +1,4 @@
--- `tidy_line::once_size` meets its contract: a tidy line has one byte more, and of another the keys tell how long its other fields are.
+-- `tidy_line::once_size` meets its contract: a tidy line has one more byte, and of another the keys say how long its other fields are.
 use Prim.Native.Nat.{_+_, _-_, _≤_}
 use mathlib.Core.Path.{_≡_, refl, sym, ap, _∙_}
 use mathlib.Core.Bool.{true, false}

@@ -40,7 +40,7 @@ abbrev μ-loop : tie.MeasureT-loop
 begun : (s : tie.Start Inv-loop μ-loop) → Opened (s .args .strict) (s .args .text .now)
 begun s = opened (s .args .strict) (s .args .text .now) (s .pre .0) (s .pre .1 .0)
 
--- the line of a turn
+-- the line of a step
 turned : (c : tie.After-first-line Inv-loop μ-loop) → (let l = c .before .before .before in let a = l .before .before .before .before .args in Turn (a .strict) (a .text .now) (l .loop .at) (c .first-line .result))
 turned c =
     let l = c .before .before .before in
@@ -77,7 +77,7 @@ steps c =
     let a = l .before .before .before .before .args in
     c .stay-of .ensures ∙ ap (λ b. stayBy b (a .marks .now) (l .loop .k)) (sym (line-pg (a .strict) (l .loop .at) (bytes-of f) (turned f .read)))
 
--- what is still to be written stands apart, seen from this line
+-- what is still to be written is apart, seen from this line
 apart : (f : tie.After-first-line Inv-loop μ-loop) → (let l = f .before .before .before in Apart (parts (l .loop .next) (sifted (p-of f) (l .loop .k) (withRecord (line-of f) (rest-of f)))) (length (l .loop .out)))
 apart f = let l = f .before .before .before in subst (λ rs. Apart (parts (l .loop .next) (sifted (p-of f) (l .loop .k) rs)) (length (l .loop .out))) (turned f .records) (l .loop .inv .3)
 

@@ -1,4 +1,4 @@
--- `accepted_line::fields::is_first` meets its contract: where no tag stands twice it is known, and else the tables tell.
+-- `accepted_line::fields::is_first` meets its contract: where no tag is repeated it is known, and otherwise the tables say.
 use Prim.Native.Nat.{_+_, _≤_, _<_}
 use mathlib.Core.Path.{_≡_, refl, sym, ap, _∙_}
 use mathlib.Core.Bool.{false}

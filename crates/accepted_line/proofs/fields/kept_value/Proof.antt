@@ -1,4 +1,4 @@
--- `accepted_line::fields::kept_value` meets its contract: where no tag stands twice the field's own value is the last, and else the tables tell.
+-- `accepted_line::fields::kept_value` meets its contract: where no tag is repeated the field's own value is the last, and otherwise the tables say.
 use Prim.Native.Nat.{_+_, _≤_}
 use mathlib.Core.Path.{_≡_, sym, _∙_}
 use native.Mathlib.Omega.{arith}

@@ -29,7 +29,7 @@ Inv-loop line at tables₀ i₀ tables i =
 abbrev μ-loop : tie.MeasureT-loop
 μ-loop line at tables₀ i₀ tables i = length line - i
 
--- the field of a turn ends in the line
+-- the field of a step ends in the line
 reach : (c : tie.After-field-end Inv-loop μ-loop) → (let l = c .before .before in (l .loop .i + 4 ≤ c .field-end .result) × (c .field-end .result ≤ length (l .before .before .before .args .line .now)))
 reach c =
     let l = c .before .before in

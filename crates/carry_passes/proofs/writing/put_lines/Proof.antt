@@ -43,7 +43,7 @@ Inv-loop t b area₀ ids₀ out₀ table₀ next₀ c₀ area ids out table next
 abbrev μ-loop : tie.MeasureT-loop
 μ-loop t b area₀ ids₀ out₀ table₀ next₀ c₀ area ids out table next c = length t - c .at
 
--- the line of a turn
+-- the line of a step
 turned : (c : tie.After-next-line Inv-loop μ-loop)
     → (let l = c .before .before .before .before .before in let a = c .before .before .before .before .before .before .before .before .before .before .before .args in
     Turn (a .b .strict) (a .text .now) (a .b .at) (l .loop .c) (c .next-line .result .end) (c .next-line .result .refusal))
@@ -53,7 +53,7 @@ turned c =
     turn (a .b .strict) (a .text .now) (a .b .at) (l .area) (l .ids) (l .c) (l .inv .0) (c .before .before .before .if1 .taken) (c .next-line .result .end) (c .next-line .result .refusal)
     (c .next-line .ensures .0) (c .next-line .ensures .1 .0)
 
--- a row more, or none
+-- one more row, or none
 counted : (c : tie.After-next-line Inv-loop μ-loop)
     → (let l = c .before .before .before .before .before .loop in let b = c .before .before .before .before .before .before .before .before .before .before .before .args .b in rowsBefore b (c .next-line .result .next) ≡ rowsBefore b (l .c) + skipped (c .next-line .result .refusal))
 counted c =
