@@ -8,7 +8,7 @@ use Rattle.format.specs.Lines.{Piece}
 use Rattle.format.specs.Fields.{Field, tagged, repeats, later, lastOf, without, put, settledOn, settled}
 use Rattle.byte_slices.specs.Stands.{Each}
 use Rattle.accepted.specs.Pieces.{values}
-use Rattle.accepted.proofs.Bools.{never}
+use Rattle.lists.proofs.Bools.{never}
 use Rattle.accepted.proofs.Tags.{repeats-put}
 
 -- `p` is the value of a field with the tag `a`, `b` of which `P` holds

@@ -25,10 +25,10 @@ use Rattle.accepted.specs.Sound.{KeyIsValue}
 use Rattle.accepted.specs.Spelled as sp
 use Rattle.accepted.specs.Spelled.{Good, Made, Spelled, AcceptedLine, kind₀, kind₁}
 use Rattle.accepted.specs.Pieces.{pieces}
-use Rattle.accepted.proofs.Bools.{and-left, and-right}
+use Rattle.lists.proofs.Bools.{and-left, and-right}
 use Rattle.accepted.proofs.Clean.{between-bounds}
 use Rattle.accepted.proofs.Fields.{Of, lastOf-of}
-use Rattle.accepted.proofs.Pairs.{pairs-right}
+use Rattle.lists.proofs.Pairs.{pairs-right}
 use Rattle.accepted.proofs.Spelled.{line-accepted}
 use Rattle.accepted.proofs.Sound.{line-sound}
 use Rattle.key_at.specs.Word.{word}

@@ -10,7 +10,7 @@ use borrow.Author.Tests.{eqb-true}
 use Rattle.format.specs.Bytes.{any}
 use Rattle.format.specs.Lines.{Piece}
 use Rattle.format.specs.Fields.{Field, tagged, repeats, later, lastOf, without, put, settledOn, settled}
-use Rattle.accepted.proofs.Bools.{never, or-assoc, or-true, or-false, eqb-sym, any-append, any-snoc, and-left, and-right, or-left, or-right}
+use Rattle.lists.proofs.Bools.{never, or-assoc, or-true, or-false, eqb-sym, any-append, any-snoc, and-left, and-right, or-left, or-right}
 
 -- the tags of two fields are equal, seen from either
 pub tagged-sym : (f g : Field) → tagged (f .tag₀) (f .tag₁) g ≡ tagged (g .tag₀) (g .tag₁) f

@@ -12,7 +12,7 @@ use Rattle.format.specs.Version.{version}
 use Rattle.format.specs.declared.Version.{Version}
 use Rattle.format.specs.declared.Kind.{Kind}
 use Rattle.format.specs.declared.Kind.the-variants.{Header, ReferenceSequence, ReadGroup, Program, Comment}
-use Rattle.accepted.specs.Pieces.{Pairs}
+use Rattle.lists.specs.Pairs.{Pairs}
 
 -- LN of SQ is a number from 1 to 2 ^ 31 - 1, all digits
 unfoldable pub LengthInRange : Kind → Field → Type 0

@@ -19,9 +19,9 @@ use Rattle.accepted.specs.Sound.{kind}
 use Rattle.accepted.specs.Spelled as sp
 use Rattle.accepted.specs.Spelled.{LengthInRange, Good, Made, Spelled, AcceptedLine, kind₀, kind₁}
 use Rattle.accepted.specs.Read.{isRead}
-use Rattle.accepted.proofs.Bools.{never, and-left, and-right}
+use Rattle.lists.proofs.Bools.{never, and-left, and-right}
 use Rattle.accepted.proofs.Fields.{Of, lastOf-of}
-use Rattle.accepted.proofs.Pairs.{pairs-right}
+use Rattle.lists.proofs.Pairs.{pairs-right}
 use Rattle.accepted.proofs.Sound.{made-kind}
 use Rattle.accepted.proofs.Spelled.{line-accepted}
 use Rattle.accepted.proofs.Stands.{fields-stand}

@@ -12,7 +12,7 @@ use Rattle.format.specs.declared.Kind.{Kind}
 use Rattle.format.specs.declared.Kind.the-variants.{Header, ReferenceSequence, ReadGroup, Program, Comment}
 use Rattle.byte_slices.specs.Upto.{upto}
 use Rattle.format.specs.Keys.{isKey}
-use Rattle.accepted.proofs.Bools.{never, and-left, or-left, or-right, or-split}
+use Rattle.lists.proofs.Bools.{never, and-left, or-left, or-right, or-split}
 use Rattle.accepted_line.specs.Run.{fieldsFrom, AtField}
 use Rattle.accepted_line.specs.Next.{orValue, valueAt}
 use Rattle.accepted_line.specs.declared.fields.Value.{Value}

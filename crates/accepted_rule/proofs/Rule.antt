@@ -7,7 +7,7 @@ use Rattle.format.specs.Lines.{lines}
 use Rattle.format.specs.Records.{Record, read, line}
 use Rattle.format.specs.Reading.{accept, readFrom, readText}
 use Rattle.accepted.specs.Admits.{strictly}
-use Rattle.accepted.specs.Pieces.{Pairs}
+use Rattle.lists.specs.Pairs.{Pairs}
 use Rattle.accepted.specs.Read.{isAccepted}
 use Rattle.accepted.proofs.Admits.{Rest, read-rest, admits-read, admits-lines}
 use Rattle.accepted.proofs.Text.{text-admits}

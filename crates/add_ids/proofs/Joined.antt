@@ -11,7 +11,7 @@ use lib.Dec.{eqb}
 use borrow.Author.Tests.{eq-eqb, ne-eqb}
 use Rattle.format.specs.Bytes.{same, starts}
 use Rattle.byte_slices.proofs.Equal.{same-other}
-use Rattle.accepted.proofs.Bools.{eqb-sym}
+use Rattle.lists.proofs.Bools.{eqb-sym}
 use Rattle.add_ids.specs.Taken.{joined}
 
 pub joined-length : (prefix id : List ℕ) → length (joined prefix id) ≡ length prefix + suc (length id)

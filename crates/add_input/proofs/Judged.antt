@@ -16,7 +16,7 @@ use Rattle.format.specs.declared.Kind.the-variants.{Program}
 use Rattle.byte_slices.proofs.Lines.{upto-le}
 use Rattle.field.specs.declared.ParsedField as code
 use Rattle.format.specs.Keys.{isKey}
-use Rattle.accepted.proofs.Bools.{any-append, any-snoc, or-true, or-left, or-right, or-split}
+use Rattle.lists.proofs.Bools.{any-append, any-snoc, or-true, or-left, or-right, or-split}
 use Rattle.accepted.proofs.Tags.{repeats-snoc, repeats-more}
 use Rattle.record_tags.specs.Occurs.{occurs}
 use Rattle.record_tags.proofs.Region.{occurs-fields}

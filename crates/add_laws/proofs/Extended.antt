@@ -14,7 +14,7 @@ use Rattle.byte_slices.proofs.Stands.{each-map}
 use Rattle.accepted.specs.Sound.{Sound}
 use Rattle.accepted.specs.Admits.{Unbarred}
 use Rattle.accepted.specs.Read.{recordsOf}
-use Rattle.accepted.proofs.Bools.{never}
+use Rattle.lists.proofs.Bools.{never}
 use Rattle.tidy_laws.specs.Line.{Unbroken}
 use Rattle.tidy_laws.specs.Writable.{Writable}
 use Rattle.tidy_laws.proofs.Unbarred.{unbarred-append}

@@ -17,7 +17,7 @@ use Rattle.format.specs.Programs.{Program, Link, child, bytesOf, programOf, pro
 use Rattle.format.specs.Adding.{noProgram, unplaced, orElse, chained, afterLeaves}
 use Rattle.byte_slices.specs.Stands.{Each}
 use Rattle.byte_slices.proofs.Equal.{same-self}
-use Rattle.accepted.proofs.Bools.{never, or-left, or-right, and-left}
+use Rattle.lists.proofs.Bools.{never, or-left, or-right, and-left}
 use Rattle.accepted.proofs.OfKind.{ofKind-append}
 use Rattle.accepted.proofs.Tags.{lastOf-snoc}
 use Rattle.program_chains.specs.Listed.{named}

@@ -17,7 +17,7 @@ use Rattle.format.specs.Tidy.{tidy, unwritable}
 use Rattle.format.specs.Adding.{given, misformed, added, used, unaddable}
 use Rattle.format.specs.Calls.{yes, fresh, untangled, adding}
 use Rattle.accepted.specs.Read.{kept, recordsOf}
-use Rattle.accepted.proofs.Bools.{or-right, split}
+use Rattle.lists.proofs.Bools.{or-right, split}
 use Rattle.tidy_laws.proofs.Answered.{then-yes, fresh-yes, untangled-yes, writing-yes}
 use Rattle.add_input.proofs.InForm.{InForm, in-form}
 

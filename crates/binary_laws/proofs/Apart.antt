@@ -16,7 +16,7 @@ use Rattle.format.specs.Programs.{lastOr, butLast}
 use Rattle.format.specs.References.{Reference}
 use Rattle.byte_slices.specs.Stands.{Each}
 use Rattle.format.specs.Little.{ofLittle}
-use Rattle.accepted.proofs.Bools.{never, and-left, and-right}
+use Rattle.lists.proofs.Bools.{never, and-left, and-right}
 use Rattle.format.specs.Binary.{magic, sized, referenceBytes, listBytes, binary, andThen, takeBytes, takeNumber, takeSized, closedName, takeReference, takeList, takeBoth, binaryParts}
 use Rattle.binary_bytes.proofs.Parts.{Small, AllSmall, parts-back}
 use Rattle.binary_laws.specs.Exact.{AllBytes, IsBinary, PartsAreBinary, BinaryIsTakenApart}

@@ -10,7 +10,7 @@ use lib.Dec.{eqb, leb}
 use borrow.Author.Tests.{eqb-false, leb-true, leb-false}
 use Rattle.format.specs.Bytes.{starts}
 use Rattle.format.specs.Little.{ofLittle}
-use Rattle.accepted.proofs.Bools.{eqb-sym, and-left, and-right}
+use Rattle.lists.proofs.Bools.{eqb-sym, and-left, and-right}
 use Rattle.format.specs.Binary.{magic}
 use Rattle.binary_parts.proofs.Both.{start-long}
 use Rattle.binary_len.specs.declared.BinaryLen.{BinaryLen}

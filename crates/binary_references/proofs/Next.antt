@@ -18,11 +18,12 @@ use Rattle.byte_slices.specs.declared.Cut.{Cut}
 use Rattle.byte_slices.proofs.Lines.{lines-none}
 use Rattle.byte_slices.proofs.First.{lines-first, first-le, first-within, first-some}
 use Rattle.byte_slices.proofs.Stands.{stands-front, stands-onward}
-use Rattle.accepted.specs.Pieces.{Pairs, pieces}
+use Rattle.accepted.specs.Pieces.{pieces}
+use Rattle.lists.specs.Pairs.{Pairs}
 use Rattle.accepted.specs.Sound.{FitsRecord, kind}
 use Rattle.accepted.specs.Spelled as sp
 use Rattle.accepted.specs.Spelled.{AcceptedLine, kind₀}
-use Rattle.accepted.proofs.Bools.{never}
+use Rattle.lists.proofs.Bools.{never}
 use Rattle.accepted.proofs.Sound.{made-kind, line-sound}
 use Rattle.accepted.proofs.Spelled.{line-accepted}
 use Rattle.accepted.proofs.Stands.{stands-within, line-stand}

@@ -12,9 +12,9 @@ use Rattle.format.specs.Records.{Record, code, read, line}
 use Rattle.format.specs.Reading.{accept, readText, isStrict, announced, ofKind}
 use Rattle.format.specs.Calls.{yes, there, linesOf, locating}
 use Rattle.accepted.specs.Admits.{strictly}
-use Rattle.accepted.specs.Pieces.{Pairs}
+use Rattle.lists.specs.Pairs.{Pairs}
 use Rattle.accepted.specs.Read.{recordsOf}
-use Rattle.accepted.proofs.Bools.{never}
+use Rattle.lists.proofs.Bools.{never}
 use Rattle.accepted.proofs.Text.{text-lines}
 use Rattle.read.proofs.Fresh.{passed}
 use Rattle.calls.proofs.Told.{there-some, located}

@@ -15,7 +15,7 @@ use Rattle.format.specs.Catalogue.{catalogue}
 use Rattle.format.specs.declared.LineNo.{LineNo}
 use Rattle.format.specs.Calls.{Answer, refused, yes, there, keyIfThere, lengthIfThere, linesOf, valueIfThere, orStand, fresh, counting, keying, sizing, locating, valuing, looking}
 use Rattle.byte_slices.specs.Stands.{Stands}
-use Rattle.accepted.proofs.Bools.{never}
+use Rattle.lists.proofs.Bools.{never}
 use Rattle.accepted.proofs.Text.{text-fits}
 use Rattle.accepted.specs.Read.{recordsOf}
 use Rattle.catalogue_entries.specs.declared.Place.{Place}

@@ -13,7 +13,7 @@ use Rattle.format.specs.Reading.{accept, longest, readText}
 use Rattle.format.specs.Tidy.{tidy}
 use Rattle.format.specs.Calls.{yes, then, readAnswer, records, fitting, writing, tidying}
 use Rattle.accepted.specs.Read.{isAccepted, recordsOf}
-use Rattle.accepted.proofs.Bools.{never}
+use Rattle.lists.proofs.Bools.{never}
 use Rattle.accepted.proofs.Read.{accepted-reads}
 use Rattle.accepted.proofs.Text.{text-fits}
 use Rattle.tidy_laws.specs.Bare.{Equal}

@@ -10,7 +10,7 @@ use Rattle.format.specs.Reading.{isStrict, admitted}
 use Rattle.format.specs.Tidy.{isWritable, unwritable}
 use Rattle.format.specs.declared.Version.{Version}
 use Rattle.accepted.specs.Admits.{Unbarred}
-use Rattle.accepted.proofs.Bools.{never}
+use Rattle.lists.proofs.Bools.{never}
 use Rattle.accepted.proofs.Admits.{admitted-read}
 use Rattle.tidy_laws.specs.Gathered as ga
 use Rattle.tidy_laws.specs.Gathered.{From, Gathered}

@@ -13,7 +13,7 @@ use Rattle.format.specs.Reading.{ofKind}
 use Rattle.format.specs.Slots.{Held}
 use Rattle.byte_slices.specs.Stands.{Stands, Each}
 use Rattle.accepted.specs.Pieces.{pieces}
-use Rattle.accepted.proofs.Bools.{eqb-sym, never}
+use Rattle.lists.proofs.Bools.{eqb-sym, never}
 use Rattle.accepted.proofs.OfKind.{ofKind-append}
 use Rattle.record.specs.Head.{recordHead}
 use Rattle.record.specs.declared.Stretch.{Stretch}

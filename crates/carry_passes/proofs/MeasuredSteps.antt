@@ -9,7 +9,7 @@ use lib.ListN.{length}
 use Rattle.format.specs.Records.{Record, Line, refusedLine, read}
 use Rattle.format.specs.Tidy.{tidy}
 use Rattle.format.specs.declared.Kind.{Kind}
-use Rattle.accepted.proofs.Bools.{never}
+use Rattle.lists.proofs.Bools.{never}
 use Rattle.tidy_line.specs.Line.{lineText, lineWritable}
 use Rattle.tidy_sizes.specs.Numbers.{get}
 use Rattle.tidy_sizes.specs.declared.PerKind.{PerKind}

@@ -13,7 +13,7 @@ use Rattle.accepted.specs.Sound.{kind}
 use Rattle.accepted.specs.Spelled as sp
 use Rattle.accepted.specs.Spelled.{AcceptedLine}
 use Rattle.accepted.specs.Read.{isRead}
-use Rattle.accepted.proofs.Bools.{never}
+use Rattle.lists.proofs.Bools.{never}
 use Rattle.accepted.proofs.Spelled.{line-accepted}
 use Rattle.record.specs.Head.{recordHead, headOf}
 use Rattle.record.specs.declared.Head.{Head}

@@ -17,8 +17,8 @@ use Rattle.format.specs.Catalogue.{catalogue}
 use Rattle.format.specs.Calls.{keyIfThere, lengthIfThere, linesOf, valueIfThere}
 use Rattle.byte_slices.specs.Stands.{Each}
 use Rattle.accepted.specs.Sound.{Sound}
-use Rattle.accepted.proofs.Bools.{or-left, or-right, and-left, and-right, split}
-use Rattle.accepted.proofs.Pairs.{each-all}
+use Rattle.lists.proofs.Bools.{or-left, or-right, and-left, and-right, split}
+use Rattle.lists.proofs.Pairs.{each-all}
 use Rattle.accepted.proofs.OfKind.{ofKind-none}
 use Rattle.accepted.proofs.Text.{text-sound}
 use Rattle.catalogue_entries.specs.declared.Entry.{Entry}

@@ -16,7 +16,7 @@ use Rattle.byte_slices.specs.Stands.{Each, Stands}
 use Rattle.accepted.specs.Pieces.{values, pieces}
 use Rattle.accepted.specs.Sound as sound
 use Rattle.accepted.specs.Sound.{Sound, Other}
-use Rattle.accepted.proofs.Bools.{never}
+use Rattle.lists.proofs.Bools.{never}
 use Rattle.accepted.proofs.OfKind.{each-ofKind}
 use Rattle.accepted.proofs.Fields.{Of, lastOf-of}
 use Rattle.accepted.proofs.Clean.{tag-bounds}

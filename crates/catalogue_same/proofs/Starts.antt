@@ -14,7 +14,7 @@ use Rattle.format.specs.Bytes.{starts}
 use Rattle.format.specs.Catalogue.{little}
 use Rattle.format.specs.Little.{ofLittle}
 use Rattle.little_endian.proofs.Little.{little-length}
-use Rattle.accepted.proofs.Bools.{never, and-right, split}
+use Rattle.lists.proofs.Bools.{never, and-right, split}
 
 and-assoc : (a b c : Bool) → a && (b && c) ≡ (a && b) && c
 and-assoc true b c = refl

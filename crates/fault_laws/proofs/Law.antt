@@ -17,7 +17,7 @@ use Rattle.format.specs.Programs.{links, programs, leaves, hops, tangled}
 use Rattle.format.specs.Tidy.{tidy, unwritable}
 use Rattle.format.specs.Calls.{Answer, refused, yes, then, records, reading, fitting, writing, tidying, current, fresh, untangled, leafing}
 use Rattle.byte_slices.proofs.Equal.{same-self}
-use Rattle.accepted.proofs.Bools.{never}
+use Rattle.lists.proofs.Bools.{never}
 use Rattle.tidy_laws.proofs.Total.{gathered-length}
 use Rattle.program_parents.proofs.Numbers.{links-count}
 use Rattle.format.specs.Carrying.{keptOf, carriedLines, Skip, skips}

@@ -13,7 +13,7 @@ use Rattle.format.specs.Reading.{ofKind}
 use Rattle.format.specs.Programs.{Link, programs}
 use Rattle.format.specs.Tidy.{isWritable}
 use Rattle.accepted.specs.Read.{isRead}
-use Rattle.accepted.proofs.Bools.{never}
+use Rattle.lists.proofs.Bools.{never}
 use Rattle.byte_slices.specs.Over.{over}
 use Rattle.byte_slices.proofs.Over.{over-over}
 use Rattle.tidy_line.specs.Line.{lineWritable}

@@ -9,8 +9,8 @@ use lib.ListN.{length, take, getD, set, replicate, length-map, length-take}
 use lib.Seq.{take-all, take-suc, length-take-le}
 use Rattle.format.specs.Programs.{Program, root, link, links}
 use Rattle.byte_slices.specs.Stands.{Each}
-use Rattle.accepted.specs.Pieces.{Pairs}
-use Rattle.accepted.proofs.Pairs.{pairs-length, pairs-at}
+use Rattle.lists.specs.Pairs.{Pairs}
+use Rattle.lists.proofs.Pairs.{pairs-length, pairs-at}
 use Rattle.program_chains.specs.Parents.{inArray}
 use Rattle.program_chains.proofs.Arrays.{front, front-at, array-push}
 use Rattle.program_chains.proofs.Walks.{map-at}

@@ -14,11 +14,12 @@ use Rattle.format.specs.Records.{Record, header, reference, group, program, com
 use Rattle.format.specs.Reading.{ofKind}
 use Rattle.format.specs.Programs.{Program, programs, programOf, bytesOf}
 use Rattle.byte_slices.specs.Stands.{Each, Stands}
-use Rattle.accepted.specs.Pieces.{Pairs, pieces}
+use Rattle.accepted.specs.Pieces.{pieces}
+use Rattle.lists.specs.Pairs.{Pairs}
 use Rattle.accepted.specs.Read.{isRead}
-use Rattle.accepted.proofs.Bools.{never, split}
+use Rattle.lists.proofs.Bools.{never, split}
 use Rattle.accepted.proofs.OfKind.{ofKind-append}
-use Rattle.accepted.proofs.Pairs.{each-all, pairs-length}
+use Rattle.lists.proofs.Pairs.{each-all, pairs-length}
 use Rattle.accepted.proofs.Stands.{stands-within, line-stand}
 use Rattle.program_chains.specs.Parents.{inArray}
 use Rattle.program_chains.proofs.Arrays.{array-push}

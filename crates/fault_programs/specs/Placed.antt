@@ -4,7 +4,7 @@ use mathlib.Core.Path.{_≡_}
 use mathlib.Core.List.{List}
 use lib.ListN.{length}
 use Rattle.format.specs.Programs.{Program}
-use Rattle.accepted.specs.Pieces.{Pairs}
+use Rattle.lists.specs.Pairs.{Pairs}
 use Rattle.program_places.specs.declared.Programs.{Programs}
 use Rattle.program_places.specs.Gathered.{ProgramPlaces, gatheredOf}
 use Rattle.program_parents.proofs.Says.{Says}

@@ -17,7 +17,7 @@ use Rattle.byte_slices.specs.Stands.{Each}
 use Rattle.byte_slices.proofs.Equal.{same-self}
 use Rattle.accepted.specs.Admits.{KeysDiffer}
 use Rattle.accepted.specs.Read.{recordsOf}
-use Rattle.accepted.proofs.Bools.{never, or-left, or-right}
+use Rattle.lists.proofs.Bools.{never, or-left, or-right}
 use Rattle.accepted.proofs.Apart.{same-sym}
 use Rattle.accepted.proofs.OfKind.{ofKind-code, apart-ofKind}
 use Rattle.accepted.proofs.Text.{text-apart}

@@ -13,7 +13,7 @@ use Rattle.format.specs.Reading.{ofKind, longest}
 use Rattle.format.specs.Programs.{bytesOf}
 use Rattle.format.specs.Calls.{refused, yes, then, fitting, there}
 use Rattle.accepted.specs.Read.{recordsOf}
-use Rattle.accepted.proofs.Bools.{never}
+use Rattle.lists.proofs.Bools.{never}
 use Rattle.accepted.proofs.Text.{text-count, text-fits}
 use Rattle.read.proofs.Fresh.{Current, refused-is-no-answer, passed, goes-on}
 use Rattle.format.specs.Asked.{asked}

@@ -17,7 +17,7 @@ use Rattle.format.specs.Calls.{refused, yes, there, fresh}
 use Rattle.byte_slices.specs.Stands.{Each, Stands}
 use Rattle.accepted.specs.Pieces.{pieces}
 use Rattle.accepted.specs.Read.{recordsOf}
-use Rattle.accepted.proofs.Bools.{never}
+use Rattle.lists.proofs.Bools.{never}
 use Rattle.accepted.proofs.Text.{text-stand, text-count, text-fits}
 use Rattle.catalogue_entries.specs.declared.Entry.{Entry}
 use Rattle.catalogue_entries.specs.Entries.{kindByte, pieceAt, headEntry, fieldEntry, entriesOn, entriesOf, entriesIn, counted}

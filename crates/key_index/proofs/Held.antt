@@ -12,7 +12,7 @@ use Rattle.format.specs.Bytes.{same}
 use Rattle.format.specs.Slots.{around, full, seat, seek, pick, Held}
 use Rattle.format.proofs.Slots.{around-length, filled-around, full-lt, held-enter}
 use Rattle.byte_slices.proofs.Equal.{same-equal}
-use Rattle.accepted.proofs.Bools.{and-left, and-right}
+use Rattle.lists.proofs.Bools.{and-left, and-right}
 use Rattle.key_at.specs.Word.{word}
 use Rattle.key_look.specs.Hash.{keyHash}
 use Rattle.key_look.specs.declared.Sought.the-variants.{Known, Free}

@@ -14,8 +14,9 @@ use Rattle.format.specs.Records.{Record, header, reference, group, program, com
 use Rattle.format.specs.Slots.{pick, Held}
 use Rattle.byte_slices.specs.First.{firstLine}
 use Rattle.byte_slices.specs.Stands.{Stands, Each}
-use Rattle.accepted.specs.Pieces.{pieces, Pairs}
-use Rattle.accepted.proofs.Bools.{or-assoc}
+use Rattle.accepted.specs.Pieces.{pieces}
+use Rattle.lists.specs.Pairs.{Pairs}
+use Rattle.lists.proofs.Bools.{or-assoc}
 use Rattle.record.specs.Head.{headOf, recordHead, stretchOf}
 use Rattle.record.specs.declared.Head.{Head}
 use Rattle.record.specs.declared.Head.the-variants as head

@@ -16,7 +16,7 @@ use Rattle.format.proofs.Slots.{around-length, around-at, around-put, seek-repl
 use Rattle.byte_slices.specs.Stands.{Stands, Each}
 use Rattle.byte_slices.proofs.Equal.{same-equal, same-self}
 use Rattle.accepted.specs.Pieces.{pieces}
-use Rattle.accepted.proofs.Bools.{and-left, and-right}
+use Rattle.lists.proofs.Bools.{and-left, and-right}
 use Rattle.record.specs.Head.{recordHead, stretchOf}
 use Rattle.key_look.specs.declared.Sought.{Sought}
 use Rattle.key_look.specs.declared.Sought.the-variants.{Known, Free, Full}

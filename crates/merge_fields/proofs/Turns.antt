@@ -12,7 +12,7 @@ use Rattle.format.specs.Fields.{Field, tagged, without}
 use Rattle.format.specs.declared.Kind.the-variants.{Program}
 use Rattle.byte_slices.specs.Upto.{upto}
 use Rattle.format.specs.Keys.{isKey}
-use Rattle.accepted.proofs.Bools.{never, split, or-left, or-right, or-true}
+use Rattle.lists.proofs.Bools.{never, split, or-left, or-right, or-true}
 use Rattle.record_tags.specs.Others.{firsts}
 use Rattle.accepted_line.specs.Run.{fieldsTo, fieldsFrom, AtField}
 use Rattle.accepted_line.specs.Next.{isFirst, keptAt}

@@ -11,7 +11,7 @@ use borrow.Author.Tests.{eqb-true, eq-eqb}
 use Rattle.format.specs.Bytes.{same, any}
 use Rattle.byte_slices.proofs.Equal.{same-equal, same-self}
 use Rattle.accepted.proofs.Apart.{same-sym}
-use Rattle.accepted.proofs.Bools.{never, split, and-left, and-right}
+use Rattle.lists.proofs.Bools.{never, split, and-left, and-right}
 use Rattle.format.specs.References.{Reference, sameReference, sameReferences}
 use Rattle.binary_references.specs.Next.{sqFrom, toldList}
 use Rattle.binary_references.specs.declared.NextReference.{NextReference}

@@ -13,7 +13,7 @@ use Rattle.format.specs.References.{sqList}
 use Rattle.format.specs.Calls.{Answer, refused, yes, records, untangled}
 use Rattle.format.specs.Merge.{Which, Verdict, merged, unfit, unmerged, isJoined, assigned, images, shapes, judgedMerge, about, untangledRecords, judgingMerge}
 use Rattle.accepted.specs.Read.{kept, recordsOf}
-use Rattle.accepted.proofs.Bools.{never, and-left, and-right}
+use Rattle.lists.proofs.Bools.{never, and-left, and-right}
 use Rattle.tidy_laws.proofs.Answered.{read-of, untangled-yes}
 use Rattle.merge_laws.specs.Fit.{parentLinks, Fit, Fits}
 use Rattle.merge_laws.specs.IsMerge.{IsMerge}

@@ -12,8 +12,8 @@ use borrow.Author.Tests.{ne-eqb, ltb-true, ltb-false}
 use Rattle.format.specs.Bytes.{any}
 use Rattle.format.specs.Programs.{Link, root, dangling, child, links, isDangling, reaches, loopsFrom, depth}
 use Rattle.byte_slices.specs.Stands.{Each}
-use Rattle.accepted.proofs.Bools.{any-append, split}
-use Rattle.accepted.proofs.Pairs.{each-at}
+use Rattle.lists.proofs.Bools.{any-append, split}
+use Rattle.lists.proofs.Pairs.{each-at}
 use Rattle.program_chains.proofs.Paths.{Below, no-return, depth-less}
 use Rattle.program_chains.specs.Listed.{named}
 use Rattle.merge_laws.specs.Rewritten.{FollowsOld}

@@ -10,7 +10,7 @@ use borrow.Author.Tests.{eqb-true, eqb-false}
 use Rattle.format.specs.Bytes.{same}
 use Rattle.format.specs.Records.{program}
 use Rattle.format.specs.Programs.{programs}
-use Rattle.accepted.proofs.Bools.{split}
+use Rattle.lists.proofs.Bools.{split}
 use Rattle.program_chains.proofs.Times.{hit, times, hit-same, hit-other}
 use Rattle.program_chains.proofs.Paths.{at-most}
 use Rattle.merge_laws.specs.IsMerge.{imageIn, Hits, Assigns, Lists}

@@ -11,7 +11,7 @@ use lib.Dec.{eqb, ltb}
 use borrow.Author.Tests.{eqb-true, eqb-false, eq-eqb, ne-eqb, ltb-true, ltb-false, lt-ltb, le-ltb}
 use Rattle.format.specs.Bytes.{all, any, distinct}
 use Rattle.format.specs.Programs.{numbersFrom}
-use Rattle.accepted.proofs.Bools.{never, split, eqb-sym, or-assoc, or-comm, or-false, and-left, and-right}
+use Rattle.lists.proofs.Bools.{never, split, eqb-sym, or-assoc, or-comm, or-false, and-left, and-right}
 use Rattle.format.specs.Merge.{assigns, covers, assigned}
 use Rattle.merge_lists.specs.Marks.{freshBy, markedBy, hitFrom}
 

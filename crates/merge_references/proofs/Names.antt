@@ -15,7 +15,7 @@ use Rattle.format.specs.Records.{Record, header, reference, group, program, com
 use Rattle.format.specs.Reading.{clash, sameKeys}
 use Rattle.byte_slices.proofs.Equal.{same-equal}
 use Rattle.accepted.specs.Admits.{KeysDiffer}
-use Rattle.accepted.proofs.Bools.{never, split, or-left, or-right, any-append}
+use Rattle.lists.proofs.Bools.{never, split, or-left, or-right, any-append}
 use Rattle.format.specs.References.{Reference, sqList}
 use Rattle.format.specs.Merge.{sameName, differ}
 use Rattle.binary_references.specs.Next.{sqFrom}

@@ -18,7 +18,8 @@ use Rattle.byte_slices.specs.Stands.{Each, Stands}
 use Rattle.byte_slices.proofs.Lines.{lines-none}
 use Rattle.byte_slices.proofs.First.{lines-first}
 use Rattle.accepted.specs.Admits.{strictly}
-use Rattle.accepted.specs.Pieces.{Pairs, pieces}
+use Rattle.accepted.specs.Pieces.{pieces}
+use Rattle.lists.specs.Pairs.{Pairs}
 use Rattle.accepted.proofs.Text.{text-lines, text-stand, text-fits}
 use Rattle.accepted.specs.Ended.{Ended}
 use Rattle.accepted.proofs.LineKeys.{line-ended}

@@ -11,7 +11,7 @@ use borrow.Author.Tests.{eq-eqb, eqb-true, eqb-false, ltb-true, ltb-false}
 use Rattle.format.specs.Bytes.{any}
 use Rattle.format.specs.Programs.{Link, root, dangling, child, reaches, loopsFrom, depth}
 use Rattle.program_chains.specs.Listed.{named}
-use Rattle.program_chains.proofs.Bools.{both-false}
+use Rattle.lists.proofs.Bools.{both-false}
 use Rattle.program_chains.proofs.Times.{hit, times, Once, hit-same, hit-other, times-none}
 use Rattle.program_chains.proofs.Walks.{reaches-root}
 

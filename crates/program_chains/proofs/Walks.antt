@@ -9,7 +9,7 @@ use lib.Dec.{eqb, ltb}
 use borrow.Author.Tests.{eq-eqb, ne-eqb, ltb-true}
 use Rattle.format.specs.Bytes.{all}
 use Rattle.format.specs.Programs.{Link, root, dangling, child, reaches, depth}
-use Rattle.program_chains.proofs.Bools.{both-true}
+use Rattle.lists.proofs.Bools.{both-true}
 use Rattle.program_chains.specs.Parents.{nobody, linkOf, linksOf, areParents}
 
 pub link-none : (p : ℕ) → p ≡ 4294967295 → linkOf p ≡ root

@@ -13,7 +13,7 @@ use borrow.Author.Tests.{eq-eqb, ne-eqb}
 use Rattle.format.specs.Bytes.{same}
 use Rattle.format.specs.Programs.{Program, ordinalFrom}
 use Rattle.byte_slices.proofs.Equal.{same-other}
-use Rattle.accepted.proofs.Pairs.{each-at}
+use Rattle.lists.proofs.Pairs.{each-at}
 use Rattle.program_chains.proofs.Walks.{map-at}
 use Rattle.catalogue_entries.specs.declared.Place.{Place}
 use Rattle.program_ids.specs.Places.{InsideText, bytesAt, nowhere, placesOf, idsAt, PlacesInText}

@@ -11,15 +11,15 @@ use Rattle.format.specs.Records as records
 use Rattle.format.specs.Records.{Record, header, reference, group, program, comment, code, read}
 use Rattle.format.specs.Reading.{accept, readText, ofKind}
 use Rattle.byte_slices.specs.Stands.{Each}
-use Rattle.accepted.specs.Pieces.{Pairs}
+use Rattle.lists.specs.Pairs.{Pairs}
 use Rattle.accepted.specs.Sound.{kind}
 use Rattle.accepted.specs.Spelled as sp
 use Rattle.accepted.specs.Spelled.{AcceptedLine, Spelled, kind₀}
-use Rattle.accepted.proofs.Bools.{never, split}
+use Rattle.lists.proofs.Bools.{never, split}
 use Rattle.accepted.proofs.Spelled.{line-accepted}
 use Rattle.accepted_rule.specs.Rule.{ReadsBy}
 use Rattle.accepted_rule.proofs.Rule.{lines-by}
-use Rattle.accepted.proofs.Pairs.{pairs-left}
+use Rattle.lists.proofs.Pairs.{pairs-left}
 use Rattle.accepted_line.proofs.fields.Start.{accepted-start, accepted-tags}
 use Rattle.binary_references.proofs.Next.{second-byte}
 use Rattle.program_lines.specs.Line.{FieldsOf}

@@ -14,7 +14,7 @@ use Rattle.byte_slices.specs.Stands.{Each}
 use Rattle.accepted.specs.Read.{isAccepted, recordsOf}
 use Rattle.accepted.proofs.Read.{accepted-reads}
 use Rattle.accepted.proofs.Text.{text-fits, text-programs}
-use Rattle.accepted.proofs.Pairs.{pairs-left, pairs-length}
+use Rattle.lists.proofs.Pairs.{pairs-left, pairs-length}
 use Rattle.program_chains.specs.Parents.{inArray}
 use Rattle.program_chains.proofs.Arrays.{array-push}
 use Rattle.catalogue_entries.specs.declared.Place.{Place}

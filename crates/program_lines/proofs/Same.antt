@@ -16,11 +16,11 @@ use Rattle.format.specs.Reading.{accept, readText, ofKind}
 use Rattle.accepted_rule.specs.Rule.{ReadsBy}
 use Rattle.format.specs.Catalogue.{catalogue}
 use Rattle.byte_slices.specs.Stands.{Each}
-use Rattle.accepted.specs.Pieces.{Pairs}
+use Rattle.lists.specs.Pairs.{Pairs}
 use Rattle.accepted.specs.Sound.{Sound}
 use Rattle.accepted.specs.Spelled as sp
 use Rattle.accepted.specs.Spelled.{Spelled, Made}
-use Rattle.accepted.proofs.Bools.{never, split, or-left, or-right}
+use Rattle.lists.proofs.Bools.{never, split, or-left, or-right}
 use Rattle.accepted.proofs.Tags.{tagged-same, later-assoc, repeats-put}
 use Rattle.accepted.proofs.Text.{text-sound}
 use Rattle.tidy_laws.proofs.Length.{last-without}

@@ -11,8 +11,8 @@ use Rattle.format.specs.Catalogue.{catalogue}
 use Rattle.format.specs.Programs.{Program, root, programs, programOf, link, links}
 use Rattle.byte_slices.specs.Stands.{Each}
 use Rattle.accepted.specs.Read.{isAccepted, recordsOf}
-use Rattle.accepted.specs.Pieces.{Pairs}
-use Rattle.accepted.proofs.Pairs.{pairs-length, pairs-at}
+use Rattle.lists.specs.Pairs.{Pairs}
+use Rattle.lists.proofs.Pairs.{pairs-length, pairs-at}
 use Rattle.accepted.proofs.Read.{accepted-reads}
 use Rattle.accepted.proofs.Text.{text-fits, text-programs}
 use Rattle.program_chains.specs.Parents.{inArray}

@@ -13,7 +13,8 @@ use Rattle.format.specs.Reading.{readText, accept, ofKind}
 use Rattle.format.specs.Catalogue.{catalogue}
 use Rattle.format.specs.Programs.{Program, programs, programOf, bytesOf, ordinalFrom, found, link}
 use Rattle.byte_slices.specs.Stands.{Each, Stands}
-use Rattle.accepted.specs.Pieces.{pieces, Pairs}
+use Rattle.accepted.specs.Pieces.{pieces}
+use Rattle.lists.specs.Pairs.{Pairs}
 use Rattle.accepted.specs.Sound.{Sound}
 use Rattle.accepted.proofs.Text.{text-sound, text-stand}
 use Rattle.program_chains.specs.Parents.{nobody}

@@ -9,7 +9,7 @@ use lib.Dec.{eqb, ltb}
 use borrow.Author.Tests.{ltb-true, ltb-false, eqb-true, eqb-false}
 use Rattle.format.specs.Programs.{Program, Link, programs, links, hops, leaves, tangled}
 use Rattle.format.specs.Calls.{Answer, refused, yes, then, fitting, leafing}
-use Rattle.accepted.proofs.Bools.{split}
+use Rattle.lists.proofs.Bools.{split}
 use Rattle.accepted.specs.Read.{recordsOf}
 use Rattle.program_chains.proofs.Bound.{hops-bound}
 use Rattle.program_chains.proofs.Leaf.{leaves-length}

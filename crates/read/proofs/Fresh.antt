@@ -11,7 +11,7 @@ use Rattle.format.specs.Catalogue.{catalogue}
 use Rattle.format.specs.Calls.{Answer, refused, yes, then, fresh}
 use Rattle.format.specs.declared.LineNo.{LineNo}
 use Rattle.byte_slices.proofs.Equal.{same-equal}
-use Rattle.accepted.proofs.Bools.{never}
+use Rattle.lists.proofs.Bools.{never}
 use Rattle.accepted.specs.Read.{kept, recordsOf}
 use Rattle.read.specs.declared.Checked.{Checked}
 use Rattle.read.specs.declared.Checked.the-variants.{Refused, Fresh}

@@ -15,7 +15,7 @@ use Rattle.byte_slices.specs.declared.Cut.{Cut}
 use Rattle.byte_slices.proofs.Lines.{lines-none}
 use Rattle.byte_slices.proofs.First.{lines-first, first-le, first-within, first-some}
 use Rattle.byte_slices.proofs.Before.{rest}
-use Rattle.accepted.specs.Pieces.{Pairs}
+use Rattle.lists.specs.Pairs.{Pairs}
 use Rattle.accepted.proofs.Text.{text-fits}
 use Rattle.accepted_rule.proofs.Rule.{lines-by}
 use Rattle.accepted.specs.Read.{isRead, recordsOf}

@@ -22,8 +22,9 @@ use Rattle.format.specs.Reading as reading
 use Rattle.format.specs.Reading.{sameKeys, clash, ofKind, unless, following, admitted}
 use Rattle.byte_slices.specs.Stands.{Stands, Each}
 use Rattle.byte_slices.proofs.Stands.{each-map}
-use Rattle.accepted.specs.Pieces.{pieces, Pairs}
-use Rattle.accepted.proofs.Bools.{never}
+use Rattle.accepted.specs.Pieces.{pieces}
+use Rattle.lists.specs.Pairs.{Pairs}
+use Rattle.lists.proofs.Bools.{never}
 use Rattle.accepted.proofs.Stands.{line-stand, stands-within}
 use Rattle.record.specs.Head.{headOf, recordHead, stretchOf}
 use Rattle.record.specs.declared.Head.{Head}

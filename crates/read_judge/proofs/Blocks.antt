@@ -18,8 +18,9 @@ use Rattle.format.proofs.Slots.{held-none}
 use Rattle.byte_slices.specs.First.{firstLine}
 use Rattle.byte_slices.specs.Stands.{Stands, Each}
 use Rattle.byte_slices.proofs.Lines.{lines-none}
-use Rattle.accepted.specs.Pieces.{pieces, Pairs}
-use Rattle.accepted.proofs.Bools.{or-false}
+use Rattle.accepted.specs.Pieces.{pieces}
+use Rattle.lists.specs.Pairs.{Pairs}
+use Rattle.lists.proofs.Bools.{or-false}
 use Rattle.accepted.proofs.Onward.{lines-count}
 use Rattle.accepted.proofs.Ahead.{ahead-one}
 use Rattle.record.specs.declared.Head.{Head}

@@ -15,10 +15,10 @@ use Rattle.format.specs.Catalogue.{catalogue}
 use Rattle.byte_slices.specs.First.{firstLine}
 use Rattle.byte_slices.specs.Stands.{Stands}
 use Rattle.byte_slices.proofs.First.{lines-first, first-le, first-within, first-some}
-use Rattle.accepted.specs.Pieces.{Pairs}
+use Rattle.lists.specs.Pairs.{Pairs}
 use Rattle.accepted_rule.specs.Rule.{isOnce}
 use Rattle.accepted.proofs.Onward.{read-first, read-none}
-use Rattle.accepted.proofs.Pairs.{pairs-length}
+use Rattle.lists.proofs.Pairs.{pairs-length}
 use Rattle.accepted.proofs.OfKind.{ofKind-append}
 use Rattle.record.specs.Head.{headOf, recordHead}
 use Rattle.read_admission.specs.Admission.{programsOf}

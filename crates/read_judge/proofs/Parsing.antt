@@ -8,7 +8,7 @@ use types.Run.{OneOf, miss}
 use Rattle.format.specs.Lines.{Piece}
 use Rattle.format.specs.Records.{Record, header, reference, group, program, comment, Line, refusedLine, read, line}
 use Rattle.accepted.specs.Read.{isRead}
-use Rattle.accepted.proofs.Bools.{never}
+use Rattle.lists.proofs.Bools.{never}
 use Rattle.accepted_line.proofs.Lax.{line-lax}
 use Rattle.record.proofs.Head.{the-type}
 use Rattle.record.specs.declared.Head.{Head}

@@ -16,7 +16,7 @@ use Rattle.byte_slices.specs.Upto.{leads}
 use Rattle.record_kind.specs.declared.ParsedKind.{ParsedKind}
 use Rattle.record_kind.specs.declared.ParsedKind.the-variants.{Empty, Invalid, Is}
 use Rattle.record_kind.specs.Kind.{parsedKindOf, kindAt}
-use Rattle.accepted.proofs.Bools.{split}
+use Rattle.lists.proofs.Bools.{split}
 use Rattle.accepted.proofs.Clean.{unbroken}
 use Rattle.record.specs.declared.Head.{Head}
 use Rattle.record.specs.Head.{headOf, recordHead, hasFields}

@@ -31,7 +31,7 @@ use Rattle.record.specs.Head.{stretchOf, headOf}
 use Rattle.format.specs.Keys.{isKey}
 use Rattle.record_tags.specs.Others.{unkeyed}
 use Rattle.record.specs.Keys.{keyAmong, spelt, versionAmong, worthIfThere, lengthAmong, stretchIfThere, isThere, numbers, plainly, keysOf, withField, headFrom, keyedHead}
-use Rattle.accepted.proofs.Bools.{or-true, split, and-left}
+use Rattle.lists.proofs.Bools.{or-true, split, and-left}
 use Rattle.accepted.proofs.Tags.{lastOf-snoc, settled-snoc, any-settled, length-put}
 use Rattle.accepted.proofs.Fields.{lastOf-of}
 use Rattle.record_tags.proofs.Firsts.{not-key}

@@ -21,7 +21,7 @@ use Rattle.field.proofs.Anywhere.{field-anywhere}
 use Rattle.field.proofs.Answer.{Told, Found, parsed-bad, parsed-found}
 use Rattle.field.proofs.Next.{Kept, good-onward, then-onward}
 use Rattle.field.proofs.Place.{field-in-place, place-tag, place-colon, colon-other}
-use Rattle.accepted.proofs.Bools.{never, split}
+use Rattle.lists.proofs.Bools.{never, split}
 use Rattle.record_tags.proofs.Region.{Clean}
 use Rattle.record.specs.declared.Keys.{Keys}
 use Rattle.record.specs.Keys.{keysOf}

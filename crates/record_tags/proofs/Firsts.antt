@@ -14,7 +14,7 @@ use Rattle.format.specs.Fields.{Field, tagged, repeats, later, lastOf, without,
 use Rattle.format.specs.declared.Kind.{Kind}
 use Rattle.format.specs.Keys.{isKey}
 use Rattle.record_tags.specs.Others.{unkeyed, orLast, latest, firsts}
-use Rattle.accepted.proofs.Bools.{or-assoc, or-comm, or-true, or-false, eqb-sym, any-append, any-snoc, and-left, and-right, or-left, or-right, split}
+use Rattle.lists.proofs.Bools.{or-assoc, or-comm, or-true, or-false, eqb-sym, any-append, any-snoc, and-left, and-right, or-left, or-right, split}
 use Rattle.accepted.proofs.Tags.{tagged-sym, tagged-same, any-same, any-put, repeats-put}
 
 -- ---- the last value, one field later

@@ -17,7 +17,7 @@ use Rattle.format.specs.Referencing.{referencing}
 use Rattle.format.specs.Faults.{faultsIn, faulting}
 use Rattle.format.specs.Seal.{checkingSealed}
 use Rattle.accepted.specs.Read.{recordsOf}
-use Rattle.accepted.proofs.Bools.{never}
+use Rattle.lists.proofs.Bools.{never}
 use Rattle.accepted.proofs.Text.{text-count, text-fits}
 use Rattle.tidy_laws.proofs.Answered.{Gave, then-yes}
 use Rattle.read.proofs.Fresh.{Current, passed, goes-on}

@@ -10,7 +10,7 @@ use Rattle.format.specs.Bytes.{same}
 use Rattle.format.specs.Records.{Record}
 use Rattle.format.specs.Calls.{Answer, refused, yes, then, fresh, tidying}
 use Rattle.format.specs.declared.LineNo.{LineNo}
-use Rattle.accepted.proofs.Bools.{never}
+use Rattle.lists.proofs.Bools.{never}
 use Rattle.read.specs.declared.CountAnswer.{CountAnswer}
 use Rattle.read.specs.declared.CountAnswer.the-variants as answer
 use Rattle.read.specs.declared.Checked.{Checked}

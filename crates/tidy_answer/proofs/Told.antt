@@ -16,7 +16,7 @@ use Rattle.read.specs.declared.CountAnswer.the-variants.{Refused, Count}
 use Rattle.read.specs.Answers.{answerOf, outputOf}
 use Rattle.byte_slices.specs.Over.{over}
 use Rattle.byte_slices.proofs.Over.{over-length}
-use Rattle.accepted.proofs.Bools.{never}
+use Rattle.lists.proofs.Bools.{never}
 use Rattle.tidy_laws.proofs.Total.{tidy-length}
 use Rattle.format.specs.Program.{refusal, said, program}
 use Rattle.tidy_answer.proofs.Refusal.{refusal-fits}

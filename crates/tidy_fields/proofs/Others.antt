@@ -11,7 +11,7 @@ use Rattle.format.specs.Tidy.{fieldText, fieldsText}
 use Rattle.format.specs.declared.Kind.{Kind}
 use Rattle.byte_slices.specs.Upto.{upto}
 use Rattle.format.specs.Keys.{isKey}
-use Rattle.accepted.proofs.Bools.{never, and-left, and-right}
+use Rattle.lists.proofs.Bools.{never, and-left, and-right}
 use Rattle.record_tags.specs.Others.{unkeyed, firsts}
 use Rattle.record_tags.proofs.Firsts.{settled-firsts}
 use Rattle.accepted_line.specs.Run.{fieldsOf, fieldsTo, fieldsFrom, AtField}

@@ -17,7 +17,7 @@ use Rattle.format.specs.declared.Kind.the-variants.{Header, ReferenceSequence, 
 use Rattle.decimal.proofs.ReadBack.{number-back, reads-back, written-digits}
 use Rattle.accepted.specs.Sound.{Other}
 use Rattle.format.specs.Keys.{isKey}
-use Rattle.accepted.proofs.Bools.{and-left, and-right, or-right}
+use Rattle.lists.proofs.Bools.{and-left, and-right, or-right}
 use Rattle.utf8.specs.Shown.{shown}
 use Rattle.accepted.proofs.Clean.{between-bounds, tag-bounds, shown-between, allowed-shown}
 use Rattle.tidy_laws.specs.Line.{own, pieceText, put-at}

@@ -21,7 +21,7 @@ use Rattle.byte_slices.proofs.Stands.{each-map}
 use Rattle.decimal.proofs.ReadBack.{reads-back}
 use Rattle.accepted.specs.Sound.{kind, FitsRecord, KeyIsValue, Other, Sound}
 use Rattle.format.specs.Keys.{isKey}
-use Rattle.accepted.proofs.Bools.{or-left, or-right}
+use Rattle.lists.proofs.Bools.{or-left, or-right}
 use Rattle.tidy_laws.specs.Bare.{bareBytes, bare}
 use Rattle.tidy_laws.specs.Line.{own, keys, recordLine, pieceText, put-at, located, Unbroken}
 use Rattle.tidy_laws.proofs.Once.{tags-located, repeats-located, bare-located}

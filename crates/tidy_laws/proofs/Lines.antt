@@ -11,7 +11,7 @@ use Rattle.format.specs.Lines.{onto, broken, chomp, linesFrom}
 use Rattle.format.specs.Records.{Record, breaks}
 use Rattle.format.specs.Tidy.{recordText}
 use Rattle.accepted.specs.Sound.{Sound}
-use Rattle.accepted.proofs.Bools.{or-left, or-right}
+use Rattle.lists.proofs.Bools.{or-left, or-right}
 use Rattle.tidy_laws.specs.Line.{recordLine, Unbroken}
 use Rattle.tidy_laws.proofs.Line.{record-line, line-unbroken}
 

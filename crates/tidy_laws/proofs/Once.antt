@@ -8,7 +8,7 @@ use lib.ListN.{length}
 use lib.Seq.{append-snoc}
 use Rattle.format.specs.Bytes.{any}
 use Rattle.format.specs.Fields.{Field, tagged, repeats, later, lastOf, without, put, settledOn, settled}
-use Rattle.accepted.proofs.Bools.{or-left, or-right, any-append}
+use Rattle.lists.proofs.Bools.{or-left, or-right, any-append}
 use Rattle.accepted.proofs.Tags.{tagged-sym}
 use Rattle.tidy_laws.specs.Bare.{bareField}
 use Rattle.tidy_laws.specs.Line.{put-at, located, pieceText}

@@ -15,7 +15,7 @@ use Rattle.format.specs.Tidy.{fieldsText}
 use Rattle.format.specs.declared.Kind.{Kind}
 use Rattle.byte_slices.specs.Stands.{Each}
 use Rattle.utf8.specs.Shown.{shown}
-use Rattle.accepted.proofs.Bools.{and-left, and-right, any-append}
+use Rattle.lists.proofs.Bools.{and-left, and-right, any-append}
 use Rattle.tidy_laws.specs.Line.{pieceText, put-at, located}
 
 -- ---- bytes

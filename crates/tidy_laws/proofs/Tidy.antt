@@ -10,7 +10,7 @@ use Rattle.format.specs.Reading.{accept, readText}
 use Rattle.format.specs.Tidy.{inOrder, tidy, isWritable, unwritable}
 use Rattle.byte_slices.specs.Stands.{Each}
 use Rattle.accepted.specs.Sound.{Sound}
-use Rattle.accepted.proofs.Bools.{never}
+use Rattle.lists.proofs.Bools.{never}
 use Rattle.tidy_laws.specs.Bare.{bareBytes, bare, Equal}
 use Rattle.tidy_laws.specs.Line.{Unbroken}
 use Rattle.tidy_laws.specs.Writable.{Writable}

@@ -12,7 +12,7 @@ use Rattle.format.specs.Bytes.{any, none?}
 use Rattle.format.specs.Records.{Record, code}
 use Rattle.format.specs.Reading.{clash, ofKind, barred}
 use Rattle.format.specs.Tidy.{inOrder}
-use Rattle.accepted.proofs.Bools.{never, eqb-sym}
+use Rattle.lists.proofs.Bools.{never, eqb-sym}
 use Rattle.accepted.proofs.OfKind.{ofKind-append}
 use Rattle.accepted.proofs.Admits.{barred-clear}
 use Rattle.accepted.specs.Admits.{Unbarred, MayFollow}

@@ -18,7 +18,7 @@ use Rattle.accepted.specs.Read.{isRead}
 use Rattle.accepted.specs.Sound.{kind}
 use Rattle.accepted.specs.Spelled as sp
 use Rattle.accepted.specs.Spelled.{Made, Spelled, AcceptedLine}
-use Rattle.accepted.proofs.Bools.{never, or-left, or-right, and-left, and-right}
+use Rattle.lists.proofs.Bools.{never, or-left, or-right, and-left, and-right}
 use Rattle.accepted.proofs.Sound.{made-kind}
 use Rattle.accepted.proofs.Spelled.{line-accepted}
 use Rattle.accepted_line.specs.Run.{fieldsOf, fieldsFrom, AtField}

@@ -13,7 +13,7 @@ use Rattle.accepted.specs.Read.{isRead}
 use Rattle.accepted.specs.Spelled as sp
 use Rattle.accepted.specs.Spelled.{Made, Spelled, AcceptedLine}
 use Rattle.accepted.specs.Sound.{kind}
-use Rattle.accepted.proofs.Bools.{never}
+use Rattle.lists.proofs.Bools.{never}
 use Rattle.accepted.proofs.Spelled.{line-accepted}
 use Rattle.accepted_line.specs.Run.{fieldsOf, fieldsFrom, AtField}
 use Rattle.accepted_line.proofs.fields.Start.{accepted-fields}

@@ -9,9 +9,9 @@ use Rattle.format.specs.Records.{Record, read, line}
 use Rattle.format.specs.Reading.{Reading, refusedText, accept, readText}
 use Rattle.byte_slices.specs.First.{firstLine}
 use Rattle.byte_slices.specs.declared.Cut.{Cut}
-use Rattle.accepted.specs.Pieces.{Pairs}
+use Rattle.lists.specs.Pairs.{Pairs}
 use Rattle.accepted.specs.Read.{isAccepted, isRead, recordsOf}
-use Rattle.accepted.proofs.Bools.{never, and-left, and-right}
+use Rattle.lists.proofs.Bools.{never, and-left, and-right}
 use Rattle.accepted.proofs.Text.{text-fits}
 use Rattle.accepted_rule.specs.Rule.{ReadsBy}
 use Rattle.accepted_rule.proofs.Rule.{lines-by}

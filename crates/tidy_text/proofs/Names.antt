@@ -7,7 +7,7 @@ use mathlib.Core.Option.{none, some}
 use lib.ListN.{length}
 use Rattle.format.specs.Records.{Record, Line, refusedLine, read, line}
 use Rattle.format.specs.Tidy.{unwritable}
-use Rattle.accepted.proofs.Bools.{never}
+use Rattle.lists.proofs.Bools.{never}
 use Rattle.accepted.proofs.Ahead.{lent}
 use Rattle.tidy_line.specs.Line.{lineText, lineWritable, lineSize}
 use Rattle.tidy_line.specs.declared.Size.the-variants.{Unwritable, Is}

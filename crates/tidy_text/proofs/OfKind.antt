@@ -14,7 +14,7 @@ use Rattle.format.specs.declared.Kind.the-variants.{Header, ReferenceSequence, 
 use Rattle.accepted.specs.Sound.{kind}
 use Rattle.accepted.specs.Spelled as sp
 use Rattle.accepted.specs.Spelled.{AcceptedLine, kind₀, kind₁}
-use Rattle.accepted.proofs.Bools.{never}
+use Rattle.lists.proofs.Bools.{never}
 use Rattle.accepted.proofs.Sound.{made-kind}
 use Rattle.accepted.proofs.Spelled.{line-accepted}
 use Rattle.accepted.specs.Read.{isRead}

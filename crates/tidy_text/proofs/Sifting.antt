@@ -13,7 +13,7 @@ use Rattle.format.specs.declared.Kind.{Kind}
 use Rattle.format.specs.declared.Kind.the-variants.{Program}
 use Rattle.byte_slices.specs.Over.{over}
 use Rattle.accepted.specs.Read.{isRead}
-use Rattle.accepted.proofs.Bools.{never, split}
+use Rattle.lists.proofs.Bools.{never, split}
 use Rattle.accepted_line.specs.Found.{kindBy}
 use Rattle.tidy_line.specs.Line.{lineText, lineWritable}
 use Rattle.tidy_sizes.specs.Numbers.{kindNumber, get, plus}

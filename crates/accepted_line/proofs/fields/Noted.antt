@@ -18,7 +18,7 @@ use Rattle.byte_slices.specs.Upto.{upto}
 use Rattle.byte_slices.specs.Stands.{Each}
 use Rattle.accepted_line.specs.Number.{tagNumber}
 use Rattle.accepted_line.proofs.tag_number.Apart.{tag-below, tag-apart}
-use Rattle.accepted.proofs.Bools.{never, or-left, or-right, split}
+use Rattle.lists.proofs.Bools.{never, or-left, or-right, split}
 use Rattle.accepted.proofs.Tags.{later-assoc}
 use Rattle.accepted_line.specs.Run.{fieldsOf, Runs, fieldsTo, fieldsFrom, AtField}
 use Rattle.accepted_line.specs.Next.{isFirst, valueOfPiece, orValue, noValue, lastIn, valueAt, keptAt, fieldLength}

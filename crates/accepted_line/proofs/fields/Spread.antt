@@ -12,7 +12,7 @@ use borrow.Author.Tests.{eqb-true}
 use Rattle.format.specs.Bytes.{any}
 use Rattle.format.specs.Fields.{Field, tagged, repeats}
 use Rattle.accepted_line.specs.Number.{tagNumber}
-use Rattle.accepted.proofs.Bools.{never, and-left, and-right}
+use Rattle.lists.proofs.Bools.{never, and-left, and-right}
 use Rattle.accepted_line.specs.Tables.{fieldNumber, spread}
 
 -- the mark that a field takes

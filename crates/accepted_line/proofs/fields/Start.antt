@@ -17,13 +17,13 @@ use Rattle.format.specs.declared.Kind.the-variants.{Header, ReferenceSequence, 
 use Rattle.byte_slices.specs.Upto.{upto}
 use Rattle.byte_slices.specs.Stands.{Each}
 use Rattle.byte_slices.proofs.Stands.{pieces-free}
-use Rattle.accepted.specs.Pieces.{Pairs}
+use Rattle.lists.specs.Pairs.{Pairs}
 use Rattle.accepted.specs.Sound.{kind}
 use Rattle.format.specs.Keys.{isKey}
 use Rattle.accepted.specs.Spelled as sp
 use Rattle.accepted.specs.Spelled.{Good, Made, Spelled}
-use Rattle.accepted.proofs.Bools.{never, split, or-split}
-use Rattle.accepted.proofs.Pairs.{pairs-right}
+use Rattle.lists.proofs.Bools.{never, split, or-split}
+use Rattle.lists.proofs.Pairs.{pairs-right}
 use Rattle.accepted.proofs.Sound.{made-kind}
 use Rattle.record_tags.specs.Others.{unkeyed, firsts}
 use Rattle.record_tags.proofs.Firsts.{settled-firsts}

@@ -11,7 +11,7 @@ use Rattle.format.specs.Lines.{Piece}
 use Rattle.format.specs.Fields.{Field, tagged, repeats, later, lastOf}
 use Rattle.format.specs.declared.Kind.{Kind}
 use Rattle.format.specs.Keys.{isKey}
-use Rattle.accepted.proofs.Bools.{or-left, or-right, any-append}
+use Rattle.lists.proofs.Bools.{or-left, or-right, any-append}
 use Rattle.accepted.proofs.Tags.{tagged-sym}
 use Rattle.record_tags.specs.Others.{orLast, latest, firsts}
 use Rattle.accepted_line.specs.Run.{fieldsTo, fieldsFrom, AtField}

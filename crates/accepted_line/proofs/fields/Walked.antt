@@ -13,7 +13,7 @@ use Rattle.format.specs.declared.Kind.{Kind}
 use Rattle.byte_slices.specs.Stands.{Stands, Each}
 use Rattle.byte_slices.proofs.Stands.{each-map, stands-onward}
 use Rattle.format.specs.Keys.{isKey}
-use Rattle.accepted.proofs.Bools.{or-true}
+use Rattle.lists.proofs.Bools.{or-true}
 use Rattle.accepted.proofs.Fields.{Of, lastOf-of}
 use Rattle.record_tags.specs.Others.{orLast, latest, firsts}
 use Rattle.accepted_line.specs.Run.{fieldsTo, fieldsFrom, AtField}

@@ -7,7 +7,7 @@ use lib.Dec.{ltb}
 use borrow.Author.Tests.{lt-ltb, le-ltb, le-leb, lt-leb}
 use Rattle.format.specs.Bytes.{between, letter, digit}
 use Rattle.format.specs.Fields.{isTag}
-use Rattle.accepted.proofs.Bools.{and-left, and-right, or-split}
+use Rattle.lists.proofs.Bools.{and-left, and-right, or-split}
 use Rattle.accepted.proofs.Clean.{between-bounds}
 use Rattle.accepted_line.specs.Number.{byteNumber, tagNumber}
 

@@ -10,7 +10,7 @@ use Rattle.format.specs.declared.Kind.{Kind}
 use Rattle.byte_slices.specs.Over.{over}
 use Rattle.byte_slices.proofs.Over.{over-over}
 use Rattle.accepted.specs.Read.{isRead}
-use Rattle.accepted.proofs.Bools.{never}
+use Rattle.lists.proofs.Bools.{never}
 use Rattle.tidy_line.specs.Line.{lineText}
 use Rattle.tidy_sizes.specs.Numbers.{get, plus}
 use Rattle.tidy_sizes.specs.declared.PerKind.{PerKind}

@@ -7,7 +7,7 @@ use native.Mathlib.Omega.{arith}
 use lib.ListN.{length, drop, length-drop}
 use borrow.Author.Needs.{needs}
 use Rattle.format.specs.Bytes.{starts}
-use Rattle.accepted.proofs.Bools.{never, split}
+use Rattle.lists.proofs.Bools.{never, split}
 use Rattle.catalogue_entries.specs.Entries.{entrySize, entryBytes}
 use Rattle.catalogue_same.proofs.Starts.{starts-short}
 use Rattle.catalogue_lines.specs.Line.{lineBytes}

@@ -7,7 +7,7 @@ use native.Mathlib.Omega.{arith}
 use lib.ListN.{length, take, drop, getD}
 use borrow.Author.Tests.{not-true, not-false}
 use Rattle.format.specs.Bytes.{none?}
-use Rattle.accepted.proofs.Bools.{never}
+use Rattle.lists.proofs.Bools.{never}
 use Rattle.accepted_line.specs.Run.{AtField}
 use Rattle.accepted_line.proofs.fields.Place.{next-at, bounds}
 use Rattle.merge_fields.specs.Kept.{isPassed, keptFrom, toldField, toldFields, NextInLine}

@@ -6,7 +6,7 @@ use mathlib.Core.List.{List, [], _∷_}
 use native.Mathlib.Omega.{arith}
 use lib.ListN.{length}
 use borrow.Author.Tests.{not-true, not-false}
-use Rattle.accepted.proofs.Bools.{split}
+use Rattle.lists.proofs.Bools.{split}
 use Rattle.format.specs.Bytes.{none?}
 use Rattle.accepted_line.specs.Run.{AtField}
 use Rattle.format.specs.Merge.{sameField, keepsFields}

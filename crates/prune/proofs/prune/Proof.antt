@@ -9,7 +9,7 @@ use native.Mathlib.Omega.{arith}
 use Rattle.format.specs.Bytes.{any}
 use Rattle.format.specs.Programs.{Program, Link, programs, links, isDangling, loopsFrom, tangled}
 use Rattle.accepted.specs.Read.{recordsOf}
-use Rattle.accepted.proofs.Bools.{split}
+use Rattle.lists.proofs.Bools.{split}
 use Rattle.program_chains.specs.Parents.{linksOf}
 use Rattle.program_parents.specs.Parents.{parentsOf}
 use Rattle.program_parents.proofs.Road.{tangled-dangling, tangled-loops, lent-count, lent-inside, lent-few, lent-within, lent-links}

@@ -11,7 +11,7 @@ use borrow.Author.Tests.{lt-ltb, le-ltb}
 use Rattle.format.specs.Bytes.{any}
 use Rattle.format.specs.Records.{breaks}
 use Rattle.byte_slices.specs.Upto.{upto}
-use Rattle.accepted.proofs.Bools.{or-true}
+use Rattle.lists.proofs.Bools.{or-true}
 use Rattle.record_parser.proofs.has_break.Statement.{statement}
 use Rattle.record_parser.proofs.has_break.Tie as tie
 

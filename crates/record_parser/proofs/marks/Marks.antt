@@ -10,7 +10,7 @@ use lib.Dec.{eqb}
 use borrow.Author.Tests.{eqb-true, eqb-false, eq-eqb}
 use Rattle.format.specs.Bytes.{any}
 use Rattle.format.specs.Fields.{Field, tagged, isTag}
-use Rattle.accepted.proofs.Bools.{any-snoc, split, or-true, or-split, and-left, and-right}
+use Rattle.lists.proofs.Bools.{any-snoc, split, or-true, or-split, and-left, and-right}
 use Rattle.accepted.proofs.Clean.{tag-bounds}
 use Rattle.record_parser.specs.Marks.{markPlace, marksOf}
 

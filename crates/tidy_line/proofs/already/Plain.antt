@@ -9,7 +9,7 @@ use lib.Dec.{eqb, leb}
 use borrow.Author.Tests.{leb-true}
 use Rattle.format.specs.Bytes.{digit, all, none?, between}
 use Rattle.format.specs.Decimal.{worth, worthFrom, digits, written}
-use Rattle.accepted.proofs.Bools.{never, and-left, and-right}
+use Rattle.lists.proofs.Bools.{never, and-left, and-right}
 use Rattle.decimal.proofs.Front.{digit-top, worth-grows}
 use Rattle.decimal.proofs.Written.{written-one, written-step}
 

@@ -8,7 +8,7 @@ use lib.ListN.{length, getD}
 use lib.Dec.{eqb}
 use borrow.Author.Tests.{eqb-true}
 use Rattle.format.specs.Fields.{Field, lastOf}
-use Rattle.accepted.proofs.Bools.{and-left, and-right}
+use Rattle.lists.proofs.Bools.{and-left, and-right}
 use Rattle.accepted_line.specs.Run.{fieldsFrom, AtField}
 use Rattle.accepted_line.specs.Next.{orValue, noValue, lastIn, valueAt, keptAt}
 use Rattle.accepted_line.proofs.fields.Here.{ended}
