@@ -32,7 +32,6 @@ use Rattle.record.specs.declared.Head.{Head}
 use Rattle.record.specs.declared.Head.the-variants as head
 use Rattle.accepted_line.specs.Run.{AtField, fieldsFrom}
 use Rattle.accepted_line.specs.Next.{valueOfPiece, orValue, noValue}
-use Rattle.accepted_line.specs.declared.fields.Value.{Value}
 use Rattle.accepted_line.specs.Tables.{HasTag}
 use Rattle.accepted_line.proofs.fields.Start.{accepted-start, accepted-fields, accepted-tags}
 use borrow.Author.Tests.{lt-ltb, not-true}
@@ -182,7 +181,7 @@ module _ (strict : Bool) (at : ℕ) (s : List ℕ) (h : isRead (line strict (rec
 
 -- ---- a piece by its place
 
-module _ (at : ℕ) (s : List ℕ) (a b : ℕ) (p : Piece) (h : Has at s a b p) (v : Value) (e : v ≡ orValue noValue (lastOf a b (fieldsFrom at s 3))) where
+module _ (at : ℕ) (s : List ℕ) (a b : ℕ) (p : Piece) (h : Has at s a b p) (v : Stretch) (e : v ≡ orValue noValue (lastOf a b (fieldsFrom at s 3))) where
   -- the value that is found
   found : v ≡ valueOfPiece p
   unfolding orValue

@@ -9,7 +9,7 @@ use Rattle.format.specs.Fields.{Field, lastOf}
 use Rattle.format.specs.declared.Kind.{Kind}
 use Rattle.format.specs.declared.Kind.the-variants.{Header, ReferenceSequence, ReadGroup, Program, Comment}
 use Rattle.accepted_line.specs.Next.{orValue, noValue}
-use Rattle.accepted_line.specs.declared.fields.Value.{Value}
+use Rattle.record.specs.declared.Stretch.{Stretch}
 use Rattle.accepted_line.specs.declared.KeyValues.{KeyValues}
 
 -- VN of HD, SN of SQ, ID of RG and PG
@@ -43,5 +43,5 @@ unfolding keysFrom
 keysIn k fs = keysFrom k noKeyValues fs
 
 -- with the value of one more key: the first letter of the tag is enough to recognize LN
-unfoldable pub withKey : KeyValues → ℕ → Value → KeyValues
+unfoldable pub withKey : KeyValues → ℕ → Stretch → KeyValues
 withKey ks a v = cond (eqb a 76) (record { key = ks .key; number = v }) (record { key = v; number = ks .number })

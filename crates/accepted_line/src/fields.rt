@@ -1,4 +1,5 @@
 // Walks over the fields of an accepted line: which field is the first with its tag, and the last value of each tag.
+use record::Stretch;
 ghost use mathlib.Core.Path.{_≡_};
 ghost use mathlib.Core.Bool.{true, false, _||_};
 ghost use mathlib.Core.List.{List};
@@ -12,12 +13,6 @@ ghost use Rattle.accepted_line.specs.Run.{AtField, fieldsFrom};
 ghost use Rattle.accepted_line.specs.Next.{isFirst, valueAt, keptAt, lastIn};
 ghost use Rattle.accepted_line.specs.Tables.{HasTag, spread, marked, noted, Noted, Walkable};
 
-// Where a value is in the text.
-pub struct Value {
-    pub at: usize,
-    pub len: usize,
-}
-
 // Where the field that starts with the tab at `i` ends.
 pub fn field_end(line: &[u8], i: usize) -> usize
     requires { ⌜ i < length (now line) ⌝ }
@@ -27,11 +22,11 @@ pub fn field_end(line: &[u8], i: usize) -> usize
 }
 
 // The value of the field from the tab at `i` up to `end`, in a line at the offset `at`.
-pub fn value_at(at: usize, i: usize, end: usize) -> Value
+pub fn value_at(at: usize, i: usize, end: usize) -> Stretch
     requires { ⌜ (i + 4 ≤ end) × (at + end ≤ 4294967295) ⌝ }
     ensures { λ r. ⌜ r ≡ valueAt at i end ⌝ }
 {
-    Value {
+    Stretch {
         at: at + i + 4,
         len: end - (i + 4),
     }
@@ -71,7 +66,7 @@ pub fn is_once(line: &[u8], at: usize, strict: bool) -> bool
 }
 
 // Notes that a field whose tag has the number `n` is at the offset `place`.
-fn mark(tables: &mut [u32], n: usize, place: u32)
+fn note_tag(tables: &mut [u32], n: usize, place: u32)
     requires { ⌜ (n < 3224) × (length (now tables) ≡ 6448) ⌝ }
     ensures { λ _. ⌜ now (tables .exit) ≡ marked (now (tables .entry)) n place ⌝ }
 {
@@ -92,7 +87,7 @@ pub fn note_tags(line: &[u8], at: usize, tables: &mut [u32])
     let mut i: usize = 3;
     while i < line.len() {
         let end = field_end(line, i);
-        mark(
+        note_tag(
             tables,
             super::tag_number::tag_number(line[i + 1], line[i + 2]),
             (at + i) as u32,
@@ -102,7 +97,7 @@ pub fn note_tags(line: &[u8], at: usize, tables: &mut [u32])
 }
 
 // The last value of the tag `a`, `b`, from the tables of the line.
-fn noted_value(line: &[u8], at: usize, a: u8, b: u8, tables: &[u32]) -> Value
+fn noted_value(line: &[u8], at: usize, a: u8, b: u8, tables: &[u32]) -> Stretch
     requires { ⌜ AtField false at (now line) 3 ⌝ }
     requires { ⌜ Noted at (now line) (now tables) ⌝ }
     requires { ⌜ isTag a b ≡ true ⌝ }
@@ -111,7 +106,7 @@ fn noted_value(line: &[u8], at: usize, a: u8, b: u8, tables: &[u32]) -> Value
 {
     let place = tables[3224 + super::tag_number::tag_number(a, b)] as usize;
     if place == 0 {
-        return Value { at: 0, len: 0 };
+        return Stretch { at: 0, len: 0 };
     }
     let i = place - at;
     value_at(at, i, field_end(line, i))
@@ -125,7 +120,7 @@ fn has_no_repeat(tables: &[u32]) -> bool
 }
 
 // Whether the field at `i` stands at its tag's first place: where no tag stands twice, it does.
-pub fn is_first(line: &[u8], at: usize, i: usize, tables: &[u32]) -> bool
+pub fn is_first_of_tag(line: &[u8], at: usize, i: usize, tables: &[u32]) -> bool
     requires { ⌜ Walkable at (now line) (now tables) ⌝ }
     requires { ⌜ AtField (none? (now tables)) at (now line) i ⌝ }
     requires { ⌜ i < length (now line) ⌝ }
@@ -139,7 +134,7 @@ pub fn is_first(line: &[u8], at: usize, i: usize, tables: &[u32]) -> bool
 }
 
 // The last value of the tag of the field from `i` up to `end`: its own, where no tag stands twice.
-pub fn kept_value(line: &[u8], at: usize, i: usize, end: usize, tables: &[u32]) -> Value
+pub fn kept_value(line: &[u8], at: usize, i: usize, end: usize, tables: &[u32]) -> Stretch
     requires { ⌜ Walkable at (now line) (now tables) ⌝ }
     requires { ⌜ AtField (none? (now tables)) at (now line) i ⌝ }
     requires { ⌜ (i < length (now line)) × (end ≡ i + 1 + upto 9 (drop (i + 1) (now line))) ⌝ }
@@ -153,7 +148,7 @@ pub fn kept_value(line: &[u8], at: usize, i: usize, end: usize, tables: &[u32]) 
 }
 
 // The first value of the tag `a`, `b` in a line that repeats no tag.
-fn only_value(line: &[u8], at: usize, a: u8, b: u8) -> Value
+fn only_value(line: &[u8], at: usize, a: u8, b: u8) -> Stretch
     requires { ⌜ AtField true at (now line) 3 ⌝ }
     requires { ⌜ at + length (now line) ≤ 4294967295 ⌝ }
     ensures { λ r. ⌜ r ≡ lastIn at (now (line .entry)) a b ⌝ }
@@ -166,11 +161,11 @@ fn only_value(line: &[u8], at: usize, a: u8, b: u8) -> Value
         }
         i = end;
     }
-    Value { at: 0, len: 0 }
+    Stretch { at: 0, len: 0 }
 }
 
 // The last value with the tag `a`, `b` in the accepted line at the offset `at`.
-pub fn find_value(line: &[u8], at: usize, a: u8, b: u8, tables: &[u32]) -> Value
+pub fn find_value(line: &[u8], at: usize, a: u8, b: u8, tables: &[u32]) -> Stretch
     requires { ⌜ Walkable at (now line) (now tables) ⌝ }
     requires { ⌜ isTag a b ≡ true ⌝ }
     requires { ⌜ at + length (now line) ≤ 4294967295 ⌝ }

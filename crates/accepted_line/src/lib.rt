@@ -4,7 +4,6 @@ pub mod tag_number;
 
 use decimal::Number;
 use field::version::ParsedVersion;
-use fields::Value;
 use format::Kind;
 use record::Head;
 use record::Stretch;
@@ -31,8 +30,8 @@ pub enum Form {
 
 // Where the last values of a line's keys are: VN, SN or ID, and LN of SQ.
 pub struct KeyValues {
-    pub key: Value,
-    pub number: Value,
+    pub key: Stretch,
+    pub number: Stretch,
 }
 
 impl KeyValues {
@@ -40,13 +39,13 @@ impl KeyValues {
         ensures { λ r. ⌜ r ≡ noKeyValues ⌝ }
     {
         KeyValues {
-            key: Value { at: 0, len: 0 },
-            number: Value { at: 0, len: 0 },
+            key: Stretch { at: 0, len: 0 },
+            number: Stretch { at: 0, len: 0 },
         }
     }
 
     // With the value of a key whose tag starts with `a`. Of the keys, only LN starts with L.
-    pub fn with(self, a: u8, v: Value) -> KeyValues
+    pub fn with(self, a: u8, v: Stretch) -> KeyValues
         ensures { λ r. ⌜ r ≡ withKey self a v ⌝ }
     {
         let mut key_at = self.key.at;
@@ -61,11 +60,11 @@ impl KeyValues {
             key_len = v.len;
         }
         KeyValues {
-            key: Value {
+            key: Stretch {
                 at: key_at,
                 len: key_len,
             },
-            number: Value {
+            number: Stretch {
                 at: number_at,
                 len: number_len,
             },
@@ -130,7 +129,7 @@ pub fn find_keys(kind: Kind, src: &[u8], at: usize, tables: &[u32]) -> KeyValues
     requires { ⌜ at + length (now src) ≤ 4294967295 ⌝ }
     ensures { λ r. ⌜ r ≡ keysIn kind (fieldsFrom at (now (src .entry)) 3) ⌝ }
 {
-    let nowhere = Value { at: 0, len: 0 };
+    let nowhere = Stretch { at: 0, len: 0 };
     match kind {
         Kind::Header => KeyValues {
             key: fields::find_value(src, at, b'V', b'N', tables),
@@ -153,7 +152,7 @@ pub fn find_keys(kind: Kind, src: &[u8], at: usize, tables: &[u32]) -> KeyValues
 }
 
 // The head of an accepted HD: the version in its VN. An accepted line has one; the other arm is there because a `match` needs an arm for every case.
-fn header_of(src: &[u8], at: usize, version: Value) -> Head
+fn header_of(src: &[u8], at: usize, version: Stretch) -> Head
     requires { ⌜ LineOf Header at (now src) ⌝ }
     requires { ⌜ version ≡ keysIn Header (fieldsFrom at (now src) 3) .key ⌝ }
     ensures { λ r. ⌜ r ≡ uncounted (headOf (line false (record { at = at; bytes = now (src .entry) }))) ⌝ }

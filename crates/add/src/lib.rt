@@ -55,7 +55,7 @@ enum Planned {
 
 // Writes the tidy text with the new programs after the old ones, and answers its length. The new programs go into a gap that is left before the
 // comments.
-fn put_all(
+fn put_grown_text(
     text: &[u8],
     ats: &[u32],
     lens: &[u32],
@@ -175,7 +175,7 @@ fn write_added(
     match measure_all(text, ats, lens, prefix, fields, leaves, ways, out.len()) {
         Planned::Refused(n, line) => CountAnswer::Refused(n, line),
         Planned::Is(plan) => {
-            let n = put_all(text, ats, lens, plan, prefix, fields, leaves, ways, out);
+            let n = put_grown_text(text, ats, lens, plan, prefix, fields, leaves, ways, out);
             CountAnswer::Count(n)
         }
     }

@@ -18,7 +18,7 @@ use Rattle.byte_slices.proofs.Lines.{upto-le}
 use Rattle.field.specs.declared.ParsedField as code
 use Rattle.field.specs.Parsed.{parsedOf}
 use Rattle.lists.proofs.Bools.{split}
-use Rattle.record_parser.proofs.Turn.{tailScan, prepend, upto-not}
+use Rattle.record_parser.proofs.FieldByField.{tailScan, prepend, upto-not}
 use Rattle.record_parser.proofs.Walked.{Turned, turned, refused-here}
 use Rattle.record_parser.proofs.Step.{clean-field, spelled-text}
 use Rattle.accepted_line.specs.Run.{Runs}

@@ -20,7 +20,7 @@ use Rattle.lists.proofs.Bools.{any-append, any-snoc, or-true, or-left, or-right
 use Rattle.accepted.proofs.Tags.{repeats-snoc, repeats-more}
 use Rattle.record_tags.specs.Occurs.{occurs}
 use Rattle.record_tags.proofs.Region.{occurs-fields}
-use Rattle.record_parser.proofs.Turn.{tailScan, prepend, prepend-prepend}
+use Rattle.record_parser.proofs.FieldByField.{tailScan, prepend, prepend-prepend}
 use Rattle.record_parser.proofs.Walked.{Turned}
 use Rattle.record_parser.proofs.Step.{turn-shown}
 use Rattle.accepted_line.specs.Run.{Runs}

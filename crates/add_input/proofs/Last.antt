@@ -15,7 +15,7 @@ use Rattle.format.specs.declared.Kind.the-variants.{Program}
 use Rattle.byte_slices.specs.Upto.{upto}
 use Rattle.byte_slices.proofs.Lines.{upto-le}
 use Rattle.field.specs.declared.ParsedField as code
-use Rattle.record_parser.proofs.Turn.{tailScan, prepend}
+use Rattle.record_parser.proofs.FieldByField.{tailScan, prepend}
 use Rattle.record_parser.proofs.Walked.{Turned}
 use Rattle.add_input.specs.declared.Given.{Given}
 use Rattle.add_input.specs.declared.Given.the-variants.{Nothing, At}

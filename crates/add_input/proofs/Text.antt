@@ -14,7 +14,7 @@ use Rattle.byte_slices.specs.Stands.{Stands, Each}
 use Rattle.byte_slices.proofs.Stands.{by-parts, each-map, stands-onward}
 use Rattle.byte_slices.proofs.Lines.{upto-le}
 use Rattle.accepted.proofs.Fields.{Of, lastOf-of}
-use Rattle.record_parser.proofs.Turn.{tailScan, prepend}
+use Rattle.record_parser.proofs.FieldByField.{tailScan, prepend}
 use Rattle.accepted_line.specs.Run.{Runs}
 use Rattle.accepted_line.proofs.fields.Runs.{runs-none}
 use Rattle.add_input.proofs.Front as fr

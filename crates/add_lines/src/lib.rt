@@ -65,7 +65,7 @@ fn put_ending(out: &mut [u8], o: usize, fields: &[u8], id: &[u8], linked: bool) 
 }
 
 // Writes the line of a new program after the leaf `id`, and returns the place after it.
-pub fn put_line(
+pub fn put_program_line(
     out: &mut [u8],
     o: usize,
     prefix: &[u8],
@@ -171,14 +171,14 @@ pub fn put_added(
         (now (prefix .entry)) (now (fields .entry)) (now (leaves .entry))) ⌝ }
 {
     if shape.empty {
-        return put_line(out, o, prefix, fields, &text[..0], true, false);
+        return put_program_line(out, o, prefix, fields, &text[..0], true, false);
     }
     let mut n = o;
     let mut first = shape.alone;
     let mut i: usize = 0;
     while i < leaves.len() {
         let id = add_ids::find_id(text, ats, lens, ProgramNo(leaves[i]));
-        n = put_line(out, n, prefix, fields, id, first, shape.linked);
+        n = put_program_line(out, n, prefix, fields, id, first, shape.linked);
         first = false;
         i += 1;
     }

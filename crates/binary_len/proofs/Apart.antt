@@ -25,7 +25,7 @@ use Rattle.binary_len.specs.declared.BinaryLen.{BinaryLen}
 use Rattle.binary_len.specs.declared.BinaryLen.the-variants.{Whole, More, Refused}
 use Rattle.binary_len.specs.BinaryLen.{part, onward, numberAt, referenceAt, referencesAt, start, binaryLen}
 use Rattle.binary_len.specs.Laws.{some?, isBinary}
-use Rattle.binary_len.proofs.Turn.{part-there, part-cut, length-cut, name-none, name-cut, name-open, name-closed, start-cut, start-other, text-length-cut, text-cut, count-cut, list-at}
+use Rattle.binary_len.proofs.PartByPart.{part-there, part-cut, length-cut, name-none, name-cut, name-open, name-closed, start-cut, start-other, text-length-cut, text-cut, count-cut, list-at}
 use Rattle.binary_len.proofs.Grown.{Says, says-reference}
 
 -- two numbers in order

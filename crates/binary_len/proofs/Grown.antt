@@ -16,7 +16,7 @@ use Rattle.binary_parts.proofs.Both.{start-long}
 use Rattle.binary_len.specs.declared.BinaryLen.{BinaryLen}
 use Rattle.binary_len.specs.declared.BinaryLen.the-variants.{Whole, More, Refused}
 use Rattle.binary_len.specs.BinaryLen.{part, onward, numberAt, closed, nameAt, referenceAt, referencesAt, start, binaryLen}
-use Rattle.binary_len.proofs.Turn.{part-there, part-cut, part-whole}
+use Rattle.binary_len.proofs.PartByPart.{part-there, part-cut, part-whole}
 
 -- ---- the start
 

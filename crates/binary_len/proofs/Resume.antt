@@ -10,7 +10,7 @@ use Rattle.format.specs.Binary.{magic}
 use Rattle.binary_len.specs.declared.BinaryLen.{BinaryLen}
 use Rattle.binary_len.specs.declared.BinaryLen.the-variants as len
 use Rattle.binary_len.specs.BinaryLen.{onward, numberAt, referenceAt, referencesAt, binaryLen}
-use Rattle.binary_len.proofs.Turn.{part-there, part-cut, references-on, list-at}
+use Rattle.binary_len.proofs.PartByPart.{part-there, part-cut, references-on, list-at}
 use Rattle.binary_len.proofs.Grown.{Grown, starts-more, number-same, grown-reference, longer}
 use Rattle.binary_len.specs.declared.Cursor.{Cursor}
 use Rattle.binary_len.specs.declared.Step.{Step}

@@ -17,7 +17,7 @@ use Rattle.accepted.specs.Read.{recordsOf}
 use Rattle.lists.proofs.Bools.{never}
 use Rattle.accepted.proofs.Text.{text-lines}
 use Rattle.read.proofs.Fresh.{passed}
-use Rattle.calls.proofs.Told.{there-some, located}
+use Rattle.calls.proofs.OwnCatalogue.{there-some, located}
 
 -- the line `l` reads as the record of kind `k` with `i` of that kind before it
 pub record On (t : List ℕ) (k i l : ℕ) : Type 0 where

@@ -43,7 +43,7 @@ fn is_used(text: &[u8], area: &[u32], ids: &mut [u32], head: Head, programs: usi
 
 // Returns the end of the block that the line at `at` is in. If the line is at the end of the last block, `until`, a new block begins, and the area is
 // filled for it.
-fn turn(text: &[u8], strict: bool, from: usize, area: &mut [u32], at: usize, until: usize) -> usize
+fn fill_at_block_end(text: &[u8], strict: bool, from: usize, area: &mut [u32], at: usize, until: usize) -> usize
     requires { ⌜ length (now text) ≤ 16777216 ⌝ }
     requires { ⌜ 4 ≤ length (now area) ⌝ }
     requires { ⌜ at ≤ length (now text) ⌝ }
@@ -98,7 +98,7 @@ pub fn next_line(
         (headAt strict (now (text .entry)) (c .at)) ⌝ }
 {
     let at = c.at;
-    let until = turn(text, strict, from, area, at, c.until);
+    let until = fill_at_block_end(text, strict, from, area, at, c.until);
     let cut = byte_slices::first_line(&text[at..]);
     let end = at + cut.len;
     let head = record_parser::parse_record(&text[at..end], at, strict);

@@ -58,7 +58,7 @@ fn write_kept(
     if table.len() < lines * 2 {
         return Carried::Refused(20, LineNo(0));
     }
-    carry_passes::writing::put_all(text, b, area, sizes.starts(0), out, table);
+    carry_passes::writing::put_kept_and_table(text, b, area, sizes.starts(0), out, table);
     Carried::Written(n, lines)
 }
 

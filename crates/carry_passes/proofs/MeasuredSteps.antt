@@ -20,7 +20,7 @@ use Rattle.tidy_text.proofs.Sizes.{size-turn, own-size, size-le}
 use Rattle.tidy_text.proofs.Names.{cond-is, grew-bad, grew-is}
 use Rattle.format.specs.Carrying.{keptOf, unwritableLine}
 use Rattle.carry_lines.specs.declared.Cursor.{Cursor}
-use Rattle.carry_passes.specs.Turn.{Turn}
+use Rattle.carry_passes.specs.NextLine.{Turn}
 use Rattle.carry_passes.proofs.Steps as at
 use Rattle.carry_passes.proofs.Steps.{goes, left-kept, left-skipped, records-kept, records-skipped}
 use Rattle.carry_passes.specs.Measured.{grownAt}

@@ -14,7 +14,7 @@ use Rattle.tidy_text.proofs.OfKind.{only, line-kind}
 use Rattle.format.specs.Carrying.{keptOf}
 use Rattle.carry_lines.specs.Going.{judgedLines}
 use Rattle.carry_lines.specs.declared.Cursor.{Cursor}
-use Rattle.carry_passes.specs.Turn.{lentTo, Turn}
+use Rattle.carry_passes.specs.NextLine.{lentTo, Turn}
 
 kept-onto : (l : Line) (ls : List Line) → keptOf (l ∷ ls) ≡ withRecord l (keptOf ls)
 unfolding keptOf withRecord

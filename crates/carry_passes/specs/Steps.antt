@@ -13,7 +13,7 @@ use Rattle.tidy_text.specs.Kinds.{lineKind}
 use Rattle.carry_early.specs.declared.Begin.{Begin}
 use Rattle.carry_lines.specs.declared.Cursor.{Cursor}
 use Rattle.carry_lines.specs.declared.Step.{Step}
-use Rattle.carry_passes.specs.Turn.{lentTo}
+use Rattle.carry_passes.specs.NextLine.{lentTo}
 
 -- ---- given the line and its kind: `n` is 0 if the line is kept, and otherwise the reason why it is skipped
 

@@ -15,7 +15,7 @@ ghost use Rattle.tidy_text.specs.Placed.{withParts, parts, Apart};
 ghost use Rattle.format.specs.Carrying.{keptOf, carriedLines, skips, rows};
 ghost use Rattle.carry_early.specs.First.{First};
 ghost use Rattle.carry_passes.specs.From.{Fresh, keptFrom, rowsOf};
-ghost use Rattle.carry_passes.specs.Turn.{Turn};
+ghost use Rattle.carry_passes.specs.NextLine.{Turn};
 ghost use Rattle.carry_passes.specs.Steps.{RoomFor, placesAfter, outAfter, tableAfter};
 
 // Writes the record of the line at the cursor `c` at the place of its kind if the line is kept, and its row if it is skipped. Returns the places
@@ -45,7 +45,7 @@ fn put_step(
     }
     let at = c.at;
     let end = step.end;
-    tidy_text::put_line(out, places, &text[at..end], at, b.strict)
+    tidy_text::put_at_kind(out, places, &text[at..end], at, b.strict)
 }
 
 // Writes the kept records, each kind from its place on, and the rows of the skipped lines, in one pass from the first kept line on.
@@ -82,7 +82,7 @@ fn put_lines(
 }
 
 // Writes the tidy text of the kept lines and the whole table. The area is all zeros afterwards.
-pub fn put_all(
+pub fn put_kept_and_table(
     text: &[u8],
     b: Begin,
     area: &mut [u32],

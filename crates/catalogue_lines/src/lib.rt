@@ -79,7 +79,7 @@ fn blank_entry(head: Head) -> Entry
 }
 
 // How many bytes the entries of a record take: its own entry, and one entry per other field.
-pub fn record_size(head: Head) -> usize
+pub fn entries_size(head: Head) -> usize
     requires { ⌜ othersOf head < 2 ^ 32 ⌝ }
     ensures { λ r. ⌜ r ≡ sizeOfHead head ⌝ }
 {
@@ -163,7 +163,7 @@ fn put_fields(out: &mut [u8], o: usize, kind: Kind, src: &[u8], at: usize, table
         let b = src[i + 2];
         if record_tags::is_key(kind, a, b) {
             keys = keys.with(a, accepted_line::fields::value_at(at, i, end));
-        } else if accepted_line::fields::is_first(src, at, i, tables) {
+        } else if accepted_line::fields::is_first_of_tag(src, at, i, tables) {
             let v = accepted_line::fields::kept_value(src, at, i, end, tables);
             catalogue_put::put_field(out, next, a, b, narrow(v.at, v.len));
             next += 11;
@@ -175,7 +175,7 @@ fn put_fields(out: &mut [u8], o: usize, kind: Kind, src: &[u8], at: usize, table
 
 // Writes the entries of an accepted line of fields from `o` on, and returns the place after them. The own entry is written last, once its keys are
 // found.
-fn put_line(
+fn put_line_entries(
     out: &mut [u8],
     o: usize,
     kind: Kind,
@@ -217,11 +217,11 @@ pub fn put_record(
 {
     match accepted_line::form_of(src, at, strict) {
         Form::Comment => catalogue_put::put_entry(out, o, comment_entry(src, at, number)),
-        Form::Once(kind) => put_line(out, o, kind, src, LinePlace { at, number }, &[]),
+        Form::Once(kind) => put_line_entries(out, o, kind, src, LinePlace { at, number }, &[]),
         Form::Repeating(kind) => {
             let mut tables = [0u32; 6448];
             accepted_line::fields::note_tags(src, at, &mut tables);
-            put_line(out, o, kind, src, LinePlace { at, number }, &tables)
+            put_line_entries(out, o, kind, src, LinePlace { at, number }, &tables)
         }
     }
 }
@@ -250,7 +250,7 @@ fn same_fields(
         let b = src[i + 2];
         if record_tags::is_key(kind, a, b) {
             keys = keys.with(a, accepted_line::fields::value_at(at, i, end));
-        } else if accepted_line::fields::is_first(src, at, i, tables) {
+        } else if accepted_line::fields::is_first_of_tag(src, at, i, tables) {
             let v = accepted_line::fields::kept_value(src, at, i, end, tables);
             if !catalogue_same::same_field(catalogue, next, a, b, narrow(v.at, v.len)) {
                 return Compared::Differs;

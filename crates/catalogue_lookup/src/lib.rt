@@ -6,7 +6,7 @@ ghost use mathlib.Core.Path.{_≡_};
 ghost use lib.ListN.{drop};
 ghost use Rattle.catalogue_entries.specs.Entries.{entriesIn};
 ghost use Rattle.catalogue_lookup.specs.Lookup.{entryKey, entryLength, entryLine, valueIn, keyIn, lengthIn, lineIn, fieldIn};
-ghost use Rattle.catalogue_lookup.specs.Told.{KeyTold, LengthTold, LineTold, FieldTold};
+ghost use Rattle.catalogue_lookup.specs.CallAnswers.{KeyTold, LengthTold, LineTold, FieldTold};
 
 // A place of the text, if there is one.
 pub enum Found {

@@ -21,9 +21,9 @@ use Rattle.format.specs.Carrying.{keptOf, Skip, rows}
 use Rattle.carry_laws.proofs.Count.{rows-length}
 use Rattle.carry_lines.specs.Going.{Going, judgedLines}
 use Rattle.carry_lines.specs.declared.Cursor.{Cursor}
-use Rattle.carry_passes.specs.Turn.{lentTo, Turn}
+use Rattle.carry_passes.specs.NextLine.{lentTo, Turn}
 use Rattle.fault_programs.specs.Plain.{plainAt, oneIf, plainCount}
-use Rattle.fault_programs.proofs.Turns.{programsIn, programs-append, programs-done}
+use Rattle.fault_programs.proofs.KeptPrograms.{programsIn, programs-append, programs-done}
 use Rattle.format.specs.Faults.{linkFault, recordFault, nextProgram, ifFaulty, faultsFrom}
 use Rattle.fault_lines.specs.Links.{linkCount, stepFault}
 

@@ -29,7 +29,7 @@ pub fn plain_fault(src: &[u8], at: usize, strict: bool, n: u8) -> u8
     if n != 0 {
         return n;
     }
-    match tidy_line::record_size(src, at, strict) {
+    match tidy_line::line_size(src, at, strict) {
         Size::Unwritable => 24,
         Size::Is(_) => 0,
     }

@@ -22,9 +22,9 @@ use Rattle.accepted.proofs.Apart.{same-sym}
 use Rattle.accepted.proofs.OfKind.{ofKind-code, apart-ofKind}
 use Rattle.accepted.proofs.Text.{text-apart}
 use Rattle.read.proofs.Fresh.{passed, goes-on}
-use Rattle.calls.proofs.Told.{there-some}
+use Rattle.calls.proofs.OwnCatalogue.{there-some}
 use Rattle.format.specs.Finding.{equalsKey, keyOrdinalFrom, finding}
-use Rattle.find.proofs.Told.{finds}
+use Rattle.find.proofs.OwnCatalogue.{finds}
 
 -- ---- a key occurs once among the records of its kind
 

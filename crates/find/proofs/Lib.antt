@@ -1,4 +1,4 @@
-pub mod Turns
-pub mod Told
+pub mod SearchSteps
+pub mod OwnCatalogue
 pub mod Laws
 pub mod Names

@@ -22,7 +22,7 @@ use Rattle.format.specs.Summed.{summed}
 use Rattle.format.specs.Batch.{references, batched, batching}
 use Rattle.format.specs.Finding.{equalsKey, keyOrdinalFrom, finding}
 use Rattle.find.specs.Laws.{orAbsent}
-use Rattle.find.proofs.Told.{kind-few, finds}
+use Rattle.find.proofs.OwnCatalogue.{kind-few, finds}
 
 -- ---- over records
 

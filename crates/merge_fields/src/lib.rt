@@ -43,7 +43,7 @@ fn next_field(line: &[u8], at: usize, start: usize, tables: &[u32]) -> NextField
         let first = line[i + 1];
         let second = line[i + 2];
         if !is_passed(first, second) {
-            if accepted_line::fields::is_first(line, at, i, tables) {
+            if accepted_line::fields::is_first_of_tag(line, at, i, tables) {
                 let v = accepted_line::fields::kept_value(line, at, i, end, tables);
                 return NextField {
                     found: true,

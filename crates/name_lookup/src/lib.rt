@@ -13,7 +13,7 @@ ghost use Rattle.name_lookup.specs.Looking.{slotOf, looksOf, ordinalAt};
 pub const ABSENT: u32 = 4294967295;
 
 // Whether a slot holds a name with these bits of its hash. The text is looked at only if the bits are equal.
-fn is_told(text: &[u8], v: u32, told: u32, name: &[u8]) -> bool
+fn is_slot_of(text: &[u8], v: u32, told: u32, name: &[u8]) -> bool
     requires { ⌜ 0 < v ⌝ }
     requires { ⌜ length (now name) ≤ 16777216 ⌝ }
     ensures { λ r. ⌜ r ≡ (eqb told ((v - 1) % 128) && same (now (name .entry)) (word (drop ((v - 1) / 128) (now (text .entry))))) ⌝ }
@@ -41,7 +41,7 @@ pub fn find_slot(text: &[u8], slots: &[u32], name: &[u8]) -> Looked
 {
     let n = slots.len();
     let number = name_index::hash(name);
-    let told = name_slots::mark(number);
+    let told = name_slots::check_bits(number);
     let first = name_index::first_slot(number, n);
     let mut i: usize = 0;
     while i < n {
@@ -53,7 +53,7 @@ pub fn find_slot(text: &[u8], slots: &[u32], name: &[u8]) -> Looked
                 looks: (i + 1) as u32, // the empty slot too
             };
         }
-        if is_told(text, v, told, name) {
+        if is_slot_of(text, v, told, name) {
             return Looked {
                 slot: at as u32,
                 looks: (i + 1) as u32, // and no slot after it

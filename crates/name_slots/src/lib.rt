@@ -30,7 +30,7 @@ fn bytes_at<'a>(text: &'a [u8], p: Place) -> &'a [u8]
 }
 
 // What a slot keeps of a name besides its place: seven bits of its hash, which tell most other names apart.
-pub fn mark(number: u32) -> u32
+pub fn check_bits(number: u32) -> u32
     ensures { λ r. ⌜ r ≡ markOf number ⌝ }
 {
     (number % 65536 + number / 65536) % 128
@@ -45,7 +45,7 @@ fn value(ordinals: bool, k: usize, number: u32, at: u32) -> u32
     if ordinals {
         return (k + 1) as u32;
     }
-    at * 128 + mark(number) + 1
+    at * 128 + check_bits(number) + 1
 }
 
 // Enters the name at a place. Returns the slot that it went into.

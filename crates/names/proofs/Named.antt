@@ -24,7 +24,7 @@ use Rattle.name_entries.proofs.Names.{name-from}
 use Rattle.name_slots.specs.Filled.{startIn, markOf, valueOf, entering, seats}
 use Rattle.name_slots.proofs.Filling.{mark-lt}
 use Rattle.name_lookup.specs.Looking.{says}
-use Rattle.names.specs.Told.{Told}
+use Rattle.names.specs.NameEnds.{Told}
 use Rattle.names.proofs.Recoded.{recode, enter-recode, place-recode}
 
 module _ (t : List ℕ) where

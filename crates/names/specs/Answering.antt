@@ -8,7 +8,7 @@ use Rattle.catalogue_entries.specs.Entries.{entriesIn}
 use Rattle.format.specs.Asked.{asked}
 use Rattle.format.specs.NameIndex.{nameOrdinal, slotCount, index, looks}
 use Rattle.name_entries.specs.Names.{namesIn}
-use Rattle.names.specs.Told.{Told}
+use Rattle.names.specs.NameEnds.{Told}
 use Rattle.format.specs.Summed.{summed}
 
 -- the names in the catalogue's SQ entries

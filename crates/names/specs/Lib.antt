@@ -4,4 +4,4 @@
 --   Answering   what answering needs and leaves
 pub mod Answers
 pub mod Answering
-pub mod Told
+pub mod NameEnds

@@ -9,7 +9,7 @@ use Rattle.format.specs.Lines.{Piece, linesFrom}
 use Rattle.program_chains.specs.Parents.{inArray}
 use Rattle.catalogue_entries.specs.declared.Place.{Place}
 use Rattle.program_ids.specs.Places.{nowhere}
-use Rattle.accepted_line.specs.declared.fields.Value.{Value}
+use Rattle.record.specs.declared.Stretch.{Stretch}
 use Rattle.accepted_line.specs.Next.{lastIn}
 use Rattle.program_places.specs.declared.Places.{Places}
 use Rattle.program_places.specs.Gathered.{ProgramPlaces}
@@ -46,11 +46,11 @@ pub record NextLineInText (t : List ℕ) (start : ℕ) (r : NextLine) : Type 0 w
 
 -- ---- what is noted
 
-unfoldable pub placeOf : Value → Place
+unfoldable pub placeOf : Stretch → Place
 placeOf v = record { at = v .at; len = v .len }
 
 -- no value is at the offset 0
-unfoldable pub previousOf : Value → Place
+unfoldable pub previousOf : Stretch → Place
 unfolding nowhere placeOf
 previousOf v = cond (eqb (v .at) 0) nowhere (placeOf v)
 

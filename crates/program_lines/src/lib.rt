@@ -1,8 +1,8 @@
 // The programs of an accepted text, gathered from its PG lines: where each line is, its ID and its PP.
-use accepted_line::fields::Value;
 use catalogue_entries::Place;
 use program_places::Places;
 use program_places::Programs;
+use record::Stretch;
 ghost use mathlib.Core.Path.{_≡_};
 ghost use mathlib.Core.Bool.{true};
 ghost use mathlib.Core.List.{map};
@@ -77,7 +77,7 @@ fn next_program(text: &[u8], start: usize) -> NextLine
 }
 
 // A place, in the numbers of an entry.
-fn narrow(v: Value) -> Place
+fn narrow(v: Stretch) -> Place
     requires { ⌜ (v .at < 2 ^ 32) × (v .len < 2 ^ 32) ⌝ }
     ensures { λ r. ⌜ r ≡ placeOf v ⌝ }
 {
@@ -88,7 +88,7 @@ fn narrow(v: Value) -> Place
 }
 
 // Where a PP is, or a place that is in no text if there is none.
-fn narrow_previous(v: Value) -> Place
+fn narrow_previous(v: Stretch) -> Place
     requires { ⌜ (v .at < 2 ^ 32) × (v .len < 2 ^ 32) ⌝ }
     ensures { λ r. ⌜ r ≡ previousOf v ⌝ }
 {

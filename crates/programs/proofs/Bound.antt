@@ -16,7 +16,7 @@ use Rattle.program_chains.proofs.Leaf.{leaves-length}
 use Rattle.program_parents.proofs.Numbers.{links-count, links-named}
 use Rattle.program_parents.proofs.Road.{none-dangles, none-loops}
 use Rattle.read.proofs.Fresh.{Current, refused-is-no-answer, passed}
-use Rattle.read.proofs.Told.{too-short, fits}
+use Rattle.read.proofs.AnswerCases.{too-short, fits}
 use Rattle.program_parents.proofs.Opened.{opened}
 use Rattle.programs.proofs.Chained.{leaves-tangled, leaves-own}
 

@@ -49,7 +49,7 @@ pub fn prune(text: &[u8], catalogue: &[u8], used: &[u32], out: &mut [u8]) -> Cou
             if depths.cycle {
                 return CountAnswer::Refused(23, LineNo(0));
             }
-            let marks = prune_marks::mark(links, used);
+            let marks = prune_marks::mark_needed(links, used);
             tidy::write_marked(text, once, &marks, out)
         }
     }

@@ -30,7 +30,7 @@ fn mark_up(parents: &[u32], marks: &mut [bool], u: u32)
 }
 
 // Marks the programs in use, `used`, and all their ancestors. Each program is marked once.
-pub fn mark(parents: &[u32], used: &[u32]) -> [bool; 1024]
+pub fn mark_needed(parents: &[u32], used: &[u32]) -> [bool; 1024]
     requires { ⌜ areParents (length (now parents)) (now parents) ≡ true ⌝ }
     requires { ⌜ loopsFrom (linksOf (now parents)) 0 (linksOf (now parents)) ≡ false ⌝ }
     requires { ⌜ length (now parents) ≤ 1024 ⌝ }

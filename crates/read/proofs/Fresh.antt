@@ -20,7 +20,7 @@ use Rattle.accepted_rule.proofs.Rule.{once-reads}
 use Rattle.read.specs.declared.CheckedText.{CheckedText}
 use Rattle.read.specs.declared.CheckedText.the-variants as text
 use Rattle.read.specs.Answers.{checkedOf, checkedTextOf, withoutRule}
-use Rattle.read.proofs.Told.{fresh-refused, fresh-reads}
+use Rattle.read.proofs.AnswerCases.{fresh-refused, fresh-reads}
 
 -- a refusal is no answer
 pub refused-is-no-answer : {A : Type 0} (n l : ℕ) (a : A) → refused n l ≡ yes a → ⊥

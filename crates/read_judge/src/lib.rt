@@ -76,7 +76,7 @@ fn first_met(
 }
 
 // The block that a line is in. If the line begins a new block, the lines ahead are searched for keys of the block before it, and the area is emptied.
-fn turn(text: &[u8], strict: bool, area: &mut [u32], at: usize, line: usize, block: Block) -> Block
+fn next_block(text: &[u8], strict: bool, area: &mut [u32], at: usize, line: usize, block: Block) -> Block
     requires { ⌜ length (now text) ≤ 16777216 ⌝ }
     requires { ⌜ 0 < length (now area) ⌝ }
     requires { ⌜ line ≤ at ⌝ }
@@ -176,14 +176,14 @@ fn judge_indexed(text: &[u8], strict: bool, area: &mut [u32]) -> Judged
         let parsed = parse_line(&text[at..end], at, strict, once);
         let head = parsed.head;
         once = parsed.once;
-        block = turn(text, strict, area, at, line, block);
+        block = next_block(text, strict, area, at, line, block);
         let known = key_index::meet(text, area, head, true);
         let n = barred(line, programs, head, known, line == block.clash);
         if n != 0 {
             return Judged::Refused(n, LineNo(line as u32));
         }
         programs += read_admission::programs_of(head);
-        size += catalogue_lines::record_size(head);
+        size += catalogue_lines::entries_size(head);
         at = next;
         line += 1;
     }

@@ -1,5 +1,5 @@
 pub mod Dispatch
-pub mod Turn
+pub mod FieldByField
 pub mod Made
 pub mod Walked
 pub mod Step

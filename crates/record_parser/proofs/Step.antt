@@ -33,7 +33,7 @@ use Rattle.record.specs.Head.{headOf}
 use Rattle.record.specs.Keys.{keysOf, noKeys, withField, headFrom}
 use Rattle.record_parser.specs.Marks.{markPlace, marksOf}
 use Rattle.record_parser.proofs.marks.Marks.{marked-none, marked-again, marked-more, place-below}
-use Rattle.record_parser.proofs.Turn.{tailScan, prepend, fielded-tail, judged-stop, judged-twice, judged-end, prepend-prepend, upto-not}
+use Rattle.record_parser.proofs.FieldByField.{tailScan, prepend, fielded-tail, judged-stop, judged-twice, judged-end, prepend-prepend, upto-not}
 use Rattle.record_parser.proofs.Made.{keys-snoc, head-made}
 use Rattle.record_parser.proofs.Walked.{Walked, Turned}
 

@@ -26,7 +26,7 @@ use Rattle.record_tags.proofs.Region.{Clean}
 use Rattle.record.specs.declared.Keys.{Keys}
 use Rattle.record.specs.Keys.{keysOf}
 use Rattle.record_parser.proofs.marks.Marks.{Marked}
-use Rattle.record_parser.proofs.Turn.{tailScan, prepend, turn-bad, turn-good, turn-then}
+use Rattle.record_parser.proofs.FieldByField.{tailScan, prepend, turn-bad, turn-good, turn-then}
 
 -- at the place `pos` of the line `src`
 pub record Walked (kind : Kind) (src : List ℕ) (at : ℕ) (strict exact : Bool) (seen : List Bool) (keys : Keys) (pos : ℕ) : Type 0 where

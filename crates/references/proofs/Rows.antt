@@ -21,7 +21,7 @@ use Rattle.catalogue_entries.specs.declared.Entry.the-variants.{End, Header, Re
 use Rattle.catalogue_entries.specs.Entries.{kindByte, entryOf, entriesIn}
 use Rattle.catalogue_lookup.specs.Lookup.{entriesFrom}
 use Rattle.name_entries.specs.Next.{nextSq}
-use Rattle.name_entries.proofs.Turns.{no-more, one-more, sq-within}
+use Rattle.name_entries.proofs.NextEntry.{no-more, one-more, sq-within}
 use Rattle.references.specs.Rows.{entryRow, rowsIn, ShortLength, RowsFit}
 
 -- three stores in a row

@@ -23,7 +23,7 @@ fn is_len(line: &[u8], what: &[u8], n: usize) -> bool {
 }
 
 // Whether a line gives this answer for a binary header.
-fn is_told(line: &[u8], len: BinaryLen) -> bool {
+fn is_answer(line: &[u8], len: BinaryLen) -> bool {
     match len {
         BinaryLen::Refused(n) => replay_answers::is_refusal(line, 2, n, LineNo(0)),
         BinaryLen::Whole(n) => is_len(line, b"whole", n),
@@ -33,7 +33,7 @@ fn is_told(line: &[u8], len: BinaryLen) -> bool {
 
 // The answer for some bytes if each call is lent as many bytes as the call before it asked for, with the cursor; `Refused(0)` if a call asks for no
 // more bytes than it was lent.
-fn told_by_fronts(bytes: &[u8]) -> BinaryLen {
+fn answer_by_fronts(bytes: &[u8]) -> BinaryLen {
     let mut from = binary_len::first_cursor();
     let mut lent: usize = 0;
     while lent < bytes.len() {
@@ -60,5 +60,5 @@ fn told_by_fronts(bytes: &[u8]) -> BinaryLen {
 pub fn is_binary_len(line: &[u8]) -> bool {
     let mut bytes = io::large_buffer();
     let n = replay_cases::decode(replay_cases::word(line, 1), &mut bytes);
-    is_told(line, binary_len::binary_len(&bytes[..n])) && is_told(line, told_by_fronts(&bytes[..n]))
+    is_answer(line, binary_len::binary_len(&bytes[..n])) && is_answer(line, answer_by_fronts(&bytes[..n]))
 }

@@ -9,7 +9,7 @@ use Rattle.format.specs.Calls.{Answer, refused, yes, keying, valuing, leafing}
 use Rattle.format.specs.Table.{leafingTable}
 use Rattle.format.specs.declared.Node.{Node}
 use Rattle.calls.specs.Answers.{keyAnswerOf, valuePlaceOf}
-use Rattle.calls.proofs.Told.{key-short, value-short}
+use Rattle.calls.proofs.OwnCatalogue.{key-short, value-short}
 use Rattle.programs.specs.Answers.{leavesAnswerOf}
 use Rattle.programs.proofs.Bound.{hops-few, leaves-few}
 use Rattle.programs_by_table.specs.Answers.{withoutTable}

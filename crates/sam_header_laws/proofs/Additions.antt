@@ -22,7 +22,7 @@ use Rattle.accepted.proofs.Text.{text-count, text-fits}
 use Rattle.tidy_laws.proofs.Answered.{Gave, then-yes}
 use Rattle.read.proofs.Fresh.{Current, passed, goes-on}
 use Rattle.read.specs.Answers.{checkedOf}
-use Rattle.calls.proofs.Told.{there-some}
+use Rattle.calls.proofs.OwnCatalogue.{there-some}
 use Rattle.find.specs.Answers.{findAnswerOf}
 use Rattle.references.specs.Answers.{rowCountOf}
 use Rattle.faults.specs.Answers.{faultyLines}

@@ -21,7 +21,7 @@ use Rattle.tidy_laws.proofs.Gathered.{text-gathered, gathered-writable}
 use Rattle.tidy_laws.proofs.Tidy.{tidy-tells}
 use Rattle.tidy_laws.proofs.Bare.{tidy-equal}
 use Rattle.tidy_laws.proofs.Faithful.{faithful}
-use Rattle.read.proofs.Told.{fits}
+use Rattle.read.proofs.AnswerCases.{fits}
 use Rattle.format.specs.Sha256.{sha256}
 use Rattle.sha256.proofs.Laws.{digest-length}
 use Rattle.format.specs.Seal.{sealing, ownSeal, checkingSealed}

@@ -21,7 +21,7 @@ use Rattle.lists.proofs.Pairs.{pairs-left}
 use Rattle.accepted.proofs.Text.{text-lines}
 use Rattle.format.specs.TextLen.{headed, otherLine, textLen}
 use Rattle.text_len.specs.Laws.{AcceptedIsHeader, AllHeaded, CutBehind, AcceptedIsCut, Within}
-use Rattle.text_len.proofs.Turn.{headed-first}
+use Rattle.text_len.proofs.HeaderLines.{headed-first}
 use Rattle.text_len.proofs.Behind.{lines-behind}
 
 -- ---- lines that start with `@`

@@ -16,7 +16,7 @@ use Rattle.record_tags.specs.Others.{unkeyed, firsts}
 use Rattle.record_tags.proofs.Firsts.{settled-firsts}
 use Rattle.accepted_line.specs.Run.{fieldsOf, fieldsTo, fieldsFrom, AtField}
 use Rattle.accepted_line.specs.Next.{isFirst, keptAt}
-use Rattle.accepted_line.specs.declared.fields.Value.{Value}
+use Rattle.record.specs.declared.Stretch.{Stretch}
 use Rattle.accepted_line.proofs.fields.Here.{ended}
 use Rattle.accepted_line.proofs.fields.Walked.{Taken}
 use Rattle.accepted_line.proofs.fields.Place.{passed-at, taken-at}
@@ -48,7 +48,7 @@ module _ (once : Bool) (at : ℕ) (line : List ℕ) (k : Kind) (i : ℕ) (h : At
       turn false false e = refl
 
   -- one that is
-  module _ (t : not (isKey k (getD line (i + 1) 0) (getD line (i + 2) 0)) && isFirst at line i ≡ true) (v : Value) (e : v ≡ keptAt at line i end) where
+  module _ (t : not (isKey k (getD line (i + 1) 0) (getD line (i + 2) 0)) && isFirst at line i ≡ true) (v : Stretch) (e : v ≡ keptAt at line i end) where
     taken : Taken at line k i end v
     taken =
         let n = isKey k (getD line (i + 1) 0) (getD line (i + 2) 0) in

@@ -24,7 +24,7 @@ fn is_other(kind: Kind, line: &[u8], at: usize, i: usize, tables: &[u32]) -> boo
     if record_tags::is_key(kind, line[i + 1], line[i + 2]) {
         return false;
     }
-    accepted_line::fields::is_first(line, at, i, tables)
+    accepted_line::fields::is_first_of_tag(line, at, i, tables)
 }
 
 // Writes the fields of an accepted line other than its keys, each tag at its first place with its last value, and the LF that ends the record.

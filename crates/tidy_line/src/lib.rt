@@ -278,7 +278,7 @@ fn noted_size(kind: Kind, src: &[u8], at: usize) -> Size
 }
 
 // How many bytes the record of an accepted line takes, or that it can't be written.
-pub fn record_size(src: &[u8], at: usize, strict: bool) -> Size
+pub fn line_size(src: &[u8], at: usize, strict: bool) -> Size
     requires { ⌜ isRead (line strict (record { at = at; bytes = now src })) ≡ true ⌝ }
     requires { ⌜ at + length (now src) ≤ 16777216 ⌝ }
     ensures { λ r. ⌜ r ≡ lineSize (line strict (record { at = at; bytes = now (src .entry) })) ⌝ }

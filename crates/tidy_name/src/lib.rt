@@ -276,14 +276,14 @@ fn class_of(b: u8) -> u8
 }
 
 // Whether a name may start with `b`: a digit, a letter or one of certain other characters.
-pub fn is_first(b: u8) -> bool
+pub fn is_first_byte(b: u8) -> bool
     ensures { λ r. ⌜ r ≡ nameFirst b ⌝ }
 {
     class_of(b) == ANYWHERE
 }
 
 // Whether `b` may come later in a name: these, and `*` and `=`.
-pub fn is_later(b: u8) -> bool
+pub fn is_later_byte(b: u8) -> bool
     ensures { λ r. ⌜ r ≡ nameLater b ⌝ }
 {
     class_of(b) != NEVER

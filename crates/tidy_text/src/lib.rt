@@ -71,7 +71,7 @@ fn with_line_if(sizes: PerKind, src: &[u8], at: usize, strict: bool, stays: bool
     if !stays {
         return Grown::Is(sizes);
     }
-    let size = tidy_line::record_size(src, at, strict);
+    let size = tidy_line::line_size(src, at, strict);
     let Size::Is(n) = size else {
         return Grown::Unwritable;
     };
@@ -127,7 +127,7 @@ pub fn measure(text: &[u8], strict: bool) -> Measured
 }
 
 // Writes the record of an accepted line at the place of its kind, if it stays. Returns the places after it.
-fn put_line_if(
+fn put_at_kind_if(
     out: &mut [u8],
     places: PerKind,
     src: &[u8],
@@ -151,14 +151,14 @@ fn put_line_if(
 }
 
 // The same for a line that stays.
-pub fn put_line(out: &mut [u8], places: PerKind, src: &[u8], at: usize, strict: bool) -> PerKind
+pub fn put_at_kind(out: &mut [u8], places: PerKind, src: &[u8], at: usize, strict: bool) -> PerKind
     requires { ⌜ isRead (line strict (record { at = at; bytes = now src })) ≡ true ⌝ }
     requires { ⌜ at + length (now src) ≤ 16777216 ⌝ }
     requires { ⌜ get (lineKind (now src)) places + length (tidyLine strict at (now src)) ≤ length (now out) ⌝ }
     ensures next { λ r. ⌜ r ≡ plus (lineKind (now (src .entry))) (length (tidyLine strict at (now (src .entry)))) places ⌝ }
     ensures wrote { λ _. ⌜ now (out .exit) ≡ over (now (out .entry)) (get (lineKind (now (src .entry))) places) (tidyLine strict at (now (src .entry))) ⌝ }
 {
-    put_line_if(out, places, src, at, strict, true)
+    put_at_kind_if(out, places, src, at, strict, true)
 }
 
 // Writes the records that stay, each kind in text order from its place on, in one pass.
@@ -175,7 +175,7 @@ fn put_lines(text: &[u8], strict: bool, marks: &[bool], places: PerKind, out: &m
     while at < text.len() {
         let cut = byte_slices::first_line(&text[at..]);
         let s = stay_of(&text[at..at + cut.len], marks, k);
-        next = put_line_if(out, next, &text[at..at + cut.len], at, strict, s.stays);
+        next = put_at_kind_if(out, next, &text[at..at + cut.len], at, strict, s.stays);
         k = s.next;
         at += cut.next;
     }

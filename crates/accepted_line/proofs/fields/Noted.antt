@@ -23,10 +23,10 @@ use Rattle.accepted.proofs.Tags.{later-assoc}
 use Rattle.accepted_line.specs.Run.{fieldsOf, Runs, fieldsTo, fieldsFrom, AtField}
 use Rattle.accepted_line.specs.Next.{isFirst, valueOfPiece, orValue, noValue, lastIn, valueAt, keptAt, fieldLength}
 use Rattle.accepted_line.specs.Tables.{fieldNumber, HasTag, marked, noted, Blank, Noted}
-use Rattle.accepted_line.specs.declared.fields.Value.{Value}
+use Rattle.record.specs.declared.Stretch.{Stretch}
 use Rattle.accepted_line.proofs.fields.Runs.{bytesOf, runs-append}
 use Rattle.accepted_line.proofs.fields.Here.{Here, here, Found, found}
-use Rattle.accepted_line.proofs.fields.Turn.{first-here, last-same, last-other, own}
+use Rattle.accepted_line.proofs.fields.NextField.{first-here, last-same, last-other, own}
 use Rattle.accepted_line.proofs.fields.Spread.{same-number}
 
 -- ---- one field in the tables
@@ -169,7 +169,7 @@ module _ (a b : ℕ) (tag : isTag a b ≡ true) where
     pub is : p ≡ at + place
     pub here : AtField false at line place
     pub within : place < length line
-    pub value : (v : Value) → orValue v (lastOf a b (fieldsFrom at line from)) ≡ valueAt at place (place + 1 + upto 9 (drop (place + 1) line))
+    pub value : (v : Stretch) → orValue v (lastOf a b (fieldsFrom at line from)) ≡ valueAt at place (place + 1 + upto 9 (drop (place + 1) line))
 
   -- or nowhere, and `p` is what was in the tables before
   data Last (at : ℕ) (line : List ℕ) (from before p : ℕ) : Type 0 where
@@ -236,7 +236,7 @@ lastOf-append a b (d ∷ ds) gs =
     ap (later o) (lastOf-append a b ds gs) ∙ later-assoc o (lastOf a b ds) (lastOf a b gs)
 
 -- a value that comes later is the last one
-or-last : (v : Value) (o q : Option Piece) (p : Piece) → orValue v (later o (later (some p) q)) ≡ orValue (valueOfPiece p) q
+or-last : (v : Stretch) (o q : Option Piece) (p : Piece) → orValue v (later o (later (some p) q)) ≡ orValue (valueOfPiece p) q
 unfolding orValue later
 or-last v none none p = refl
 or-last v (some x) none p = refl

@@ -18,13 +18,13 @@ use Rattle.accepted.proofs.Fields.{Of, lastOf-of}
 use Rattle.record_tags.specs.Others.{orLast, latest, firsts}
 use Rattle.accepted_line.specs.Run.{fieldsTo, fieldsFrom, AtField}
 use Rattle.accepted_line.specs.Next.{isFirst, keptAt, fieldLength}
-use Rattle.accepted_line.specs.declared.fields.Value.{Value}
+use Rattle.record.specs.declared.Stretch.{Stretch}
 use Rattle.accepted_line.proofs.fields.Runs.{runs-stand}
 use Rattle.accepted_line.proofs.fields.Here.{Here}
-use Rattle.accepted_line.proofs.fields.Turn.{first-here, further, kept-latest}
+use Rattle.accepted_line.proofs.fields.NextField.{first-here, further, kept-latest}
 
 -- the field from `i` up to `end` is the next of the other fields that are still to come, with the value that is at `v`
-pub record Taken (at : ℕ) (line : List ℕ) (k : Kind) (i end : ℕ) (v : Value) : Type 0 where
+pub record Taken (at : ℕ) (line : List ℕ) (k : Kind) (i end : ℕ) (v : Stretch) : Type 0 where
   pub field : Field
   pub tag-0 : field .tag₀ ≡ getD line (i + 1) 0
   pub tag-1 : field .tag₁ ≡ getD line (i + 2) 0

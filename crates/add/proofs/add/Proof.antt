@@ -3,7 +3,7 @@ use mathlib.Core.Path.{_≡_}
 use lib.ListN.{length}
 use borrow.Author.Needs.{needs}
 use Rattle.format.specs.Calls.{adding}
-use Rattle.read.proofs.Told.{refused-answer}
+use Rattle.read.proofs.AnswerCases.{refused-answer}
 use Rattle.read.proofs.Fresh.{text-refused-by, text-fresh-by, rule-by}
 use Rattle.add.proofs.Adding.{add-refused}
 use Rattle.add.proofs.add.Statement.{statement}

@@ -23,7 +23,7 @@ use Rattle.program_ids.proofs.Search.{ids-length}
 use Rattle.program_parents.proofs.Numbers.{links-count}
 use Rattle.program_parents.proofs.Own.{few-programs}
 use Rattle.read.specs.Answers.{answerOf, outputOf}
-use Rattle.read.proofs.Told.{refused-answer}
+use Rattle.read.proofs.AnswerCases.{refused-answer}
 use Rattle.program_chains.proofs.Leaf.{leaves-length}
 use Rattle.add_ids.specs.Taken.{isAmong, taken}
 use Rattle.add_input.proofs.Text.{given-text}

@@ -25,7 +25,7 @@ use Rattle.program_parents.specs.Parents.{graphOf}
 use Rattle.program_parents.proofs.Own.{own-count, own-ats, own-lens, ats-inside, lens-inside, own-placed, own-ids}
 use Rattle.program_parents.proofs.Road.{graph-refusal, graph-list, graph-count, some-leaf}
 use Rattle.read.specs.Answers.{answerOf, outputOf, checkedOf}
-use Rattle.read.proofs.Told.{refused-answer}
+use Rattle.read.proofs.AnswerCases.{refused-answer}
 use Rattle.read.proofs.Fresh.{Current, check-fresh}
 use Rattle.program_parents.proofs.Opened.{Opened, opened}
 use Rattle.add_input.proofs.InForm.{in-form}

@@ -8,7 +8,7 @@ use Rattle.format.specs.Records.{Record}
 use Rattle.format.specs.Tidy.{unwritable}
 use Rattle.format.specs.Calls.{writing, yes}
 use Rattle.accepted.specs.Read.{recordsOf}
-use Rattle.read.proofs.Told.{refused-answer, written-answer}
+use Rattle.read.proofs.AnswerCases.{refused-answer, written-answer}
 use Rattle.tidy_text.specs.Sizes.{sizesOf}
 use Rattle.add_lines.specs.Lines.{newText}
 use Rattle.add.specs.Added.{withAdded}
@@ -51,8 +51,8 @@ enum-known-n c = search needs
 enum-known-plan : tie.Need-enum-known-plan
 enum-known-plan c = search needs
 
-put-all-requires : tie.Need-put-all-requires
-put-all-requires c κs =
+put-grown-text-requires : tie.Need-put-grown-text-requires
+put-grown-text-requires c κs =
     let p = c .before .before in
     let s = p .before .before .before .before .before .before .before .before .before .before in
     let f = fits p in
@@ -77,8 +77,8 @@ returns-2 c =
     let p = w .before .before .before in
     let s = p .before .before .before .before .before .before .before .before .before .before in
     let f = fits p in
-    written-answer (writing (length (s .args .out .now)) (unwritable 0 (records s)) (whole s)) (s .args .out .now) (whole s) (w .put-all .last .1 .1 .1 .1 .1 .1 .1 .1 .0)
-    (w .put-all .result) (f .1) (w .put-all .ensures .0) (w .put-all .ensures .1)
+    written-answer (writing (length (s .args .out .now)) (unwritable 0 (records s)) (whole s)) (s .args .out .now) (whole s) (w .put-grown-text .last .1 .1 .1 .1 .1 .1 .1 .1 .0)
+    (w .put-grown-text .result) (f .1) (w .put-grown-text .ensures .0) (w .put-grown-text .ensures .1)
 
 pub write-added-spec : {M : Type 1} → statement M
 write-added-spec =
@@ -87,7 +87,7 @@ write-added-spec =
     measure-all-requires
     enum-known-n
     enum-known-plan
-    put-all-requires
+    put-grown-text-requires
     returns
     same-length
     returns-2)

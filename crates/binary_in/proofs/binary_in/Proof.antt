@@ -14,7 +14,7 @@ use Rattle.binary_parts.specs.Parts.{listed}
 use Rattle.binary_references.proofs.Next.{sq-all}
 use Rattle.read_judge.proofs.Whole.{Told, text-refused, text-accepted}
 use Rattle.read.specs.Answers.{answerOf, outputOf}
-use Rattle.read.proofs.Told.{refused-answer}
+use Rattle.read.proofs.AnswerCases.{refused-answer}
 use Rattle.binary_in.proofs.Kept.{kept-within, kept-is}
 use Rattle.binary_in.proofs.Reading.{in-none, in-refused, in-other, in-same}
 use borrow.Author.Needs.{needs}

@@ -7,7 +7,7 @@ use Rattle.format.specs.Binary.{binaryOut}
 use Rattle.accepted.specs.Read.{isAccepted}
 use Rattle.read.specs.Answers.{answerOf, outputOf}
 use Rattle.read_judge.proofs.Whole.{Told, text-refused, text-accepted}
-use Rattle.read.proofs.Told.{refused-answer}
+use Rattle.read.proofs.AnswerCases.{refused-answer}
 use Rattle.binary_out.proofs.Whole.{out-refused, out-accepted}
 use borrow.Author.Needs.{needs}
 use Rattle.binary_out.proofs.binary_out.Statement.{statement}

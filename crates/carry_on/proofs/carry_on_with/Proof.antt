@@ -4,7 +4,7 @@ use lib.ListN.{replicate}
 use Rattle.format.specs.Work.{allZeros}
 use Rattle.accepted.specs.Read.{isAccepted}
 use Rattle.read_judge.proofs.Whole.{text-accepted}
-use Rattle.carry_on.proofs.Told.{zeros-long}
+use Rattle.carry_on.proofs.AnswerCases.{zeros-long}
 use borrow.Author.Needs.{needs}
 use Rattle.carry_on.proofs.carry_on_with.Statement.{statement}
 use Rattle.carry_on.proofs.carry_on_with.Tie as tie

@@ -1,7 +1,7 @@
 -- `carry_on::carry_refused` meets its contract: 1 first, then by the text's length.
 use lib.ListN.{length}
 use Rattle.format.specs.Carrying.{carrying}
-use Rattle.carry_on.proofs.Told.{told-long, refused-all}
+use Rattle.carry_on.proofs.AnswerCases.{told-long, refused-all}
 use borrow.Author.Needs.{needs}
 use Rattle.carry_on.proofs.carry_refused.Statement.{statement}
 use Rattle.carry_on.proofs.carry_refused.Tie as tie

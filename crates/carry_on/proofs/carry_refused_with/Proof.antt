@@ -3,7 +3,7 @@ use mathlib.Core.Path.{_≡_, ap, _∙_}
 use lib.ListN.{length, replicate}
 use Rattle.format.specs.Work.{allZeros}
 use Rattle.format.specs.Carrying.{carrying}
-use Rattle.carry_on.proofs.Told.{told-long, refused-all}
+use Rattle.carry_on.proofs.AnswerCases.{told-long, refused-all}
 use borrow.Author.Needs.{needs}
 use Rattle.carry_on.proofs.carry_refused_with.Statement.{statement}
 use Rattle.carry_on.proofs.carry_refused_with.Tie as tie

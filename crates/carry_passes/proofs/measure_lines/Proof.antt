@@ -12,10 +12,10 @@ use Rattle.tidy_text.proofs.Sizes.{get-none, size-none, each-get}
 use Rattle.format.specs.Carrying.{keptOf, unwritableLine}
 use Rattle.carry_lines.specs.Going.{Going}
 use Rattle.carry_passes.specs.From.{linesKeptFrom, keptFrom, skippedFrom}
-use Rattle.carry_passes.specs.Turn.{Turn}
+use Rattle.carry_passes.specs.NextLine.{Turn}
 use Rattle.carry_passes.proofs.Split.{first-small}
 use Rattle.carry_passes.proofs.Begun.{begun}
-use Rattle.carry_passes.proofs.Turn.{turn, kept-le, none-left, all-count}
+use Rattle.carry_passes.proofs.NextLine.{turn, kept-le, none-left, all-count}
 use Rattle.carry_passes.proofs.Steps.{kindAt, turn-read}
 use Rattle.carry_passes.specs.Measured.{keptMeasured}
 use Rattle.carry_passes.specs.declared.KeptSizes.the-variants as measured

@@ -18,7 +18,7 @@ use Rattle.tidy_text.specs.Placed.{withParts, parts, Apart}
 use Rattle.tidy_text.proofs.Parts.{split-turn}
 use Rattle.format.specs.Carrying.{keptOf, skips, rows}
 use Rattle.carry_lines.specs.declared.Cursor.{Cursor}
-use Rattle.carry_passes.specs.Turn.{Turn}
+use Rattle.carry_passes.specs.NextLine.{Turn}
 use Rattle.carry_passes.proofs.Steps as at
 use Rattle.carry_passes.proofs.Steps.{turn-read, goes, left-kept, left-skipped, records-kept, records-skipped}
 use Rattle.carry_passes.specs.Steps.{placesAt, outAt, tableAt}

@@ -18,7 +18,7 @@ use Rattle.catalogue_lines.specs.Matched.{metIn, comparedOf}
 use Rattle.catalogue_lines.specs.declared.Compared.the-variants.{Same}
 use Rattle.catalogue_lines.proofs.Starts.{match-within}
 use Rattle.catalogue_lines.proofs.Entries.{entry-then, compared}
-use Rattle.catalogue_lines.proofs.Turned.{Walked, walked-start, walked-end, walked-key, walked-past, same-bytes, Turned, turned}
+use Rattle.catalogue_lines.proofs.NextField.{Walked, walked-start, walked-end, walked-key, walked-past, same-bytes, Turned, turned}
 use Rattle.catalogue_lines.proofs.same_fields.Statement.{statement}
 use Rattle.catalogue_lines.proofs.same_fields.Tie as tie
 
@@ -76,8 +76,8 @@ value-at-requires c κs =
 with-requires : tie.Need-with-requires Inv-loop μ-loop
 with-requires c κs = tt
 
-is-first-requires : tie.Need-is-first-requires Inv-loop μ-loop
-is-first-requires c κs =
+is-first-of-tag-requires : tie.Need-is-first-of-tag-requires Inv-loop μ-loop
+is-first-of-tag-requires c κs =
     let f = c .before .before .before .before in
     let l = f .before .before in
     let s = l .before .before .before .before .before in
@@ -102,7 +102,7 @@ field c =
     let s = l .before .before .before .before .before in
     let a = s .args in
     turned (none? (a .tables .now)) (a .at) (a .src .now) (a .kind) (l .loop .i) (l .loop .keys) (l .loop .inv .0) (omega arith) (f .field-end .result) (f .field-end .ensures)
-    (s .pre .1 .0) (sym (e .before .is-key .ensures) ∙ e .if1 .left) (sym (t .before .is-first .ensures) ∙ t .if2 .taken) (c .kept-value .result) (c .kept-value .ensures)
+    (s .pre .1 .0) (sym (e .before .is-key .ensures) ∙ e .if1 .left) (sym (t .before .is-first-of-tag .ensures) ∙ t .if2 .taken) (c .kept-value .result) (c .kept-value .ensures)
 
 narrow-requires : tie.Need-narrow-requires Inv-loop μ-loop
 narrow-requires c κs = field c .fits
@@ -217,7 +217,7 @@ loop-again-3 c =
     let l = f .before .before in
     let a = l .before .before .before .before .before .args in
     let key = sym (k .is-key .ensures) ∙ e .if1 .left in
-    let later = ap₂ (λ t u. t || not u) key (sym (c .before .is-first .ensures) ∙ c .if2 .left) in
+    let later = ap₂ (λ t u. t || not u) key (sym (c .before .is-first-of-tag .ensures) ∙ c .if2 .left) in
     let p = passed f (same-bytes (none? (a .tables .now)) (a .at) (a .src .now) (a .kind) (l .loop .i) (l .loop .keys) (l .loop .inv .0) (omega arith) (f .field-end .result) (f .field-end .ensures) later) in
     (walked-past (none? (a .tables .now)) (a .at) (a .src .now) (a .kind) (l .loop .i) (l .loop .keys) (l .loop .inv .0) (omega arith) (f .field-end .result) (f .field-end .ensures) key, l .loop .inv .1, p .0, p .1)
 
@@ -247,7 +247,7 @@ same-fields-spec =
     is-key-requires
     value-at-requires
     with-requires
-    is-first-requires
+    is-first-of-tag-requires
     kept-value-requires
     narrow-requires
     same-field-requires

@@ -15,7 +15,7 @@ use Rattle.catalogue_lines.specs.Parts.{fieldBytes}
 use Rattle.catalogue_lines.specs.Matched.{metIn, comparedOf}
 use Rattle.catalogue_lines.specs.declared.Met.{Met}
 use Rattle.catalogue_lines.specs.declared.Compared.the-variants as compare
-use Rattle.catalogue_lines.proofs.Told.{own, own-size, line-bytes}
+use Rattle.catalogue_lines.proofs.LineEntries.{own, own-size, line-bytes}
 use Rattle.catalogue_lines.proofs.Starts.{match-there, match-gone}
 use Rattle.catalogue_lines.proofs.Entries.{entry-then, compared}
 use Rattle.catalogue_lines.proofs.same_line.Statement.{statement}

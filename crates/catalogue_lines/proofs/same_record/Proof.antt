@@ -14,7 +14,7 @@ use Rattle.accepted_line.proofs.Noting.{noting, noted-line}
 use Rattle.catalogue_lines.specs.Line.{recordBytes, lineBytes}
 use Rattle.catalogue_lines.specs.Matched.{matched}
 use Rattle.catalogue_lines.proofs.Starts.{match-there, match-gone}
-use Rattle.catalogue_lines.proofs.Told.{comment-long}
+use Rattle.catalogue_lines.proofs.LineEntries.{comment-long}
 use Rattle.catalogue_lines.proofs.same_record.Statement.{statement}
 use Rattle.catalogue_lines.proofs.same_record.Tie as tie
 

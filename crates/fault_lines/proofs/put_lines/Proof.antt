@@ -12,9 +12,9 @@ use Rattle.carry_early.specs.declared.Begin.{Begin}
 use Rattle.carry_lines.specs.Going.{Going}
 use Rattle.carry_lines.specs.declared.Cursor.{Cursor}
 use Rattle.carry_passes.specs.From.{linesKeptFrom, keptFrom}
-use Rattle.carry_passes.specs.Turn.{Turn}
+use Rattle.carry_passes.specs.NextLine.{Turn}
 use Rattle.carry_passes.proofs.Begun.{begun}
-use Rattle.carry_passes.proofs.Turn.{turn, none-left}
+use Rattle.carry_passes.proofs.NextLine.{turn, none-left}
 use Rattle.carry_passes.proofs.Steps.{turn-read}
 use Rattle.format.specs.Faults.{ifFaulty, faultsFrom}
 use Rattle.fault_lines.specs.Links.{linksIn}

@@ -16,12 +16,12 @@ use Rattle.program_lines.specs.Found.{notesOf}
 use Rattle.carry_early.specs.declared.Begin.{Begin}
 use Rattle.carry_lines.specs.Going.{Going}
 use Rattle.carry_passes.specs.From.{linesKeptFrom, keptFrom}
-use Rattle.carry_passes.specs.Turn.{lentTo, Turn}
+use Rattle.carry_passes.specs.NextLine.{lentTo, Turn}
 use Rattle.carry_passes.proofs.Begun.{begun}
-use Rattle.carry_passes.proofs.Turn.{turn, none-left}
+use Rattle.carry_passes.proofs.NextLine.{turn, none-left}
 use Rattle.carry_passes.proofs.Steps.{turn-read}
 use Rattle.fault_programs.specs.Plain.{plainCount, oneIf}
-use Rattle.fault_programs.proofs.Turns.{plain-judged, one-le, programsIn, programs-done, programs-same, programs-one, programs-more, programs-room, ReadProgram, is-program, line-says, turn-stands, Noting, noting-none, noting-more, noting-all, all-taken}
+use Rattle.fault_programs.proofs.KeptPrograms.{plain-judged, one-le, programsIn, programs-done, programs-same, programs-one, programs-more, programs-room, ReadProgram, is-program, line-says, turn-stands, Noting, noting-none, noting-more, noting-all, all-taken}
 use Rattle.fault_programs.proofs.gather.Statement.{statement}
 use Rattle.fault_programs.proofs.gather.Tie as tie
 

@@ -13,7 +13,7 @@ use Rattle.carry_early.specs.Early.{earlyOf, rowsFrom}
 use Rattle.carry_passes.proofs.Split.{early-rows}
 use Rattle.format.specs.Faults.{faultsIn, faulting}
 use Rattle.fault_lines.specs.Links.{linksIn}
-use Rattle.faults.proofs.Told.{told-short, told-fits, refused-all, written-all, counts-small, left, all-rows, few, inside, count-length, front-length, within, left-is, all-count}
+use Rattle.faults.proofs.AnswerCases.{told-short, told-fits, refused-all, written-all, counts-small, left, all-rows, few, inside, count-length, front-length, within, left-is, all-count}
 use Rattle.faults.proofs.write_faults.Statement.{statement}
 use Rattle.faults.proofs.write_faults.Tie as tie
 use Rattle.faults.proofs.write_faults.Reads as reads

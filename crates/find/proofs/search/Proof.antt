@@ -11,7 +11,7 @@ use Rattle.catalogue_entries.specs.declared.Place.{Place}
 use Rattle.catalogue_entries.specs.Entries.{kindByte}
 use Rattle.program_ids.proofs.Search.{Front, front-all, front-none, front-other, front-on}
 use Rattle.find.specs.Keys.{keyPlace, foundOf}
-use Rattle.find.proofs.Turns.{Ahead, ahead-all, search-end, turn-fits, key-inside, turn-kind, turn-few, turn-length, turn-here, turn-differs}
+use Rattle.find.proofs.SearchSteps.{Ahead, ahead-all, search-end, turn-fits, key-inside, turn-kind, turn-few, turn-length, turn-here, turn-differs}
 use Rattle.find.proofs.search.Statement.{statement}
 use Rattle.find.proofs.search.Tie as tie
 

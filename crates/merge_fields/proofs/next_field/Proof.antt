@@ -11,7 +11,7 @@ use Rattle.lists.proofs.Bools.{never}
 use Rattle.accepted_line.specs.Run.{AtField}
 use Rattle.accepted_line.proofs.fields.Place.{next-at, bounds}
 use Rattle.merge_fields.specs.Kept.{isPassed, keptFrom, toldField, toldFields, NextInLine}
-use Rattle.merge_fields.proofs.Turns.{kept-end, kept-later, kept-passed, kept-next}
+use Rattle.merge_fields.proofs.KeptFields.{kept-end, kept-later, kept-passed, kept-next}
 use Rattle.merge_fields.proofs.next_field.Statement.{statement}
 use Rattle.merge_fields.proofs.next_field.Tie as tie
 
@@ -50,8 +50,8 @@ shared-slice-read-second c = omega (arith, reach (c .before .before))
 is-passed-requires : tie.Need-is-passed-requires Inv-loop μ-loop
 is-passed-requires c κs = tt
 
-is-first-requires : tie.Need-is-first-requires Inv-loop μ-loop
-is-first-requires c κs =
+is-first-of-tag-requires : tie.Need-is-first-of-tag-requires Inv-loop μ-loop
+is-first-of-tag-requires c κs =
     let f = c .before .before .before .before in
     let l = f .before .before in
     let s = l .before .before .before in
@@ -77,7 +77,7 @@ field c =
     let l = f .before .before in
     let a = l .before .before .before .args in
     kept-next (none? (a .tables .now)) (a .at) (a .line .now) (l .loop .i) (l .loop .inv .0) (omega arith) (f .field-end .result) (f .field-end .ensures)
-    (sym (p .is-passed .ensures) ∙ not-true (p .is-passed .result) (n .if1 .taken)) (sym (t .before .is-first .ensures) ∙ t .if2 .taken) (c .kept-value .result) (c .kept-value .ensures)
+    (sym (p .is-passed .ensures) ∙ not-true (p .is-passed .result) (n .if1 .taken)) (sym (t .before .is-first-of-tag .ensures) ∙ t .if2 .taken) (c .kept-value .result) (c .kept-value .ensures)
 
 sub-t17 : tie.Need-sub-t17 Inv-loop μ-loop
 sub-t17 c = omega (arith, field (c .before) .1)
@@ -110,7 +110,7 @@ loop-again c =
     let a = l .before .before .before .args in (
       next-at (none? (a .tables .now)) (a .at) (a .line .now) (l .loop .i) (l .loop .inv .0) (omega arith) (f .field-end .result) (f .field-end .ensures),
       omega (arith, reach f, l .loop .inv .1),
-      l .loop .inv .2 ∙ kept-later (none? (a .tables .now)) (a .at) (a .line .now) (l .loop .i) (l .loop .inv .0) (omega arith) (f .field-end .result) (f .field-end .ensures) (sym (c .before .is-first .ensures) ∙ c .if2 .left),
+      l .loop .inv .2 ∙ kept-later (none? (a .tables .now)) (a .at) (a .line .now) (l .loop .i) (l .loop .inv .0) (omega arith) (f .field-end .result) (f .field-end .ensures) (sym (c .before .is-first-of-tag .ensures) ∙ c .if2 .left),
     )
 
 loop-less-2 : tie.Need-loop-less-2 Inv-loop μ-loop
@@ -149,7 +149,7 @@ next-field-spec =
     add-second
     shared-slice-read-second
     is-passed-requires
-    is-first-requires
+    is-first-of-tag-requires
     kept-value-requires
     sub-t17
     returns

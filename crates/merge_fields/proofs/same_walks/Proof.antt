@@ -11,7 +11,7 @@ use Rattle.format.specs.Bytes.{none?}
 use Rattle.accepted_line.specs.Run.{AtField}
 use Rattle.format.specs.Merge.{sameField, keepsFields}
 use Rattle.merge_fields.specs.Kept.{keptFrom, toldField, toldFields}
-use Rattle.merge_fields.proofs.Turns.{told-one, told-none}
+use Rattle.merge_fields.proofs.KeptFields.{told-one, told-none}
 use Rattle.merge_fields.proofs.Walks.{both-end, first-ends, second-ends, both-go-on}
 use Rattle.merge_fields.proofs.same_walks.Statement.{statement}
 use Rattle.merge_fields.proofs.same_walks.Tie as tie

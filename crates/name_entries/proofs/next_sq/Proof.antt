@@ -6,7 +6,7 @@ use borrow.Author.Needs.{needs}
 use lib.ListN.{length}
 use Rattle.catalogue_entries.proofs.Walk.{turn-within}
 use Rattle.name_entries.specs.Next.{nextSq}
-use Rattle.name_entries.proofs.Turns.{next-end, next-here, next-on}
+use Rattle.name_entries.proofs.NextEntry.{next-end, next-here, next-on}
 use Rattle.name_entries.proofs.next_sq.Statement.{statement}
 use Rattle.name_entries.proofs.next_sq.Tie as tie
 

@@ -20,7 +20,7 @@ use Rattle.name_index.proofs.Path.{seat-lt}
 use Rattle.name_index.proofs.Indexed.{enter-length}
 use Rattle.name_entries.specs.Names.{nameIn}
 use Rattle.name_slots.specs.Filled.{startIn, entering, seats}
-use Rattle.name_entries.proofs.Turns.{sq-within}
+use Rattle.name_entries.proofs.NextEntry.{sq-within}
 use Rattle.name_slots.proofs.Filling.{entered, entered-all, seated-all, seated-on}
 use Rattle.name_slots.proofs.Noted.{note-on}
 use Rattle.name_slots.proofs.put_names.Statement.{statement}

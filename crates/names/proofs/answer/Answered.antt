@@ -11,7 +11,7 @@ use Rattle.byte_slices.specs.Stands.{Each}
 use Rattle.catalogue_entries.specs.Entries.{entriesIn}
 use Rattle.format.specs.NameIndex.{nameOrdinal, slotCount, index, looks}
 use Rattle.name_entries.specs.Names.{namesIn}
-use Rattle.names.specs.Told.{Told}
+use Rattle.names.specs.NameEnds.{Told}
 use Rattle.name_slots.specs.Filled.{entering, seats}
 use Rattle.name_lookup.specs.Looking.{slotOf, looksOf, ordinalAt}
 use Rattle.names.proofs.Found.{filled-index, places-length, places-noted, found-ordinal, found-looks}

@@ -8,7 +8,7 @@ use lib.ListN.{length, length-set, set, getD}
 use lib.Seq.{paste, paste-zero, paste-suc, take-length}
 use Rattle.format.specs.Calls.{fitting}
 use Rattle.byte_slices.specs.Over.{over}
-use Rattle.read.proofs.Told.{too-short, fits, refused-answer, written-answer}
+use Rattle.read.proofs.AnswerCases.{too-short, fits, refused-answer, written-answer}
 use Rattle.programs.proofs.put_ordinals.Statement.{statement}
 use Rattle.programs.proofs.put_ordinals.Tie as tie
 

@@ -15,7 +15,7 @@ use Rattle.program_parents.specs.Parents.{parentsOf}
 use Rattle.program_parents.proofs.Road.{tangled-dangling, tangled-loops, lent-count, lent-inside, lent-few, lent-within, lent-links}
 use Rattle.program_parents.proofs.Opened.{Opened, opened}
 use Rattle.read.specs.Answers.{answerOf, outputOf}
-use Rattle.read.proofs.Told.{refused-answer}
+use Rattle.read.proofs.AnswerCases.{refused-answer}
 use Rattle.read.proofs.Fresh.{Current, text-refused-by, text-fresh-by, rule-by}
 use Rattle.format.specs.Prune.{pruning}
 use Rattle.program_depths.specs.Depths.{depthsOf}
@@ -143,8 +143,8 @@ returns-3 c =
     (prune-tangled (a .text .now) (a .catalogue .now) (a .used .now) room (own (f .before .before)) (low (e .before)) 23
     (sym (tangled-loops (ls f) true (linked e) (sym (loops e) ∙ sym (cycle-is _ _ (c .before .find-depths .ensures)) ∙ c .if3 .taken))) (λ q. omega arith))
 
-mark-requires : tie.Need-mark-requires
-mark-requires c κs =
+mark-needed-requires : tie.Need-mark-needed-requires
+mark-needed-requires c κs =
     let e = c .before .before .before .before in
     let f = asked e in
     let q = f .parents-of .result in
@@ -186,10 +186,10 @@ returns-5 c =
     let f = asked e in
     let a = f .before .before .before .before .before .before .before .before .before .args in
     let room = length (a .out .now) in
-    let marks = m .mark .result in
+    let marks = m .mark-needed .result in
     let whole : tangled (ls f) ≡ 0 = tangled-loops (ls f) false (linked e) (sym (loops e) ∙ sym (cycle-is _ _ (n .before .find-depths .ensures)) ∙ n .if3 .left) in
     let on : writingMarked (a .text .now) marks room ≡ pruning (a .text .now) (a .catalogue .now) (a .used .now) room =
-    sym (prune-on (a .text .now) (a .catalogue .now) (a .used .now) room (own (f .before .before)) (low (e .before)) whole (few f) marks (m .mark .ensures ∙ ap (λ l. neededMarks l (a .used .now)) (says e))) in
+    sym (prune-on (a .text .now) (a .catalogue .now) (a .used .now) room (own (f .before .before)) (low (e .before)) whole (few f) marks (m .mark-needed .ensures ∙ ap (λ l. neededMarks l (a .used .now)) (says e))) in
     (w .write-marked .ensures .0 ∙ ap answerOf on, w .write-marked .ensures .1 ∙ ap (λ x. outputOf x (a .out .now)) on)
 
 pub prune-spec : {M : Type 1} → statement M
@@ -207,7 +207,7 @@ prune-spec =
     slice-aggregate-links
     find-depths-requires
     returns-3
-    mark-requires
+    mark-needed-requires
     slice-aggregate-write-marked
     write-marked-requires
     returns-4

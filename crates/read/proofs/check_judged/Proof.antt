@@ -14,7 +14,7 @@ use Rattle.accepted_rule.specs.Rule.{isOnce}
 use Rattle.read_judge.proofs.Whole.{Told, text-refused, text-accepted}
 use Rattle.read.specs.declared.CheckedText.the-variants.{Refused, Fresh}
 use Rattle.read.specs.Answers.{checkedTextOf}
-use Rattle.read.proofs.Told.{fresh-refused, fresh-reads}
+use Rattle.read.proofs.AnswerCases.{fresh-refused, fresh-reads}
 use Rattle.read.proofs.check_judged.Statement.{statement}
 use Rattle.read.proofs.check_judged.Tie as tie
 use Rattle.read.proofs.check_judged.Reads as reads

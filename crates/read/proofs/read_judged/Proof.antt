@@ -9,7 +9,7 @@ use Rattle.format.specs.Catalogue.{catalogue}
 use Rattle.format.specs.Calls.{reading}
 use Rattle.accepted.specs.Read.{recordsOf}
 use Rattle.read_judge.proofs.Whole.{Told, text-refused, text-accepted}
-use Rattle.read.proofs.Told.{read-refused, read-short, read-fits, refused-answer, written-answer}
+use Rattle.read.proofs.AnswerCases.{read-refused, read-short, read-fits, refused-answer, written-answer}
 use Rattle.read.proofs.read_judged.Statement.{statement}
 use Rattle.read.proofs.read_judged.Tie as tie
 use Rattle.read.proofs.read_judged.Reads as reads

@@ -39,9 +39,9 @@ use Rattle.read_judge.proofs.judge_indexed.Tie as tie
 use Rattle.read_judge.proofs.judge_indexed.Reads as reads
 use Rattle.read_judge.proofs.judge_indexed.Lts as lts
 use Rattle.read_judge.proofs.barred.Reads as barred-reads
-use Rattle.read_judge.proofs.turn.Reads as turn-reads
+use Rattle.read_judge.proofs.next_block.Reads as next-block-reads
 use Rattle.key_index.proofs.meet.Reads as meet-reads
-use Rattle.catalogue_lines.proofs.record_size.Reads as record-size-reads
+use Rattle.catalogue_lines.proofs.entries_size.Reads as entries-size-reads
 use Rattle.read_admission.proofs.programs_of.Reads as programs-of-reads
 use Rattle.read_judge.proofs.parse_line.Reads as parse-line-reads
 use Rattle.byte_slices.proofs.first_line.Reads as first-line-reads
@@ -116,35 +116,35 @@ placed-head c =
     subst (KeyInText (length (a .text .now))) (sym (head-is c)) (head-placed (a .strict) (a .text .now) (l .loop .at) (l .before .before .before .pre .0) (stands q))
 
 -- what is known of its block and of its key
-turned-is : (c : tie.After-turn Inv-loop μ-loop)
+turned-is : (c : tie.After-next-block Inv-loop μ-loop)
     → let l = c .before .before .before .before .before .before .before .before .before in
     let a = l .before .before .before .args in
-    Blocking (a .strict) (a .text .now) (a .area .now) (c .turn .last .1 .1 .0) (c .turn .result) (l .loop .at) (l .loop .line) (l .loop .programs) (l .loop .size) (l .loop .inv .0)
+    Blocking (a .strict) (a .text .now) (a .area .now) (c .next-block .last .1 .1 .0) (c .next-block .result) (l .loop .at) (l .loop .line) (l .loop .programs) (l .loop .size) (l .loop .inv .0)
 turned-is c =
     let l = c .before .before .before .before .before .before .before .before .before in
     let a = l .before .before .before .args in
-    rw (c .turn .ensures .0, c .turn .ensures .1) (blocking-turn (a .strict) (a .text .now) (a .area .now) (l .loop .area) (l .loop .block) (l .loop .at) (l .loop .line) (l .loop .programs) (l .loop .size) (l .loop .inv .0) (l .loop .inv .1))
+    rw (c .next-block .ensures .0, c .next-block .ensures .1) (blocking-turn (a .strict) (a .text .now) (a .area .now) (l .loop .area) (l .loop .block) (l .loop .at) (l .loop .line) (l .loop .programs) (l .loop .size) (l .loop .inv .0) (l .loop .inv .1))
 
-until : (c : tie.After-turn Inv-loop μ-loop)
+until : (c : tie.After-next-block Inv-loop μ-loop)
     → let l = c .before .before .before .before .before .before .before .before .before in
-    l .loop .line < c .turn .result .until
+    l .loop .line < c .next-block .result .until
 until c =
     let l = c .before .before .before .before .before .before .before .before .before in
     let a = l .before .before .before .args in
-    rw (c .turn .ensures .0) (turn-until (a .strict) (a .text .now) (a .area .now) (l .loop .area) (l .loop .block) (l .loop .at) (l .loop .line) (l .loop .programs) (l .loop .size) (l .loop .inv .0) (l .loop .inv .1))
+    rw (c .next-block .ensures .0) (turn-until (a .strict) (a .text .now) (a .area .now) (l .loop .area) (l .loop .block) (l .loop .at) (l .loop .line) (l .loop .programs) (l .loop .size) (l .loop .inv .0) (l .loop .inv .1))
 
-used : (c : tie.After-turn Inv-loop μ-loop) (y : Head)
+used : (c : tie.After-next-block Inv-loop μ-loop) (y : Head)
     → let p = c .before .before in
     let l = p .before .before .before .before .before .before .before in
     let a = l .before .before .before .args in
-    y ≡ p .parse-line .result .head → (isMet (a .text .now) (c .turn .last .1 .1 .0) y || eqb (l .loop .line) (c .turn .result .clash)) ≡ isTaken (l .loop .inv .0 .before) (a .text .now) y
+    y ≡ p .parse-line .result .head → (isMet (a .text .now) (c .next-block .last .1 .1 .0) y || eqb (l .loop .line) (c .next-block .result .clash)) ≡ isTaken (l .loop .inv .0 .before) (a .text .now) y
 unfolding piece
 used c y e =
     let p = c .before .before in
     let q = p .before .before .before in
     let l = q .before .before .before .before in
     let a = l .before .before .before .args in
-    used-known (a .strict) (a .text .now) (a .area .now) (c .turn .last .1 .1 .0) (c .turn .result) (l .loop .at) (l .loop .line) (l .loop .programs) (l .loop .size) (l .loop .inv .0) (turned-is c) (below q) y (e ∙ head-is p)
+    used-known (a .strict) (a .text .now) (a .area .now) (c .next-block .last .1 .1 .0) (c .next-block .result) (l .loop .at) (l .loop .line) (l .loop .programs) (l .loop .size) (l .loop .inv .0) (turned-is c) (below q) y (e ∙ head-is p)
 
 barring-told : (c : tie.After-barred Inv-loop μ-loop)
     → let p = c .before .before .before .before .before .before .before .before .before .before in
@@ -158,7 +158,7 @@ barring-told c =
     let l = p .before .before .before .before .before .before .before in
     c .barred .ensures
     ∙ ap (λ t. barring t (l .loop .line) (l .loop .programs) (p .parse-line .result .head))
-    (ap (λ b. b || eqb (l .loop .line) (w .turn .result .clash)) (m .meet .ensures .0) ∙ used w (p .parse-line .result .head) refl)
+    (ap (λ b. b || eqb (l .loop .line) (w .next-block .result .clash)) (m .meet .ensures .0) ∙ used w (p .parse-line .result .head) refl)
 
 -- whether it may follow the lines before
 number : (c : tie.After-barred Inv-loop μ-loop)
@@ -197,7 +197,7 @@ fresh : (c : tie.Else2 Inv-loop μ-loop)
     → let w = c .before .before .before .before .before .before .before .before .before in
     let l = w .before .before .before .before .before .before .before .before .before in
     let a = l .before .before .before .args in
-    (isMet (a .text .now) (w .turn .last .1 .1 .0) (recordHead (accepted c .0)) || eqb (l .loop .line) (w .turn .result .clash)) ≡ false
+    (isMet (a .text .now) (w .next-block .last .1 .1 .0) (recordHead (accepted c .0)) || eqb (l .loop .line) (w .next-block .result .clash)) ≡ false
 fresh c =
     let w = c .before .before .before .before .before .before .before .before .before in
     let l = w .before .before .before .before .before .before .before .before .before in
@@ -317,8 +317,8 @@ parse-line-requires c κs =
     let t = l .before .before .before .args .text .now in
     omega (arith, inside q, length-take (l .loop .at + q .before .before .first-line .result .len - l .loop .at) (drop (l .loop .at) t), l .before .before .before .pre .0)
 
-turn-requires : tie.Need-turn-requires Inv-loop μ-loop
-turn-requires c κs =
+next-block-requires : tie.Need-next-block-requires Inv-loop μ-loop
+next-block-requires c κs =
     let q = c .before .before .before .before in
     let l = q .before .before .before .before in
     (l .before .before .before .pre .0, (omega (arith, l .loop .inv .1 .some), (l .loop .inv .0 .slow, l .loop .inv .0 .inside)))
@@ -345,7 +345,7 @@ same-length-2 c =
     let w = m .before .before .before .before in
     let l = w .before .before .before .before .before .before .before .before .before in
     let a = l .before .before .before .args in
-    ap length (m .meet .ensures .1) ∙ meeting-length true (a .text .now) (w .turn .last .1 .1 .0) (w .before .before .parse-line .result .head) ∙ turned-is w .long
+    ap length (m .meet .ensures .1) ∙ meeting-length true (a .text .now) (w .next-block .last .1 .1 .0) (w .before .before .parse-line .result .head) ∙ turned-is w .long
 
 returns-2 : tie.Need-returns-2 Inv-loop μ-loop
 unfolding piece
@@ -366,8 +366,8 @@ add-programs c =
     let j = l .loop .inv .0 in
     omega (arith, c .programs-of .ensures, programs-most (c .before .before .before .before .before .before .before .before .before .before .before .before .parse-line .result .head), j .told, kind-few 4 (j .before), j .counted, j .slow, inside q)
 
-record-size-requires : tie.Need-record-size-requires Inv-loop μ-loop
-record-size-requires c κs =
+entries-size-requires : tie.Need-entries-size-requires Inv-loop μ-loop
+entries-size-requires c κs =
     let q = c .before .before .before .before .before .before .before .before .before .before .before .before .before .before .before in
     let l = q .before .before .before .before in
     omega (arith, few (c .before), ap (λ x. x .len) (cut q), inside q .0, l .before .before .before .pre .0)
@@ -377,7 +377,7 @@ add-size c =
     let e = c .before .before in
     let q = e .before .before .before .before .before .before .before .before .before .before .before .before .before .before in
     let l = q .before .before .before .before in
-    omega (arith, c .record-size .ensures, entry-most e, l .loop .inv .0 .small, inside q .1, l .before .before .before .pre .0)
+    omega (arith, c .entries-size .ensures, entry-most e, l .loop .inv .0 .small, inside q .1, l .before .before .before .pre .0)
 
 add-line : tie.Need-add-line Inv-loop μ-loop
 add-line c =
@@ -397,16 +397,16 @@ loop-again c =
     let a = l .before .before .before .args in
     let j = l .loop .inv .0 in
     let r = accepted e .0 in
-    let size : c .record-size .result ≡ length (recordBytes (length (j .before)) (read r)) =
-    c .record-size .ensures ∙ ap sizeOfHead (head-is (e .before .before .before .before .before .before .before .before .before .before .before)) ∙ size-length (length (j .before)) (line (a .strict) (piece q)) ∙ ap (λ x. length (recordBytes (length (j .before)) x)) (accepted e .1) in
-    let bound : c .record-size .result ≤ 32 * firstLine (drop (l .loop .at) (a .text .now)) .next = omega (arith, c .record-size .ensures, entry-most e, ap (λ x. x .next) (cut q)) in
+    let size : c .entries-size .result ≡ length (recordBytes (length (j .before)) (read r)) =
+    c .entries-size .ensures ∙ ap sizeOfHead (head-is (e .before .before .before .before .before .before .before .before .before .before .before)) ∙ size-length (length (j .before)) (line (a .strict) (piece q)) ∙ ap (λ x. length (recordBytes (length (j .before)) x)) (accepted e .1) in
+    let bound : c .entries-size .result ≤ 32 * firstLine (drop (l .loop .at) (a .text .now)) .next = omega (arith, c .entries-size .ensures, entry-most e, ap (λ x. x .next) (cut q)) in
     let m = e .before .before .before .before .before in
     let w = m .before .before .before .before in
-    let long : length (catalogue (j .before ++ (r ∷ []))) ≡ length (catalogue (j .before)) + c .record-size .result = catalogue-length (j .before) r ∙ ap (λ n. length (catalogue (j .before)) + n) (sym size) in
+    let long : length (catalogue (j .before ++ (r ∷ []))) ≡ length (catalogue (j .before)) + c .entries-size .result = catalogue-length (j .before) r ∙ ap (λ n. length (catalogue (j .before)) + n) (sym size) in
     rw (cut q, c .before .programs-of .ensures, m .meet .ensures .1, record-is e) (
-      judging-on (a .strict) (a .text .now) (l .loop .at) (l .loop .line) (l .loop .programs) (l .loop .size) j (below q) r (accepted e .1) (accepted e .2) (c .record-size .result) long bound,
-      blocking-on (a .strict) (a .text .now) (a .area .now) (w .turn .last .1 .1 .0) (w .turn .result) (l .loop .at) (l .loop .line) (l .loop .programs) (l .loop .size) j (turned-is w) (below q) (l .before .before .before .pre .0) (until w) r (accepted e .1) (accepted e .2)
-          (fresh e) (c .record-size .result) long bound,
+      judging-on (a .strict) (a .text .now) (l .loop .at) (l .loop .line) (l .loop .programs) (l .loop .size) j (below q) r (accepted e .1) (accepted e .2) (c .entries-size .result) long bound,
+      blocking-on (a .strict) (a .text .now) (a .area .now) (w .next-block .last .1 .1 .0) (w .next-block .result) (l .loop .at) (l .loop .line) (l .loop .programs) (l .loop .size) j (turned-is w) (below q) (l .before .before .before .pre .0) (until w) r (accepted e .1) (accepted e .2)
+          (fresh e) (c .entries-size .result) long bound,
       once-after e,
     )
 
@@ -430,7 +430,7 @@ judge-indexed-spec =
     part-parse-line-start
     part-parse-line-end
     parse-line-requires
-    turn-requires
+    next-block-requires
     meet-requires
     barred-requires
     cast-t32
@@ -438,7 +438,7 @@ judge-indexed-spec =
     returns-2
     programs-of-requires
     add-programs
-    record-size-requires
+    entries-size-requires
     add-size
     add-line
     loop-less

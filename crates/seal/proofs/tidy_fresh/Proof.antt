@@ -6,7 +6,7 @@ use Rattle.format.specs.Reading.{readText}
 use Rattle.format.specs.Calls.{tidying}
 use Rattle.accepted.specs.Read.{isAccepted}
 use Rattle.read.specs.Answers.{answerOf, outputOf}
-use Rattle.read.proofs.Told.{refused-answer}
+use Rattle.read.proofs.AnswerCases.{refused-answer}
 use Rattle.read.proofs.Fresh.{Current, text-refused-by, text-fresh-by, rule-by, goes-on, stops}
 use Rattle.tidy.specs.Written.{writingTidy}
 use Rattle.tidy.proofs.Writing.{tidy-accepted}

@@ -9,7 +9,7 @@ use Rattle.format.specs.Calls.{tidying}
 use Rattle.accepted.specs.Read.{isAccepted}
 use Rattle.read.specs.Answers.{answerOf, outputOf}
 use Rattle.read_judge.proofs.Whole.{Told, text-refused, text-accepted}
-use Rattle.read.proofs.Told.{refused-answer}
+use Rattle.read.proofs.AnswerCases.{refused-answer}
 use Rattle.tidy.proofs.Writing.{tidy-refused, tidy-accepted}
 use borrow.Author.Needs.{needs}
 use Rattle.tidy.proofs.tidy_judged.Statement.{statement}

@@ -4,7 +4,7 @@ use mathlib.Core.Path.{_≡_, sym}
 use native.Mathlib.Omega.{arith}
 use lib.ListN.{length}
 use lib.Seq.{length-take-le}
-use Rattle.tidy_answer.proofs.Told.{program-within}
+use Rattle.tidy_answer.proofs.ProgramOutput.{program-within}
 use borrow.Author.Needs.{needs}
 use Rattle.tidy_program.proofs.main.Statement.{statement}
 use Rattle.tidy_program.proofs.main.Tie as tie

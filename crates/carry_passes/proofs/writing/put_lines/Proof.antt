@@ -13,9 +13,9 @@ use Rattle.format.specs.Carrying.{keptOf, skips, rows}
 use Rattle.carry_early.specs.declared.Begin.{Begin}
 use Rattle.carry_lines.specs.Going.{Going}
 use Rattle.carry_passes.specs.From.{linesKeptFrom, keptFrom, rowsOf}
-use Rattle.carry_passes.specs.Turn.{Turn}
+use Rattle.carry_passes.specs.NextLine.{Turn}
 use Rattle.carry_passes.proofs.Begun.{begun}
-use Rattle.carry_passes.proofs.Turn.{turn, kept-next, none-left}
+use Rattle.carry_passes.proofs.NextLine.{turn, kept-next, none-left}
 use Rattle.carry_passes.specs.Steps.{rowsBefore, placesAfter}
 use Rattle.carry_passes.proofs.writing.Steps.{out-more, out-fits, row-fits, table-more, table-same, skipped, kept-one}
 use Rattle.carry_passes.proofs.writing.put_lines.Statement.{statement}
