@@ -8,7 +8,6 @@ use lib.Dec.{ltb}
 use Rattle.format.specs.Lines.{Piece, lines}
 use Rattle.format.specs.Fields.{Field}
 use Rattle.format.specs.Records.{Record}
-use Rattle.format.specs.Reading.{announced, isStrict}
 use Rattle.format.specs.Programs.{Program, programs, links, leaves}
 use Rattle.format.specs.Tidy.{tidy, unwritable}
 use Rattle.format.specs.Adding.{added, used}
@@ -48,7 +47,7 @@ plannedOf p (yes t) = planned.Is p
 abbrev pub planning : List ℕ → List ℕ → List ℕ → Shape → List ℕ → List ℕ → List ℕ → ℕ → Planned
 planning t ats lens shape prefix fields ks room =
     plannedOf
-    (record { strict = isStrict (announced (lines t)); sizes = sizesOf (recordsOf t); more = length (newText t ats lens shape prefix fields ks) })
+    (record { sizes = sizesOf (recordsOf t); more = length (newText t ats lens shape prefix fields ks) })
     (writingGrown t ats lens shape prefix fields ks room)
 
 -- is there none?

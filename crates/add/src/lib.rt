@@ -3,7 +3,7 @@ use add_input::Given;
 use add_lines::Shape;
 use format::LineNo;
 use program_ids::Named;
-use read::Checked;
+use read::CheckedText;
 use read::CountAnswer;
 use tidy_sizes::PerKind;
 use tidy_text::Measured;
@@ -13,13 +13,13 @@ ghost use Prim.Native.Nat.{_≤_, _<_, _+_, min};
 ghost use lib.ListN.{length};
 ghost use lib.Dec.{ltb};
 ghost use Rattle.format.specs.Fields.{lastOf};
-ghost use Rattle.format.specs.Lines.{lines};
-ghost use Rattle.format.specs.Reading.{announced, isStrict, readText};
+ghost use Rattle.format.specs.Reading.{readText};
 ghost use Rattle.format.specs.Programs.{programs, leaves};
 ghost use Rattle.format.specs.Adding.{given};
-ghost use Rattle.format.specs.Calls.{adding};
+ghost use Rattle.format.specs.Calls.{yes, fresh, adding};
 ghost use Rattle.byte_slices.specs.Over.{over};
 ghost use Rattle.accepted.specs.Read.{isAccepted, recordsOf};
+ghost use Rattle.accepted_rule.specs.Rule.{ReadsBy};
 ghost use Rattle.program_ids.specs.Places.{idsAt, PlacesInText};
 ghost use Rattle.program_ids.specs.Search.{idsOf};
 ghost use Rattle.read.specs.Answers.{answerOf, outputOf};
@@ -29,11 +29,22 @@ ghost use Rattle.tidy_text.specs.Sizes.{sizesOf};
 ghost use Rattle.add_lines.specs.Lines.{newText};
 ghost use Rattle.add.specs.Added.{grownText, writingGrown, planning, isNone, isNothing, stray, leavesOf, addingOn};
 
-// What is measured before a byte is written: what the text says of repeated tags, the bytes of each kind, and those of the new programs.
+// What is measured before a byte is written: the bytes of each kind, and those of the new programs.
 struct Plan {
-    strict: bool,
     sizes: PerKind,
     more: usize,
+}
+
+// What the new programs are like, and the rule for repeated tags that the text's lines are read by.
+struct Ways {
+    shape: Shape,
+    strict: bool,
+}
+
+// Whether no PP is given, and the rule.
+struct Known {
+    linked: bool,
+    strict: bool,
 }
 
 // A refusal and its line, or what was measured.
@@ -52,24 +63,24 @@ fn put_all(
     prefix: &[u8],
     fields: &[u8],
     leaves: &[u32],
-    shape: Shape,
+    ways: Ways,
     out: &mut [u8],
 ) -> usize
     requires { ⌜ isAccepted (readText (now text)) ≡ true ⌝ }
-    requires { ⌜ plan .strict ≡ isStrict (announced (lines (now text))) ⌝ }
+    requires { ⌜ ReadsBy (ways .strict) (now text) ⌝ }
     requires { ⌜ plan .sizes ≡ sizesOf (recordsOf (now text)) ⌝ }
-    requires { ⌜ (plan .more ≡ length (newText (now text) (now ats) (now lens) shape (now prefix) (now fields) (now leaves))) × (plan .more ≤ 16777216) ⌝ }
+    requires { ⌜ (plan .more ≡ length (newText (now text) (now ats) (now lens) (ways .shape) (now prefix) (now fields) (now leaves))) × (plan .more ≤ 16777216) ⌝ }
     requires { ⌜ PlacesInText (now text) (now ats) (now lens) ⌝ }
-    requires { ⌜ length (grownText (now text) (now ats) (now lens) shape (now prefix) (now fields) (now leaves)) ≤ length (now out) ⌝ }
+    requires { ⌜ length (grownText (now text) (now ats) (now lens) (ways .shape) (now prefix) (now fields) (now leaves)) ≤ length (now out) ⌝ }
     ensures next { λ r.
-        ⌜ r ≡ length (grownText (now (text .entry)) (now (ats .entry)) (now (lens .entry)) shape
+        ⌜ r ≡ length (grownText (now (text .entry)) (now (ats .entry)) (now (lens .entry)) (ways .shape)
         (now (prefix .entry)) (now (fields .entry)) (now (leaves .entry))) ⌝ }
     ensures wrote { λ _. ⌜ now (out .exit) ≡ over (now (out .entry)) 0
-        (grownText (now (text .entry)) (now (ats .entry)) (now (lens .entry)) shape
+        (grownText (now (text .entry)) (now (ats .entry)) (now (lens .entry)) (ways .shape)
         (now (prefix .entry)) (now (fields .entry)) (now (leaves .entry))) ⌝ }
 {
     let sizes = plan.sizes;
-    tidy_text::put_around(text, plan.strict, sizes, plan.more, out);
+    tidy_text::put_around(text, ways.strict, sizes, plan.more, out);
     let n = add_lines::put_added(
         out,
         sizes.front(),
@@ -79,7 +90,7 @@ fn put_all(
         prefix,
         fields,
         leaves,
-        shape,
+        ways.shape,
     );
     n + sizes.co
 }
@@ -109,35 +120,31 @@ fn measure_all(
     prefix: &[u8],
     fields: &[u8],
     leaves: &[u32],
-    shape: Shape,
+    ways: Ways,
     room: usize,
 ) -> Planned
     requires { ⌜ isAccepted (readText (now text)) ≡ true ⌝ }
+    requires { ⌜ ReadsBy (ways .strict) (now text) ⌝ }
     requires { ⌜ PlacesInText (now text) (now ats) (now lens) ⌝ }
-    requires { ⌜ (length (now leaves) ≤ 1024) × (shape .empty ≡ false → 0 < length (now leaves)) ⌝ }
-    ensures { λ r. ⌜ r ≡ planning (now (text .entry)) (now (ats .entry)) (now (lens .entry)) shape
+    requires { ⌜ (length (now leaves) ≤ 1024) × (ways .shape .empty ≡ false → 0 < length (now leaves)) ⌝ }
+    ensures { λ r. ⌜ r ≡ planning (now (text .entry)) (now (ats .entry)) (now (lens .entry)) (ways .shape)
         (now (prefix .entry)) (now (fields .entry)) (now (leaves .entry)) room ⌝ }
 {
-    let strict = read_repeat_rule::is_strict(text);
-    match tidy_text::measure(text, strict) {
+    match tidy_text::measure(text, ways.strict) {
         Measured::Unwritable(line) => Planned::Refused(24, line),
         Measured::Is(sizes) => {
             let n = sizes.total();
             if is_too_long(prefix, fields) {
                 return Planned::Refused(1, LineNo(0));
             }
-            let more = add_lines::added_len(text, ats, lens, prefix, fields, leaves, shape);
+            let more = add_lines::added_len(text, ats, lens, prefix, fields, leaves, ways.shape);
             if is_over(n, more) {
                 return Planned::Refused(1, LineNo(0));
             }
             if room < n + more {
                 return Planned::Refused(20, LineNo(0));
             }
-            Planned::Is(Plan {
-                strict,
-                sizes,
-                more,
-            })
+            Planned::Is(Plan { sizes, more })
         }
     }
 }
@@ -150,24 +157,25 @@ fn write_added(
     prefix: &[u8],
     fields: &[u8],
     leaves: &[u32],
-    shape: Shape,
+    ways: Ways,
     out: &mut [u8],
 ) -> CountAnswer
     requires { ⌜ isAccepted (readText (now text)) ≡ true ⌝ }
+    requires { ⌜ ReadsBy (ways .strict) (now text) ⌝ }
     requires { ⌜ PlacesInText (now text) (now ats) (now lens) ⌝ }
-    requires { ⌜ (length (now leaves) ≤ 1024) × (shape .empty ≡ false → 0 < length (now leaves)) ⌝ }
+    requires { ⌜ (length (now leaves) ≤ 1024) × (ways .shape .empty ≡ false → 0 < length (now leaves)) ⌝ }
     ensures answer { λ r. ⌜ r ≡ answerOf
-        (writingGrown (now (text .entry)) (now (ats .entry)) (now (lens .entry)) shape
+        (writingGrown (now (text .entry)) (now (ats .entry)) (now (lens .entry)) (ways .shape)
         (now (prefix .entry)) (now (fields .entry)) (now (leaves .entry)) (length (now (out .entry)))) ⌝ }
     ensures wrote { λ _. ⌜ now (out .exit) ≡ outputOf
-        (writingGrown (now (text .entry)) (now (ats .entry)) (now (lens .entry)) shape
+        (writingGrown (now (text .entry)) (now (ats .entry)) (now (lens .entry)) (ways .shape)
         (now (prefix .entry)) (now (fields .entry)) (now (leaves .entry)) (length (now (out .entry))))
         (now (out .entry)) ⌝ }
 {
-    match measure_all(text, ats, lens, prefix, fields, leaves, shape, out.len()) {
+    match measure_all(text, ats, lens, prefix, fields, leaves, ways, out.len()) {
         Planned::Refused(n, line) => CountAnswer::Refused(n, line),
         Planned::Is(plan) => {
-            let n = put_all(text, ats, lens, plan, prefix, fields, leaves, shape, out);
+            let n = put_all(text, ats, lens, plan, prefix, fields, leaves, ways, out);
             CountAnswer::Count(n)
         }
     }
@@ -237,12 +245,13 @@ fn add_after(
     prefix: &[u8],
     fields: &[u8],
     leaves: &[u32],
-    linked: bool,
+    known: Known,
     out: &mut [u8],
 ) -> CountAnswer
     requires { ⌜ isAccepted (readText (now text)) ≡ true ⌝ }
+    requires { ⌜ ReadsBy (known .strict) (now text) ⌝ }
     requires { ⌜ PlacesInText (now text) (now ats) (now lens) × (idsAt (now text) (now ats) (now lens) ≡ idsOf (programs (recordsOf (now text)))) ⌝ }
-    requires { ⌜ (given (now fields) .stop ≡ 0) × (linked ≡ isNone (lastOf 80 80 (given (now fields) .fields))) ⌝ }
+    requires { ⌜ (given (now fields) .stop ≡ 0) × (known .linked ≡ isNone (lastOf 80 80 (given (now fields) .fields))) ⌝ }
     requires { ⌜ (now leaves ≡ leavesOf (recordsOf (now text))) × (0 < length (now ats) → 0 < length (now leaves)) ⌝ }
     ensures answer { λ r.
         ⌜ r ≡ answerOf (addingOn (recordsOf (now (text .entry))) (now (prefix .entry)) (given (now (fields .entry)) .fields) (length (now (out .entry)))) ⌝ }
@@ -262,9 +271,56 @@ fn add_after(
     let shape = Shape {
         empty,
         alone,
-        linked,
+        linked: known.linked,
     };
-    write_added(text, ats, lens, prefix, fields, leaves, shape, out)
+    let ways = Ways {
+        shape,
+        strict: known.strict,
+    };
+    write_added(text, ats, lens, prefix, fields, leaves, ways, out)
+}
+
+// Adds programs to a text whose catalogue is fresh: 26, 22, 23, 18, 19, 24, 1, 20.
+fn add_fresh(
+    text: &[u8],
+    catalogue: &[u8],
+    prefix: &[u8],
+    fields: &[u8],
+    strict: bool,
+    out: &mut [u8],
+) -> CountAnswer
+    requires { ⌜ fresh (now text) (now catalogue) ≡ yes (recordsOf (now text)) ⌝ }
+    requires { ⌜ ReadsBy strict (now text) ⌝ }
+    ensures answer { λ r.
+        ⌜ r ≡ answerOf (adding (now (text .entry)) (now (catalogue .entry)) (now (prefix .entry)) (now (fields .entry)) (length (now (out .entry)))) ⌝ }
+    ensures wrote { λ _. ⌜ now (out .exit) ≡ outputOf
+        (adding (now (text .entry)) (now (catalogue .entry)) (now (prefix .entry)) (now (fields .entry)) (length (now (out .entry))))
+        (now (out .entry)) ⌝ }
+{
+    if !add_input::is_in_form(prefix, fields) {
+        return CountAnswer::Refused(26, LineNo(0));
+    }
+    let previous = add_input::find_previous(fields);
+    let mut at: [u32; 1024] = [0; 1024];
+    let mut len: [u32; 1024] = [0; 1024];
+    let mut from: [u32; 1024] = [0; 1024];
+    let mut widths: [u32; 1024] = [0; 1024];
+    let count = program_places::gather(catalogue, &mut at, &mut len, &mut from, &mut widths);
+    let ats = &at[..count];
+    let lens = &len[..count];
+    if is_stray(text, ats, lens, fields, previous) {
+        return CountAnswer::Refused(22, LineNo(0)); // the given PP
+    }
+    let graph = program_parents::find_leaves(program_parents::parents_of(text, catalogue));
+    if graph.refusal != 0 {
+        return CountAnswer::Refused(graph.refusal, LineNo(0));
+    }
+    let found = graph.leaves;
+    let list = found.list;
+    let leaves = &list[..found.count];
+    let linked = is_linked(previous);
+    let known = Known { linked, strict };
+    add_after(text, ats, lens, prefix, fields, leaves, known, out)
 }
 
 // Adds a program after each leaf, and writes the tidy text to the front of `out`: reading's refusals, 21, 26, 22, 23, 18, 19, 24, 1, 20.
@@ -281,38 +337,8 @@ pub fn add(
         (adding (now (text .entry)) (now (catalogue .entry)) (now (prefix .entry)) (now (fields .entry)) (length (now (out .entry))))
         (now (out .entry)) ⌝ }
 {
-    match read::check(text, catalogue) {
-        Checked::Refused(n, line) => CountAnswer::Refused(n, line),
-        Checked::Fresh => {
-            if !add_input::is_in_form(prefix, fields) {
-                return CountAnswer::Refused(26, LineNo(0));
-            }
-            let previous = add_input::find_previous(fields);
-            let mut at: [u32; 1024] = [0; 1024];
-            let mut len: [u32; 1024] = [0; 1024];
-            let mut from: [u32; 1024] = [0; 1024];
-            let mut widths: [u32; 1024] = [0; 1024];
-            let count = program_places::gather(
-                catalogue,
-                &mut at,
-                &mut len,
-                &mut from,
-                &mut widths,
-            );
-            let ats = &at[..count];
-            let lens = &len[..count];
-            if is_stray(text, ats, lens, fields, previous) {
-                return CountAnswer::Refused(22, LineNo(0)); // the given PP
-            }
-            let graph = program_parents::find_leaves(program_parents::parents_of(text, catalogue));
-            if graph.refusal != 0 {
-                return CountAnswer::Refused(graph.refusal, LineNo(0));
-            }
-            let found = graph.leaves;
-            let list = found.list;
-            let leaves = &list[..found.count];
-            let linked = is_linked(previous);
-            add_after(text, ats, lens, prefix, fields, leaves, linked, out)
-        }
+    match read::check_text(text, catalogue) {
+        CheckedText::Refused(n, line) => CountAnswer::Refused(n, line),
+        CheckedText::Fresh(once) => add_fresh(text, catalogue, prefix, fields, once, out),
     }
 }

@@ -22,12 +22,11 @@ pub fn binary_in(bytes: &[u8], out: &mut [u8]) -> CountAnswer
     let text = &bytes[start..kept];
     match read_judge::judge(text) {
         Judged::Refused(n, line) => CountAnswer::Refused(n, line),
-        Judged::Accepted(_) => {
-            let strict = read_repeat_rule::is_strict(text);
-            if !binary_same::is_sq_list(bytes, parts.list, parts.count, text, strict) {
+        Judged::Accepted(_, once) => {
+            if !binary_same::is_sq_list(bytes, parts.list, parts.count, text, once) {
                 return CountAnswer::Refused(29, LineNo(0));
             }
-            tidy::write_accepted(text, strict, out)
+            tidy::write_accepted(text, once, out)
         }
     }
 }

@@ -10,7 +10,8 @@ ghost use mathlib.Core.List.{_++_};
 ghost use Prim.Native.Nat.{_≤_, _+_};
 ghost use lib.ListN.{length};
 ghost use Rattle.format.specs.Lines.{lines};
-ghost use Rattle.format.specs.Reading.{announced, isStrict, readText};
+ghost use Rattle.format.specs.Reading.{readText};
+ghost use Rattle.accepted_rule.specs.Rule.{ReadsBy};
 ghost use Rattle.format.specs.Catalogue.{little};
 ghost use Rattle.format.specs.Tidy.{tidy};
 ghost use Rattle.byte_slices.specs.Over.{over};
@@ -34,7 +35,7 @@ fn put_front(out: &mut [u8], n: usize)
 // Writes the tidy text of an accepted text behind these. `sizes` are those that measuring gives, and `n` is its length.
 fn put_text(text: &[u8], strict: bool, sizes: PerKind, n: usize, out: &mut [u8])
     requires { ⌜ isAccepted (readText (now text)) ≡ true ⌝ }
-    requires { ⌜ strict ≡ isStrict (announced (lines (now text))) ⌝ }
+    requires { ⌜ ReadsBy strict (now text) ⌝ }
     requires { ⌜ sizes ≡ sizesOf (recordsOf (now text)) ⌝ }
     requires { ⌜ n ≡ length (tidy (recordsOf (now text))) ⌝ }
     requires { ⌜ 8 + n ≤ length (now out) ⌝ }
@@ -47,7 +48,7 @@ fn put_text(text: &[u8], strict: bool, sizes: PerKind, n: usize, out: &mut [u8])
 // is how many SQ it has.
 fn put_binary(text: &[u8], strict: bool, sizes: PerKind, n: usize, count: u32, out: &mut [u8])
     requires { ⌜ isAccepted (readText (now text)) ≡ true ⌝ }
-    requires { ⌜ strict ≡ isStrict (announced (lines (now text))) ⌝ }
+    requires { ⌜ ReadsBy strict (now text) ⌝ }
     requires { ⌜ sizes ≡ sizesOf (recordsOf (now text)) ⌝ }
     requires { ⌜ n ≡ length (tidy (recordsOf (now text))) ⌝ }
     requires { ⌜ count ≡ length (sqList (recordsOf (now text))) ⌝ }
@@ -64,7 +65,7 @@ fn put_binary(text: &[u8], strict: bool, sizes: PerKind, n: usize, count: u32, o
 // Writes the binary header of an accepted text: 24, then 1, then 20.
 fn write_accepted(text: &[u8], strict: bool, out: &mut [u8]) -> CountAnswer
     requires { ⌜ isAccepted (readText (now text)) ≡ true ⌝ }
-    requires { ⌜ strict ≡ isStrict (announced (lines (now text))) ⌝ }
+    requires { ⌜ ReadsBy strict (now text) ⌝ }
     ensures answer { λ r. ⌜ r ≡ answerOf (writingBinary (now (text .entry)) (length (now (out .entry)))) ⌝ }
     ensures wrote { λ _. ⌜ now (out .exit) ≡ outputOf (writingBinary (now (text .entry)) (length (now (out .entry)))) (now (out .entry)) ⌝ }
 {
@@ -93,6 +94,6 @@ pub fn binary_out(text: &[u8], out: &mut [u8]) -> CountAnswer
 {
     match read_judge::judge(text) {
         Judged::Refused(n, line) => CountAnswer::Refused(n, line),
-        Judged::Accepted(_) => write_accepted(text, read_repeat_rule::is_strict(text), out),
+        Judged::Accepted(_, once) => write_accepted(text, once, out),
     }
 }

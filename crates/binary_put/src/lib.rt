@@ -13,8 +13,8 @@ pub struct ListSize {
     pub bytes: usize,
 }
 
-// The size of a text's SQ list; `strict` is what the text says of repeated tags. There are no more references than bytes of the text, and
-// no name is longer than it.
+// The size of a text's SQ list; `strict` is the rule for repeated tags that its lines are read by. There are no more references than bytes of
+// the text, and no name is longer than it.
 pub fn measure_list(text: &[u8], strict: bool) -> ListSize
     requires { ⌜ length (now text) ≤ 16777216 ⌝ }
     ensures size { λ r. ⌜ r ≡ listSize (sqFrom strict (now (text .entry)) 0) ⌝ }

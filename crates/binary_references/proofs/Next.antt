@@ -11,7 +11,7 @@ use borrow.Author.Tests.{eq-eqb, ltb-true, ltb-false}
 use Rattle.format.specs.Lines.{Piece, lines, linesFrom}
 use Rattle.format.specs.Records as records
 use Rattle.format.specs.Records.{Record, header, reference, group, program, comment, Line, refusedLine, read}
-use Rattle.format.specs.Reading.{accept, readText, announced, isStrict}
+use Rattle.format.specs.Reading.{accept, readText}
 use Rattle.byte_slices.specs.First.{firstLine}
 use Rattle.byte_slices.specs.Stands.{Stands, Each}
 use Rattle.byte_slices.specs.declared.Cut.{Cut}
@@ -19,7 +19,6 @@ use Rattle.byte_slices.proofs.Lines.{lines-none}
 use Rattle.byte_slices.proofs.First.{lines-first, first-le, first-within, first-some}
 use Rattle.byte_slices.proofs.Stands.{stands-front, stands-onward}
 use Rattle.accepted.specs.Pieces.{Pairs, pieces}
-use Rattle.accepted.specs.Admits.{strictly}
 use Rattle.accepted.specs.Sound.{FitsRecord, kind}
 use Rattle.accepted.specs.Spelled as sp
 use Rattle.accepted.specs.Spelled.{AcceptedLine, kind₀}
@@ -27,7 +26,8 @@ use Rattle.accepted.proofs.Bools.{never}
 use Rattle.accepted.proofs.Sound.{made-kind, line-sound}
 use Rattle.accepted.proofs.Spelled.{line-accepted}
 use Rattle.accepted.proofs.Stands.{stands-within, line-stand}
-use Rattle.accepted.proofs.Text.{text-lines}
+use Rattle.accepted_rule.specs.Rule.{ReadsBy}
+use Rattle.accepted_rule.proofs.Rule.{lines-by}
 use denote.Enum.Declared.{tagOf}
 use types.Run.{OneOf, miss}
 use Rattle.record.proofs.Head.{the-type}
@@ -57,9 +57,9 @@ pairs-list strict (p ∷ ps) [] h = absurd h
 pairs-list strict (p ∷ ps) (r ∷ rs) h = ap (λ l. withReference l (lineReferences strict ps)) (h .0) ∙ ap (λ l. sqList (r ∷ []) ++ l) (pairs-list strict ps rs (h .1)) ∙ sym (one-more r rs)
 
 -- from the first line on it is the SQ list
-pub sq-all : (strict : Bool) (t : List ℕ) (rs : List Record) → readText t ≡ accept rs → strict ≡ isStrict (announced (lines t)) → sqFrom strict t 0 ≡ sqList rs
-unfolding lines strictly
-sq-all strict t rs e s = rw s (pairs-list (strictly t) (lines t) rs (text-lines t rs e))
+pub sq-all : (strict : Bool) (t : List ℕ) (rs : List Record) → readText t ≡ accept rs → ReadsBy strict t → sqFrom strict t 0 ≡ sqList rs
+unfolding lines
+sq-all strict t rs e s = pairs-list strict (lines t) rs (lines-by strict t rs e s)
 
 -- behind the last line there is none
 pub sq-none : (strict : Bool) (t : List ℕ) (at : ℕ) → length t ≤ at → sqFrom strict t at ≡ []

@@ -24,7 +24,8 @@ fn may_be_sq(line: &[u8]) -> bool
     line[1] == b'S'
 }
 
-// The first SQ of the lines from the offset `start` on, where a line starts; `strict` is what the text says of repeated tags.
+// The first SQ of the lines from the offset `start` on, where a line starts; `strict` is the rule for repeated tags that they are
+// read by.
 pub fn next_reference(text: &[u8], strict: bool, start: usize) -> NextReference
     requires { ⌜ length (now text) ≤ 16777216 ⌝ }
     requires { ⌜ start ≤ length (now text) ⌝ }

@@ -26,7 +26,8 @@ fn is_same(bytes: &[u8], reference: ReferenceAt, text: &[u8], next: NextReferenc
     byte_slices::same(&bytes[start..end], &text[from..to])
 }
 
-// Whether the `count` references at `list` are the text's SQ list, in order; `strict` is what the text says of repeated tags.
+// Whether the `count` references at `list` are the text's SQ list, in order; `strict` is the rule for repeated tags that its
+// lines are read by.
 pub fn is_sq_list(bytes: &[u8], list: usize, count: u32, text: &[u8], strict: bool) -> bool
     requires { ⌜ list ≤ length (now bytes) ⌝ }
     requires { ⌜ isWhole (takeList count (drop list (now bytes))) ≡ true ⌝ }

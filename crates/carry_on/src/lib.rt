@@ -99,7 +99,7 @@ fn carry_short(text: &[u8], out: &mut [u8], table: &mut [u32]) -> Carried
     ensures wrote { λ _. ⌜ now (out .exit) ≡ textLeft (now (text .entry)) (now (out .entry)) (now (table .entry)) ⌝ }
     ensures listed { λ _. ⌜ now (table .exit) ≡ tableLeft (now (text .entry)) (now (out .entry)) (now (table .entry)) ⌝ }
 {
-    let mut area = [0u32; 512];
+    let mut area = [0u32; read_judge::SHORT_SLOTS];
     carry_indexed(text, &mut area, out, table)
 }
 
@@ -137,7 +137,7 @@ fn carry_long(text: &[u8], b: Begin, out: &mut [u8], table: &mut [u32], more: us
     ensures wrote { λ _. ⌜ now (out .exit) ≡ textLeft (now (text .entry)) (now (out .entry)) (now (table .entry)) ⌝ }
     ensures listed { λ _. ⌜ now (table .exit) ≡ tableLeft (now (text .entry)) (now (out .entry)) (now (table .entry)) ⌝ }
 {
-    let mut area = [0u32; 196608];
+    let mut area = [0u32; read_judge::LONG_SLOTS];
     let measured = carry_passes::measure(text, b, &mut area);
     if 0 < more {
         return match carry_long(text, b, out, table, more - 1) {

@@ -57,7 +57,7 @@ fn faults_short(text: &[u8], table: &mut [u32]) -> CountAnswer
     ensures answer { λ r. ⌜ r ≡ faultyLines (faulting (now (text .entry)) (length (now (table .entry)))) ⌝ }
     ensures listed { λ _. ⌜ now (table .exit) ≡ outputOf (faulting (now (text .entry)) (length (now (table .entry)))) (now (table .entry)) ⌝ }
 {
-    let mut area = [0u32; 512];
+    let mut area = [0u32; read_judge::SHORT_SLOTS];
     faults_indexed(text, &mut area, table)
 }
 
@@ -79,7 +79,7 @@ fn faults_long(text: &[u8], b: Begin, table: &mut [u32], more: usize) -> CountAn
     ensures answer { λ r. ⌜ r ≡ faultyLines (faulting (now (text .entry)) (length (now (table .entry)))) ⌝ }
     ensures listed { λ _. ⌜ now (table .exit) ≡ outputOf (faulting (now (text .entry)) (length (now (table .entry)))) (now (table .entry)) ⌝ }
 {
-    let mut area = [0u32; 196608];
+    let mut area = [0u32; read_judge::LONG_SLOTS];
     let links = fault_programs::link_kept(text, b, &mut area);
     if 0 < more {
         return match faults_long(text, b, table, more - 1) {

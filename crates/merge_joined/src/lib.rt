@@ -16,7 +16,7 @@ ghost use Rattle.merge_joined.specs.Passing.{Readable, Ahead, Reached, P
 // A and B of at most so many bytes together are compared with a small area of slots.
 const SHORT: usize = 524288;
 
-// What each of the three texts says of repeated tags.
+// The rule for repeated tags that the lines of each of the three texts are read by.
 pub struct Rules {
     pub a: bool,
     pub b: bool,

@@ -10,11 +10,13 @@ ghost use Rattle.format.specs.Bytes.{all};
 ghost use Rattle.format.specs.Reading.{readText};
 ghost use Rattle.format.specs.Merge.{shapes, keepsParent, isImage, images};
 ghost use Rattle.accepted.specs.Read.{isAccepted, recordsOf};
+ghost use Rattle.accepted_rule.specs.Rule.{ReadsBy};
 ghost use Rattle.program_chains.specs.Parents.{nobody, linkOf};
 ghost use Rattle.merge_programs.specs.Opened.{IsOpened, Untangled};
 ghost use Rattle.merge_programs.specs.Members.{memberOf, shapeAt, IsMember};
 
-// What an accepted text is judged by: what it says of repeated tags, 0 or 22 or 23, where the lines of its programs stand, and their parents.
+// What an accepted text is judged by: the rule for repeated tags that its lines are read by, 0 or 22 or 23, where the lines of its programs
+// stand, and their parents.
 pub struct Opened {
     pub strict: bool,
     pub refusal: u8,
@@ -22,11 +24,11 @@ pub struct Opened {
     pub parents: Parents,
 }
 
-pub fn open_text(text: &[u8]) -> Opened
+pub fn open_text(text: &[u8], strict: bool) -> Opened
     requires { ⌜ isAccepted (readText (now text)) ≡ true ⌝ }
+    requires { ⌜ ReadsBy strict (now text) ⌝ }
     ensures { λ r. ⌜ IsOpened (now (text .entry)) r ⌝ }
 {
-    let strict = read_repeat_rule::is_strict(text);
     let gathered = program_lines::gather(text, strict);
     let programs = gathered.programs;
     let lines = gathered.lines;
@@ -46,7 +48,7 @@ pub fn open_text(text: &[u8]) -> Opened
     }
 }
 
-// A program of a text: what the text says of repeated tags, where the program's line stands, and its parent.
+// A program of a text: the rule for repeated tags that the text's lines are read by, where the program's line stands, and its parent.
 struct Member {
     strict: bool,
     at: u32,

@@ -6,9 +6,10 @@ use mathlib.Core.List.{List, [], _∷_, _++_, map, map-map, append-nil}
 use native.Mathlib.Omega.{arith}
 use lib.ListN.{length, take, drop, set, replicate, length-append, length-map, length-drop}
 use lib.Seq.{append-snoc, length-take-le}
-use Rattle.format.specs.Lines.{Piece, lines}
+use Rattle.format.specs.Lines.{Piece}
 use Rattle.format.specs.Records.{Record}
-use Rattle.format.specs.Reading.{readText, accept, ofKind, announced, isStrict}
+use Rattle.format.specs.Reading.{readText, accept, ofKind}
+use Rattle.accepted_rule.specs.Rule.{ReadsBy}
 use Rattle.byte_slices.specs.Stands.{Each}
 use Rattle.accepted.specs.Read.{isAccepted, recordsOf}
 use Rattle.accepted.proofs.Read.{accepted-reads}
@@ -66,7 +67,7 @@ pub record Listed (t : List ℕ) (strict : Bool) (starts sizes ats lens from wid
 abbrev zeros : List ℕ
 zeros = replicate 1024 0
 
-pub listed-none : (t : List ℕ) (strict : Bool) → isAccepted (readText t) ≡ true → strict ≡ isStrict (announced (lines t)) → Listed t strict zeros zeros zeros zeros zeros zeros 0 0
+pub listed-none : (t : List ℕ) (strict : Bool) → isAccepted (readText t) ≡ true → ReadsBy strict t → Listed t strict zeros zeros zeros zeros zeros zeros 0 0
 unfolding inArray
 listed-none t strict h s =
     let reads = accepted-reads t h in

@@ -8,8 +8,8 @@ ghost use mathlib.Core.Bool.{true};
 ghost use mathlib.Core.List.{map};
 ghost use Prim.Native.Nat.{_≤_, _+_, _<_, _^_};
 ghost use lib.ListN.{length};
-ghost use Rattle.format.specs.Lines.{lines};
-ghost use Rattle.format.specs.Reading.{announced, isStrict, readText};
+ghost use Rattle.format.specs.Reading.{readText};
+ghost use Rattle.accepted_rule.specs.Rule.{ReadsBy};
 ghost use Rattle.accepted.specs.Read.{isAccepted};
 ghost use Rattle.accepted_line.specs.Next.{lastIn};
 ghost use Rattle.accepted_line.specs.Tables.{Walkable};
@@ -132,10 +132,10 @@ pub fn places_of(line: &[u8], at: usize, strict: bool) -> Noted
     find_places(line, at, false, &tables)
 }
 
-// The programs of an accepted text; `strict` is what the text says of repeated tags.
+// The programs of an accepted text; `strict` is the rule for repeated tags that its lines are read by.
 pub fn gather(text: &[u8], strict: bool) -> ProgramLines
     requires { ⌜ isAccepted (readText (now text)) ≡ true ⌝ }
-    requires { ⌜ strict ≡ isStrict (announced (lines (now text))) ⌝ }
+    requires { ⌜ ReadsBy strict (now text) ⌝ }
     ensures programs { λ r. ⌜ r .programs ≡ gatheredOf (map notesOf (pgFrom (now (text .entry)) 0)) ⌝ }
     ensures lines { λ r. ⌜ r .lines ≡ linesOf (pgFrom (now (text .entry)) 0) ⌝ }
 {

@@ -1,6 +1,6 @@
 // Pruning: the tidy text with the programs in use and all their ancestors, in the old order, and nothing else changed.
 use format::LineNo;
-use read::Checked;
+use read::CheckedText;
 use read::CountAnswer;
 ghost use mathlib.Core.Path.{_≡_};
 ghost use lib.ListN.{length};
@@ -32,9 +32,9 @@ pub fn prune(text: &[u8], catalogue: &[u8], used: &[u32], out: &mut [u8]) -> Cou
         (pruning (now (text .entry)) (now (catalogue .entry)) (now (used .entry)) (length (now (out .entry))))
         (now (out .entry)) ⌝ }
 {
-    match read::check(text, catalogue) {
-        Checked::Refused(n, line) => CountAnswer::Refused(n, line),
-        Checked::Fresh => {
+    match read::check_text(text, catalogue) {
+        CheckedText::Refused(n, line) => CountAnswer::Refused(n, line),
+        CheckedText::Fresh(once) => {
             let found = program_parents::parents_of(text, catalogue);
             let high = has_high(used, found.count);
             if high {
@@ -50,7 +50,7 @@ pub fn prune(text: &[u8], catalogue: &[u8], used: &[u32], out: &mut [u8]) -> Cou
                 return CountAnswer::Refused(23, LineNo(0));
             }
             let marks = prune_marks::mark(links, used);
-            tidy::write_marked(text, read_repeat_rule::is_strict(text), &marks, out)
+            tidy::write_marked(text, once, &marks, out)
         }
     }
 }

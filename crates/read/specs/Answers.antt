@@ -10,6 +10,8 @@ use Rattle.read.specs.declared.CountAnswer.{CountAnswer}
 use Rattle.read.specs.declared.CountAnswer.the-variants.{Refused, Count}
 use Rattle.read.specs.declared.Checked.{Checked}
 use Rattle.read.specs.declared.Checked.the-variants as checked
+use Rattle.read.specs.declared.CheckedText.{CheckedText}
+use Rattle.read.specs.declared.CheckedText.the-variants as text
 
 -- a refusal and its line, or how many bytes or ordinals are written
 unfoldable pub answerOf : calls.Answer (List ℕ) → CountAnswer
@@ -25,3 +27,13 @@ outputOf (calls.yes xs) out = xs ++ drop (length xs) out
 unfoldable pub checkedOf : calls.Answer (List Record) → Checked
 checkedOf (calls.refused n l) = checked.Refused n (record { 0 = l })
 checkedOf (calls.yes rs) = checked.Fresh
+
+-- the same, and whether no tag is repeated in any line of the text
+unfoldable pub checkedTextOf : Bool → calls.Answer (List Record) → CheckedText
+checkedTextOf once (calls.refused n l) = text.Refused n (record { 0 = l })
+checkedTextOf once (calls.yes rs) = text.Fresh once
+
+-- for those who go over no line again
+unfoldable pub withoutRule : CheckedText → Checked
+withoutRule (text.Refused n l) = checked.Refused n l
+withoutRule (text.Fresh once) = checked.Fresh

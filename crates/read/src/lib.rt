@@ -7,14 +7,14 @@ ghost use Prim.Native.Nat.{_≤_};
 ghost use lib.ListN.{length};
 ghost use Rattle.format.specs.Bytes.{same};
 ghost use Rattle.format.specs.Catalogue.{catalogue};
-ghost use Rattle.format.specs.Reading.{readText};
 ghost use Rattle.format.specs.Calls.{reading, fresh};
 ghost use Rattle.format.specs.Work.{allZeros, readingWith};
 ghost use Rattle.byte_slices.specs.Over.{over};
 ghost use Rattle.accepted.specs.Read.{recordsOf};
-ghost use Rattle.read_judge.specs.Judged.{judgedOf};
+ghost use Rattle.accepted_rule.specs.Rule.{isOnce};
+ghost use Rattle.read_judge.specs.Judged.{judgement};
 ghost use Rattle.read.specs.Accepted.{AcceptedText};
-ghost use Rattle.read.specs.Answers.{answerOf, outputOf, checkedOf};
+ghost use Rattle.read.specs.Answers.{answerOf, outputOf, checkedOf, checkedTextOf, withoutRule};
 
 // A refusal and its line, or how many bytes or ordinals are written.
 pub enum CountAnswer {
@@ -26,6 +26,12 @@ pub enum CountAnswer {
 pub enum Checked {
     Refused(u8, LineNo),
     Fresh,
+}
+
+// The same, for those who go over the lines again: whether no tag is repeated in any of them.
+pub enum CheckedText {
+    Refused(u8, LineNo),
+    Fresh(bool),
 }
 
 // Writes the catalogue of an accepted text to the front of `out`.
@@ -76,17 +82,17 @@ fn is_catalogue(text: &[u8], strict: bool, kept: &[u8]) -> bool
 
 // Reads a text that has been judged.
 fn read_judged(text: &[u8], judged: Judged, kept: &mut [u8]) -> CountAnswer
-    requires { ⌜ judged ≡ judgedOf (readText (now text)) ⌝ }
+    requires { ⌜ judged ≡ judgement (now text) ⌝ }
     ensures answer { λ r. ⌜ r ≡ answerOf (reading (now (text .entry)) (length (now (kept .entry)))) ⌝ }
     ensures wrote { λ _. ⌜ now (kept .exit) ≡ outputOf (reading (now (text .entry)) (length (now (kept .entry)))) (now (kept .entry)) ⌝ }
 {
     match judged {
         Judged::Refused(n, line) => CountAnswer::Refused(n, line),
-        Judged::Accepted(size) => {
+        Judged::Accepted(size, once) => {
             if kept.len() < size {
                 return CountAnswer::Refused(20, LineNo(0));
             }
-            put_catalogue(text, read_repeat_rule::is_strict(text), kept);
+            put_catalogue(text, once, kept);
             CountAnswer::Count(size)
         }
     }
@@ -112,21 +118,38 @@ pub fn read_with(text: &[u8], catalogue: &mut [u8], work: &mut [u32]) -> CountAn
 }
 
 // Whether `kept` is the catalogue of a text that has been judged.
-fn check_judged(text: &[u8], judged: Judged, kept: &[u8]) -> Checked
-    requires { ⌜ judged ≡ judgedOf (readText (now text)) ⌝ }
-    ensures { λ r. ⌜ r ≡ checkedOf (fresh (now (text .entry)) (now (kept .entry))) ⌝ }
+fn check_judged(text: &[u8], judged: Judged, kept: &[u8]) -> CheckedText
+    requires { ⌜ judged ≡ judgement (now text) ⌝ }
+    ensures { λ r. ⌜ r ≡ checkedTextOf (isOnce (now (text .entry))) (fresh (now (text .entry)) (now (kept .entry))) ⌝ }
 {
     match judged {
-        Judged::Refused(n, line) => Checked::Refused(n, line),
-        Judged::Accepted(size) => {
+        Judged::Refused(n, line) => CheckedText::Refused(n, line),
+        Judged::Accepted(size, once) => {
             if size != kept.len() {
-                return Checked::Refused(21, LineNo(0));
+                return CheckedText::Refused(21, LineNo(0));
             }
-            if is_catalogue(text, read_repeat_rule::is_strict(text), kept) {
-                return Checked::Fresh;
+            if is_catalogue(text, once, kept) {
+                return CheckedText::Fresh(once);
             }
-            Checked::Refused(21, LineNo(0))
+            CheckedText::Refused(21, LineNo(0))
         }
+    }
+}
+
+// Whether `catalogue` is that of `text`, for calls that go over its lines again.
+pub fn check_text(text: &[u8], catalogue: &[u8]) -> CheckedText
+    ensures { λ r. ⌜ r ≡ checkedTextOf (isOnce (now (text .entry))) (fresh (now (text .entry)) (now (catalogue .entry))) ⌝ }
+{
+    check_judged(text, read_judge::judge(text), catalogue)
+}
+
+// For those who go over no line again.
+fn without_rule(checked: CheckedText) -> Checked
+    ensures { λ r. ⌜ r ≡ withoutRule checked ⌝ }
+{
+    match checked {
+        CheckedText::Refused(n, line) => Checked::Refused(n, line),
+        CheckedText::Fresh(_) => Checked::Fresh,
     }
 }
 
@@ -134,7 +157,7 @@ fn check_judged(text: &[u8], judged: Judged, kept: &[u8]) -> Checked
 pub fn check(text: &[u8], catalogue: &[u8]) -> Checked
     ensures { λ r. ⌜ r ≡ checkedOf (fresh (now (text .entry)) (now (catalogue .entry))) ⌝ }
 {
-    check_judged(text, read_judge::judge(text), catalogue)
+    without_rule(check_text(text, catalogue))
 }
 
 // The same with a lent work area, which is all zeros afterwards.
@@ -143,5 +166,5 @@ pub fn check_with(text: &[u8], catalogue: &[u8], work: &mut [u32]) -> Checked
     ensures zeros { λ _. ⌜ now (work .exit) ≡ allZeros (now (work .entry)) ⌝ }
 {
     let judged = read_judge::judge_with(text, work);
-    check_judged(text, judged, catalogue)
+    without_rule(check_judged(text, judged, catalogue))
 }

@@ -1,4 +1,6 @@
 pub mod Judging
+pub mod Once
+pub mod Parsing
 pub mod Blocks
 pub mod Whole
 pub mod Smaller

@@ -2,32 +2,36 @@
 use format::LineNo;
 use record::Head;
 ghost use mathlib.Core.Path.{_≡_};
-ghost use mathlib.Core.Bool.{_||_, cond};
+ghost use mathlib.Core.Bool.{_||_, false, cond};
 ghost use mathlib.Core.List.{[]};
-ghost use Prim.Native.Nat.{_≤_, _<_};
+ghost use Prim.Native.Nat.{_+_, _≤_, _<_};
 ghost use lib.ListN.{length, drop};
 ghost use lib.Dec.{ltb};
-ghost use Rattle.format.specs.Lines.{lines, linesFrom};
-ghost use Rattle.format.specs.Reading.{readFrom, readText};
+ghost use Rattle.format.specs.Lines.{linesFrom};
 ghost use Rattle.format.specs.Work.{allZeros};
 ghost use Rattle.format.specs.Slots.{Held};
 ghost use Rattle.read_admission.specs.Admission.{barring};
 ghost use Rattle.key_index.specs.Told.{start};
 ghost use Rattle.read_judge.specs.Blocks.{clashOf, turned, emptied};
-ghost use Rattle.read_judge.specs.Judged.{judgedOf};
+ghost use Rattle.read_judge.specs.Judged.{judgedBy, judgement};
+ghost use Rattle.read_judge.specs.Parsed.{parsedBy};
 
 // Texts of at most so many bytes are judged with a small area, and with one of 24 KiB.
 pub const SHORT: usize = 8192;
 
 pub const MIDDLE: usize = 262144;
 
-// How many slots that one has.
+// How many slots the small area has, that one, and the area for longer texts.
+pub const SHORT_SLOTS: usize = 512;
+
 pub const OWN_SLOTS: usize = 6144;
 
-// The first refusal and its line, or how many bytes the catalogue has.
+pub const LONG_SLOTS: usize = 196608;
+
+// The first refusal and its line; or how many bytes the catalogue has, and whether no tag is repeated in any line.
 pub enum Judged {
     Refused(u8, LineNo),
-    Accepted(usize),
+    Accepted(usize, bool),
 }
 
 // The line before which the index is begun anew, and the first line ahead whose key an earlier block of lines has.
@@ -105,12 +109,51 @@ fn barred(count: usize, programs: usize, head: Head, known: bool, clashes: bool)
     read_admission::barred(head, is_used(known, clashes), count, programs)
 }
 
+// What a line is, and whether no tag is repeated up to its end.
+struct Parsed {
+    head: Head,
+    once: bool,
+}
+
+// A line of a text that allows repeated tags: as long as none is, `once`, the line is parsed as if they were forbidden, and once more where that
+// refuses it.
+fn parse_lenient(line: &[u8], at: usize, once: bool) -> Parsed
+    requires { ⌜ at + length (now line) ≤ 4294967295 ⌝ }
+    ensures { λ r. ⌜ r ≡ parsedBy false once (record { at = at; bytes = now (line .entry) }) ⌝ }
+{
+    let head = record_parser::parse_record(line, at, once);
+    if !once {
+        return Parsed { head, once };
+    }
+    let Head::Refused(_) = head else {
+        return Parsed { head, once };
+    };
+    Parsed {
+        head: record_parser::parse_record(line, at, false),
+        once: false,
+    }
+}
+
+// The line at the offset `at`, after lines in which no tag is repeated where `once` says so.
+fn parse_line(line: &[u8], at: usize, strict: bool, once: bool) -> Parsed
+    requires { ⌜ at + length (now line) ≤ 4294967295 ⌝ }
+    ensures { λ r. ⌜ r ≡ parsedBy strict once (record { at = at; bytes = now (line .entry) }) ⌝ }
+{
+    if strict {
+        return Parsed {
+            head: record_parser::parse_record(line, at, true),
+            once,
+        };
+    }
+    parse_lenient(line, at, once)
+}
+
 // Line by line: each line's own refusal, then 17, 18 and 19. The keys of a block of lines, three for each four slots of `area`, are kept there.
 fn judge_indexed(text: &[u8], strict: bool, area: &mut [u32]) -> Judged
     requires { ⌜ length (now text) ≤ 16777216 ⌝ }
     requires { ⌜ 4 ≤ length (now area) ⌝ }
     requires { ⌜ Held (start (now text) (length (now area))) (now area) [] ⌝ }
-    ensures { λ r. ⌜ r ≡ judgedOf (readFrom strict 0 [] (lines (now (text .entry)))) ⌝ }
+    ensures { λ r. ⌜ r ≡ judgedBy strict (now (text .entry)) ⌝ }
 {
     let until = area.len() / 4 * 3;
     let mut block = Block {
@@ -121,14 +164,17 @@ fn judge_indexed(text: &[u8], strict: bool, area: &mut [u32]) -> Judged
     let mut line: usize = 0;
     let mut programs: usize = 0;
     let mut size: usize = 0;
+    let mut once = true;
     loop {
         let cut = byte_slices::first_line(&text[at..]);
         let next = at + cut.next;
         if at == text.len() {
-            return Judged::Accepted(size);
+            return Judged::Accepted(size, once);
         }
         let end = at + cut.len;
-        let head = record_parser::parse_record(&text[at..end], at, strict);
+        let parsed = parse_line(&text[at..end], at, strict, once);
+        let head = parsed.head;
+        once = parsed.once;
         block = turn(text, strict, area, at, line, block);
         let known = key_index::meet(text, area, head, true);
         let n = barred(line, programs, head, known, line == block.clash);
@@ -145,16 +191,16 @@ fn judge_indexed(text: &[u8], strict: bool, area: &mut [u32]) -> Judged
 // A short text, in blocks of 384 lines: little is cleared for it.
 fn judge_short(text: &[u8], strict: bool) -> Judged
     requires { ⌜ length (now text) ≤ 16777216 ⌝ }
-    ensures { λ r. ⌜ r ≡ judgedOf (readFrom strict 0 [] (lines (now (text .entry)))) ⌝ }
+    ensures { λ r. ⌜ r ≡ judgedBy strict (now (text .entry)) ⌝ }
 {
-    let mut area = [0u32; 512];
+    let mut area = [0u32; SHORT_SLOTS];
     judge_indexed(text, strict, &mut area)
 }
 
 // A text of some thousand lines, in blocks of 4,608.
 fn judge_middle(text: &[u8], strict: bool) -> Judged
     requires { ⌜ length (now text) ≤ 16777216 ⌝ }
-    ensures { λ r. ⌜ r ≡ judgedOf (readFrom strict 0 [] (lines (now (text .entry)))) ⌝ }
+    ensures { λ r. ⌜ r ≡ judgedBy strict (now (text .entry)) ⌝ }
 {
     let mut area = [0u32; OWN_SLOTS];
     judge_indexed(text, strict, &mut area)
@@ -164,9 +210,9 @@ fn judge_middle(text: &[u8], strict: bool) -> Judged
 // itself, so that its 768 KiB are on the stack only while it runs, and not in the frames of its callers, which serve short texts too.
 fn judge_long(text: &[u8], strict: bool, more: usize) -> Judged
     requires { ⌜ length (now text) ≤ 16777216 ⌝ }
-    ensures { λ r. ⌜ r ≡ judgedOf (readFrom strict 0 [] (lines (now (text .entry)))) ⌝ }
+    ensures { λ r. ⌜ r ≡ judgedBy strict (now (text .entry)) ⌝ }
 {
-    let mut area = [0u32; 196608];
+    let mut area = [0u32; LONG_SLOTS];
     let judged = judge_indexed(text, strict, &mut area);
     if 0 < more {
         return judge_long(text, strict, more - 1);
@@ -177,7 +223,7 @@ fn judge_long(text: &[u8], strict: bool, more: usize) -> Judged
 // A text with an area of this function's own, of 24 KiB at most. It is slow where the text has many more lines than a block takes.
 fn judge_small(text: &[u8], strict: bool) -> Judged
     requires { ⌜ length (now text) ≤ 16777216 ⌝ }
-    ensures { λ r. ⌜ r ≡ judgedOf (readFrom strict 0 [] (lines (now (text .entry)))) ⌝ }
+    ensures { λ r. ⌜ r ≡ judgedBy strict (now (text .entry)) ⌝ }
 {
     if text.len() <= SHORT {
         return judge_short(text, strict);
@@ -188,7 +234,7 @@ fn judge_small(text: &[u8], strict: bool) -> Judged
 // The lines of a text: the first refusal, or the size of the text's catalogue.
 fn judge_lines(text: &[u8], strict: bool) -> Judged
     requires { ⌜ length (now text) ≤ 16777216 ⌝ }
-    ensures { λ r. ⌜ r ≡ judgedOf (readFrom strict 0 [] (lines (now (text .entry)))) ⌝ }
+    ensures { λ r. ⌜ r ≡ judgedBy strict (now (text .entry)) ⌝ }
 {
     if text.len() <= MIDDLE {
         return judge_small(text, strict);
@@ -198,7 +244,7 @@ fn judge_lines(text: &[u8], strict: bool) -> Judged
 
 // What any bytes are: 1 where they are too many, the first refusal of their lines, or the size of their catalogue.
 pub fn judge(text: &[u8]) -> Judged
-    ensures { λ r. ⌜ r ≡ judgedOf (readText (now (text .entry))) ⌝ }
+    ensures { λ r. ⌜ r ≡ judgement (now (text .entry)) ⌝ }
 {
     if format::LONGEST < text.len() {
         return Judged::Refused(1, LineNo(0));
@@ -217,7 +263,7 @@ pub fn least(a: usize, b: usize) -> usize
 // keys in one block.
 fn judge_lent(text: &[u8], strict: bool, area: &mut [u32]) -> Judged
     requires { ⌜ length (now text) ≤ 16777216 ⌝ }
-    ensures { λ r. ⌜ r ≡ judgedOf (readFrom strict 0 [] (lines (now (text .entry)))) ⌝ }
+    ensures { λ r. ⌜ r ≡ judgedBy strict (now (text .entry)) ⌝ }
     ensures length { λ _. ⌜ length (now (area .exit)) ≡ length (now (area .entry)) ⌝ }
 {
     if text.len() <= MIDDLE {
@@ -234,7 +280,7 @@ fn judge_lent(text: &[u8], strict: bool, area: &mut [u32]) -> Judged
 
 // The same as `judge`, by a lent area of any length and with any content, which is all zeros afterwards.
 pub fn judge_with(text: &[u8], area: &mut [u32]) -> Judged
-    ensures judged { λ r. ⌜ r ≡ judgedOf (readText (now (text .entry))) ⌝ }
+    ensures judged { λ r. ⌜ r ≡ judgement (now (text .entry)) ⌝ }
     ensures zeros { λ _. ⌜ now (area .exit) ≡ allZeros (now (area .entry)) ⌝ }
 {
     if format::LONGEST < text.len() {

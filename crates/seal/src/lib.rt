@@ -1,6 +1,7 @@
 // Seals: the SHA-256 of a header's tidy text, which a plan keeps beside the catalogue so that an edit of a name is seen too.
 use format::LineNo;
 use read::Checked;
+use read::CheckedText;
 use read::CountAnswer;
 ghost use mathlib.Core.Path.{_≡_};
 ghost use lib.ListN.{length};
@@ -34,9 +35,9 @@ fn tidy_fresh(text: &[u8], catalogue: &[u8], work: &mut [u8]) -> CountAnswer
     ensures wrote { λ _. ⌜ now (work .exit)
         ≡ outputOf (tidyingFresh (now (text .entry)) (now (catalogue .entry)) (length (now (work .entry)))) (now (work .entry)) ⌝ }
 {
-    match read::check(text, catalogue) {
-        Checked::Refused(n, line) => CountAnswer::Refused(n, line),
-        Checked::Fresh => tidy::write_accepted(text, read_repeat_rule::is_strict(text), work),
+    match read::check_text(text, catalogue) {
+        CheckedText::Refused(n, line) => CountAnswer::Refused(n, line),
+        CheckedText::Fresh(once) => tidy::write_accepted(text, once, work),
     }
 }
 

@@ -7,18 +7,19 @@ ghost use mathlib.Core.Path.{_≡_};
 ghost use mathlib.Core.Bool.{true};
 ghost use lib.ListN.{length};
 ghost use Rattle.format.specs.Lines.{lines};
-ghost use Rattle.format.specs.Reading.{announced, isStrict, readText};
+ghost use Rattle.format.specs.Reading.{readText};
+ghost use Rattle.accepted_rule.specs.Rule.{ReadsBy};
 ghost use Rattle.format.specs.Calls.{tidying};
 ghost use Rattle.format.specs.Work.{allZeros};
 ghost use Rattle.accepted.specs.Read.{isAccepted};
-ghost use Rattle.read_judge.specs.Judged.{judgedOf};
+ghost use Rattle.read_judge.specs.Judged.{judgement};
 ghost use Rattle.read.specs.Answers.{answerOf, outputOf};
 ghost use Rattle.tidy.specs.Written.{writingTidy, writingMarked};
 
 // Writes the tidy text of an accepted text without the programs whose mark is false: 24, then 1, then 20.
 pub fn write_marked(text: &[u8], strict: bool, marks: &[bool], out: &mut [u8]) -> CountAnswer
     requires { ⌜ isAccepted (readText (now text)) ≡ true ⌝ }
-    requires { ⌜ strict ≡ isStrict (announced (lines (now text))) ⌝ }
+    requires { ⌜ ReadsBy strict (now text) ⌝ }
     ensures answer { λ r. ⌜ r ≡ answerOf (writingMarked (now (text .entry)) (now (marks .entry)) (length (now (out .entry)))) ⌝ }
     ensures wrote { λ _. ⌜ now (out .exit) ≡ outputOf
         (writingMarked (now (text .entry)) (now (marks .entry)) (length (now (out .entry))))
@@ -43,7 +44,7 @@ pub fn write_marked(text: &[u8], strict: bool, marks: &[bool], out: &mut [u8]) -
 // Writes the tidy text of an accepted text: 24, then 1, then 20.
 pub fn write_accepted(text: &[u8], strict: bool, out: &mut [u8]) -> CountAnswer
     requires { ⌜ isAccepted (readText (now text)) ≡ true ⌝ }
-    requires { ⌜ strict ≡ isStrict (announced (lines (now text))) ⌝ }
+    requires { ⌜ ReadsBy strict (now text) ⌝ }
     ensures answer { λ r. ⌜ r ≡ answerOf (writingTidy (now (text .entry)) (length (now (out .entry)))) ⌝ }
     ensures wrote { λ _. ⌜ now (out .exit) ≡ outputOf (writingTidy (now (text .entry)) (length (now (out .entry)))) (now (out .entry)) ⌝ }
 {
@@ -52,13 +53,13 @@ pub fn write_accepted(text: &[u8], strict: bool, out: &mut [u8]) -> CountAnswer
 
 // Tidies a text that has been judged.
 fn tidy_judged(text: &[u8], judged: Judged, out: &mut [u8]) -> CountAnswer
-    requires { ⌜ judged ≡ judgedOf (readText (now text)) ⌝ }
+    requires { ⌜ judged ≡ judgement (now text) ⌝ }
     ensures answer { λ r. ⌜ r ≡ answerOf (tidying (now (text .entry)) (length (now (out .entry)))) ⌝ }
     ensures wrote { λ _. ⌜ now (out .exit) ≡ outputOf (tidying (now (text .entry)) (length (now (out .entry)))) (now (out .entry)) ⌝ }
 {
     match judged {
         Judged::Refused(n, line) => CountAnswer::Refused(n, line),
-        Judged::Accepted(_) => write_accepted(text, read_repeat_rule::is_strict(text), out),
+        Judged::Accepted(_, once) => write_accepted(text, once, out),
     }
 }
 

@@ -8,9 +8,9 @@ ghost use mathlib.Core.Path.{_≡_};
 ghost use mathlib.Core.Bool.{true};
 ghost use Prim.Native.Nat.{_≤_, _<_, _+_};
 ghost use lib.ListN.{length};
-ghost use Rattle.format.specs.Lines.{lines};
 ghost use Rattle.format.specs.Records.{line};
-ghost use Rattle.format.specs.Reading.{announced, isStrict, readText};
+ghost use Rattle.format.specs.Reading.{readText};
+ghost use Rattle.accepted_rule.specs.Rule.{ReadsBy};
 ghost use Rattle.format.specs.Tidy.{tidy, unwritable};
 ghost use Rattle.byte_slices.specs.Over.{over};
 ghost use Rattle.accepted.specs.Read.{isAccepted, isRead, recordsOf};
@@ -89,10 +89,10 @@ pub fn with_line(sizes: PerKind, src: &[u8], at: usize, strict: bool) -> Grown
 }
 
 // How many bytes the records of each kind that stay have in the tidy text, or the line of the first SQ whose name can't be written, in one
-// pass over an accepted text. `strict` is what the text says of repeated tags.
+// pass over an accepted text. `strict` is the rule for repeated tags that its lines are read by.
 pub fn measure_marked(text: &[u8], strict: bool, marks: &[bool]) -> Measured
     requires { ⌜ isAccepted (readText (now text)) ≡ true ⌝ }
-    requires { ⌜ strict ≡ isStrict (announced (lines (now text))) ⌝ }
+    requires { ⌜ ReadsBy strict (now text) ⌝ }
     ensures is { λ r. ⌜ r ≡ measuredOf (unwritable 0 (recordsOf (now (text .entry))))
         (sizesOf (sifted (isMarked (now (marks .entry))) 0 (recordsOf (now (text .entry))))) ⌝ }
     ensures refusal { λ r. ⌜ MeasuredTold (unwritable 0 (recordsOf (now (text .entry)))) r ⌝ }
@@ -119,7 +119,7 @@ pub fn measure_marked(text: &[u8], strict: bool, marks: &[bool]) -> Measured
 // How many bytes the records of each kind have in the tidy text, or the line of the first SQ whose name can't be written.
 pub fn measure(text: &[u8], strict: bool) -> Measured
     requires { ⌜ isAccepted (readText (now text)) ≡ true ⌝ }
-    requires { ⌜ strict ≡ isStrict (announced (lines (now text))) ⌝ }
+    requires { ⌜ ReadsBy strict (now text) ⌝ }
     ensures is { λ r. ⌜ r ≡ measuredOf (unwritable 0 (recordsOf (now (text .entry)))) (sizesOf (recordsOf (now (text .entry)))) ⌝ }
     ensures refusal { λ r. ⌜ MeasuredTold (unwritable 0 (recordsOf (now (text .entry)))) r ⌝ }
 {
@@ -164,7 +164,7 @@ pub fn put_line(out: &mut [u8], places: PerKind, src: &[u8], at: usize, strict: 
 // Writes the records of each kind that stay, in text order, from the kind's place on, in one pass.
 fn put_lines(text: &[u8], strict: bool, marks: &[bool], places: PerKind, out: &mut [u8])
     requires { ⌜ isAccepted (readText (now text)) ≡ true ⌝ }
-    requires { ⌜ strict ≡ isStrict (announced (lines (now text))) ⌝ }
+    requires { ⌜ ReadsBy strict (now text) ⌝ }
     requires { ⌜ Apart (parts places (sifted (isMarked (now marks)) 0 (recordsOf (now text)))) (length (now out)) ⌝ }
     ensures { λ _. ⌜ now (out .exit) ≡ withParts (now (out .entry))
         (parts places (sifted (isMarked (now (marks .entry))) 0 (recordsOf (now (text .entry))))) ⌝ }
@@ -185,7 +185,7 @@ fn put_lines(text: &[u8], strict: bool, marks: &[bool], places: PerKind, out: &m
 // `sizes` are those that measuring gives.
 pub fn put_around(text: &[u8], strict: bool, sizes: PerKind, gap: usize, out: &mut [u8])
     requires { ⌜ isAccepted (readText (now text)) ≡ true ⌝ }
-    requires { ⌜ strict ≡ isStrict (announced (lines (now text))) ⌝ }
+    requires { ⌜ ReadsBy strict (now text) ⌝ }
     requires { ⌜ sizes ≡ sizesOf (recordsOf (now text)) ⌝ }
     requires { ⌜ gap ≤ 16777216 ⌝ }
     requires { ⌜ length (tidy (recordsOf (now text))) + gap ≤ length (now out) ⌝ }
@@ -203,7 +203,7 @@ pub fn put_marked(
     out: &mut [u8],
 ) -> usize
     requires { ⌜ isAccepted (readText (now text)) ≡ true ⌝ }
-    requires { ⌜ strict ≡ isStrict (announced (lines (now text))) ⌝ }
+    requires { ⌜ ReadsBy strict (now text) ⌝ }
     requires { ⌜ sizes ≡ sizesOf (sifted (isMarked (now marks)) 0 (recordsOf (now text))) ⌝ }
     requires { ⌜ length (tidy (sifted (isMarked (now marks)) 0 (recordsOf (now text)))) ≤ length (now out) ⌝ }
     ensures next { λ r. ⌜ r ≡ length (tidy (sifted (isMarked (now (marks .entry))) 0 (recordsOf (now (text .entry))))) ⌝ }
@@ -216,7 +216,7 @@ pub fn put_marked(
 // Writes the tidy text of an accepted text, and answers its length. `sizes` are those that measuring gives.
 pub fn put_tidy(text: &[u8], strict: bool, sizes: PerKind, out: &mut [u8]) -> usize
     requires { ⌜ isAccepted (readText (now text)) ≡ true ⌝ }
-    requires { ⌜ strict ≡ isStrict (announced (lines (now text))) ⌝ }
+    requires { ⌜ ReadsBy strict (now text) ⌝ }
     requires { ⌜ sizes ≡ sizesOf (recordsOf (now text)) ⌝ }
     requires { ⌜ length (tidy (recordsOf (now text))) ≤ length (now out) ⌝ }
     ensures next { λ r. ⌜ r ≡ length (tidy (recordsOf (now (text .entry)))) ⌝ }

@@ -46,7 +46,7 @@ reads s = accepted-reads (s .args .text .now) (s .pre .0)
 
 -- the IDs that are lent are those of the programs
 placed : (s : tie.Start) → PlacesInText (s .args .text .now) (s .args .ats .now) (s .args .lens .now)
-placed s = s .pre .1 .0 .0
+placed s = s .pre .1 .1 .0 .0
 
 abbrev ids : tie.Start → List (List ℕ)
 ids s = idsAt (s .args .text .now) (s .args .ats .now) (s .args .lens .now)
@@ -54,12 +54,12 @@ ids s = idsAt (s .args .text .now) (s .args .ats .now) (s .args .lens .now)
 count-are : (s : tie.Start) → length (s .args .ats .now) ≡ length (programs (records s))
 count-are s =
     let ps = programs (records s) in
-    sym (ids-length (s .args .text .now) (s .args .ats .now) (s .args .lens .now) (placed s)) ∙ ap length (s .pre .1 .0 .1) ∙ length-map ps (λ p. p .id)
+    sym (ids-length (s .args .text .now) (s .args .ats .now) (s .args .lens .now) (placed s)) ∙ ap length (s .pre .1 .1 .0 .1) ∙ length-map ps (λ p. p .id)
 
 -- the leaves, no more than the programs
 leaves-are : (s : tie.Start) → s .args .leaves .now ≡ leaves (links (programs (records s)))
 unfolding leavesOf
-leaves-are s = s .pre .1 .1 .1 .0
+leaves-are s = s .pre .1 .1 .1 .1 .0
 
 counts : (s : tie.Start) → (length (s .args .ats .now) ≤ 1024) × (length (s .args .leaves .now) ≤ 1024)
 counts s =
@@ -71,7 +71,7 @@ counts s =
 free : (c : tie.After-is-free) → let s = c .before .before .before .before .before .before .before .before in c .is-free .result ≡ not (isKnown (ordinalFrom 0 (s .args .prefix .now) (programs (records s))))
 free c =
     let s = c .before .before .before .before .before .before .before .before in
-    c .is-free .ensures ∙ ap (λ xs. not (isAmong (s .args .prefix .now) xs)) (s .pre .1 .0 .1) ∙ free-is (s .args .text .now) (records s) (reads s) (s .args .prefix .now) (fieldsOf s)
+    c .is-free .ensures ∙ ap (λ xs. not (isAmong (s .args .prefix .now) xs)) (s .pre .1 .1 .0 .1) ∙ free-is (s .args .text .now) (records s) (reads s) (s .args .prefix .now) (fieldsOf s)
 
 -- the first leaf whose ID is joined is one of them, or behind them
 within : (c : tie.After-first-joined) → c .first-joined .result ≤ length (c .before .before .before .before .before .before .before .before .before .args .leaves .now)
@@ -89,7 +89,7 @@ used-is c =
     let alone = f .before .is-free .result in
     let own = idsOf (programs (records s)) in
     c .is-taken .ensures
-    ∙ ap (λ xs. taken xs (a .prefix .now) (take (length ks - f .first-joined .result) (drop (f .first-joined .result) ks))) (s .pre .1 .0 .1)
+    ∙ ap (λ xs. taken xs (a .prefix .now) (take (length ks - f .first-joined .result) (drop (f .first-joined .result) ks))) (s .pre .1 .1 .0 .1)
     ∙ ap (taken own (a .prefix .now)) (rest (f .first-joined .result) ks ∙ ap (λ n. drop n ks) (f .first-joined .ensures) ∙ joined-on ks alone)
     ∙ ap (λ xs. taken own (a .prefix .now) (cond alone (drop 1 xs) xs)) (leaves-are s)
     ∙ taken-is (a .text .now) (records s) (reads s) (a .prefix .now) (fieldsOf s) alone (free (f .before))
@@ -159,7 +159,7 @@ returns-2 c =
 write-added-requires : tie.Need-write-added-requires
 write-added-requires c κs =
     let s = c .before .before .before .before .before .before .before .before .before .before .before .before .before .before .before in
-    (s .pre .0, (placed s, (counts s .1, λ e. s .pre .1 .1 .1 .1 (omega (arith, eqb-false (length (s .args .ats .now)) 0 e)))))
+    (s .pre .0, (s .pre .1 .0, (placed s, (counts s .1, λ e. s .pre .1 .1 .1 .1 .1 (omega (arith, eqb-false (length (s .args .ats .now)) 0 e))))))
 
 same-length : tie.Need-same-length
 same-length c = search needs
@@ -175,10 +175,10 @@ returns-3 c =
     let rs = records s in
     let alone = n .before .before .before .before .before .is-free .result in
     let empty = eqb (length (a .ats .now)) 0 in
-    let whole : withAdded rs (addedText (ids s) empty alone (a .linked) (a .prefix .now) (a .fields .now) (a .leaves .now)) ≡ tidy (rs ++ added (a .prefix .now) (fieldsOf s) (programs rs)) =
-    ap₂ (λ own xs. withAdded rs (addedText own empty alone (a .linked) (a .prefix .now) (a .fields .now) xs)) (s .pre .1 .0 .1) (leaves-are s)
-    ∙ written-is rs (a .prefix .now) (a .fields .now) (fieldsOf s) (given-text (a .fields .now) (s .pre .1 .1 .0 .0)) empty alone (a .linked) (ap (λ m. eqb m 0) (count-are s)) (free (n .before .before .before .before .before)) (s .pre .1 .1 .0 .1) in
-    let on : writing room (unwritable 0 rs) (withAdded rs (addedText (ids s) empty alone (a .linked) (a .prefix .now) (a .fields .now) (a .leaves .now))) ≡ addingOn rs (a .prefix .now) (fieldsOf s) room =
+    let whole : withAdded rs (addedText (ids s) empty alone (a .known .linked) (a .prefix .now) (a .fields .now) (a .leaves .now)) ≡ tidy (rs ++ added (a .prefix .now) (fieldsOf s) (programs rs)) =
+    ap₂ (λ own xs. withAdded rs (addedText own empty alone (a .known .linked) (a .prefix .now) (a .fields .now) xs)) (s .pre .1 .1 .0 .1) (leaves-are s)
+    ∙ written-is rs (a .prefix .now) (a .fields .now) (fieldsOf s) (given-text (a .fields .now) (s .pre .1 .1 .1 .0 .0)) empty alone (a .known .linked) (ap (λ m. eqb m 0) (count-are s)) (free (n .before .before .before .before .before)) (s .pre .1 .1 .1 .0 .1) in
+    let on : writing room (unwritable 0 rs) (withAdded rs (addedText (ids s) empty alone (a .known .linked) (a .prefix .now) (a .fields .now) (a .leaves .now))) ≡ addingOn rs (a .prefix .now) (fieldsOf s) room =
     ap (writing room (unwritable 0 rs)) whole
     ∙ sym (on-few rs (a .prefix .now) (fieldsOf s) room (sym (used-is (n .before .before)) ∙ n .before .if1 .left) (omega (arith, e .if2 .left, new-is n, count-are s))) in
     (w .write-added .ensures .0 ∙ ap answerOf on, w .write-added .ensures .1 ∙ ap (λ x. outputOf x (a .out .now)) on)

@@ -28,7 +28,7 @@ abbrev records : tie.Start → List Record
 records s = recordsOf (s .args .text .now)
 
 abbrev new : tie.Start → List ℕ
-new s = let a = s .args in addedText (idsAt (a .text .now) (a .ats .now) (a .lens .now)) (a .shape .empty) (a .shape .alone) (a .shape .linked) (a .prefix .now) (a .fields .now) (a .leaves .now)
+new s = let a = s .args in addedText (idsAt (a .text .now) (a .ats .now) (a .lens .now)) (a .ways .shape .empty) (a .ways .shape .alone) (a .ways .shape .linked) (a .prefix .now) (a .fields .now) (a .leaves .now)
 
 -- how long the parts are
 module _ (s : tie.Start) where
@@ -50,7 +50,7 @@ module _ (s : tie.Start) where
       omega (
         arith,
         s .pre .1 .1 .1 .0,
-        tidy-small (s .args .plan .strict) (s .args .text .now) (opened (s .args .plan .strict) (s .args .text .now) (s .pre .0) (s .pre .1 .0)) .1,
+        tidy-small (s .args .ways .strict) (s .args .text .now) (opened (s .args .ways .strict) (s .args .text .now) (s .pre .0) (s .pre .1 .0)) .1,
       )
 
 put-around-requires : tie.Need-put-around-requires

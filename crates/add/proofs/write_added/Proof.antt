@@ -4,9 +4,7 @@ use mathlib.Core.Path.{_≡_, sym, ap, _∙_}
 use mathlib.Core.List.{List}
 use native.Mathlib.Omega.{arith}
 use lib.ListN.{length}
-use Rattle.format.specs.Lines.{lines}
 use Rattle.format.specs.Records.{Record}
-use Rattle.format.specs.Reading.{announced, isStrict}
 use Rattle.format.specs.Tidy.{unwritable}
 use Rattle.format.specs.Calls.{writing, yes}
 use Rattle.accepted.specs.Read.{recordsOf}
@@ -26,14 +24,14 @@ abbrev records : tie.Start → List Record
 records s = recordsOf (s .args .text .now)
 
 abbrev new : tie.Start → List ℕ
-new s = let a = s .args in newText (a .text .now) (a .ats .now) (a .lens .now) (a .shape) (a .prefix .now) (a .fields .now) (a .leaves .now)
+new s = let a = s .args in newText (a .text .now) (a .ats .now) (a .lens .now) (a .ways .shape) (a .prefix .now) (a .fields .now) (a .leaves .now)
 
 abbrev whole : tie.Start → List ℕ
 whole s = withAdded (records s) (new s)
 
 -- what is measured
 abbrev sound : tie.Start → Plan
-sound s = record { strict = isStrict (announced (lines (s .args .text .now))); sizes = sizesOf (records s); more = length (new s) }
+sound s = record { sizes = sizesOf (records s); more = length (new s) }
 
 -- its name can be written, and it fits
 fits : (p : tie.After-plan)
@@ -59,7 +57,7 @@ put-all-requires c κs =
     let s = p .before .before .before .before .before .before .before .before .before .before in
     let f = fits p in
     let e = sym (f .0) in
-    (s .pre .0, (ap (λ q. q .strict) e, (ap (λ q. q .sizes) e, ((ap (λ q. q .more) e, omega (arith, ap (λ q. q .more) e, with-size (records s) (new s), f .2)), (s .pre .1 .0, f .3)))))
+    (s .pre .0, (s .pre .1 .0, (ap (λ q. q .sizes) e, ((ap (λ q. q .more) e, omega (arith, ap (λ q. q .more) e, with-size (records s) (new s), f .2)), (s .pre .1 .1 .0, f .3)))))
 
 returns : tie.Need-returns
 returns c =

@@ -1,7 +1,7 @@
 -- `read_judge::judge_indexed` meets its contract: the lines before are records, and what is ahead decides.
 use Prim.Native.Nat.{ℕ, suc, _+_, _-_, _*_, _/_, _≤_, _<_}
 use mathlib.Core.Path.{_≡_, refl, sym, ap, subst, _∙_}
-use mathlib.Core.Bool.{Bool, true, false, _||_, cond}
+use mathlib.Core.Bool.{Bool, true, false, _&&_, _||_, cond}
 use mathlib.Core.List.{List, [], _∷_, _++_}
 use native.Mathlib.Omega.{arith}
 use borrow.Author.Needs.{needs}
@@ -15,6 +15,7 @@ use Rattle.byte_slices.specs.First.{firstLine}
 use Rattle.byte_slices.specs.Stands.{Stands}
 use Rattle.byte_slices.proofs.First.{first-le, first-within}
 use Rattle.byte_slices.proofs.Before.{rest}
+use Rattle.accepted.specs.Read.{isRead}
 use Rattle.record.specs.declared.Head.{Head}
 use Rattle.record.specs.declared.Head.the-variants as head
 use Rattle.record.specs.Head.{headOf, recordHead}
@@ -29,7 +30,8 @@ use Rattle.catalogue_lines.specs.Line.{recordBytes}
 use Rattle.catalogue_lines.specs.Parts.{sizeOfHead, othersOf, ownEntry}
 use Rattle.catalogue_lines.proofs.Records.{catalogue-length, own-others, size-length}
 use Rattle.catalogue_lines.proofs.Entries.{size-most}
-use Rattle.read_judge.specs.Judged.{judgedOf}
+use Rattle.read_judge.specs.Parsed.{parsedBy}
+use Rattle.read_judge.proofs.Once.{Once, once-start, once-end, once-on}
 use Rattle.read_judge.proofs.Blocks.{Blocking, blocking-start, blocking-turn, turn-until, used-known, blocking-on}
 use Rattle.read_judge.proofs.Judging.{Judging, judging-start, judging-on, judging-end, judging-refused, few-lines, passed-are, next-within, len-within, next-some, len-is, line-stands}
 use Rattle.read_judge.proofs.judge_indexed.Statement.{statement}
@@ -41,14 +43,15 @@ use Rattle.read_judge.proofs.turn.Reads as turn-reads
 use Rattle.key_index.proofs.meet.Reads as meet-reads
 use Rattle.catalogue_lines.proofs.record_size.Reads as record-size-reads
 use Rattle.read_admission.proofs.programs_of.Reads as programs-of-reads
-use Rattle.record_parser.proofs.parse_record.Reads as parse-record-reads
+use Rattle.read_judge.proofs.parse_line.Reads as parse-line-reads
 use Rattle.byte_slices.proofs.first_line.Reads as first-line-reads
 
 abbrev Inv-loop : tie.InvT-loop
-Inv-loop text strict area₀ until block₀ at₀ line₀ programs₀ size₀ area block at line programs size = (j : Judging strict text at line programs size) × Blocking strict text area₀ area block at line programs size j
+Inv-loop text strict area₀ until block₀ at₀ line₀ programs₀ size₀ once₀ area block at line programs size once =
+    (j : Judging strict text at line programs size) × Blocking strict text area₀ area block at line programs size j × Once text once at line (j .before)
 
 abbrev μ-loop : tie.MeasureT-loop
-μ-loop text strict area₀ until block₀ at₀ line₀ programs₀ size₀ area block at line programs size = length text - at
+μ-loop text strict area₀ until block₀ at₀ line₀ programs₀ size₀ once₀ area block at line programs size once = length text - at
 
 -- ---- in a turn
 
@@ -91,20 +94,20 @@ stands c =
     line-stands (a .strict) (a .text .now) (l .loop .at) (l .loop .line) (l .loop .programs) (l .loop .size) (l .loop .inv .0) (below c)
 
 -- its head
-head-is : (c : tie.After-parse-record Inv-loop μ-loop)
+head-is : (c : tie.After-parse-line Inv-loop μ-loop)
     → let q = c .before .before .before in
-    c .parse-record .result ≡ headOf (line (q .before .before .before .before .before .before .before .args .strict) (piece q))
-unfolding piece
+    c .parse-line .result .head ≡ headOf (line (q .before .before .before .before .before .before .before .args .strict) (piece q))
+unfolding piece parsedBy
 head-is c =
     let q = c .before .before .before in
     let l = q .before .before .before .before in
     let a = l .before .before .before .args in
     let n : l .loop .at + q .before .before .first-line .result .len - l .loop .at ≡ q .before .before .first-line .result .len = omega arith in
-    c .parse-record .ensures ∙ ap (λ b. headOf (line (a .strict) (record { at = l .loop .at; bytes = take b (drop (l .loop .at) (a .text .now)) }))) (n ∙ ap (λ x. x .len) (cut q))
+    ap (λ x. x .head) (c .parse-line .ensures) ∙ ap (λ b. headOf (line (a .strict) (record { at = l .loop .at; bytes = take b (drop (l .loop .at) (a .text .now)) }))) (n ∙ ap (λ x. x .len) (cut q))
 
-placed-head : (c : tie.After-parse-record Inv-loop μ-loop)
+placed-head : (c : tie.After-parse-line Inv-loop μ-loop)
     → let q = c .before .before .before in
-    KeyInText (length (q .before .before .before .before .before .before .before .args .text .now)) (c .parse-record .result)
+    KeyInText (length (q .before .before .before .before .before .before .before .args .text .now)) (c .parse-line .result .head)
 unfolding piece
 placed-head c =
     let q = c .before .before .before in
@@ -134,7 +137,7 @@ used : (c : tie.After-turn Inv-loop μ-loop) (y : Head)
     → let p = c .before .before in
     let l = p .before .before .before .before .before .before .before in
     let a = l .before .before .before .args in
-    y ≡ p .parse-record .result → (isMet (a .text .now) (c .turn .last .1 .1 .0) y || eqb (l .loop .line) (c .turn .result .clash)) ≡ isTaken (l .loop .inv .0 .before) (a .text .now) y
+    y ≡ p .parse-line .result .head → (isMet (a .text .now) (c .turn .last .1 .1 .0) y || eqb (l .loop .line) (c .turn .result .clash)) ≡ isTaken (l .loop .inv .0 .before) (a .text .now) y
 unfolding piece
 used c y e =
     let p = c .before .before in
@@ -147,15 +150,15 @@ barring-told : (c : tie.After-barred Inv-loop μ-loop)
     → let p = c .before .before .before .before .before .before .before .before .before .before in
     let l = p .before .before .before .before .before .before .before in
     let a = l .before .before .before .args in
-    c .barred .result ≡ barring (isTaken (l .loop .inv .0 .before) (a .text .now) (p .parse-record .result)) (l .loop .line) (l .loop .programs) (p .parse-record .result)
+    c .barred .result ≡ barring (isTaken (l .loop .inv .0 .before) (a .text .now) (p .parse-line .result .head)) (l .loop .line) (l .loop .programs) (p .parse-line .result .head)
 barring-told c =
     let m = c .before .before .before .before in
     let w = m .before .before .before .before in
     let p = w .before .before in
     let l = p .before .before .before .before .before .before .before in
     c .barred .ensures
-    ∙ ap (λ t. barring t (l .loop .line) (l .loop .programs) (p .parse-record .result))
-    (ap (λ b. b || eqb (l .loop .line) (w .turn .result .clash)) (m .meet .ensures .0) ∙ used w (p .parse-record .result) refl)
+    ∙ ap (λ t. barring t (l .loop .line) (l .loop .programs) (p .parse-line .result .head))
+    (ap (λ b. b || eqb (l .loop .line) (w .turn .result .clash)) (m .meet .ensures .0) ∙ used w (p .parse-line .result .head) refl)
 
 -- whether it may follow the lines before
 number : (c : tie.After-barred Inv-loop μ-loop)
@@ -185,7 +188,7 @@ accepted c =
     let l = q .before .before .before .before in
     refusal-none (l .before .before .before .args .strict) (l .loop .inv .0 .before) (piece q) (sym (number (c .before)) ∙ c .if2 .left)
 
-record-is : (c : tie.Else2 Inv-loop μ-loop) → c .before .before .before .before .before .before .before .before .before .before .before .parse-record .result ≡ recordHead (accepted c .0)
+record-is : (c : tie.Else2 Inv-loop μ-loop) → c .before .before .before .before .before .before .before .before .before .before .before .parse-line .result .head ≡ recordHead (accepted c .0)
 unfolding headOf
 record-is c = head-is (c .before .before .before .before .before .before .before .before .before .before .before) ∙ ap headOf (accepted c .1)
 
@@ -209,7 +212,7 @@ fresh c =
 few : (c : tie.Else2 Inv-loop μ-loop)
     → let q = c .before .before .before .before .before .before .before .before .before .before .before .before .before .before in
     let l = q .before .before .before .before in
-    othersOf (c .before .before .before .before .before .before .before .before .before .before .before .parse-record .result) ≤ firstLine (drop (l .loop .at) (l .before .before .before .args .text .now)) .len
+    othersOf (c .before .before .before .before .before .before .before .before .before .before .before .parse-line .result .head) ≤ firstLine (drop (l .loop .at) (l .before .before .before .args .text .now)) .len
 unfolding piece
 few c =
     let q = c .before .before .before .before .before .before .before .before .before .before .before .before .before .before in
@@ -224,12 +227,30 @@ head-most h = omega (arith, size-most (ownEntry 0 h))
 
 entry-most : (c : tie.Else2 Inv-loop μ-loop)
     → let q = c .before .before .before .before .before .before .before .before .before .before .before .before .before .before in
-    sizeOfHead (c .before .before .before .before .before .before .before .before .before .before .before .parse-record .result) ≤ 32 * q .before .before .first-line .result .next
+    sizeOfHead (c .before .before .before .before .before .before .before .before .before .before .before .parse-line .result .head) ≤ 32 * q .before .before .first-line .result .next
 entry-most c =
     let q = c .before .before .before .before .before .before .before .before .before .before .before .before .before .before in
     let l = q .before .before .before .before in
     let t = l .before .before .before .args .text .now in
-    omega (arith, head-most (c .before .before .before .before .before .before .before .before .before .before .before .parse-record .result), few c, first-le (drop (l .loop .at) t), ap (λ x. x .next) (cut q), inside q .2)
+    omega (arith, head-most (c .before .before .before .before .before .before .before .before .before .before .before .parse-line .result .head), few c, first-le (drop (l .loop .at) t), ap (λ x. x .next) (cut q), inside q .2)
+
+-- whether no tag is repeated up to its end
+once-after : (c : tie.Else2 Inv-loop μ-loop)
+    → let p = c .before .before .before .before .before .before .before .before .before .before .before in
+    let l = p .before .before .before .before .before .before .before in
+    let t = l .before .before .before .args .text .now in
+    Once t (p .parse-line .result .once) (l .loop .at + firstLine (drop (l .loop .at) t) .next) (l .loop .line + 1) (l .loop .inv .0 .before ++ (accepted c .0 ∷ []))
+unfolding piece parsedBy
+once-after c =
+    let p = c .before .before .before .before .before .before .before .before .before .before .before in
+    let q = p .before .before .before in
+    let l = q .before .before .before .before in
+    let a = l .before .before .before .args in
+    let t = a .text .now in
+    let n : l .loop .at + q .before .before .first-line .result .len - l .loop .at ≡ q .before .before .first-line .result .len = omega arith in
+    let e : p .parse-line .result .once ≡ (l .loop .once && (a .strict || isRead (line true (piece q)))) = ap (λ x. x .once) (p .parse-line .ensures) ∙ ap (λ b. l .loop .once && (a .strict || isRead (line true (record { at = l .loop .at; bytes = take b (drop (l .loop .at) t) })))) (n ∙ ap (λ x. x .len) (cut q)) in
+    subst (λ b. Once t b (l .loop .at + firstLine (drop (l .loop .at) t) .next) (l .loop .line + 1) (l .loop .inv .0 .before ++ (accepted c .0 ∷ []))) (sym e)
+    (once-on (a .strict) t (l .loop .once) (l .loop .at) (l .loop .line) (l .loop .inv .0 .before) (l .loop .inv .2) (below q) (accepted c .0) (accepted c .2))
 
 kind-few : (k : ℕ) (rs : List Record) → length (ofKind k rs) ≤ length rs
 unfolding ofKind
@@ -244,7 +265,8 @@ mul-until : tie.Need-mul-until Inv-loop μ-loop
 mul-until c = search needs
 
 loop-holds : tie.Need-loop-holds Inv-loop μ-loop
-loop-holds c = let s = c .before .before in (judging-start (s .args .strict) (s .args .text .now), blocking-start (s .args .strict) (s .args .text .now) (s .args .area .now) (s .pre .0) (s .pre .1 .0) (s .pre .1 .1))
+unfolding judging-start
+loop-holds c = let s = c .before .before in (judging-start (s .args .strict) (s .args .text .now), blocking-start (s .args .strict) (s .args .text .now) (s .args .area .now) (s .pre .0) (s .pre .1 .0) (s .pre .1 .1), once-start (s .args .text .now))
 
 sub-first-line : tie.Need-sub-first-line Inv-loop μ-loop
 sub-first-line c = omega (arith, c .loop .inv .0 .inside)
@@ -273,22 +295,23 @@ returns : tie.Need-returns Inv-loop μ-loop
 returns c =
     let l = c .before .before .before .before in
     let a = l .before .before .before .args in
-    judging-end (a .strict) (a .text .now) (l .loop .at) (l .loop .line) (l .loop .programs) (l .loop .size) (l .loop .inv .0) (omega (arith, c .if1 .taken))
+    judging-end (a .strict) (a .text .now) (l .loop .at) (l .loop .line) (l .loop .programs) (l .loop .size) (l .loop .inv .0) (l .loop .once)
+    (once-end (a .text .now) (l .loop .once) (l .loop .at) (l .loop .line) (l .loop .inv .0 .before) (l .loop .inv .2) (omega (arith, c .if1 .taken))) (omega (arith, c .if1 .taken))
 
 add-end : tie.Need-add-end Inv-loop μ-loop
 add-end c = omega (arith, inside (c .before))
 
-sub-parse-record : tie.Need-sub-parse-record Inv-loop μ-loop
-sub-parse-record c = omega arith
+sub-parse-line : tie.Need-sub-parse-line Inv-loop μ-loop
+sub-parse-line c = omega arith
 
-part-parse-record-start : tie.Need-part-parse-record-start Inv-loop μ-loop
-part-parse-record-start c = omega arith
+part-parse-line-start : tie.Need-part-parse-line-start Inv-loop μ-loop
+part-parse-line-start c = omega arith
 
-part-parse-record-end : tie.Need-part-parse-record-end Inv-loop μ-loop
-part-parse-record-end c = omega (arith, inside (c .before))
+part-parse-line-end : tie.Need-part-parse-line-end Inv-loop μ-loop
+part-parse-line-end c = omega (arith, inside (c .before))
 
-parse-record-requires : tie.Need-parse-record-requires Inv-loop μ-loop
-parse-record-requires c κs =
+parse-line-requires : tie.Need-parse-line-requires Inv-loop μ-loop
+parse-line-requires c κs =
     let q = c .before .before in
     let l = q .before .before .before .before in
     let t = l .before .before .before .args .text .now in
@@ -310,8 +333,8 @@ meet-requires c κs =
 barred-requires : tie.Need-barred-requires Inv-loop μ-loop
 barred-requires c κs = search needs
 
-cast-t30 : tie.Need-cast-t30 Inv-loop μ-loop
-cast-t30 c =
+cast-t32 : tie.Need-cast-t32 Inv-loop μ-loop
+cast-t32 c =
     let q = c .before .before .before .before .before .before .before .before .before .before .before .before .before .before in
     let l = q .before .before .before .before in
     omega (arith, l .loop .inv .0 .slow, inside q, l .before .before .before .pre .0)
@@ -322,7 +345,7 @@ same-length-2 c =
     let w = m .before .before .before .before in
     let l = w .before .before .before .before .before .before .before .before .before in
     let a = l .before .before .before .args in
-    ap length (m .meet .ensures .1) ∙ meeting-length true (a .text .now) (w .turn .last .1 .1 .0) (w .before .before .parse-record .result) ∙ turned-is w .long
+    ap length (m .meet .ensures .1) ∙ meeting-length true (a .text .now) (w .turn .last .1 .1 .0) (w .before .before .parse-line .result .head) ∙ turned-is w .long
 
 returns-2 : tie.Need-returns-2 Inv-loop μ-loop
 unfolding piece
@@ -341,7 +364,7 @@ add-programs c =
     let q = c .before .before .before .before .before .before .before .before .before .before .before .before .before .before .before in
     let l = q .before .before .before .before in
     let j = l .loop .inv .0 in
-    omega (arith, c .programs-of .ensures, programs-most (c .before .before .before .before .before .before .before .before .before .before .before .before .parse-record .result), j .told, kind-few 4 (j .before), j .counted, j .slow, inside q)
+    omega (arith, c .programs-of .ensures, programs-most (c .before .before .before .before .before .before .before .before .before .before .before .before .parse-line .result .head), j .told, kind-few 4 (j .before), j .counted, j .slow, inside q)
 
 record-size-requires : tie.Need-record-size-requires Inv-loop μ-loop
 record-size-requires c κs =
@@ -366,7 +389,7 @@ loop-less : tie.Need-loop-less Inv-loop μ-loop
 loop-less c = omega (arith, inside (c .before .before .before .before .before .before .before .before .before .before .before .before .before .before .before .before))
 
 loop-again : tie.Need-loop-again Inv-loop μ-loop
-unfolding piece
+unfolding piece judging-on
 loop-again c =
     let e = c .before .before in
     let q = e .before .before .before .before .before .before .before .before .before .before .before .before .before .before in
@@ -384,6 +407,7 @@ loop-again c =
       judging-on (a .strict) (a .text .now) (l .loop .at) (l .loop .line) (l .loop .programs) (l .loop .size) j (below q) r (accepted e .1) (accepted e .2) (c .record-size .result) long bound,
       blocking-on (a .strict) (a .text .now) (a .area .now) (w .turn .last .1 .1 .0) (w .turn .result) (l .loop .at) (l .loop .line) (l .loop .programs) (l .loop .size) j (turned-is w) (below q) (l .before .before .before .pre .0) (until w) r (accepted e .1) (accepted e .2)
           (fresh e) (c .record-size .result) long bound,
+      once-after e,
     )
 
 pub judge-indexed-spec : {M : Type 1} → statement M
@@ -402,14 +426,14 @@ judge-indexed-spec =
     same-length
     returns
     add-end
-    sub-parse-record
-    part-parse-record-start
-    part-parse-record-end
-    parse-record-requires
+    sub-parse-line
+    part-parse-line-start
+    part-parse-line-end
+    parse-line-requires
     turn-requires
     meet-requires
     barred-requires
-    cast-t30
+    cast-t32
     same-length-2
     returns-2
     programs-of-requires
