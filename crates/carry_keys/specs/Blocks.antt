@@ -9,7 +9,8 @@ use Rattle.format.specs.Records.{Record, Line, refusedLine, read, line}
 use Rattle.record.specs.Head.{headOf}
 use Rattle.record.specs.declared.Head.{Head}
 use Rattle.record.specs.declared.Head.the-variants as head
-use Rattle.key_index.specs.Told.{afterMeeting, afterPointing}
+use Rattle.key_index.specs.KeySlots.{afterEntering, afterPointing}
+use Rattle.key_look.specs.declared.Seed.{Seed}
 
 -- how many keys a head puts into the slots
 unfoldable pub headKeys : Head → ℕ
@@ -57,29 +58,30 @@ unfolding recordIfRead line
 readIn strict [] = []
 readIn strict (p ∷ ps) = recordIfRead (line strict p) ++ readIn strict ps
 
--- the slots after the keys of some lines entered one after another: a key that is there already does not enter again
-unfoldable pub entered : Bool → List ℕ → List ℕ → List Piece → List ℕ
-unfolding afterMeeting headOf line
-entered strict t slots [] = slots
-entered strict t slots (p ∷ ps) = entered strict t (afterMeeting true t slots (headOf (line strict p))) ps
+module _ (seed : Seed) where
+  -- the slots after the keys of some lines entered, one after the other: one that is told already does not enter
+  unfoldable pub entered : Bool → List ℕ → List ℕ → List Piece → List ℕ
+  unfolding afterEntering headOf line
+  entered strict t slots [] = slots
+  entered strict t slots (p ∷ ps) = entered strict t (afterEntering seed true t slots (headOf (line strict p))) ps
 
--- the slots after each slot that holds a key of some lines was set to the offset of that line, one line after another
-unfoldable pub pointedBack : Bool → List ℕ → List ℕ → List Piece → List ℕ
-unfolding afterPointing headOf line
-pointedBack strict t slots [] = slots
-pointedBack strict t slots (p ∷ ps) = pointedBack strict t (afterPointing t slots (headOf (line strict p))) ps
+  -- and after slots that tell a key of some lines were set to these lines' offsets, one after the other
+  unfoldable pub pointedBack : Bool → List ℕ → List ℕ → List Piece → List ℕ
+  unfolding afterPointing headOf line
+  pointedBack strict t slots [] = slots
+  pointedBack strict t slots (p ∷ ps) = pointedBack strict t (afterPointing seed t slots (headOf (line strict p))) ps
 
--- ---- the same, for lines given by their offsets in the text
+  -- ---- by where the lines stand in the text
 
--- the keys of the lines from the offset `at` on, up to the line with the `n`-th key, have entered
-abbrev pub enteredFrom : Bool → List ℕ → List ℕ → ℕ → ℕ → List ℕ
-enteredFrom strict t slots at n = entered strict t slots (keyedFront strict n (linesFrom at (drop at t)))
+  -- the keys of the lines from the offset `at` on entered, up to the line with the `n`-th key
+  abbrev pub enteredFrom : Bool → List ℕ → List ℕ → ℕ → ℕ → List ℕ
+  enteredFrom strict t slots at n = entered strict t slots (keyedFront strict n (linesFrom at (drop at t)))
 
--- slots were set to the offsets of the lines that start at `from` or later and before `to`
-abbrev pub pointedFrom : Bool → List ℕ → List ℕ → ℕ → ℕ → List ℕ
-pointedFrom strict t slots from to = pointedBack strict t slots (earlier to (linesFrom from (drop from t)))
+  -- slots were set to the offsets of the lines from the offset `from` on that start before `to`
+  abbrev pub pointedFrom : Bool → List ℕ → List ℕ → ℕ → ℕ → List ℕ
+  pointedFrom strict t slots from to = pointedBack strict t slots (earlier to (linesFrom from (drop from t)))
 
--- `n` slots filled for the block of lines from the offset `at` on, with the lines from `from` on before it
-unfoldable pub filledFor : Bool → List ℕ → ℕ → ℕ → ℕ → List ℕ
-unfolding entered pointedBack keyedFront earlier linesFrom
-filledFor strict t n from at = pointedFrom strict t (enteredFrom strict t (replicate n 0) at (n / 4 * 3)) from at
+  -- `n` slots for the block of lines from the offset `at` on, after the lines from `from` on
+  unfoldable pub filledFor : Bool → List ℕ → ℕ → ℕ → ℕ → List ℕ
+  unfolding entered pointedBack keyedFront earlier linesFrom
+  filledFor strict t n from at = pointedFrom strict t (enteredFrom strict t (replicate n 0) at (n / 4 * 3)) from at

@@ -6,7 +6,8 @@ use mathlib.Core.Option.{Option}
 use lib.ListN.{length}
 use Rattle.format.specs.Records.{Record, Line}
 use Rattle.format.specs.Slots.{Held}
-use Rattle.key_index.specs.Told.{start}
+use Rattle.key_look.specs.Seed.{plainSeed}
+use Rattle.key_index.specs.KeySlots.{start}
 use Rattle.format.specs.Carrying.{keptOf, Skip, skips, rows, unwritableLine}
 use Rattle.carry_early.specs.declared.Begin.{Begin}
 use Rattle.carry_lines.specs.Going.{judgedLines}
@@ -15,7 +16,7 @@ use Rattle.carry_lines.specs.Going.{judgedLines}
 pub record Fresh (t area ids : List ℕ) : Type 0 where
   pub some : 4 ≤ length area
   pub room : length ids ≡ 2048
-  pub held : Held (start t 2048) ids []
+  pub held : Held (start plainSeed t 2048) ids []
 
 -- the verdict on each line
 abbrev pub linesKeptFrom : List ℕ → Begin → List Line

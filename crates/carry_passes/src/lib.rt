@@ -47,11 +47,13 @@ fn measure_lines(text: &[u8], b: Begin, area: &mut [u32], ids: &mut [u32]) -> Ke
     ensures measured { λ r. ⌜ r ≡ measuredFrom (now (text .entry)) b ⌝ }
     ensures room { λ _. ⌜ length (now (area .exit)) ≡ length (now (area .entry)) ⌝ }
 {
+    let seed = key_look::plain();
     let mut sizes = PerKind::new();
     let mut c = Cursor {
         at: b.at,
         line: 0,
         until: b.at,
+        seed,
         kept: 0,
         programs: 0,
     };

@@ -66,11 +66,13 @@ fn put_lines(
     ensures wrote { λ _. ⌜ now (out .exit) ≡ withParts (now (out .entry)) (parts places (keptFrom (now (text .entry)) b)) ⌝ }
     ensures listed { λ _. ⌜ now (table .exit) ≡ over (now (table .entry)) (b .line * 2) (rowsOf (now (text .entry)) b) ⌝ }
 {
+    let seed = key_look::plain();
     let mut next = places;
     let mut c = Cursor {
         at: b.at,
         line: 0,
         until: b.at,
+        seed,
         kept: 0,
         programs: 0,
     };

@@ -86,11 +86,13 @@ pub fn put_lines(
     ensures { λ _. ⌜ now (table .exit) ≡ over (now (table .entry)) (b .line * 2)
         (rows (faultsFrom (linksIn (now (parents .entry))) (b .line) 0 (linesKeptFrom (now (text .entry)) b))) ⌝ }
 {
+    let seed = key_look::plain();
     let mut row: usize = b.line as usize;
     let mut c = Cursor {
         at: b.at,
         line: 0,
         until: b.at,
+        seed,
         kept: 0,
         programs: 0,
     };

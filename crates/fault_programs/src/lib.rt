@@ -60,6 +60,7 @@ fn gather(text: &[u8], b: Begin, area: &mut [u32], ids: &mut [u32]) -> Gathered
     ensures plain { λ r. ⌜ r .plain ≡ plainCount (linesKeptFrom (now (text .entry)) b) ⌝ }
     ensures room { λ _. ⌜ length (now (area .exit)) ≡ length (now (area .entry)) ⌝ }
 {
+    let seed = key_look::plain();
     let mut ats: [u32; 1024] = [0; 1024];
     let mut lens: [u32; 1024] = [0; 1024];
     let mut from: [u32; 1024] = [0; 1024];
@@ -69,6 +70,7 @@ fn gather(text: &[u8], b: Begin, area: &mut [u32], ids: &mut [u32]) -> Gathered
         at: b.at,
         line: 0,
         until: b.at,
+        seed,
         kept: 0,
         programs: 0,
     };

@@ -7,7 +7,8 @@ use lib.ListN.{length}
 use borrow.Author.Needs.{needs}
 use Rattle.format.specs.Programs.{Program, programs}
 use Rattle.format.proofs.Slots.{held-none}
-use Rattle.key_index.specs.Told.{start}
+use Rattle.key_look.specs.Seed.{plainSeed}
+use Rattle.key_index.specs.KeySlots.{start}
 use Rattle.carry_passes.specs.From.{keptFrom}
 use Rattle.fault_programs.specs.Placed.{PlacesOf}
 use Rattle.fault_programs.proofs.Placed.{own-count, own-few, own-ats, own-lens, ats-inside, lens-inside, own-placed, own-somewhere, own-parent, Found, found-none, found-all, found-more}
@@ -27,7 +28,7 @@ slice-aggregate-gather c = search needs
 gather-requires : tie.Need-gather-requires Inv-loop μ-loop
 gather-requires c κs =
     let s = c .before .before .before .before in
-    (s .pre .0, (s .pre .1 .0, record { some = s .pre .1 .1; room = omega arith; held = held-none (start (s .args .text .now) 2048) 2048 }))
+    (s .pre .0, (s .pre .1 .0, record { some = s .pre .1 .1; room = omega arith; held = held-none (start plainSeed (s .args .text .now) 2048) 2048 }))
 
 -- the programs whose parents are looked for
 abbrev kept : (c : tie.At-loop Inv-loop μ-loop) → List Program

@@ -7,7 +7,8 @@ use borrow.Author.Needs.{needs}
 use Rattle.format.proofs.Slots.{held-none}
 use Rattle.byte_slices.specs.Over.{over}
 use Rattle.byte_slices.proofs.Over.{over-over}
-use Rattle.key_index.specs.Told.{start}
+use Rattle.key_look.specs.Seed.{plainSeed}
+use Rattle.key_index.specs.KeySlots.{start}
 use Rattle.format.specs.Carrying.{carriedLines, rows}
 use Rattle.carry_early.specs.Early.{earlyOf, rowsFrom}
 use Rattle.carry_passes.proofs.Split.{early-rows}
@@ -106,7 +107,7 @@ put-lines-requires c κs =
       (
         f,
         (
-          record { some = s .pre .1 .1 .0; room = omega arith; held = held-none (start t 2048) 2048 },
+          record { some = s .pre .1 .1 .0; room = omega arith; held = held-none (start plainSeed t 2048) 2048 },
           (
             within t (a .b) f (a .links) k,
             (front-length t (a .b) f (a .links) k, omega (arith, room (c .before .before .before .before .before .before .before .before), ap length (left-is t (a .b) f (a .links) k), c .before .before .before .before .before .before .put-early .kept)),

@@ -5,7 +5,7 @@ use borrow.Author.Needs.{needs}
 use borrow.Fn.Kinds.{In}
 use borrow.Fn.PlainCycle.{Measures, is, falls, and}
 use Rattle.format.proofs.Slots.{held-none}
-use Rattle.key_index.specs.Told.{start}
+use Rattle.key_index.specs.KeySlots.{start}
 use Rattle.read_judge.proofs.judge_long.Reads as judge-long
 use Rattle.read_judge.proofs.judge_long.Kinds as judge-long-kinds
 use Rattle.read_judge.proofs.+judge_long.Lts-judge_long as judge-long-lts

@@ -4,7 +4,7 @@ use native.Mathlib.Omega.{arith}
 use borrow.Author.Needs.{needs}
 use lib.ListN.{length, take, replicate, length-take, length-replicate}
 use Rattle.format.proofs.Slots.{held-none}
-use Rattle.key_index.specs.Told.{start}
+use Rattle.key_index.specs.KeySlots.{start}
 use Rattle.read_judge.proofs.Smaller.{least-left}
 use Rattle.read_judge.proofs.judge_lent.Statement.{statement}
 use Rattle.read_judge.proofs.judge_lent.Tie as tie

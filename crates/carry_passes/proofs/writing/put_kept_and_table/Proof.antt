@@ -8,7 +8,8 @@ use Rattle.format.specs.Work.{allZeros}
 use Rattle.format.proofs.Slots.{held-none}
 use Rattle.byte_slices.specs.Over.{over}
 use Rattle.byte_slices.proofs.Over.{over-over}
-use Rattle.key_index.specs.Told.{start}
+use Rattle.key_look.specs.Seed.{plainSeed}
+use Rattle.key_index.specs.KeySlots.{start}
 use Rattle.tidy_text.specs.Placed.{withParts, parts, Apart}
 use Rattle.tidy_text.proofs.Parts.{starts-apart, starts-placed, around-none}
 use Rattle.carry_early.specs.Early.{earlyOf, rowsFrom}
@@ -39,7 +40,7 @@ put-lines-requires c κs =
       (
         s .pre .1 .0,
         (
-          record { some = s .pre .1 .1 .0; room = omega arith; held = held-none (start (a .text .now) 2048) 2048 },
+          record { some = s .pre .1 .1 .0; room = omega arith; held = held-none (start plainSeed (a .text .now) 2048) 2048 },
           (subst (λ q. Apart (parts q rs) (length (a .out .now))) (sym (p .0)) (starts-apart (a .out .now) 0 rs room), omega (arith, p .1 .1, c .before .before .before .before .before .before .put-early .kept)),
         ),
       ),
