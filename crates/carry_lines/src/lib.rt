@@ -55,7 +55,7 @@ fn is_used(
 }
 
 // At the end of a block the next one begins, and the area is filled for it. The block that the line is in.
-fn turn(text: &[u8], strict: bool, from: usize, area: &mut [u32], c: Cursor) -> Filled
+fn fill_at_block_end(text: &[u8], strict: bool, from: usize, area: &mut [u32], c: Cursor) -> Filled
     requires { ⌜ length (now text) ≤ 16777216 ⌝ }
     requires { ⌜ 4 ≤ length (now area) ⌝ }
     requires { ⌜ c .at ≤ length (now text) ⌝ }
@@ -121,7 +121,7 @@ pub fn next_line(
         (headAt strict (now (text .entry)) (c .at)) ⌝ }
 {
     let at = c.at;
-    let block = turn(text, strict, from, area, c);
+    let block = fill_at_block_end(text, strict, from, area, c);
     let cut = byte_slices::first_line(&text[at..]);
     let end = at + cut.len;
     let head = record_parser::parse_record(&text[at..end], at, strict);

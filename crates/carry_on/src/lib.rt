@@ -13,6 +13,7 @@ ghost use lib.ListN.{length};
 ghost use Rattle.format.specs.Reading.{readText};
 ghost use Rattle.format.specs.Work.{allZeros};
 ghost use Rattle.accepted.specs.Read.{isAccepted};
+ghost use Rattle.accepted_rule.specs.Rule.{ReadsBy};
 ghost use Rattle.tidy_text.specs.Sizes.{sizesOf};
 ghost use Rattle.format.specs.Carrying.{carriedLines, unwritableLine};
 ghost use Rattle.carry_early.specs.First.{First};
@@ -182,13 +183,14 @@ fn carry_refused(text: &[u8], out: &mut [u8], table: &mut [u32]) -> Carried
 }
 
 // A text that reading accepts: no line is skipped, so this is tidying, and the table stays as it is.
-fn carry_accepted(text: &[u8], out: &mut [u8], table: &mut [u32]) -> Carried
+fn carry_accepted(text: &[u8], once: bool, out: &mut [u8], table: &mut [u32]) -> Carried
     requires { ⌜ isAccepted (readText (now text)) ≡ true ⌝ }
+    requires { ⌜ ReadsBy once (now text) ⌝ }
     ensures answer { λ r. ⌜ r ≡ carriedAnswer (now (text .entry)) (now (out .entry)) (now (table .entry)) ⌝ }
     ensures wrote { λ _. ⌜ now (out .exit) ≡ textLeft (now (text .entry)) (now (out .entry)) (now (table .entry)) ⌝ }
     ensures listed { λ _. ⌜ now (table .exit) ≡ tableLeft (now (text .entry)) (now (out .entry)) (now (table .entry)) ⌝ }
 {
-    match tidy::write_accepted(text, read_repeat_rule::is_strict(text), out) {
+    match tidy::write_accepted(text, once, out) {
         CountAnswer::Refused(n, line) => Carried::Refused(n, line),
         CountAnswer::Count(n) => Carried::Written(n, 0),
     }
@@ -204,7 +206,7 @@ pub fn carry_on(text: &[u8], out: &mut [u8], table: &mut [u32]) -> Carried
 {
     match read_judge::judge(text) {
         Judged::Refused(_, _) => carry_refused(text, out, table),
-        Judged::Accepted(_) => carry_accepted(text, out, table),
+        Judged::Accepted(_, once) => carry_accepted(text, once, out, table),
     }
 }
 
@@ -253,6 +255,6 @@ pub fn carry_on_with(text: &[u8], out: &mut [u8], table: &mut [u32], work: &mut 
 {
     match read_judge::judge_with(text, work) {
         Judged::Refused(_, _) => carry_refused_with(text, out, table, work),
-        Judged::Accepted(_) => carry_accepted(text, out, table),
+        Judged::Accepted(_, once) => carry_accepted(text, once, out, table),
     }
 }

@@ -1,4 +1,4 @@
--- `carry_lines::turn` meets its contract: the same block, or the next one, for which the area is filled.
+-- `carry_lines::fill_at_block_end` meets its contract: the same block, or the next one, for which the area is filled.
 use mathlib.Core.Path.{_≡_, refl, sym, _∙_}
 use native.Mathlib.Omega.{arith}
 use lib.ListN.{length}

@@ -78,7 +78,7 @@ long : (w : tie.After-fill-at-block-end) → length (w .fill-at-block-end .last 
 long w =
     let s = w .before .before .before .before .before in
     let a = s .args in
-    ap length (w .turn .ensures .1 .1) ∙ filled-long (a .strict) (a .text .now) (a .from) (a .area .now) (a .ids .now) (a .c) (s .pre .0) (s .pre .1 .0) (s .pre .1 .1) (w .turn .result .seed) (w .turn .ensures .1 .0)
+    ap length (w .fill-at-block-end .ensures .1 .1) ∙ filled-long (a .strict) (a .text .now) (a .from) (a .area .now) (a .ids .now) (a .c) (s .pre .0) (s .pre .1 .0) (s .pre .1 .1) (w .fill-at-block-end .result .seed) (w .fill-at-block-end .ensures .1 .0)
 
 add-end : tie.Need-add-end
 add-end c = omega (arith, inside (c .before))
@@ -137,21 +137,21 @@ returns c =
     let a = s .args in
     let t = a .text .now in
     let n = b .barred .result in
-    let seed = w .turn .result .seed in
-    let keeps = w .turn .ensures .1 .0 in
+    let seed = w .fill-at-block-end .result .seed in
+    let keeps = w .fill-at-block-end .ensures .1 .0 in
     let at-next : a .c .at + f .first-line .result .next ≡ a .c .at + firstLine (drop (a .c .at) t) .next = ap (λ x. a .c .at + x .next) (cut f) in
     let used : u .is-used .result ≡ usedBy seed t (filledAt seed (a .strict) t (a .from) (a .area .now) (a .c .at) (a .c .until)) (a .ids .now) (headOf (line (a .strict) (firstAt (a .c .at) t))) =
-    u .is-used .ensures .0 ∙ ap₂ (λ s x. usedBy seed t s (a .ids .now) x) (w .turn .ensures .1 .1) (head-is p) in
+    u .is-used .ensures .0 ∙ ap₂ (λ s x. usedBy seed t s (a .ids .now) x) (w .fill-at-block-end .ensures .1 .1) (head-is p) in
     let refusal : n ≡ lineRefusal (admitted (a .strict) (before (a .strict) t (a .from) (a .area .now) (a .ids .now) (a .c) (s .pre .0) (s .pre .1 .0) (s .pre .1 .1)) (firstAt (a .c .at) t)) =
     b .barred .ensures ∙ ap₂ (λ d x. barring d (a .c .kept) (a .c .programs) x) used (head-is p)
     ∙ judged (a .strict) t (a .from) (a .area .now) (a .ids .now) (a .c) (s .pre .0) (s .pre .1 .0) (s .pre .1 .1) seed keeps in
     let after : c .advance .result ≡ advanced (a .c) (a .c .at + firstLine (drop (a .c .at) t) .next) (untilAt (a .strict) t (length (a .area .now)) (a .c .at) (a .c .until)) seed (headOf (line (a .strict) (firstAt (a .c .at) t))) n =
-    c .advance .ensures ∙ rw (at-next, w .turn .ensures .0, head-is p) refl in
+    c .advance .ensures ∙ rw (at-next, w .fill-at-block-end .ensures .0, head-is p) refl in
     let to = advanced-to (a .c) (a .c .at + firstLine (drop (a .c .at) t) .next) (untilAt (a .strict) t (length (a .area .now)) (a .c .at) (a .c .until)) seed (headOf (line (a .strict) (firstAt (a .c .at) t))) n in
     let last : c .advance .result .seed ≡ seed = ap (λ x. x .seed) after ∙ to .2 in
     let there = after
     ∙ ap (λ s. advanced (a .c) (a .c .at + firstLine (drop (a .c .at) t) .next) (untilAt (a .strict) t (length (a .area .now)) (a .c .at) (a .c .until)) s (headOf (line (a .strict) (firstAt (a .c .at) t))) n) (sym last) in
-    let filled = w .turn .ensures .1 .1 ∙ ap (λ s. filledAt s (a .strict) t (a .from) (a .area .now) (a .c .at) (a .c .until)) (sym last) in
+    let filled = w .fill-at-block-end .ensures .1 .1 ∙ ap (λ s. filledAt s (a .strict) t (a .from) (a .area .now) (a .c .at) (a .c .until)) (sym last) in
     let ids : u .is-used .last .1 .1 .1 .0 ≡ idsAfter (ltb (a .c .programs) 1024) t (a .ids .now) (headOf (line (a .strict) (firstAt (a .c .at) t))) =
     u .is-used .ensures .1 ∙ ap (idsAfter (ltb (a .c .programs) 1024) t (a .ids .now)) (head-is p) in (
       ap (λ x. a .c .at + x .len) (cut f),
@@ -162,7 +162,7 @@ returns c =
           (
             ap (λ x. x .line) after ∙ to .1,
             (
-              rw (after, ids, w .turn .ensures .1 .1) (going-on (a .strict) t (a .from) (a .area .now) (a .ids .now) (a .c) (s .pre .0) (s .pre .1 .0) (s .pre .1 .1) seed keeps n refusal),
+              rw (after, ids, w .fill-at-block-end .ensures .1 .1) (going-on (a .strict) t (a .from) (a .area .now) (a .ids .now) (a .c) (s .pre .0) (s .pre .1 .0) (s .pre .1 .1) seed keeps n refusal),
               (
                 long w,
                 (

@@ -6,58 +6,45 @@ use Rattle.carry_on.proofs.carry_accepted.Statement.{statement}
 use Rattle.carry_on.proofs.carry_accepted.Tie as tie
 use Rattle.carry_on.proofs.carry_accepted.Reads as reads
 use Rattle.carry_on.proofs.carry_accepted.Lts as lts
-use Rattle.read_repeat_rule.proofs.is_strict.Reads as is-strict-reads
 use Rattle.tidy.proofs.write_accepted.Reads as write-accepted-reads
 
--- src/lib.rt:190:38
-is-strict-requires : tie.Need-is-strict-requires
-is-strict-requires c κs = search needs
-
--- src/lib.rt:190:11
 write-accepted-requires : tie.Need-write-accepted-requires
 write-accepted-requires c κs = search needs
 
--- src/lib.rt:191:30
 enum-known-n : tie.Need-enum-known-n
 enum-known-n c = search needs
 
--- src/lib.rt:192:28
 enum-known-n-2 : tie.Need-enum-known-n-2
 enum-known-n-2 c = search needs
 
--- src/lib.rt:184:1
 same-length : tie.Need-same-length
 same-length c = search needs
 
--- src/lib.rt:184:1
 returns : tie.Need-returns
 unfolding Leaves
 returns c =
     let w = c .before .before .before .before .before in
     let s = w .before .before .before .before .before .before in
     let g = c .before .n .given in
-    refused-accepted (s .args .text .now) (s .args .out .now) (s .args .table .now) (w .write-accepted .last .1 .1 .0) (s .pre) (g .0 .0) (g .0 .1 .0)
+    refused-accepted (s .args .text .now) (s .args .out .now) (s .args .table .now) (w .write-accepted .last .1 .1 .0) (s .pre .0) (g .0 .0) (g .0 .1 .0)
     (sym (g .1) ∙ w .write-accepted .ensures .0) (w .write-accepted .ensures .1)
 
--- src/lib.rt:184:1
 same-length-2 : tie.Need-same-length-2
 same-length-2 c = search needs
 
--- src/lib.rt:184:1
 returns-2 : tie.Need-returns-2
 unfolding Leaves
 returns-2 c =
     let w = c .before .before .before .before .before in
     let s = w .before .before .before .before .before .before in
     let g = c .before .n2 .given in
-    written-accepted (s .args .text .now) (s .args .out .now) (s .args .table .now) (w .write-accepted .last .1 .1 .0) (s .pre) (g .0 .0)
+    written-accepted (s .args .text .now) (s .args .out .now) (s .args .table .now) (w .write-accepted .last .1 .1 .0) (s .pre .0) (g .0 .0)
     (sym (g .1) ∙ w .write-accepted .ensures .0) (w .write-accepted .ensures .1)
 
 pub carry-accepted-spec : {M : Type 1} → statement M
 carry-accepted-spec =
     tie.close
     (tie.spec
-    is-strict-requires
     write-accepted-requires
     enum-known-n
     enum-known-n-2

@@ -11,51 +11,41 @@ use Rattle.carry_on.proofs.carry_accepted.Reads as carry-accepted-reads
 use Rattle.carry_on.proofs.carry_refused.Reads as carry-refused-reads
 use Rattle.read_judge.proofs.judge.Reads as judge-reads
 
--- src/lib.rt:204:11
 judge-requires : tie.Need-judge-requires
 judge-requires c κs = search needs
 
--- src/lib.rt:205:54
 enum-told : tie.Need-enum-told
 enum-told c = search needs
 
--- src/lib.rt:205:34
 carry-refused-requires : tie.Need-carry-refused-requires
 carry-refused-requires c κs = search needs
 
--- src/lib.rt:206:53
-enum-told-2 : tie.Need-enum-told-2
-enum-told-2 c = search needs
+enum-known-once : tie.Need-enum-known-once
+enum-known-once c = search needs
 
--- src/lib.rt:206:32
 carry-accepted-requires : tie.Need-carry-accepted-requires
 unfolding isAccepted
 carry-accepted-requires c κs =
     let j = c .before .before .before .before in
-    let g = c .before .before .enum-told2 .given in
-    ap isAccepted (text-accepted (j .before .before .before .before .args .text .now) (g .0 .0) (sym (j .judge .ensures) ∙ g .1) .0)
+    let g = c .before .before .once .given in
+    let told = text-accepted (j .before .before .before .before .args .text .now) (g .0 .0) (g .0 .1 .0) (sym (j .judge .ensures) ∙ g .1) in
+    (ap isAccepted (told .reads), told .rule)
 
--- src/lib.rt:199:1
 same-length : tie.Need-same-length
 same-length c = search needs
 
--- src/lib.rt:199:1
 same-length-2 : tie.Need-same-length-2
 same-length-2 c = search needs
 
--- src/lib.rt:199:1
 returns : tie.Need-returns
 returns c = search needs
 
--- src/lib.rt:199:1
 same-length-3 : tie.Need-same-length-3
 same-length-3 c = search needs
 
--- src/lib.rt:199:1
 same-length-4 : tie.Need-same-length-4
 same-length-4 c = search needs
 
--- src/lib.rt:199:1
 returns-2 : tie.Need-returns-2
 returns-2 c = search needs
 
@@ -66,7 +56,7 @@ carry-on-spec =
     judge-requires
     enum-told
     carry-refused-requires
-    enum-told-2
+    enum-known-once
     carry-accepted-requires
     same-length
     same-length-2

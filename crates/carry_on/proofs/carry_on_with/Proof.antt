@@ -14,43 +14,35 @@ use Rattle.carry_on.proofs.carry_accepted.Reads as carry-accepted-reads
 use Rattle.carry_on.proofs.carry_refused_with.Reads as carry-refused-with-reads
 use Rattle.read_judge.proofs.judge_with.Reads as judge-with-reads
 
--- src/lib.rt:253:11
 judge-with-requires : tie.Need-judge-with-requires
 judge-with-requires c κs = search needs
 
--- src/lib.rt:254:59
 enum-told : tie.Need-enum-told
 enum-told c = search needs
 
--- src/lib.rt:254:34
 carry-refused-with-requires : tie.Need-carry-refused-with-requires
 carry-refused-with-requires c κs = search needs
 
--- src/lib.rt:255:53
-enum-told-2 : tie.Need-enum-told-2
-enum-told-2 c = search needs
+enum-known-once : tie.Need-enum-known-once
+enum-known-once c = search needs
 
--- src/lib.rt:255:32
 carry-accepted-requires : tie.Need-carry-accepted-requires
 unfolding isAccepted
 carry-accepted-requires c κs =
     let j = c .before .before .before .before .before .before in
-    let g = c .before .before .enum-told2 .given in
-    ap isAccepted (text-accepted (j .before .before .before .before .before .before .args .text .now) (g .0 .0) (sym (j .judge-with .ensures .0) ∙ g .1) .0)
+    let g = c .before .before .once .given in
+    let told = text-accepted (j .before .before .before .before .before .before .args .text .now) (g .0 .0) (g .0 .1 .0) (sym (j .judge-with .ensures .0) ∙ g .1) in
+    (ap isAccepted (told .reads), told .rule)
 
--- src/lib.rt:247:1
 same-length : tie.Need-same-length
 same-length c = search needs
 
--- src/lib.rt:247:1
 same-length-2 : tie.Need-same-length-2
 same-length-2 c = search needs
 
--- src/lib.rt:247:1
 same-length-3 : tie.Need-same-length-3
 same-length-3 c = search needs
 
--- src/lib.rt:247:1
 returns : tie.Need-returns
 unfolding allZeros
 returns c =
@@ -59,19 +51,15 @@ returns c =
     let e = w .carry-refused-with .ensures in
     (e .0, (e .1 .0, (e .1 .1 .0, e .1 .1 .1 ∙ ap (λ n. replicate n 0) (zeros-long (j .judge-with .last .1 .0) (j .before .before .before .before .before .before .args .work .now) (j .judge-with .ensures .1)))))
 
--- src/lib.rt:247:1
 same-length-4 : tie.Need-same-length-4
 same-length-4 c = search needs
 
--- src/lib.rt:247:1
 same-length-5 : tie.Need-same-length-5
 same-length-5 c = search needs
 
--- src/lib.rt:247:1
 same-length-6 : tie.Need-same-length-6
 same-length-6 c = search needs
 
--- src/lib.rt:247:1
 returns-2 : tie.Need-returns-2
 returns-2 c =
     let w = c .before .before .before .before in
@@ -86,7 +74,7 @@ carry-on-with-spec =
     judge-with-requires
     enum-told
     carry-refused-with-requires
-    enum-told-2
+    enum-known-once
     carry-accepted-requires
     same-length
     same-length-2
