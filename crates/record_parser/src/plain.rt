@@ -69,6 +69,9 @@ fn parse_plain(src: &[u8]) -> Plain
     requires { ⌜ 3 ≤ length (now src) ⌝ }
     ensures { λ r. ⌜ PlainTold (now (src .entry)) r ⌝ }
 {
+    if !field_tag::is_between(b'0', b'9', src[src.len() - 1]) {
+        return Plain::Other; // most lines with another field are told by their last byte
+    }
     if !has_tag_at(src, 3, b'S') {
         return Plain::Other;
     }
