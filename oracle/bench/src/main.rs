@@ -29,7 +29,7 @@
 //!   add                   against its parser, its add and its writer, into a buffer that is reused; its fields are read before
 //!   tidy                  against its parser and its writer
 //!   read/hts, tidy/hts    against sam_hdr_parse of htslib, which fills its tables, and against that and sam_hdr_str, which writes the lines again as they
-//!                         were and in their order
+//!                         were and in their order, HD first
 //!
 //! A call that the library refuses is not timed: the refusal's number stands there in brackets. The library's outputs are reused
 //! and not cleared, and hold the bytes that the crate wrote.
