@@ -3,3 +3,4 @@ pub mod Turn
 pub mod Made
 pub mod Walked
 pub mod Step
+pub mod Alone

@@ -1,6 +1,7 @@
 // One line of a header: the record that it is, or the refusal that it gets.
 pub mod fields;
 pub mod marks;
+pub mod plain;
 
 use format::Kind;
 use record::Head;
@@ -50,8 +51,13 @@ fn parse_value(kind: Kind, src: &[u8], at: usize, strict: bool) -> Head
 {
     match kind {
         Kind::Comment => parse_comment(src, at),
-        Kind::Header | Kind::ReferenceSequence | Kind::ReadGroup | Kind::Program =>
-            fields::parse_fields(kind, src, at, strict),
+        Kind::ReferenceSequence => plain::parse_reference(src, at, strict),
+        Kind::Header | Kind::ReadGroup | Kind::Program => fields::parse_fields(
+            kind,
+            src,
+            at,
+            strict,
+        ),
     }
 }
 
