@@ -5,7 +5,7 @@ ghost use mathlib.Core.Path.{_≡_};
 ghost use Prim.Native.Nat.{_≤_, _+_};
 ghost use lib.ListN.{length};
 ghost use Rattle.byte_slices.specs.Over.{over};
-ghost use Rattle.program_ids.specs.Places.{PlacesInText};
+ghost use Rattle.program_ids.specs.Ids.{IdsInText};
 ghost use Rattle.add_lines.specs.Line.{joining, linking, ending, newLine};
 ghost use Rattle.add_lines.specs.Lines.{newText};
 
@@ -120,17 +120,16 @@ pub fn line_len(prefix: &[u8], fields: &[u8], id: &[u8], alone: bool, linked: bo
 // which no PP is added.
 pub fn added_len(
     text: &[u8],
-    ats: &[u32],
-    lens: &[u32],
+    ids: &[u32],
     prefix: &[u8],
     fields: &[u8],
     leaves: &[u32],
     shape: Shape,
 ) -> usize
-    requires { ⌜ PlacesInText (now text) (now ats) (now lens) ⌝ }
+    requires { ⌜ IdsInText (now text) (now ids) ⌝ }
     requires { ⌜ (length (now text) ≤ 16777216) × (length (now prefix) ≤ 16777216) × (length (now fields) ≤ 16777216) × (length (now leaves) ≤ 1024) ⌝ }
     ensures { λ r.
-        ⌜ r ≡ length (newText (now (text .entry)) (now (ats .entry)) (now (lens .entry)) shape
+        ⌜ r ≡ length (newText (now (text .entry)) (now (ids .entry)) shape
         (now (prefix .entry)) (now (fields .entry)) (now (leaves .entry))) ⌝ }
 {
     if shape.empty {
@@ -140,7 +139,7 @@ pub fn added_len(
     let mut first = shape.alone;
     let mut i: usize = 0;
     while i < leaves.len() {
-        let id = add_ids::find_id(text, ats, lens, ProgramNo(leaves[i]));
+        let id = add_ids::find_id(text, ids, ProgramNo(leaves[i]));
         n += line_len(prefix, fields, id, first, shape.linked);
         first = false;
         i += 1;
@@ -153,20 +152,19 @@ pub fn put_added(
     out: &mut [u8],
     o: usize,
     text: &[u8],
-    ats: &[u32],
-    lens: &[u32],
+    ids: &[u32],
     prefix: &[u8],
     fields: &[u8],
     leaves: &[u32],
     shape: Shape,
 ) -> usize
-    requires { ⌜ PlacesInText (now text) (now ats) (now lens) ⌝ }
-    requires { ⌜ o + length (newText (now text) (now ats) (now lens) shape (now prefix) (now fields) (now leaves)) ≤ length (now out) ⌝ }
+    requires { ⌜ IdsInText (now text) (now ids) ⌝ }
+    requires { ⌜ o + length (newText (now text) (now ids) shape (now prefix) (now fields) (now leaves)) ≤ length (now out) ⌝ }
     ensures next { λ r.
-        ⌜ r ≡ o + length (newText (now (text .entry)) (now (ats .entry)) (now (lens .entry)) shape
+        ⌜ r ≡ o + length (newText (now (text .entry)) (now (ids .entry)) shape
         (now (prefix .entry)) (now (fields .entry)) (now (leaves .entry))) ⌝ }
     ensures wrote { λ _. ⌜ now (out .exit) ≡ over (now (out .entry)) o
-        (newText (now (text .entry)) (now (ats .entry)) (now (lens .entry)) shape
+        (newText (now (text .entry)) (now (ids .entry)) shape
         (now (prefix .entry)) (now (fields .entry)) (now (leaves .entry))) ⌝ }
 {
     if shape.empty {
@@ -176,7 +174,7 @@ pub fn put_added(
     let mut first = shape.alone;
     let mut i: usize = 0;
     while i < leaves.len() {
-        let id = add_ids::find_id(text, ats, lens, ProgramNo(leaves[i]));
+        let id = add_ids::find_id(text, ids, ProgramNo(leaves[i]));
         n = put_line(out, n, prefix, fields, id, first, shape.linked);
         first = false;
         i += 1;
