@@ -5,7 +5,7 @@ use mathlib.Core.Bool.{true}
 use mathlib.Core.List.{List, [], _∷_, map}
 use mathlib.Core.Option.{none}
 use native.Mathlib.Omega.{arith}
-use lib.ListN.{length, take, getD, replicate, length-map, length-take, length-replicate}
+use lib.ListN.{length, take, getD, length-map, length-take}
 use lib.Seq.{length-take-le}
 use Rattle.format.specs.Reading.{readText, ofKind}
 use Rattle.format.specs.Catalogue.{catalogue}
@@ -25,7 +25,7 @@ use Rattle.program_places.specs.declared.Programs.{Programs}
 use Rattle.program_ids.specs.Places.{InsideText, bytesAt, nowhere, placesOf, PlacesInText}
 use Rattle.program_places.specs.Gathered.{ProgramPlaces, notedIn, arraysOf, gatheredOf}
 use Rattle.program_parents.specs.Parents.{Somewhere, linkNumber, parentOf}
-use Rattle.program_parents.specs.Placed.{Says, PlacesOf, ArePlaces}
+use Rattle.program_parents.specs.Placed.{Says, PlacesOf, ArePlaces, ListsIds}
 use Rattle.program_ids.specs.Ids.{idList, idsAt, IdsInText}
 use Rattle.program_ids.specs.Search.{idsOf}
 use Rattle.program_ids.proofs.Ids.{lent-ids, lent-are, lent-inside}
@@ -137,21 +137,18 @@ module _ (t : List ℕ) (ps : List Program) (p : Programs) (x : PlacesOf t ps p)
   pub own-room : length ats * 3 ≤ 3072
   own-room = omega (arith, own-ats, own-few)
 
-  abbrev zeros : List ℕ
-  zeros = replicate 3072 0
-
-  module _ (list : List ℕ) (e : list ≡ over zeros 0 (idList t (placesOf ats lens))) where
-    room : length ats * 3 ≤ length zeros
-    room = simp length-replicate own-room
+  module _ (list₀ list : List ℕ) (wide : 3072 ≤ length list₀) (e : list ≡ over list₀ 0 (idList t (placesOf ats lens))) where
+    room : length ats * 3 ≤ length list₀
+    room = omega (arith, own-room)
 
     pub listed-ids : IdsInText t (take (p .count * 3) list)
-    listed-ids = subst (λ n. IdsInText t (take (n * 3) list)) own-ats (lent-ids t ats lens own-placed zeros list room e)
+    listed-ids = subst (λ n. IdsInText t (take (n * 3) list)) own-ats (lent-ids t ats lens own-placed list₀ list room e)
 
     pub listed-are : idsAt t (take (p .count * 3) list) ≡ idsOf ps
-    listed-are = ap (λ n. idsAt t (take (n * 3) list)) (sym own-ats) ∙ lent-are t ats lens own-placed zeros list room e ∙ own-ids
+    listed-are = ap (λ n. idsAt t (take (n * 3) list)) (sym own-ats) ∙ lent-are t ats lens own-placed list₀ list room e ∙ own-ids
 
     pub listed-inside : p .count * 3 ≤ length list
-    listed-inside = omega (arith, own-ats, lent-inside t ats lens own-placed zeros list room e)
+    listed-inside = omega (arith, own-ats, lent-inside t ats lens own-placed list₀ list room e)
 
     pub listed-length : p .count * 3 ≡ length (take (p .count * 3) list)
     listed-length = sym (length-take-le (p .count * 3) list listed-inside)
@@ -207,3 +204,12 @@ module _ (t : List ℕ) (accepted : isAccepted (readText t) ≡ true) where
 
     pub text-places : ArePlaces t p
     text-places = record { ps = programs (recordsOf t); are = text-placed; fits = text-fits t (recordsOf t) (accepted-reads t accepted) }
+
+    -- the list of their IDs
+    pub text-listed : (list₀ list : List ℕ) → 3072 ≤ length list₀ → list ≡ over list₀ 0 (idList t (placesOf (take (p .count) (p .id .at)) (take (p .count) (p .id .len)))) → ListsIds t list (p .count)
+    text-listed list₀ list wide q = record {
+      counts = own-count t (programs (recordsOf t)) p text-placed;
+      long = listed-inside t (programs (recordsOf t)) p text-placed list₀ list wide q;
+      listed = listed-ids t (programs (recordsOf t)) p text-placed list₀ list wide q;
+      are = listed-are t (programs (recordsOf t)) p text-placed list₀ list wide q;
+    }

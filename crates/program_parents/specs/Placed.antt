@@ -1,16 +1,19 @@
 -- Places of a text that say programs.
-use Prim.Native.Nat.{ℕ, _≤_}
+use Prim.Native.Nat.{ℕ, _*_, _≤_}
 use mathlib.Core.Path.{_≡_}
 use mathlib.Core.List.{List}
 use mathlib.Core.Option.{Option, none, some}
-use lib.ListN.{length}
+use lib.ListN.{length, take}
 use Rattle.format.specs.Lines.{Piece}
-use Rattle.format.specs.Programs.{Program}
+use Rattle.format.specs.Programs.{Program, programs}
 use Rattle.byte_slices.specs.Stands.{Stands}
 use Rattle.accepted.specs.Pieces.{Pairs}
+use Rattle.accepted.specs.Read.{recordsOf}
 use Rattle.catalogue_entries.specs.declared.Place.{Place}
 use Rattle.catalogue_entries.specs.Entries.{pieceAt}
 use Rattle.program_ids.specs.Places.{InsideText, bytesAt, nowhere}
+use Rattle.program_ids.specs.Ids.{idsAt, IdsInText}
+use Rattle.program_ids.specs.Search.{idsOf}
 use Rattle.program_places.specs.declared.Programs.{Programs}
 use Rattle.program_places.specs.Gathered.{ProgramPlaces, gatheredOf}
 
@@ -38,3 +41,10 @@ pub record ArePlaces (t : List ℕ) (q : Programs) : Type 0 where
   pub ps : List Program
   pub are : PlacesOf t ps q
   pub fits : length t ≤ 16777216
+
+-- the first numbers of a list are the IDs of the programs of a text, of which there are `count`
+pub record ListsIds (t ids : List ℕ) (count : ℕ) : Type 0 where
+  pub counts : count ≡ length (programs (recordsOf t))
+  pub long : count * 3 ≤ length ids
+  pub listed : IdsInText t (take (count * 3) ids)
+  pub are : idsAt t (take (count * 3) ids) ≡ idsOf (programs (recordsOf t))

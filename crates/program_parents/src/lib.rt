@@ -14,7 +14,7 @@ ghost use Rattle.accepted.specs.Read.{isAccepted, recordsOf};
 ghost use Rattle.program_places.specs.Gathered.{programsIn};
 ghost use Rattle.program_ids.specs.Ids.{idsAt, IdsInText};
 ghost use Rattle.program_parents.specs.Parents.{Somewhere, parentOf, parentsOf, AreParents, ordinalsOf, graphOf};
-ghost use Rattle.program_parents.specs.Placed.{PlacesOf, ArePlaces};
+ghost use Rattle.program_parents.specs.Placed.{PlacesOf, ArePlaces, ListsIds};
 
 // The parent of a program whose PP equals no ID: no ordinal, and not nobody.
 pub const STRANGER: u32 = 4294967294;
@@ -107,6 +107,35 @@ pub fn parents_of(text: &[u8], catalogue: &[u8]) -> Parents
     ensures { λ r. ⌜ r ≡ parentsOf (links (programs (recordsOf (now (text .entry))))) ⌝ }
 {
     parents_again(text, catalogue, catalogue.len() / 4294967296)
+}
+
+// Lists the IDs of the programs of an accepted text, by its own catalogue, and `more` times again, as `parents_again`.
+fn list_again(text: &[u8], catalogue: &[u8], ids: &mut [u32], more: usize) -> usize
+    requires { ⌜ isAccepted (readText (now text)) ≡ true ⌝ }
+    requires { ⌜ now catalogue ≡ format.catalogue (recordsOf (now text)) ⌝ }
+    requires { ⌜ 3072 ≤ length (now ids) ⌝ }
+    ensures { λ r. ⌜ ListsIds (now (text .entry)) (now (ids .exit)) r ⌝ }
+{
+    let mut ats: [u32; 1024] = [0; 1024];
+    let mut lens: [u32; 1024] = [0; 1024];
+    let mut from: [u32; 1024] = [0; 1024];
+    let mut widths: [u32; 1024] = [0; 1024];
+    let count = program_places::gather(catalogue, &mut ats, &mut lens, &mut from, &mut widths);
+    if 0 < more {
+        return list_again(text, catalogue, ids, more - 1);
+    }
+    program_ids::list_ids(text, &ats[..count], &lens[..count], ids);
+    count
+}
+
+// The list of the IDs of the programs of an accepted text, at the front of `ids`. Answers how many there are.
+pub fn list_ids(text: &[u8], catalogue: &[u8], ids: &mut [u32]) -> usize
+    requires { ⌜ isAccepted (readText (now text)) ≡ true ⌝ }
+    requires { ⌜ now catalogue ≡ format.catalogue (recordsOf (now text)) ⌝ }
+    requires { ⌜ 3072 ≤ length (now ids) ⌝ }
+    ensures { λ r. ⌜ ListsIds (now (text .entry)) (now (ids .exit)) r ⌝ }
+{
+    list_again(text, catalogue, ids, catalogue.len() / 4294967296)
 }
 
 // 0, or 22 where a PP dangles, or 23 where there is a cycle.

@@ -1,11 +1,11 @@
 -- `program_parents::find_parents` meets its contract: the parents of the first `i` programs are listed.
-use Prim.Native.Nat.{_+_, _-_, _*_, _≤_, _<_}
+use Prim.Native.Nat.{ℕ, _+_, _-_, _*_, _≤_, _<_}
 use mathlib.Core.Path.{_≡_, sym, subst, _∙_}
 use mathlib.Core.List.{List}
 use mathlib.Core.Logic.{⊎-elim}
 use native.Mathlib.Omega.{arith}
 use borrow.Author.Needs.{needs}
-use lib.ListN.{length, getD, set}
+use lib.ListN.{length, getD, set, replicate}
 use Rattle.format.specs.Programs.{Program, root, links}
 use Rattle.program_places.specs.declared.Programs.{Programs}
 use Rattle.program_places.specs.Gathered.{programsIn}
@@ -55,6 +55,10 @@ loop-holds c = (λ ps x. found-none ps, omega arith)
 
 -- ---- in a turn
 
+-- what the list was before
+abbrev zeros : List ℕ
+zeros = replicate 3072 0
+
 abbrev start : (c : tie.In-loop Inv-loop μ-loop) → tie.Start Inv-loop μ-loop
 start c = c .before .before .before .before .before .before .before .before .before .before .before .before
 
@@ -81,19 +85,19 @@ array-share-prefix-ids : tie.Need-array-share-prefix-ids Inv-loop μ-loop
 array-share-prefix-ids c =
     let s = start (c .before .before) in
     let l = c .before .before .before .before .before .list-ids in
-    listed-inside (s .args .text .now) (s .pre .ps) (held s) (s .pre .are) (l .last .1 .1 .1 .0) (l .ensures)
+    listed-inside (s .args .text .now) (s .pre .ps) (held s) (s .pre .are) zeros (l .last .1 .1 .1 .0) (omega arith) (l .ensures)
 
 slice-aggregate-find-parent : tie.Need-slice-aggregate-find-parent Inv-loop μ-loop
 slice-aggregate-find-parent c =
     let s = start (c .before .before .before) in
     let l = c .before .before .before .before .before .before .list-ids in
-    listed-length (s .args .text .now) (s .pre .ps) (held s) (s .pre .are) (l .last .1 .1 .1 .0) (l .ensures)
+    listed-length (s .args .text .now) (s .pre .ps) (held s) (s .pre .are) zeros (l .last .1 .1 .1 .0) (omega arith) (l .ensures)
 
 find-parent-requires : tie.Need-find-parent-requires Inv-loop μ-loop
 find-parent-requires c κs =
     let s = start (c .before .before .before) in
     let l = c .before .before .before .before .before .before .list-ids in
-    (listed-ids (s .args .text .now) (s .pre .ps) (held s) (s .pre .are) (l .last .1 .1 .1 .0) (l .ensures),
+    (listed-ids (s .args .text .now) (s .pre .ps) (held s) (s .pre .are) zeros (l .last .1 .1 .1 .0) (omega arith) (l .ensures),
       own-somewhere (s .args .text .now) (s .pre .ps) (held s) (s .pre .are) (c .before .before .before .before .loop .i) (omega arith))
 
 mul-list : tie.Need-mul-list Inv-loop μ-loop
@@ -116,7 +120,7 @@ loop-again c =
     let b = c .before .before .before .before .before .before .before .before .list-ids in
     let p = c .before .find-parent in
     let more : (ps : List Program) (x : PlacesOf t ps (held s)) → (l .i < length ps) × (p .result ≡ linkNumber (getD (links ps) (l .i) root)) =
-    λ ps x. (omega (arith, own-count t ps (held s) x), p .ensures ∙ own-parent t ps (held s) x (l .i) (omega arith) (s .pre .fits) _ (listed-are t ps (held s) x (b .last .1 .1 .1 .0) (b .ensures))) in (
+    λ ps x. (omega (arith, own-count t ps (held s) x), p .ensures ∙ own-parent t ps (held s) x (l .i) (omega arith) (s .pre .fits) _ (listed-are t ps (held s) x zeros (b .last .1 .1 .1 .0) (omega arith) (b .ensures))) in (
       (λ ps x. ⊎-elim
           (λ w. subst (λ d. Found ps (set (l .list) (l .i) (p .result)) d (l .i + 1)) (sym (w .1)) (found-stray ps (x .few) (l .list) (l .dangling) (l .i) (l .inv .0 ps x) (more ps x .0) (p .result) (more ps x .1) (w .0 .taken)))
           (λ w. subst (λ d. Found ps (set (l .list) (l .i) (p .result)) d (l .i + 1)) (sym (w .1)) (found-known ps (x .few) (l .list) (l .dangling) (l .i) (l .inv .0 ps x) (more ps x .0) (p .result) (more ps x .1) (w .0 .left)))
