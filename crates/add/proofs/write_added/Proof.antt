@@ -26,7 +26,7 @@ abbrev records : tie.Start → List Record
 records s = recordsOf (s .args .text .now)
 
 abbrev new : tie.Start → List ℕ
-new s = let a = s .args in newText (a .text .now) (a .ats .now) (a .lens .now) (a .shape) (a .prefix .now) (a .fields .now) (a .leaves .now)
+new s = let a = s .args in newText (a .text .now) (a .ids .now) (a .shape) (a .prefix .now) (a .fields .now) (a .leaves .now)
 
 abbrev whole : tie.Start → List ℕ
 whole s = withAdded (records s) (new s)
@@ -37,11 +37,11 @@ sound s = record { strict = isStrict (announced (lines (s .args .text .now))); s
 
 -- its name can be written, and it fits
 fits : (p : tie.After-plan)
-    → let s = p .before .before .before .before .before .before .before .before .before .before in
+    → let s = p .before .before .before .before .before .before .before .before .before in
     (sound s ≡ p .plan .given .0 .0) × (writing (length (s .args .out .now)) (unwritable 0 (records s)) (whole s) ≡ yes (whole s)) × (length (whole s) ≤ 16777216)
     × (length (whole s) ≤ length (s .args .out .now))
 fits p =
-    let s = p .before .before .before .before .before .before .before .before .before .before in
+    let s = p .before .before .before .before .before .before .before .before .before in
     planned-is (sound s) (p .plan .given .0 .0) (length (s .args .out .now)) (unwritable 0 (records s)) (whole s) (sym (p .before .before .measure-all .ensures) ∙ p .plan .given .1)
 
 measure-all-requires : tie.Need-measure-all-requires
@@ -56,7 +56,7 @@ enum-known-plan c = search needs
 put-all-requires : tie.Need-put-all-requires
 put-all-requires c κs =
     let p = c .before .before in
-    let s = p .before .before .before .before .before .before .before .before .before .before in
+    let s = p .before .before .before .before .before .before .before .before .before in
     let f = fits p in
     let e = sym (f .0) in
     (s .pre .0, (ap (λ q. q .strict) e, (ap (λ q. q .sizes) e, ((ap (λ q. q .more) e, omega (arith, ap (λ q. q .more) e, with-size (records s) (new s), f .2)), (s .pre .1 .0, f .3)))))
@@ -64,7 +64,7 @@ put-all-requires c κs =
 returns : tie.Need-returns
 returns c =
     let p = c .before in
-    let s = p .before .before .before .before .before .before .before .before .before .before in
+    let s = p .before .before .before .before .before .before .before .before .before in
     let n = p .n .given .0 .0 in
     let l = p .n .given .0 .1 .0 in
     let w = writing (length (s .args .out .now)) (unwritable 0 (records s)) (whole s) in
@@ -77,9 +77,9 @@ returns-2 : tie.Need-returns-2
 returns-2 c =
     let w = c .before .before in
     let p = w .before .before .before in
-    let s = p .before .before .before .before .before .before .before .before .before .before in
+    let s = p .before .before .before .before .before .before .before .before .before in
     let f = fits p in
-    written-answer (writing (length (s .args .out .now)) (unwritable 0 (records s)) (whole s)) (s .args .out .now) (whole s) (w .put-all .last .1 .1 .1 .1 .1 .1 .1 .1 .0)
+    written-answer (writing (length (s .args .out .now)) (unwritable 0 (records s)) (whole s)) (s .args .out .now) (whole s) (w .put-all .last .1 .1 .1 .1 .1 .1 .1 .0)
     (w .put-all .result) (f .1) (w .put-all .ensures .0) (w .put-all .ensures .1)
 
 pub write-added-spec : {M : Type 1} → statement M
