@@ -69,16 +69,7 @@ fn put_all(
 {
     let sizes = plan.sizes;
     tidy_text::put_around(text, plan.strict, sizes, plan.more, out);
-    let n = add_lines::put_added(
-        out,
-        sizes.front(),
-        text,
-        ids,
-        prefix,
-        fields,
-        leaves,
-        shape,
-    );
+    let n = add_lines::put_added(out, sizes.front(), text, ids, prefix, fields, leaves, shape);
     n + sizes.co
 }
 

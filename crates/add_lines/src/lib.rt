@@ -16,6 +16,12 @@ pub struct Shape {
     pub linked: bool,
 }
 
+// How one of them looks: its ID is the prefix alone; PP with the leaf's ID is added.
+pub struct Look {
+    pub alone: bool,
+    pub linked: bool,
+}
+
 // Writes bytes, and answers the place after them.
 fn put_slice(out: &mut [u8], o: usize, from: &[u8]) -> usize
     requires { ⌜ o + length (now from) ≤ length (now out) ⌝ }
@@ -64,24 +70,16 @@ fn put_ending(out: &mut [u8], o: usize, fields: &[u8], id: &[u8], linked: bool) 
 }
 
 // Writes the line of a new program after the leaf `id`, and answers the place after it.
-pub fn put_line(
-    out: &mut [u8],
-    o: usize,
-    prefix: &[u8],
-    fields: &[u8],
-    id: &[u8],
-    alone: bool,
-    linked: bool,
-) -> usize
-    requires { ⌜ o + length (newLine alone linked (now prefix) (now fields) (now id)) ≤ length (now out) ⌝ }
-    ensures next { λ r. ⌜ r ≡ o + length (newLine alone linked (now (prefix .entry)) (now (fields .entry)) (now (id .entry))) ⌝ }
-    ensures wrote { λ _. ⌜ now (out .exit) ≡ over (now (out .entry)) o (newLine alone linked (now (prefix .entry)) (now (fields .entry)) (now (id .entry))) ⌝ }
+fn put_line(out: &mut [u8], o: usize, prefix: &[u8], fields: &[u8], id: &[u8], look: Look) -> usize
+    requires { ⌜ o + length (newLine (look .alone) (look .linked) (now prefix) (now fields) (now id)) ≤ length (now out) ⌝ }
+    ensures next { λ r. ⌜ r ≡ o + length (newLine (look .alone) (look .linked) (now (prefix .entry)) (now (fields .entry)) (now (id .entry))) ⌝ }
+    ensures wrote { λ _. ⌜ now (out .exit) ≡ over (now (out .entry)) o (newLine (look .alone) (look .linked) (now (prefix .entry)) (now (fields .entry)) (now (id .entry))) ⌝ }
 {
     let n = tidy_parts::put_prefix(out, o, Kind::Program);
     let n = tidy_parts::put_tag(out, n, b'I', b'D');
     let n = put_slice(out, n, prefix);
-    let n = put_joining(out, n, id, alone);
-    put_ending(out, n, fields, id, linked)
+    let n = put_joining(out, n, id, look.alone);
+    put_ending(out, n, fields, id, look.linked)
 }
 
 // How many bytes follow the prefix in an ID.
@@ -168,14 +166,22 @@ pub fn put_added(
         (now (prefix .entry)) (now (fields .entry)) (now (leaves .entry))) ⌝ }
 {
     if shape.empty {
-        return put_line(out, o, prefix, fields, &text[..0], true, false);
+        let look = Look {
+            alone: true,
+            linked: false,
+        };
+        return put_line(out, o, prefix, fields, &text[..0], look);
     }
     let mut n = o;
     let mut first = shape.alone;
     let mut i: usize = 0;
     while i < leaves.len() {
         let id = add_ids::find_id(text, ids, ProgramNo(leaves[i]));
-        n = put_line(out, n, prefix, fields, id, first, shape.linked);
+        let look = Look {
+            alone: first,
+            linked: shape.linked,
+        };
+        n = put_line(out, n, prefix, fields, id, look);
         first = false;
         i += 1;
     }

@@ -2,6 +2,7 @@
 use catalogue_entries::Place;
 use program_chains::Ordinals;
 use program_ids::Named;
+use program_places::Programs;
 ghost use mathlib.Core.Path.{_≡_};
 ghost use mathlib.Core.Bool.{true};
 ghost use mathlib.Core.List.{List, []};
@@ -44,7 +45,7 @@ pub struct Parents {
 }
 
 // The parents of programs by the places of their IDs and PPs, which are gathered in arrays: one search among the IDs for each PP.
-pub fn find_parents(
+fn find_parents(
     text: &[u8],
     ats: &[u32],
     lens: &[u32],
@@ -82,7 +83,21 @@ pub fn find_parents(
     }
 }
 
-// The same by the text's own catalogue, and `more` times again. Nobody asks for more than once: a function that calls itself is compiled by itself, so
+// The same, by places that are held together.
+pub fn parents_in(text: &[u8], programs: Programs) -> Parents
+    requires { ⌜ ArePlaces (now text) programs ⌝ }
+    ensures { λ r. ⌜ ((ps : List Program) → PlacesOf (now (text .entry)) ps programs → r ≡ parentsOf (links ps)) ⌝ }
+{
+    let id = programs.id;
+    let ats = id.at;
+    let lens = id.len;
+    let previous = programs.previous;
+    let from = previous.at;
+    let widths = previous.len;
+    find_parents(text, &ats, &lens, &from, &widths, programs.count)
+}
+
+// The parents of an accepted text's programs by its own catalogue, and `more` times again. Nobody asks for more than once: a function that calls itself is compiled by itself, so
 // that its four arrays are on the stack only while it runs, and not while a text is checked (`read_judge::judge_long`).
 fn parents_again(text: &[u8], catalogue: &[u8], more: usize) -> Parents
     requires { ⌜ isAccepted (readText (now text)) ≡ true ⌝ }

@@ -50,11 +50,11 @@ loop-holds c =
     let e = sym (added-each (idsAt (a .text .now) (a .ids .now)) (a .shape .empty) (a .shape .alone) (a .shape .linked) (a .prefix .now) (a .fields .now) (a .leaves .now) (c .if1 .left)) in
     (omega arith, ap (λ xs. a .o + length xs) e, ap (over (a .out .now) (a .o)) e, refl)
 
-mul-t18 : tie.Need-mul-t18 Inv-loop μ-loop
-mul-t18 c = omega arith
+mul-t20 : tie.Need-mul-t20 Inv-loop μ-loop
+mul-t20 c = omega arith
 
-shared-slice-read-t21 : tie.Need-shared-slice-read-t21 Inv-loop μ-loop
-shared-slice-read-t21 c = omega arith
+shared-slice-read-t23 : tie.Need-shared-slice-read-t23 Inv-loop μ-loop
+shared-slice-read-t23 c = omega arith
 
 find-id-requires : tie.Need-find-id-requires Inv-loop μ-loop
 find-id-requires c κs = c .before .before .before .before .before .before .before .before .before .before .pre .0
@@ -126,8 +126,8 @@ put-added-spec =
     same-length
     returns
     loop-holds
-    mul-t18
-    shared-slice-read-t21
+    mul-t20
+    shared-slice-read-t23
     find-id-requires
     put-line-requires-2
     add-i

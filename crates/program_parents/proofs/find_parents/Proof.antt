@@ -96,9 +96,10 @@ slice-aggregate-find-parent c =
 find-parent-requires : tie.Need-find-parent-requires Inv-loop μ-loop
 find-parent-requires c κs =
     let s = start (c .before .before .before) in
-    let l = c .before .before .before .before .before .before .list-ids in
-    (listed-ids (s .args .text .now) (s .pre .ps) (held s) (s .pre .are) zeros (l .last .1 .1 .1 .0) (omega arith) (l .ensures),
-      own-somewhere (s .args .text .now) (s .pre .ps) (held s) (s .pre .are) (c .before .before .before .before .loop .i) (omega arith))
+    let l = c .before .before .before .before .before .before .list-ids in (
+      listed-ids (s .args .text .now) (s .pre .ps) (held s) (s .pre .are) zeros (l .last .1 .1 .1 .0) (omega arith) (l .ensures),
+      own-somewhere (s .args .text .now) (s .pre .ps) (held s) (s .pre .are) (c .before .before .before .before .loop .i) (omega arith),
+    )
 
 mul-list : tie.Need-mul-list Inv-loop μ-loop
 mul-list c = omega (arith, few (start (c .before .before .before .before .before)))
