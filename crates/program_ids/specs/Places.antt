@@ -1,7 +1,7 @@
--- Places of a text, as numbers in arrays and as its bytes: where the IDs of programs stand.
+-- Places of a text, as numbers in arrays: where the IDs of programs stand.
 use Prim.Native.Nat.{ℕ, _+_, _≤_}
 use mathlib.Core.Path.{_≡_}
-use mathlib.Core.List.{List, [], _∷_, map}
+use mathlib.Core.List.{List, [], _∷_}
 use lib.ListN.{length, take, drop}
 use Rattle.byte_slices.specs.Stands.{Each}
 use Rattle.catalogue_entries.specs.declared.Place.{Place}
@@ -23,11 +23,6 @@ unfoldable pub placesOf : List ℕ → List ℕ → List Place
 placesOf [] lens = []
 placesOf (a ∷ ats) [] = []
 placesOf (a ∷ ats) (l ∷ lens) = record { at = a; len = l } ∷ placesOf ats lens
-
--- the bytes there
-unfoldable pub idsAt : List ℕ → List ℕ → List ℕ → List (List ℕ)
-unfolding bytesAt placesOf
-idsAt t ats lens = map (bytesAt t) (placesOf ats lens)
 
 -- as many offsets as lengths, 1,024 at most, and each place is within the text
 pub record PlacesInText (t ats lens : List ℕ) : Type 0 where

@@ -24,7 +24,7 @@ abbrev records : tie.Start → List Record
 records s = recordsOf (s .args .text .now)
 
 abbrev new : tie.Start → List ℕ
-new s = let a = s .args in newText (a .text .now) (a .ats .now) (a .lens .now) (a .ways .shape) (a .prefix .now) (a .fields .now) (a .leaves .now)
+new s = let a = s .args in newText (a .text .now) (a .ids .now) (a .ways .shape) (a .prefix .now) (a .fields .now) (a .leaves .now)
 
 abbrev whole : tie.Start → List ℕ
 whole s = withAdded (records s) (new s)
@@ -35,11 +35,11 @@ sound s = record { sizes = sizesOf (records s); more = length (new s) }
 
 -- its name can be written, and it fits
 fits : (p : tie.After-plan)
-    → let s = p .before .before .before .before .before .before .before .before .before .before in
+    → let s = p .before .before .before .before .before .before .before .before .before in
     (sound s ≡ p .plan .given .0 .0) × (writing (length (s .args .out .now)) (unwritable 0 (records s)) (whole s) ≡ yes (whole s)) × (length (whole s) ≤ 16777216)
     × (length (whole s) ≤ length (s .args .out .now))
 fits p =
-    let s = p .before .before .before .before .before .before .before .before .before .before in
+    let s = p .before .before .before .before .before .before .before .before .before in
     planned-is (sound s) (p .plan .given .0 .0) (length (s .args .out .now)) (unwritable 0 (records s)) (whole s) (sym (p .before .before .measure-all .ensures) ∙ p .plan .given .1)
 
 measure-all-requires : tie.Need-measure-all-requires
@@ -54,7 +54,7 @@ enum-known-plan c = search needs
 put-all-requires : tie.Need-put-all-requires
 put-all-requires c κs =
     let p = c .before .before in
-    let s = p .before .before .before .before .before .before .before .before .before .before in
+    let s = p .before .before .before .before .before .before .before .before .before in
     let f = fits p in
     let e = sym (f .0) in
     (s .pre .0, (s .pre .1 .0, (ap (λ q. q .sizes) e, ((ap (λ q. q .more) e, omega (arith, ap (λ q. q .more) e, with-size (records s) (new s), f .2)), (s .pre .1 .1 .0, f .3)))))
@@ -62,7 +62,7 @@ put-all-requires c κs =
 returns : tie.Need-returns
 returns c =
     let p = c .before in
-    let s = p .before .before .before .before .before .before .before .before .before .before in
+    let s = p .before .before .before .before .before .before .before .before .before in
     let n = p .n .given .0 .0 in
     let l = p .n .given .0 .1 .0 in
     let w = writing (length (s .args .out .now)) (unwritable 0 (records s)) (whole s) in
@@ -75,9 +75,9 @@ returns-2 : tie.Need-returns-2
 returns-2 c =
     let w = c .before .before in
     let p = w .before .before .before in
-    let s = p .before .before .before .before .before .before .before .before .before .before in
+    let s = p .before .before .before .before .before .before .before .before .before in
     let f = fits p in
-    written-answer (writing (length (s .args .out .now)) (unwritable 0 (records s)) (whole s)) (s .args .out .now) (whole s) (w .put-all .last .1 .1 .1 .1 .1 .1 .1 .1 .0)
+    written-answer (writing (length (s .args .out .now)) (unwritable 0 (records s)) (whole s)) (s .args .out .now) (whole s) (w .put-all .last .1 .1 .1 .1 .1 .1 .1 .0)
     (w .put-all .result) (f .1) (w .put-all .ensures .0) (w .put-all .ensures .1)
 
 pub write-added-spec : {M : Type 1} → statement M
