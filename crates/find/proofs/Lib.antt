@@ -1,3 +1,4 @@
+pub mod Front
 pub mod Turns
 pub mod Told
 pub mod Laws
