@@ -21,6 +21,7 @@ use Rattle.add_lines.specs.Lines.{newText}
 use Rattle.add_lines.specs.declared.Shape.{Shape}
 use Rattle.add_input.specs.declared.Given.{Given}
 use Rattle.add_input.specs.declared.Given.the-variants as given
+use Rattle.add.specs.declared.Ways.{Ways}
 use Rattle.add.specs.declared.Plan.{Plan}
 use Rattle.add.specs.declared.Planned.{Planned}
 use Rattle.add.specs.declared.Planned.the-variants as planned
@@ -44,11 +45,11 @@ plannedOf p (refused n l) = planned.Refused n (record { 0 = l })
 plannedOf p (yes t) = planned.Is p
 
 -- what is known before a byte of it is written
-abbrev pub planning : List ℕ → List ℕ → Shape → List ℕ → List ℕ → List ℕ → ℕ → Planned
-planning t ids shape prefix fields ks room =
+abbrev pub planning : List ℕ → List ℕ → Ways → List ℕ → List ℕ → List ℕ → ℕ → Planned
+planning t ids ways prefix fields ks room =
     plannedOf
-    (record { sizes = sizesOf (recordsOf t); more = length (newText t ids shape prefix fields ks) })
-    (writingGrown t ids shape prefix fields ks room)
+    (record { ways = ways; sizes = sizesOf (recordsOf t); more = length (newText t ids (ways .shape) prefix fields ks) })
+    (writingGrown t ids (ways .shape) prefix fields ks room)
 
 -- is there none?
 unfoldable pub isNone : Option Piece → Bool

@@ -29,16 +29,17 @@ ghost use Rattle.tidy_text.specs.Sizes.{sizesOf};
 ghost use Rattle.add_lines.specs.Lines.{newText};
 ghost use Rattle.add.specs.Added.{grownText, writingGrown, planning, isNone, isNothing, stray, leavesOf, addingOn};
 
-// What is measured before a byte is written: the bytes of each kind, and those of the new programs.
-struct Plan {
-    sizes: PerKind,
-    more: usize,
-}
-
 // What the new programs are like, and the rule for repeated tags that the text's lines are read by.
 struct Ways {
     shape: Shape,
     strict: bool,
+}
+
+// What is known before a byte is written: the ways, the bytes of each kind, and those of the new programs.
+struct Plan {
+    ways: Ways,
+    sizes: PerKind,
+    more: usize,
 }
 
 // Whether no PP is given, and the rule.
@@ -58,26 +59,26 @@ enum Planned {
 fn put_all(
     text: &[u8],
     ids: &[u32],
-    plan: Plan,
     prefix: &[u8],
     fields: &[u8],
     leaves: &[u32],
-    ways: Ways,
+    plan: Plan,
     out: &mut [u8],
 ) -> usize
     requires { ⌜ isAccepted (readText (now text)) ≡ true ⌝ }
-    requires { ⌜ ReadsBy (ways .strict) (now text) ⌝ }
+    requires { ⌜ ReadsBy (plan .ways .strict) (now text) ⌝ }
     requires { ⌜ plan .sizes ≡ sizesOf (recordsOf (now text)) ⌝ }
-    requires { ⌜ (plan .more ≡ length (newText (now text) (now ids) (ways .shape) (now prefix) (now fields) (now leaves))) × (plan .more ≤ 16777216) ⌝ }
+    requires { ⌜ (plan .more ≡ length (newText (now text) (now ids) (plan .ways .shape) (now prefix) (now fields) (now leaves))) × (plan .more ≤ 16777216) ⌝ }
     requires { ⌜ IdsInText (now text) (now ids) ⌝ }
-    requires { ⌜ length (grownText (now text) (now ids) (ways .shape) (now prefix) (now fields) (now leaves)) ≤ length (now out) ⌝ }
+    requires { ⌜ length (grownText (now text) (now ids) (plan .ways .shape) (now prefix) (now fields) (now leaves)) ≤ length (now out) ⌝ }
     ensures next { λ r.
-        ⌜ r ≡ length (grownText (now (text .entry)) (now (ids .entry)) (ways .shape)
+        ⌜ r ≡ length (grownText (now (text .entry)) (now (ids .entry)) (plan .ways .shape)
         (now (prefix .entry)) (now (fields .entry)) (now (leaves .entry))) ⌝ }
     ensures wrote { λ _. ⌜ now (out .exit) ≡ over (now (out .entry)) 0
-        (grownText (now (text .entry)) (now (ids .entry)) (ways .shape)
+        (grownText (now (text .entry)) (now (ids .entry)) (plan .ways .shape)
         (now (prefix .entry)) (now (fields .entry)) (now (leaves .entry))) ⌝ }
 {
+    let ways = plan.ways;
     let sizes = plan.sizes;
     tidy_text::put_around(text, ways.strict, sizes, plan.more, out);
     let n = add_lines::put_added(
@@ -124,7 +125,7 @@ fn measure_all(
     requires { ⌜ ReadsBy (ways .strict) (now text) ⌝ }
     requires { ⌜ IdsInText (now text) (now ids) ⌝ }
     requires { ⌜ (length (now leaves) ≤ 1024) × (ways .shape .empty ≡ false → 0 < length (now leaves)) ⌝ }
-    ensures { λ r. ⌜ r ≡ planning (now (text .entry)) (now (ids .entry)) (ways .shape)
+    ensures { λ r. ⌜ r ≡ planning (now (text .entry)) (now (ids .entry)) ways
         (now (prefix .entry)) (now (fields .entry)) (now (leaves .entry)) room ⌝ }
 {
     match tidy_text::measure(text, ways.strict) {
@@ -141,7 +142,7 @@ fn measure_all(
             if room < n + more {
                 return Planned::Refused(20, LineNo(0));
             }
-            Planned::Is(Plan { sizes, more })
+            Planned::Is(Plan { ways, sizes, more })
         }
     }
 }
@@ -171,7 +172,7 @@ fn write_added(
     match measure_all(text, ids, prefix, fields, leaves, ways, out.len()) {
         Planned::Refused(n, line) => CountAnswer::Refused(n, line),
         Planned::Is(plan) => {
-            let n = put_all(text, ids, plan, prefix, fields, leaves, ways, out);
+            let n = put_all(text, ids, prefix, fields, leaves, plan, out);
             CountAnswer::Count(n)
         }
     }

@@ -37,7 +37,7 @@ whole s = withAdded (records s) (new s)
 
 -- what is measured
 abbrev sound : tie.Start → Plan
-sound s = record { sizes = sizesOf (records s); more = length (new s) }
+sound s = record { ways = s .args .ways; sizes = sizesOf (records s); more = length (new s) }
 
 -- what was measured before the call
 abbrev start : tie.After-sizes → tie.Start
@@ -145,8 +145,8 @@ returns-5 c =
     let z = l .before .before .before .before .before in
     let s = start z in
     let p = sound s in
-    ap (λ n. Is (record { sizes = n; more = l .added-len .result })) (sym (measured z .1))
-    ∙ ap (λ n. Is (record { sizes = p .sizes; more = n })) (l .added-len .ensures)
+    ap (λ n. Is (record { ways = p .ways; sizes = n; more = l .added-len .result })) (sym (measured z .1))
+    ∙ ap (λ n. Is (record { ways = p .ways; sizes = p .sizes; more = n })) (l .added-len .ensures)
     ∙ sym (ap (plannedOf p) (write-fits (s .args .room) (unwritable 0 (records s)) (whole s) (measured z .0) (short (c .before)) (omega (arith, size l, c .if3 .left))))
 
 pub measure-all-spec : {M : Type 1} → statement M

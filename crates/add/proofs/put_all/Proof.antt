@@ -28,7 +28,7 @@ abbrev records : tie.Start → List Record
 records s = recordsOf (s .args .text .now)
 
 abbrev new : tie.Start → List ℕ
-new s = let a = s .args in addedText (idsAt (a .text .now) (a .ids .now)) (a .ways .shape .empty) (a .ways .shape .alone) (a .ways .shape .linked) (a .prefix .now) (a .fields .now) (a .leaves .now)
+new s = let a = s .args in addedText (idsAt (a .text .now) (a .ids .now)) (a .plan .ways .shape .empty) (a .plan .ways .shape .alone) (a .plan .ways .shape .linked) (a .prefix .now) (a .fields .now) (a .leaves .now)
 
 -- how long the parts are
 module _ (s : tie.Start) where
@@ -50,30 +50,30 @@ module _ (s : tie.Start) where
       omega (
         arith,
         s .pre .1 .1 .1 .0,
-        tidy-small (s .args .ways .strict) (s .args .text .now) (opened (s .args .ways .strict) (s .args .text .now) (s .pre .0) (s .pre .1 .0)) .1,
+        tidy-small (s .args .plan .ways .strict) (s .args .text .now) (opened (s .args .plan .ways .strict) (s .args .text .now) (s .pre .0) (s .pre .1 .0)) .1,
       )
 
 put-around-requires : tie.Need-put-around-requires
 put-around-requires c κs =
-    let s = c .before .before .before .before .before .before .before .before in
+    let s = c .before .before .before .before .before .before .before .before .before in
     (s .pre .0, (s .pre .1 .0, (s .pre .1 .1 .0, (s .pre .1 .1 .1 .0 .1, omega (arith, s .pre .1 .1 .1 .0 .0, whole-is s .0)))))
 
 front-requires : tie.Need-front-requires
 front-requires c κs =
-    let s = c .before .before .before .before .before .before .before .before .before .before .before .before in
+    let s = c .before .before .before .before .before .before .before .before .before .before .before .before .before in
     let room : front (s .args .plan .sizes) ≤ 18446744073709551615 = omega (arith, front-is s, whole-is s .1, small s) in
     room
 
 put-added-requires : tie.Need-put-added-requires
 put-added-requires c κs =
     let w = c .before .before .before .before in
-    let s = w .before .before .before .before .before .before .before .before .before in
+    let s = w .before .before .before .before .before .before .before .before .before .before in
     (s .pre .1 .1 .1 .1 .0, omega (arith, c .front .ensures, front-is s, whole-is s, w .put-around .kept .1 .1 .1 .1 .0))
 
 add-result : tie.Need-add-result
 add-result c =
     let x = c .before .before .before in
-    let s = x .before .before .before .before .before .before .before .before .before .before .before .before .before .before in
+    let s = x .before .before .before .before .before .before .before .before .before .before .before .before .before .before .before in
     omega (arith, x .put-added .ensures .0, x .before .front .ensures, front-is s, comments-are s, whole-is s .1, small s)
 
 same-length : tie.Need-same-length
@@ -85,7 +85,7 @@ returns c =
     let x = c .before .before .before in
     let f = x .before in
     let w = f .before .before .before .before in
-    let s = w .before .before .before .before .before .before .before .before .before in
+    let s = w .before .before .before .before .before .before .before .before .before .before in
     let out = s .args .out .now in
     let rs = records s in
     let a = frontText rs in
