@@ -21,6 +21,7 @@ use Rattle.add_lines.specs.Lines.{newText}
 use Rattle.add_lines.specs.declared.Shape.{Shape}
 use Rattle.add_input.specs.declared.Given.{Given}
 use Rattle.add_input.specs.declared.Given.the-variants as given
+use Rattle.add.specs.declared.Ways.{Ways}
 use Rattle.add.specs.declared.Plan.{Plan}
 use Rattle.add.specs.declared.Planned.{Planned}
 use Rattle.add.specs.declared.Planned.the-variants as planned
@@ -30,13 +31,13 @@ unfoldable pub withAdded : List Record → List ℕ → List ℕ
 unfolding frontText textOfKind
 withAdded rs new = frontText rs ++ new ++ textOfKind Comment rs
 
--- the tidy text of `t` with a new program after each of the leaves `ks`; the IDs of the old programs are at these offsets, with these lengths
-abbrev pub grownText : List ℕ → List ℕ → List ℕ → Shape → List ℕ → List ℕ → List ℕ → List ℕ
-grownText t ats lens shape prefix fields ks = withAdded (recordsOf t) (newText t ats lens shape prefix fields ks)
+-- the tidy text of `t` with new programs, after the leaves `ks` of those whose IDs are in a list
+abbrev pub grownText : List ℕ → List ℕ → Shape → List ℕ → List ℕ → List ℕ → List ℕ
+grownText t ids shape prefix fields ks = withAdded (recordsOf t) (newText t ids shape prefix fields ks)
 
--- it is written, or the refusal: 24, 1, 20
-abbrev pub writingGrown : List ℕ → List ℕ → List ℕ → Shape → List ℕ → List ℕ → List ℕ → ℕ → Answer (List ℕ)
-writingGrown t ats lens shape prefix fields ks room = writing room (unwritable 0 (recordsOf t)) (grownText t ats lens shape prefix fields ks)
+-- it is written, or why not: 24, 1, 20
+abbrev pub writingGrown : List ℕ → List ℕ → Shape → List ℕ → List ℕ → List ℕ → ℕ → Answer (List ℕ)
+writingGrown t ids shape prefix fields ks room = writing room (unwritable 0 (recordsOf t)) (grownText t ids shape prefix fields ks)
 
 -- a refusal and its line, or what was measured
 unfoldable pub plannedOf : Plan → Answer (List ℕ) → Planned
@@ -44,11 +45,11 @@ plannedOf p (refused n l) = planned.Refused n (record { 0 = l })
 plannedOf p (yes t) = planned.Is p
 
 -- what is known before a byte of it is written
-abbrev pub planning : List ℕ → List ℕ → List ℕ → Shape → List ℕ → List ℕ → List ℕ → ℕ → Planned
-planning t ats lens shape prefix fields ks room =
+abbrev pub planning : List ℕ → List ℕ → Ways → List ℕ → List ℕ → List ℕ → ℕ → Planned
+planning t ids ways prefix fields ks room =
     plannedOf
-    (record { sizes = sizesOf (recordsOf t); more = length (newText t ats lens shape prefix fields ks) })
-    (writingGrown t ats lens shape prefix fields ks room)
+    (record { ways = ways; sizes = sizesOf (recordsOf t); more = length (newText t ids (ways .shape) prefix fields ks) })
+    (writingGrown t ids (ways .shape) prefix fields ks room)
 
 -- is no PP given?
 unfoldable pub isNone : Option Piece → Bool

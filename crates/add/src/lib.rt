@@ -20,7 +20,7 @@ ghost use Rattle.format.specs.Calls.{yes, fresh, adding};
 ghost use Rattle.byte_slices.specs.Over.{over};
 ghost use Rattle.accepted.specs.Read.{isAccepted, recordsOf};
 ghost use Rattle.accepted_rule.specs.Rule.{ReadsBy};
-ghost use Rattle.program_ids.specs.Places.{idsAt, PlacesInText};
+ghost use Rattle.program_ids.specs.Ids.{idsAt, IdsInText};
 ghost use Rattle.program_ids.specs.Search.{idsOf};
 ghost use Rattle.read.specs.Answers.{answerOf, outputOf};
 ghost use Rattle.add_ids.specs.Taken.{isAmong};
@@ -29,16 +29,17 @@ ghost use Rattle.tidy_text.specs.Sizes.{sizesOf};
 ghost use Rattle.add_lines.specs.Lines.{newText};
 ghost use Rattle.add.specs.Added.{grownText, writingGrown, planning, isNone, isNothing, stray, leavesOf, addingOn};
 
-// What is measured before a byte is written: the bytes of each kind, and those of the new programs.
-struct Plan {
-    sizes: PerKind,
-    more: usize,
-}
-
 // What the new programs are like, and the rule for repeated tags that the text's lines are read by.
 struct Ways {
     shape: Shape,
     strict: bool,
+}
+
+// What is known before a byte is written: the ways, the bytes of each kind, and those of the new programs.
+struct Plan {
+    ways: Ways,
+    sizes: PerKind,
+    more: usize,
 }
 
 // Whether no PP is given, and the rule.
@@ -57,36 +58,34 @@ enum Planned {
 // comments.
 fn put_grown_text(
     text: &[u8],
-    ats: &[u32],
-    lens: &[u32],
-    plan: Plan,
+    ids: &[u32],
     prefix: &[u8],
     fields: &[u8],
     leaves: &[u32],
-    ways: Ways,
+    plan: Plan,
     out: &mut [u8],
 ) -> usize
     requires { ⌜ isAccepted (readText (now text)) ≡ true ⌝ }
-    requires { ⌜ ReadsBy (ways .strict) (now text) ⌝ }
+    requires { ⌜ ReadsBy (plan .ways .strict) (now text) ⌝ }
     requires { ⌜ plan .sizes ≡ sizesOf (recordsOf (now text)) ⌝ }
-    requires { ⌜ (plan .more ≡ length (newText (now text) (now ats) (now lens) (ways .shape) (now prefix) (now fields) (now leaves))) × (plan .more ≤ 16777216) ⌝ }
-    requires { ⌜ PlacesInText (now text) (now ats) (now lens) ⌝ }
-    requires { ⌜ length (grownText (now text) (now ats) (now lens) (ways .shape) (now prefix) (now fields) (now leaves)) ≤ length (now out) ⌝ }
+    requires { ⌜ (plan .more ≡ length (newText (now text) (now ids) (plan .ways .shape) (now prefix) (now fields) (now leaves))) × (plan .more ≤ 16777216) ⌝ }
+    requires { ⌜ IdsInText (now text) (now ids) ⌝ }
+    requires { ⌜ length (grownText (now text) (now ids) (plan .ways .shape) (now prefix) (now fields) (now leaves)) ≤ length (now out) ⌝ }
     ensures next { λ r.
-        ⌜ r ≡ length (grownText (now (text .entry)) (now (ats .entry)) (now (lens .entry)) (ways .shape)
+        ⌜ r ≡ length (grownText (now (text .entry)) (now (ids .entry)) (plan .ways .shape)
         (now (prefix .entry)) (now (fields .entry)) (now (leaves .entry))) ⌝ }
     ensures wrote { λ _. ⌜ now (out .exit) ≡ over (now (out .entry)) 0
-        (grownText (now (text .entry)) (now (ats .entry)) (now (lens .entry)) (ways .shape)
+        (grownText (now (text .entry)) (now (ids .entry)) (plan .ways .shape)
         (now (prefix .entry)) (now (fields .entry)) (now (leaves .entry))) ⌝ }
 {
+    let ways = plan.ways;
     let sizes = plan.sizes;
     tidy_text::put_around(text, ways.strict, sizes, plan.more, out);
     let n = add_lines::put_added(
         out,
         sizes.front(),
         text,
-        ats,
-        lens,
+        ids,
         prefix,
         fields,
         leaves,
@@ -115,8 +114,7 @@ fn is_over(n: usize, more: usize) -> bool
 // Measures what is to be written to an output of `room` bytes, or refuses with 24, then 1, then 20.
 fn measure_all(
     text: &[u8],
-    ats: &[u32],
-    lens: &[u32],
+    ids: &[u32],
     prefix: &[u8],
     fields: &[u8],
     leaves: &[u32],
@@ -125,9 +123,9 @@ fn measure_all(
 ) -> Planned
     requires { ⌜ isAccepted (readText (now text)) ≡ true ⌝ }
     requires { ⌜ ReadsBy (ways .strict) (now text) ⌝ }
-    requires { ⌜ PlacesInText (now text) (now ats) (now lens) ⌝ }
+    requires { ⌜ IdsInText (now text) (now ids) ⌝ }
     requires { ⌜ (length (now leaves) ≤ 1024) × (ways .shape .empty ≡ false → 0 < length (now leaves)) ⌝ }
-    ensures { λ r. ⌜ r ≡ planning (now (text .entry)) (now (ats .entry)) (now (lens .entry)) (ways .shape)
+    ensures { λ r. ⌜ r ≡ planning (now (text .entry)) (now (ids .entry)) ways
         (now (prefix .entry)) (now (fields .entry)) (now (leaves .entry)) room ⌝ }
 {
     match tidy_text::measure(text, ways.strict) {
@@ -137,14 +135,14 @@ fn measure_all(
             if is_too_long(prefix, fields) {
                 return Planned::Refused(1, LineNo(0));
             }
-            let more = add_lines::added_len(text, ats, lens, prefix, fields, leaves, ways.shape);
+            let more = add_lines::added_len(text, ids, prefix, fields, leaves, ways.shape);
             if is_over(n, more) {
                 return Planned::Refused(1, LineNo(0));
             }
             if room < n + more {
                 return Planned::Refused(20, LineNo(0));
             }
-            Planned::Is(Plan { sizes, more })
+            Planned::Is(Plan { ways, sizes, more })
         }
     }
 }
@@ -152,8 +150,7 @@ fn measure_all(
 // Writes the tidy text with the new programs, or answers a refusal and changes nothing.
 fn write_added(
     text: &[u8],
-    ats: &[u32],
-    lens: &[u32],
+    ids: &[u32],
     prefix: &[u8],
     fields: &[u8],
     leaves: &[u32],
@@ -162,31 +159,31 @@ fn write_added(
 ) -> CountAnswer
     requires { ⌜ isAccepted (readText (now text)) ≡ true ⌝ }
     requires { ⌜ ReadsBy (ways .strict) (now text) ⌝ }
-    requires { ⌜ PlacesInText (now text) (now ats) (now lens) ⌝ }
+    requires { ⌜ IdsInText (now text) (now ids) ⌝ }
     requires { ⌜ (length (now leaves) ≤ 1024) × (ways .shape .empty ≡ false → 0 < length (now leaves)) ⌝ }
     ensures answer { λ r. ⌜ r ≡ answerOf
-        (writingGrown (now (text .entry)) (now (ats .entry)) (now (lens .entry)) (ways .shape)
+        (writingGrown (now (text .entry)) (now (ids .entry)) (ways .shape)
         (now (prefix .entry)) (now (fields .entry)) (now (leaves .entry)) (length (now (out .entry)))) ⌝ }
     ensures wrote { λ _. ⌜ now (out .exit) ≡ outputOf
-        (writingGrown (now (text .entry)) (now (ats .entry)) (now (lens .entry)) (ways .shape)
+        (writingGrown (now (text .entry)) (now (ids .entry)) (ways .shape)
         (now (prefix .entry)) (now (fields .entry)) (now (leaves .entry)) (length (now (out .entry))))
         (now (out .entry)) ⌝ }
 {
-    match measure_all(text, ats, lens, prefix, fields, leaves, ways, out.len()) {
+    match measure_all(text, ids, prefix, fields, leaves, ways, out.len()) {
         Planned::Refused(n, line) => CountAnswer::Refused(n, line),
         Planned::Is(plan) => {
-            let n = put_grown_text(text, ats, lens, plan, prefix, fields, leaves, ways, out);
+            let n = put_all(text, ids, prefix, fields, leaves, plan, out);
             CountAnswer::Count(n)
         }
     }
 }
 
-// Whether no program has this ID yet.
-fn is_free(text: &[u8], ats: &[u32], lens: &[u32], id: &[u8]) -> bool
-    requires { ⌜ PlacesInText (now text) (now ats) (now lens) ⌝ }
-    ensures { λ r. ⌜ r ≡ not (isAmong (now (id .entry)) (idsAt (now (text .entry)) (now (ats .entry)) (now (lens .entry)))) ⌝ }
+// Whether an ID is no program's yet.
+fn is_free(text: &[u8], ids: &[u32], id: &[u8]) -> bool
+    requires { ⌜ IdsInText (now text) (now ids) ⌝ }
+    ensures { λ r. ⌜ r ≡ not (isAmong (now (id .entry)) (idsAt (now (text .entry)) (now (ids .entry)))) ⌝ }
 {
-    match program_ids::find_program(text, ats, lens, id) {
+    match program_ids::find_program(text, ids, id) {
         Named::Nobody => true,
         Named::Is(_) => false,
     }
@@ -202,15 +199,15 @@ fn is_linked(previous: Given) -> bool
     }
 }
 
-// Whether a PP is given and it equals no ID.
-fn is_stray(text: &[u8], ats: &[u32], lens: &[u32], fields: &[u8], previous: Given) -> bool
-    requires { ⌜ PlacesInText (now text) (now ats) (now lens) ⌝ }
+// Whether a PP is given that equals no ID.
+fn is_stray(text: &[u8], ids: &[u32], fields: &[u8], previous: Given) -> bool
+    requires { ⌜ IdsInText (now text) (now ids) ⌝ }
     requires { ⌜ previous ≡ givenOf (lastOf 80 80 (given (now fields) .fields)) ⌝ }
-    ensures { λ r. ⌜ r ≡ stray (idsAt (now (text .entry)) (now (ats .entry)) (now (lens .entry))) (lastOf 80 80 (given (now (fields .entry)) .fields)) ⌝ }
+    ensures { λ r. ⌜ r ≡ stray (idsAt (now (text .entry)) (now (ids .entry))) (lastOf 80 80 (given (now (fields .entry)) .fields)) ⌝ }
 {
     match previous {
         Given::Nothing => false,
-        Given::At(at, len) => is_free(text, ats, lens, &fields[at..at + len]),
+        Given::At(at, len) => is_free(text, ids, &fields[at..at + len]),
     }
 }
 
@@ -240,8 +237,7 @@ fn new_count(leaves: usize, empty: bool) -> usize
 // What is left to do once the leaves are known: refuses with 18, 19, 24, 1 or 20, or writes the text.
 fn add_after(
     text: &[u8],
-    ats: &[u32],
-    lens: &[u32],
+    ids: &[u32],
     prefix: &[u8],
     fields: &[u8],
     leaves: &[u32],
@@ -250,22 +246,23 @@ fn add_after(
 ) -> CountAnswer
     requires { ⌜ isAccepted (readText (now text)) ≡ true ⌝ }
     requires { ⌜ ReadsBy (known .strict) (now text) ⌝ }
-    requires { ⌜ PlacesInText (now text) (now ats) (now lens) × (idsAt (now text) (now ats) (now lens) ≡ idsOf (programs (recordsOf (now text)))) ⌝ }
+    requires { ⌜ IdsInText (now text) (now ids) × (idsAt (now text) (now ids) ≡ idsOf (programs (recordsOf (now text)))) ⌝ }
     requires { ⌜ (given (now fields) .stop ≡ 0) × (known .linked ≡ isNone (lastOf 80 80 (given (now fields) .fields))) ⌝ }
-    requires { ⌜ (now leaves ≡ leavesOf (recordsOf (now text))) × (0 < length (now ats) → 0 < length (now leaves)) ⌝ }
+    requires { ⌜ (now leaves ≡ leavesOf (recordsOf (now text))) × (0 < length (now ids) → 0 < length (now leaves)) ⌝ }
     ensures answer { λ r.
         ⌜ r ≡ answerOf (addingOn (recordsOf (now (text .entry))) (now (prefix .entry)) (given (now (fields .entry)) .fields) (length (now (out .entry)))) ⌝ }
     ensures wrote { λ _. ⌜ now (out .exit) ≡ outputOf
         (addingOn (recordsOf (now (text .entry))) (now (prefix .entry)) (given (now (fields .entry)) .fields) (length (now (out .entry))))
         (now (out .entry)) ⌝ }
 {
-    let alone = is_free(text, ats, lens, prefix);
+    let alone = is_free(text, ids, prefix);
     let first = first_joined(leaves.len(), alone);
-    if add_ids::is_taken(text, ats, lens, prefix, &leaves[first..]) {
+    if add_ids::is_taken(text, ids, prefix, &leaves[first..]) {
         return CountAnswer::Refused(18, LineNo(0));
     }
-    let empty = ats.len() == 0;
-    if 1024 < ats.len() + new_count(leaves.len(), empty) {
+    let count = ids.len() / program_ids::ROW;
+    let empty = count == 0;
+    if 1024 < count + new_count(leaves.len(), empty) {
         return CountAnswer::Refused(19, LineNo(0));
     }
     let shape = Shape {
@@ -277,7 +274,7 @@ fn add_after(
         shape,
         strict: known.strict,
     };
-    write_added(text, ats, lens, prefix, fields, leaves, ways, out)
+    write_added(text, ids, prefix, fields, leaves, ways, out)
 }
 
 // Adds programs to a text whose catalogue is fresh: 26, 22, 23, 18, 19, 24, 1, 20.
@@ -301,14 +298,11 @@ fn add_fresh(
         return CountAnswer::Refused(26, LineNo(0));
     }
     let previous = add_input::find_previous(fields);
-    let mut at: [u32; 1024] = [0; 1024];
-    let mut len: [u32; 1024] = [0; 1024];
-    let mut from: [u32; 1024] = [0; 1024];
-    let mut widths: [u32; 1024] = [0; 1024];
-    let count = program_places::gather(catalogue, &mut at, &mut len, &mut from, &mut widths);
-    let ats = &at[..count];
-    let lens = &len[..count];
-    if is_stray(text, ats, lens, fields, previous) {
+    let mut list: [u32; 3072] = [0; 3072];
+    let count = program_parents::list_ids(text, catalogue, &mut list);
+    let end = count * program_ids::ROW;
+    let ids = &list[..end];
+    if is_stray(text, ids, fields, previous) {
         return CountAnswer::Refused(22, LineNo(0)); // the given PP
     }
     let graph = program_parents::find_leaves(program_parents::parents_of(text, catalogue));
@@ -316,11 +310,11 @@ fn add_fresh(
         return CountAnswer::Refused(graph.refusal, LineNo(0));
     }
     let found = graph.leaves;
-    let list = found.list;
-    let leaves = &list[..found.count];
+    let ordinals = found.list;
+    let leaves = &ordinals[..found.count];
     let linked = is_linked(previous);
     let known = Known { linked, strict };
-    add_after(text, ats, lens, prefix, fields, leaves, known, out)
+    add_after(text, ids, prefix, fields, leaves, known, out)
 }
 
 // Adds a program after each leaf, and writes the tidy text to the front of `out`. The refusals, in this order: those of reading, 21, 26, 22, 23, 18,

@@ -1,5 +1,5 @@
--- The IDs that adding makes of a prefix and the IDs of programs, and whether a program has one of them already.
-use Prim.Native.Nat.{ℕ, _+_}
+-- The IDs that adding makes of a prefix and the IDs that are there, and whether one of them is there already.
+use Prim.Native.Nat.{ℕ, _+_, _*_}
 use mathlib.Core.Bool.{Bool, false, _||_}
 use mathlib.Core.List.{List, [], _∷_, _++_}
 use lib.ListN.{getD}
@@ -19,9 +19,9 @@ isAmong id ids = isKnown (idOrdinalFrom id 0 ids)
 unfoldable pub idIn : List (List ℕ) → ℕ → List ℕ
 idIn ids k = getD ids k []
 
--- where it is in the text; an empty ID is at the front
+-- where it stands in the text, by the list of IDs: no bytes stand at its front
 unfoldable pub idStanding : List ℕ → ℕ → ℕ × ℕ → ℕ × ℕ
-idStanding ats k text = (text .0, getD ats k 0 + text .1)
+idStanding ids k text = (text .0, getD ids (k * 3) 0 + text .1)
 
 -- does a program have an ID that is made of the prefix and one of these IDs?
 unfoldable pub taken : List (List ℕ) → List ℕ → List ℕ → Bool

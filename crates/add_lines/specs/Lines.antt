@@ -2,7 +2,7 @@
 use Prim.Native.Nat.{ℕ}
 use mathlib.Core.Bool.{Bool, true, false, cond}
 use mathlib.Core.List.{List, [], _∷_, _++_}
-use Rattle.program_ids.specs.Places.{idsAt}
+use Rattle.program_ids.specs.Ids.{idsAt}
 use Rattle.add_ids.specs.Taken.{idIn}
 use Rattle.add_lines.specs.declared.Shape.{Shape}
 use Rattle.add_lines.specs.Line.{newLine}
@@ -17,6 +17,6 @@ unfoldable pub addedText : List (List ℕ) → Bool → Bool → Bool → List �
 unfolding newLine newLines
 addedText ids empty alone linked prefix fields ks = cond empty (newLine true false prefix fields []) (newLines ids alone linked prefix fields ks)
 
--- the same, if the IDs are in the text `t` at these offsets, with these lengths
-abbrev pub newText : List ℕ → List ℕ → List ℕ → Shape → List ℕ → List ℕ → List ℕ → List ℕ
-newText t ats lens shape prefix fields ks = addedText (idsAt t ats lens) (shape .empty) (shape .alone) (shape .linked) prefix fields ks
+-- the same, by the list of the IDs in the text `t`
+abbrev pub newText : List ℕ → List ℕ → Shape → List ℕ → List ℕ → List ℕ → List ℕ
+newText t ids shape prefix fields ks = addedText (idsAt t ids) (shape .empty) (shape .alone) (shape .linked) prefix fields ks

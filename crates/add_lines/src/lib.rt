@@ -5,7 +5,7 @@ ghost use mathlib.Core.Path.{_≡_};
 ghost use Prim.Native.Nat.{_≤_, _+_};
 ghost use lib.ListN.{length};
 ghost use Rattle.byte_slices.specs.Over.{over};
-ghost use Rattle.program_ids.specs.Places.{PlacesInText};
+ghost use Rattle.program_ids.specs.Ids.{IdsInText};
 ghost use Rattle.add_lines.specs.Line.{joining, linking, ending, newLine};
 ghost use Rattle.add_lines.specs.Lines.{newText};
 
@@ -17,7 +17,13 @@ pub struct Shape {
     pub linked: bool,
 }
 
-// Writes bytes, and returns the place after them.
+// How one of them looks: its ID is the prefix alone; PP with the leaf's ID is added.
+pub struct Look {
+    pub alone: bool,
+    pub linked: bool,
+}
+
+// Writes bytes, and answers the place after them.
 fn put_slice(out: &mut [u8], o: usize, from: &[u8]) -> usize
     requires { ⌜ o + length (now from) ≤ length (now out) ⌝ }
     ensures next { λ r. ⌜ r ≡ o + length (now (from .entry)) ⌝ }
@@ -64,25 +70,17 @@ fn put_ending(out: &mut [u8], o: usize, fields: &[u8], id: &[u8], linked: bool) 
     n + 1
 }
 
-// Writes the line of a new program after the leaf `id`, and returns the place after it.
-pub fn put_program_line(
-    out: &mut [u8],
-    o: usize,
-    prefix: &[u8],
-    fields: &[u8],
-    id: &[u8],
-    alone: bool,
-    linked: bool,
-) -> usize
-    requires { ⌜ o + length (newLine alone linked (now prefix) (now fields) (now id)) ≤ length (now out) ⌝ }
-    ensures next { λ r. ⌜ r ≡ o + length (newLine alone linked (now (prefix .entry)) (now (fields .entry)) (now (id .entry))) ⌝ }
-    ensures wrote { λ _. ⌜ now (out .exit) ≡ over (now (out .entry)) o (newLine alone linked (now (prefix .entry)) (now (fields .entry)) (now (id .entry))) ⌝ }
+// Writes the line of a new program after the leaf `id`, and answers the place after it.
+fn put_line(out: &mut [u8], o: usize, prefix: &[u8], fields: &[u8], id: &[u8], look: Look) -> usize
+    requires { ⌜ o + length (newLine (look .alone) (look .linked) (now prefix) (now fields) (now id)) ≤ length (now out) ⌝ }
+    ensures next { λ r. ⌜ r ≡ o + length (newLine (look .alone) (look .linked) (now (prefix .entry)) (now (fields .entry)) (now (id .entry))) ⌝ }
+    ensures wrote { λ _. ⌜ now (out .exit) ≡ over (now (out .entry)) o (newLine (look .alone) (look .linked) (now (prefix .entry)) (now (fields .entry)) (now (id .entry))) ⌝ }
 {
     let n = tidy_parts::put_prefix(out, o, Kind::Program);
     let n = tidy_parts::put_tag(out, n, b'I', b'D');
     let n = put_slice(out, n, prefix);
-    let n = put_joining(out, n, id, alone);
-    put_ending(out, n, fields, id, linked)
+    let n = put_joining(out, n, id, look.alone);
+    put_ending(out, n, fields, id, look.linked)
 }
 
 // How many bytes follow the prefix in an ID.
@@ -121,17 +119,16 @@ pub fn line_len(prefix: &[u8], fields: &[u8], id: &[u8], alone: bool, linked: bo
 // PP.
 pub fn added_len(
     text: &[u8],
-    ats: &[u32],
-    lens: &[u32],
+    ids: &[u32],
     prefix: &[u8],
     fields: &[u8],
     leaves: &[u32],
     shape: Shape,
 ) -> usize
-    requires { ⌜ PlacesInText (now text) (now ats) (now lens) ⌝ }
+    requires { ⌜ IdsInText (now text) (now ids) ⌝ }
     requires { ⌜ (length (now text) ≤ 16777216) × (length (now prefix) ≤ 16777216) × (length (now fields) ≤ 16777216) × (length (now leaves) ≤ 1024) ⌝ }
     ensures { λ r.
-        ⌜ r ≡ length (newText (now (text .entry)) (now (ats .entry)) (now (lens .entry)) shape
+        ⌜ r ≡ length (newText (now (text .entry)) (now (ids .entry)) shape
         (now (prefix .entry)) (now (fields .entry)) (now (leaves .entry))) ⌝ }
 {
     if shape.empty {
@@ -141,7 +138,7 @@ pub fn added_len(
     let mut first = shape.alone;
     let mut i: usize = 0;
     while i < leaves.len() {
-        let id = add_ids::find_id(text, ats, lens, ProgramNo(leaves[i]));
+        let id = add_ids::find_id(text, ids, ProgramNo(leaves[i]));
         n += line_len(prefix, fields, id, first, shape.linked);
         first = false;
         i += 1;
@@ -154,31 +151,38 @@ pub fn put_added(
     out: &mut [u8],
     o: usize,
     text: &[u8],
-    ats: &[u32],
-    lens: &[u32],
+    ids: &[u32],
     prefix: &[u8],
     fields: &[u8],
     leaves: &[u32],
     shape: Shape,
 ) -> usize
-    requires { ⌜ PlacesInText (now text) (now ats) (now lens) ⌝ }
-    requires { ⌜ o + length (newText (now text) (now ats) (now lens) shape (now prefix) (now fields) (now leaves)) ≤ length (now out) ⌝ }
+    requires { ⌜ IdsInText (now text) (now ids) ⌝ }
+    requires { ⌜ o + length (newText (now text) (now ids) shape (now prefix) (now fields) (now leaves)) ≤ length (now out) ⌝ }
     ensures next { λ r.
-        ⌜ r ≡ o + length (newText (now (text .entry)) (now (ats .entry)) (now (lens .entry)) shape
+        ⌜ r ≡ o + length (newText (now (text .entry)) (now (ids .entry)) shape
         (now (prefix .entry)) (now (fields .entry)) (now (leaves .entry))) ⌝ }
     ensures wrote { λ _. ⌜ now (out .exit) ≡ over (now (out .entry)) o
-        (newText (now (text .entry)) (now (ats .entry)) (now (lens .entry)) shape
+        (newText (now (text .entry)) (now (ids .entry)) shape
         (now (prefix .entry)) (now (fields .entry)) (now (leaves .entry))) ⌝ }
 {
     if shape.empty {
-        return put_program_line(out, o, prefix, fields, &text[..0], true, false);
+        let look = Look {
+            alone: true,
+            linked: false,
+        };
+        return put_line(out, o, prefix, fields, &text[..0], look);
     }
     let mut n = o;
     let mut first = shape.alone;
     let mut i: usize = 0;
     while i < leaves.len() {
-        let id = add_ids::find_id(text, ats, lens, ProgramNo(leaves[i]));
-        n = put_program_line(out, n, prefix, fields, id, first, shape.linked);
+        let id = add_ids::find_id(text, ids, ProgramNo(leaves[i]));
+        let look = Look {
+            alone: first,
+            linked: shape.linked,
+        };
+        n = put_line(out, n, prefix, fields, id, look);
         first = false;
         i += 1;
     }

@@ -34,7 +34,7 @@ use Rattle.program_places.proofs.Noting.{Kept, map-snoc}
 use Rattle.program_lines.specs.Found.{notesOf}
 use Rattle.program_lines.proofs.Accepted.{IsProgram, spelled}
 use Rattle.program_lines.proofs.Same.{idPlace, recordNotes, line-notes}
-use Rattle.program_parents.proofs.Says.{Before, Says}
+use Rattle.program_parents.specs.Placed.{Before, Says, PlacesOf}
 use Rattle.read_judge.proofs.Judging.{pairs-snoc}
 use Rattle.tidy_line.specs.Line.{lineWritable, lineText, lineSize}
 use Rattle.tidy_line.specs.declared.Size.the-variants.{Unwritable, Is}
@@ -45,7 +45,6 @@ use Rattle.carry_lines.specs.declared.Cursor.{Cursor}
 use Rattle.carry_passes.specs.NextLine.{lentTo, Turn}
 use Rattle.carry_passes.proofs.NextLine.{before}
 use Rattle.fault_programs.specs.Plain.{plainAt, oneIf, plainCount}
-use Rattle.fault_programs.specs.Placed.{PlacesOf}
 
 -- ---- the fault of a line
 

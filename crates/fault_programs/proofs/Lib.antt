@@ -1,2 +1,1 @@
-pub mod KeptPrograms
-pub mod Placed
+pub mod Turns

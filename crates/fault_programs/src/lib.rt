@@ -1,7 +1,6 @@
 // The programs among the kept lines: finds their parents in one pass, and counts the faults that do not depend on parents.
 use carry_early::Begin;
 use carry_lines::Cursor;
-use catalogue_entries::Place;
 use program_places::Places;
 use program_places::Programs;
 use tidy_line::Size;
@@ -18,7 +17,7 @@ ghost use Rattle.carry_early.specs.First.{First};
 ghost use Rattle.carry_passes.specs.From.{Fresh, linesKeptFrom, keptFrom};
 ghost use Rattle.program_parents.specs.Parents.{linkNumber};
 ghost use Rattle.fault_programs.specs.Plain.{plainAt, oneIf, plainCount};
-ghost use Rattle.fault_programs.specs.Placed.{PlacesOf};
+ghost use Rattle.program_parents.specs.Placed.{PlacesOf};
 
 // 0, or why a line is faulty for a reason that does not depend on parents. `n` is its refusal if it is skipped, and 0 if it is kept.
 pub fn plain_fault(src: &[u8], at: usize, strict: bool, n: u8) -> u8
@@ -122,27 +121,12 @@ pub fn link_kept(text: &[u8], b: Begin, area: &mut [u32]) -> KeptLinks
 {
     let mut ids = [0u32; 2048];
     let gathered = gather(text, b, area, &mut ids);
-    let p = gathered.programs;
-    let id = p.id;
-    let ats = id.at;
-    let lens = id.len;
-    let previous = p.previous;
-    let from = previous.at;
-    let widths = previous.len;
-    let count = p.count;
-    let mut parents: [u32; 1024] = [0; 1024];
-    let mut i: usize = 0;
-    while i < count {
-        let place = Place {
-            at: from[i],
-            len: widths[i],
-        };
-        parents[i] = program_parents::find_parent(text, &ats[..count], &lens[..count], place);
-        i += 1;
-    }
+    let programs = gathered.programs;
+    let found = program_parents::parents_in(text, programs);
+    let parents = found.list;
     KeptLinks {
         parents,
-        count,
+        count: found.count,
         plain: gathered.plain,
     }
 }

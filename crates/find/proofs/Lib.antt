@@ -1,4 +1,5 @@
-pub mod SearchSteps
-pub mod OwnCatalogue
+pub mod Front
+pub mod Turns
+pub mod Told
 pub mod Laws
 pub mod Names

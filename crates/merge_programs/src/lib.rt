@@ -33,13 +33,7 @@ pub fn open_text(text: &[u8], strict: bool) -> Opened
     let gathered = program_lines::gather(text, strict);
     let programs = gathered.programs;
     let lines = gathered.lines;
-    let id = programs.id;
-    let ats = id.at;
-    let lens = id.len;
-    let previous = programs.previous;
-    let from = previous.at;
-    let widths = previous.len;
-    let parents = program_parents::find_parents(text, &ats, &lens, &from, &widths, programs.count);
+    let parents = program_parents::parents_in(text, programs);
     let refusal = program_parents::tangle(parents);
     Opened {
         strict,

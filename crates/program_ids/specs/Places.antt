@@ -1,7 +1,7 @@
--- Places in a text, as numbers in arrays and as the bytes there: where the IDs of programs are.
+-- Places of a text, as numbers in arrays: where the IDs of programs stand.
 use Prim.Native.Nat.{ℕ, _+_, _≤_}
 use mathlib.Core.Path.{_≡_}
-use mathlib.Core.List.{List, [], _∷_, map}
+use mathlib.Core.List.{List, [], _∷_}
 use lib.ListN.{length, take, drop}
 use Rattle.byte_slices.specs.Stands.{Each}
 use Rattle.catalogue_entries.specs.declared.Place.{Place}
@@ -24,12 +24,7 @@ placesOf [] lens = []
 placesOf (a ∷ ats) [] = []
 placesOf (a ∷ ats) (l ∷ lens) = record { at = a; len = l } ∷ placesOf ats lens
 
--- the bytes there
-unfoldable pub idsAt : List ℕ → List ℕ → List ℕ → List (List ℕ)
-unfolding bytesAt placesOf
-idsAt t ats lens = map (bytesAt t) (placesOf ats lens)
-
--- there are as many offsets as lengths, 1,024 at most, and each place is within the text
+-- as many offsets as lengths, 1,024 at most, and each place is within the text
 pub record PlacesInText (t ats lens : List ℕ) : Type 0 where
   pub even : length ats ≡ length lens
   pub few : length ats ≤ 1024

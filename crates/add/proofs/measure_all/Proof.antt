@@ -9,7 +9,7 @@ use borrow.Author.Tests.{ltb-true, ltb-false}
 use Rattle.format.specs.Records.{Record}
 use Rattle.format.specs.Tidy.{tidy, unwritable}
 use Rattle.accepted.specs.Read.{recordsOf}
-use Rattle.program_ids.specs.Places.{idsAt}
+use Rattle.program_ids.specs.Ids.{idsAt}
 use Rattle.tidy_sizes.specs.Numbers.{total}
 use Rattle.tidy_text.specs.Sizes.{sizesOf}
 use Rattle.tidy_text.proofs.Lines.{opened}
@@ -30,18 +30,18 @@ abbrev records : tie.Start → List Record
 records s = recordsOf (s .args .text .now)
 
 abbrev new : tie.Start → List ℕ
-new s = let a = s .args in addedText (idsAt (a .text .now) (a .ats .now) (a .lens .now)) (a .ways .shape .empty) (a .ways .shape .alone) (a .ways .shape .linked) (a .prefix .now) (a .fields .now) (a .leaves .now)
+new s = let a = s .args in addedText (idsAt (a .text .now) (a .ids .now)) (a .ways .shape .empty) (a .ways .shape .alone) (a .ways .shape .linked) (a .prefix .now) (a .fields .now) (a .leaves .now)
 
 abbrev whole : tie.Start → List ℕ
 whole s = withAdded (records s) (new s)
 
 -- what is measured
 abbrev sound : tie.Start → Plan
-sound s = record { sizes = sizesOf (records s); more = length (new s) }
+sound s = record { ways = s .args .ways; sizes = sizesOf (records s); more = length (new s) }
 
 -- what was measured before the call
 abbrev start : tie.After-sizes → tie.Start
-start z = z .before .before .before .before .before .before .before .before .before
+start z = z .before .before .before .before .before .before .before .before
 
 -- every name can be written, and the sizes are those of the tidy text
 measured : (z : tie.After-sizes) → let rs = records (start z) in (unwritable 0 rs ≡ none) × (sizesOf rs ≡ z .sizes .given .0 .0)
@@ -92,7 +92,7 @@ returns c =
     let s = start z in
     let a = s .args in
     let room = a .room in
-    let long = added-long (idsAt (a .text .now) (a .ats .now) (a .lens .now)) (a .ways .shape .linked) (a .prefix .now) (a .fields .now) (a .ways .shape .empty) (a .ways .shape .alone) (a .leaves .now) (s .pre .1 .1 .1 .1) (sym (c .before .is-too-long .ensures) ∙ c .if1 .taken) in
+    let long = added-long (idsAt (a .text .now) (a .ids .now)) (a .ways .shape .linked) (a .prefix .now) (a .fields .now) (a .ways .shape .empty) (a .ways .shape .alone) (a .leaves .now) (s .pre .1 .1 .1 .1) (sym (c .before .is-too-long .ensures) ∙ c .if1 .taken) in
     sym (ap (plannedOf (sound s)) (write-long room (unwritable 0 (records s)) (whole s) (measured z .0) (omega (arith, with-size (records s) (new s), long))))
 
 added-len-requires : tie.Need-added-len-requires
@@ -133,7 +133,7 @@ returns-4 : tie.Need-returns-4
 unfolding plannedOf
 returns-4 c =
     let m = c .before .before .before in
-    let s = c .before .before .before .before .before .before .before .before .before .before in
+    let s = c .before .before .before .before .before .before .before .before .before in
     let room = s .args .room in
     let l = c .before .line .given .0 .0 in
     sym (ap (plannedOf (sound s)) (write-bad room (unwritable 0 (records s)) (whole s) (l .0) (measured-bad (unwritable 0 (records s)) (sizesOf (records s)) l (sym (m .measure .ensures .0) ∙ c .before .line .given .1))))
@@ -145,8 +145,8 @@ returns-5 c =
     let z = l .before .before .before .before .before in
     let s = start z in
     let p = sound s in
-    ap (λ n. Is (record { sizes = n; more = l .added-len .result })) (sym (measured z .1))
-    ∙ ap (λ n. Is (record { sizes = p .sizes; more = n })) (l .added-len .ensures)
+    ap (λ n. Is (record { ways = p .ways; sizes = n; more = l .added-len .result })) (sym (measured z .1))
+    ∙ ap (λ n. Is (record { ways = p .ways; sizes = p .sizes; more = n })) (l .added-len .ensures)
     ∙ sym (ap (plannedOf p) (write-fits (s .args .room) (unwritable 0 (records s)) (whole s) (measured z .0) (short (c .before)) (omega (arith, size l, c .if3 .left))))
 
 pub measure-all-spec : {M : Type 1} → statement M

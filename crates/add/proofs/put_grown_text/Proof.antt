@@ -8,7 +8,7 @@ use Rattle.format.specs.Records.{Record}
 use Rattle.format.specs.Tidy.{tidy}
 use Rattle.format.specs.declared.Kind.the-variants.{Comment}
 use Rattle.accepted.specs.Read.{recordsOf}
-use Rattle.program_ids.specs.Places.{idsAt}
+use Rattle.program_ids.specs.Ids.{idsAt}
 use Rattle.tidy_text.specs.Kinds.{textOfKind, frontText}
 use Rattle.tidy_sizes.specs.Numbers.{get, front}
 use Rattle.byte_slices.specs.Over.{over}
@@ -28,7 +28,7 @@ abbrev records : tie.Start → List Record
 records s = recordsOf (s .args .text .now)
 
 abbrev new : tie.Start → List ℕ
-new s = let a = s .args in addedText (idsAt (a .text .now) (a .ats .now) (a .lens .now)) (a .ways .shape .empty) (a .ways .shape .alone) (a .ways .shape .linked) (a .prefix .now) (a .fields .now) (a .leaves .now)
+new s = let a = s .args in addedText (idsAt (a .text .now) (a .ids .now)) (a .plan .ways .shape .empty) (a .plan .ways .shape .alone) (a .plan .ways .shape .linked) (a .prefix .now) (a .fields .now) (a .leaves .now)
 
 -- how long the parts are
 module _ (s : tie.Start) where
@@ -50,7 +50,7 @@ module _ (s : tie.Start) where
       omega (
         arith,
         s .pre .1 .1 .1 .0,
-        tidy-small (s .args .ways .strict) (s .args .text .now) (opened (s .args .ways .strict) (s .args .text .now) (s .pre .0) (s .pre .1 .0)) .1,
+        tidy-small (s .args .plan .ways .strict) (s .args .text .now) (opened (s .args .plan .ways .strict) (s .args .text .now) (s .pre .0) (s .pre .1 .0)) .1,
       )
 
 put-around-requires : tie.Need-put-around-requires

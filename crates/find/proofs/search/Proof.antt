@@ -9,7 +9,7 @@ use lib.ListN.{length, take, drop}
 use Rattle.format.specs.Bytes.{same}
 use Rattle.catalogue_entries.specs.declared.Place.{Place}
 use Rattle.catalogue_entries.specs.Entries.{kindByte}
-use Rattle.program_ids.proofs.Search.{Front, front-all, front-none, front-other, front-on}
+use Rattle.find.proofs.Front.{Front, front-all, front-none, front-other, front-on}
 use Rattle.find.specs.Keys.{keyPlace, foundOf}
 use Rattle.find.proofs.SearchSteps.{Ahead, ahead-all, search-end, turn-fits, key-inside, turn-kind, turn-few, turn-length, turn-here, turn-differs}
 use Rattle.find.proofs.search.Statement.{statement}
