@@ -14,7 +14,7 @@ use Rattle.format.specs.declared.Kind.the-variants.{Program}
 use Rattle.byte_slices.proofs.Over.{over-none}
 use Rattle.tidy_parts.specs.Parts.{prefixText}
 use Rattle.tidy_parts.proofs.Wrote.{Wrote}
-use Rattle.accepted.proofs.Bools.{split}
+use Rattle.lists.proofs.Bools.{split}
 use Rattle.program_ids.specs.Ids.{idsAt, IdsInText}
 use Rattle.add_ids.specs.Taken.{idIn}
 use Rattle.add_ids.proofs.Search.{id-none, id-some}

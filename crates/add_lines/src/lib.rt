@@ -71,7 +71,7 @@ fn put_ending(out: &mut [u8], o: usize, fields: &[u8], id: &[u8], linked: bool) 
 }
 
 // Writes the line of a new program after the leaf `id`, and answers the place after it.
-fn put_line(out: &mut [u8], o: usize, prefix: &[u8], fields: &[u8], id: &[u8], look: Look) -> usize
+fn put_program_line(out: &mut [u8], o: usize, prefix: &[u8], fields: &[u8], id: &[u8], look: Look) -> usize
     requires { ⌜ o + length (newLine (look .alone) (look .linked) (now prefix) (now fields) (now id)) ≤ length (now out) ⌝ }
     ensures next { λ r. ⌜ r ≡ o + length (newLine (look .alone) (look .linked) (now (prefix .entry)) (now (fields .entry)) (now (id .entry))) ⌝ }
     ensures wrote { λ _. ⌜ now (out .exit) ≡ over (now (out .entry)) o (newLine (look .alone) (look .linked) (now (prefix .entry)) (now (fields .entry)) (now (id .entry))) ⌝ }
@@ -171,7 +171,7 @@ pub fn put_added(
             alone: true,
             linked: false,
         };
-        return put_line(out, o, prefix, fields, &text[..0], look);
+        return put_program_line(out, o, prefix, fields, &text[..0], look);
     }
     let mut n = o;
     let mut first = shape.alone;
@@ -182,7 +182,7 @@ pub fn put_added(
             alone: first,
             linked: shape.linked,
         };
-        n = put_line(out, n, prefix, fields, id, look);
+        n = put_program_line(out, n, prefix, fields, id, look);
         first = false;
         i += 1;
     }

@@ -9,7 +9,7 @@ use lib.Seq.{sets-eq, take-all, take-suc, length-take-le}
 use Rattle.byte_slices.specs.Stands.{Each}
 use Rattle.byte_slices.specs.Over.{over}
 use Rattle.byte_slices.proofs.Over.{over-length, over-none, over-take, over-over}
-use Rattle.accepted.proofs.Pairs.{each-at}
+use Rattle.lists.proofs.Pairs.{each-at}
 use Rattle.program_chains.proofs.Walks.{map-at}
 use Rattle.catalogue_entries.specs.declared.Place.{Place}
 use Rattle.program_ids.specs.Places.{InsideText, bytesAt, nowhere, placesOf, PlacesInText}

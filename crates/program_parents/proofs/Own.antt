@@ -13,7 +13,7 @@ use Rattle.format.specs.Programs.{Program, root, programs, programOf, link, lin
 use Rattle.byte_slices.specs.Stands.{Each}
 use Rattle.byte_slices.specs.Over.{over}
 use Rattle.accepted.specs.Read.{isAccepted, recordsOf}
-use Rattle.accepted.proofs.Pairs.{pairs-length, pairs-at}
+use Rattle.lists.proofs.Pairs.{pairs-length, pairs-at}
 use Rattle.accepted.proofs.Read.{accepted-reads}
 use Rattle.accepted.proofs.Text.{text-fits, text-programs}
 use Rattle.program_chains.specs.Parents.{inArray}

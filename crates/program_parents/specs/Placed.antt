@@ -7,7 +7,7 @@ use lib.ListN.{length, take}
 use Rattle.format.specs.Lines.{Piece}
 use Rattle.format.specs.Programs.{Program, programs}
 use Rattle.byte_slices.specs.Stands.{Stands}
-use Rattle.accepted.specs.Pieces.{Pairs}
+use Rattle.lists.specs.Pairs.{Pairs}
 use Rattle.accepted.specs.Read.{recordsOf}
 use Rattle.catalogue_entries.specs.declared.Place.{Place}
 use Rattle.catalogue_entries.specs.Entries.{pieceAt}

@@ -29,8 +29,8 @@ abbrev μ-loop : tie.MeasureT-loop
 slice-aggregate-put-program-line : tie.Need-slice-aggregate-put-program-line Inv-loop μ-loop
 slice-aggregate-put-program-line c = search needs
 
-put-line-requires : tie.Need-put-line-requires Inv-loop μ-loop
-put-line-requires c κs =
+put-program-line-requires : tie.Need-put-program-line-requires Inv-loop μ-loop
+put-program-line-requires c κs =
     let s = c .before .before .before .before .before .before .before .before .before in
     let a = s .args in
     omega (arith, s .pre .1, ap length (added-one (idsAt (a .text .now) (a .ids .now)) (a .shape .empty) (a .shape .alone) (a .shape .linked) (a .prefix .now) (a .fields .now) (a .leaves .now) (c .before .before .if1 .taken)))
@@ -42,7 +42,7 @@ returns : tie.Need-returns Inv-loop μ-loop
 returns c =
     let w = c .before .before in
     let a = w .before .before .before .before .before .before .before .before .before .before .args in
-    subst (Wrote (a .out .now) (a .o) (w .put-line .last .0) (w .put-line .result)) (sym (added-one (idsAt (a .text .now) (a .ids .now)) (a .shape .empty) (a .shape .alone) (a .shape .linked) (a .prefix .now) (a .fields .now) (a .leaves .now) (w .before .before .before .if1 .taken))) (w .put-line .ensures)
+    subst (Wrote (a .out .now) (a .o) (w .put-program-line .last .0) (w .put-program-line .result)) (sym (added-one (idsAt (a .text .now) (a .ids .now)) (a .shape .empty) (a .shape .alone) (a .shape .linked) (a .prefix .now) (a .fields .now) (a .leaves .now) (w .before .before .before .if1 .taken))) (w .put-program-line .ensures)
 
 loop-holds : tie.Need-loop-holds Inv-loop μ-loop
 loop-holds c =
@@ -80,8 +80,8 @@ more c =
     ∙ ap (λ i. newLine (l .first) (a .shape .linked) (a .prefix .now) (a .fields .now) i ++ ys) (sym (c .find-id .ensures .0)) in
     (e, omega (arith, l .inv .1, ap length e, length-append xs ys))
 
-put-line-requires-2 : tie.Need-put-line-requires-2 Inv-loop μ-loop
-put-line-requires-2 c κs = omega (arith, more (c .before) .1, c .before .before .before .before .before .before .before .before .before .before .before .before .pre .1, c .before .before .before .before .loop .inv .3)
+put-program-line-requires-2 : tie.Need-put-program-line-requires-2 Inv-loop μ-loop
+put-program-line-requires-2 c κs = omega (arith, more (c .before) .1, c .before .before .before .before .before .before .before .before .before .before .before .before .pre .1, c .before .before .before .before .loop .inv .3)
 
 add-i : tie.Need-add-i Inv-loop μ-loop
 add-i c = omega arith
