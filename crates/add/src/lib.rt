@@ -270,10 +270,8 @@ fn add_after(
         alone,
         linked: known.linked,
     };
-    let ways = Ways {
-        shape,
-        strict: known.strict,
-    };
+    let strict = known.strict;
+    let ways = Ways { shape, strict };
     write_added(text, ids, prefix, fields, leaves, ways, out)
 }
 
