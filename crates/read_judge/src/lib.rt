@@ -1,5 +1,6 @@
 // A whole text, line by line: its first refusal, or how long its catalogue is.
 use format::LineNo;
+use key_look::Seed;
 use record::Head;
 ghost use mathlib.Core.Path.{_≡_};
 ghost use mathlib.Core.Bool.{_||_, false, cond};
@@ -11,7 +12,8 @@ ghost use Rattle.format.specs.Lines.{linesFrom};
 ghost use Rattle.format.specs.Work.{allZeros};
 ghost use Rattle.format.specs.Slots.{Held};
 ghost use Rattle.read_admission.specs.Admission.{barring};
-ghost use Rattle.key_index.specs.Told.{start};
+ghost use Rattle.key_look.specs.Seed.{plainSeed};
+ghost use Rattle.key_index.specs.KeySlots.{start};
 ghost use Rattle.read_judge.specs.Blocks.{clashOf, turned, emptied};
 ghost use Rattle.read_judge.specs.Judged.{judgedBy, judgement};
 ghost use Rattle.read_judge.specs.Parsed.{parsedBy};
@@ -34,6 +36,12 @@ pub enum Judged {
     Accepted(usize, bool),
 }
 
+// How a text is judged: whether a tag is refused that is repeated, and how keys are numbered.
+struct Way {
+    strict: bool,
+    seed: Seed,
+}
+
 // The line before which the index is begun anew, and the first line ahead whose key an earlier block of lines has.
 struct Block {
     until: usize,
@@ -43,7 +51,7 @@ struct Block {
 // The first line from `from` on, the line number `first`, that is `clash` or has a key that is in the area; `clash` where none is.
 fn first_met(
     text: &[u8],
-    strict: bool,
+    way: Way,
     area: &mut [u32],
     from: usize,
     first: usize,
@@ -53,9 +61,10 @@ fn first_met(
     requires { ⌜ 0 < length (now area) ⌝ }
     requires { ⌜ first ≤ from ⌝ }
     requires { ⌜ from ≤ length (now text) ⌝ }
-    ensures met { λ r. ⌜ r ≡ clashOf strict (now (text .entry)) (now (area .entry)) clash first (linesFrom from (drop from (now (text .entry)))) ⌝ }
+    ensures met { λ r. ⌜ r ≡ clashOf (way .seed) (way .strict) (now (text .entry)) (now (area .entry)) clash first (linesFrom from (drop from (now (text .entry)))) ⌝ }
     ensures kept { λ _. ⌜ now (area .exit) ≡ now (area .entry) ⌝ }
 {
+    let seed = way.seed;
     let mut at = from;
     let mut line = first;
     while at < text.len() {
@@ -64,8 +73,8 @@ fn first_met(
         }
         let cut = byte_slices::first_line(&text[at..]);
         let end = at + cut.len;
-        let head = record_parser::parse_record(&text[at..end], at, strict);
-        if key_index::meet(text, area, head, false) {
+        let head = record_parser::parse_record(&text[at..end], at, way.strict);
+        if key_index::find_or_enter(text, area, seed, head, false).known {
             return line;
         }
         at += cut.next;
@@ -75,18 +84,18 @@ fn first_met(
 }
 
 // The block that a line stands in: where one begins, the keys of the one before are looked for in the lines ahead, and the area is emptied.
-fn turn(text: &[u8], strict: bool, area: &mut [u32], at: usize, line: usize, block: Block) -> Block
+fn turn(text: &[u8], way: Way, area: &mut [u32], at: usize, line: usize, block: Block) -> Block
     requires { ⌜ length (now text) ≤ 16777216 ⌝ }
     requires { ⌜ 0 < length (now area) ⌝ }
     requires { ⌜ line ≤ at ⌝ }
     requires { ⌜ at ≤ length (now text) ⌝ }
-    ensures block { λ r. ⌜ r ≡ turned strict (now (text .entry)) (now (area .entry)) at line block ⌝ }
+    ensures block { λ r. ⌜ r ≡ turned (way .seed) (way .strict) (now (text .entry)) (now (area .entry)) at line block ⌝ }
     ensures wrote { λ _. ⌜ now (area .exit) ≡ emptied (now (area .entry)) line block ⌝ }
 {
     if line < block.until {
         return block;
     }
-    let clash = first_met(text, strict, area, at, line, block.clash);
+    let clash = first_met(text, way, area, at, line, block.clash);
     key_index::clear(area);
     let until = line + area.len() / 4 * 3;
     Block { until, clash }
@@ -149,12 +158,13 @@ fn parse_line(line: &[u8], at: usize, strict: bool, once: bool) -> Parsed
 }
 
 // Line by line: each line's own refusal, then 17, 18 and 19. The keys of a block of lines, three for each four slots of `area`, are kept there.
-fn judge_indexed(text: &[u8], strict: bool, area: &mut [u32]) -> Judged
+fn judge_along(text: &[u8], way: Way, area: &mut [u32]) -> Judged
     requires { ⌜ length (now text) ≤ 16777216 ⌝ }
     requires { ⌜ 4 ≤ length (now area) ⌝ }
-    requires { ⌜ Held (start (now text) (length (now area))) (now area) [] ⌝ }
-    ensures { λ r. ⌜ r ≡ judgedBy strict (now (text .entry)) ⌝ }
+    requires { ⌜ Held (start (way .seed) (now text) (length (now area))) (now area) [] ⌝ }
+    ensures { λ r. ⌜ r ≡ judgedBy (way .strict) (now (text .entry)) ⌝ }
 {
+    let seed = way.seed;
     let until = area.len() / 4 * 3;
     let mut block = Block {
         until,
@@ -172,12 +182,12 @@ fn judge_indexed(text: &[u8], strict: bool, area: &mut [u32]) -> Judged
             return Judged::Accepted(size, once);
         }
         let end = at + cut.len;
-        let parsed = parse_line(&text[at..end], at, strict, once);
+        let parsed = parse_line(&text[at..end], at, way.strict, once);
         let head = parsed.head;
         once = parsed.once;
-        block = turn(text, strict, area, at, line, block);
-        let known = key_index::meet(text, area, head, true);
-        let n = barred(line, programs, head, known, line == block.clash);
+        block = turn(text, way, area, at, line, block);
+        let found = key_index::find_or_enter(text, area, seed, head, true);
+        let n = barred(line, programs, head, found.known, line == block.clash);
         if n != 0 {
             return Judged::Refused(n, LineNo(line as u32));
         }
@@ -186,6 +196,17 @@ fn judge_indexed(text: &[u8], strict: bool, area: &mut [u32]) -> Judged
         at = next;
         line += 1;
     }
+}
+
+// The same, by plain numbers.
+fn judge_indexed(text: &[u8], strict: bool, area: &mut [u32]) -> Judged
+    requires { ⌜ length (now text) ≤ 16777216 ⌝ }
+    requires { ⌜ 4 ≤ length (now area) ⌝ }
+    requires { ⌜ Held (start plainSeed (now text) (length (now area))) (now area) [] ⌝ }
+    ensures { λ r. ⌜ r ≡ judgedBy strict (now (text .entry)) ⌝ }
+{
+    let seed = key_look::plain();
+    judge_along(text, Way { strict, seed }, area)
 }
 
 // A short text, in blocks of 384 lines: little is cleared for it.

@@ -14,42 +14,42 @@ use Rattle.byte_slices.proofs.First.{first-le, first-within, first-some}
 use Rattle.byte_slices.proofs.Before.{rest}
 use Rattle.accepted.proofs.Ahead.{ahead-stands}
 use Rattle.record.specs.Head.{headOf}
-use Rattle.key_index.specs.Told.{isMet}
+use Rattle.key_index.specs.KeySlots.{isFound}
 use Rattle.key_index.specs.Keyed.{KeyInText}
-use Rattle.key_index.proofs.HeldKeys.{head-placed, meeting-none}
+use Rattle.key_index.proofs.HeldKeys.{head-placed, entering-none}
 use Rattle.read_judge.specs.Blocks.{clashOf}
 use Rattle.read_judge.proofs.Blocks.{clash-none, clash-here, clash-met, clash-on}
 use Rattle.read_judge.proofs.first_met.Statement.{statement}
 use Rattle.read_judge.proofs.first_met.Tie as tie
 use Rattle.read_judge.proofs.first_met.Reads as reads
 use Rattle.read_judge.proofs.first_met.Lts as lts
-use Rattle.key_index.proofs.meet.Reads as meet-reads
+use Rattle.key_index.proofs.find_or_enter.Reads as find-or-enter-reads
 use Rattle.record_parser.proofs.parse_record.Reads as parse-record-reads
 use Rattle.byte_slices.proofs.first_line.Reads as first-line-reads
 
 abbrev Inv-loop : tie.InvT-loop
-Inv-loop text strict area₀ from first clash at₀ line₀ area at line =
-    (line ≤ at) × (at ≤ length text) × (area ≡ area₀) × (clashOf strict text area₀ clash first (linesFrom from (drop from text)) ≡ clashOf strict text area₀ clash line (linesFrom at (drop at text)))
+Inv-loop text way area₀ from first clash seed at₀ line₀ area at line =
+    (line ≤ at) × (at ≤ length text) × (area ≡ area₀) × (clashOf (way .seed) (way .strict) text area₀ clash first (linesFrom from (drop from text)) ≡ clashOf (way .seed) (way .strict) text area₀ clash line (linesFrom at (drop at text)))
 
 abbrev μ-loop : tie.MeasureT-loop
-μ-loop text strict area₀ from first clash at₀ line₀ area at line = length text - at
+μ-loop text way area₀ from first clash seed at₀ line₀ area at line = length text - at
 
 -- ---- in a turn
 
 cut : (c : tie.After-first-line Inv-loop μ-loop)
     → let l = c .before .before .before .before in
-    c .first-line .result ≡ firstLine (drop (l .loop .at) (l .before .before .before .args .text .now))
+    c .first-line .result ≡ firstLine (drop (l .loop .at) (l .before .before .before .before .args .text .now))
 cut c =
     let l = c .before .before .before .before in
-    c .first-line .ensures ∙ ap firstLine (rest (l .loop .at) (l .before .before .before .args .text .now))
+    c .first-line .ensures ∙ ap firstLine (rest (l .loop .at) (l .before .before .before .before .args .text .now))
 
 inside : (c : tie.After-first-line Inv-loop μ-loop)
     → let l = c .before .before .before .before in
-    let t = l .before .before .before .args .text .now in
+    let t = l .before .before .before .before .args .text .now in
     (l .loop .at + c .first-line .result .len ≤ length t) × (l .loop .at + c .first-line .result .next ≤ length t) × (0 < c .first-line .result .next)
 inside c =
     let l = c .before .before .before .before in
-    let t = l .before .before .before .args .text .now in
+    let t = l .before .before .before .before .args .text .now in
     let d = length-drop (l .loop .at) t in
     let h : l .loop .at < length t = omega arith in
     let e = cut c in
@@ -58,49 +58,49 @@ inside c =
 piece : (c : tie.After-first-line Inv-loop μ-loop) → Piece
 piece c =
     let l = c .before .before .before .before in
-    let t = l .before .before .before .args .text .now in
+    let t = l .before .before .before .before .args .text .now in
     record { at = l .loop .at; bytes = take (firstLine (drop (l .loop .at) t) .len) (drop (l .loop .at) t) }
 
 head-is : (c : tie.After-parse-record Inv-loop μ-loop)
     → let q = c .before .before .before in
     let l = q .before .before .before .before in
-    c .parse-record .result ≡ headOf (line (l .before .before .before .args .strict) (piece q))
+    c .parse-record .result ≡ headOf (line (l .before .before .before .before .args .way .strict) (piece q))
 unfolding piece
 head-is c =
     let q = c .before .before .before in
     let l = q .before .before .before .before in
-    let a = l .before .before .before .args in
+    let a = l .before .before .before .before .args in
     let n : l .loop .at + q .first-line .result .len - l .loop .at ≡ q .first-line .result .len = omega arith in
-    c .parse-record .ensures ∙ ap (λ b. headOf (line (a .strict) (record { at = l .loop .at; bytes = take b (drop (l .loop .at) (a .text .now)) }))) (n ∙ ap (λ x. x .len) (cut q))
+    c .parse-record .ensures ∙ ap (λ b. headOf (line (a .way .strict) (record { at = l .loop .at; bytes = take b (drop (l .loop .at) (a .text .now)) }))) (n ∙ ap (λ x. x .len) (cut q))
 
 placed-head : (c : tie.After-parse-record Inv-loop μ-loop)
     → let l = c .before .before .before .before .before .before .before in
-    KeyInText (length (l .before .before .before .args .text .now)) (c .parse-record .result)
+    KeyInText (length (l .before .before .before .before .args .text .now)) (c .parse-record .result)
 unfolding piece
 placed-head c =
     let l = c .before .before .before .before .before .before .before in
-    let s = l .before .before .before in
+    let s = l .before .before .before .before in
     let a = s .args in
-    subst (KeyInText (length (a .text .now))) (sym (head-is c)) (head-placed (a .strict) (a .text .now) (l .loop .at) (s .pre .0) (ahead-stands (a .text .now) (l .loop .at) (omega arith)))
+    subst (KeyInText (length (a .text .now))) (sym (head-is c)) (head-placed (a .way .strict) (a .text .now) (l .loop .at) (s .pre .0) (ahead-stands (a .text .now) (l .loop .at) (omega arith)))
 
 -- what the slots say of it
-met-is : (c : tie.After-meet Inv-loop μ-loop)
+met-is : (c : tie.After-find-or-enter Inv-loop μ-loop)
     → let l = c .before .before .before .before .before .before .before .before .before in
-    let a = l .before .before .before .args in
-    c .meet .result ≡ isMet (a .text .now) (a .area .now) (c .before .before .parse-record .result)
+    let a = l .before .before .before .before .args in
+    c .find-or-enter .result .known ≡ isFound (a .way .seed) (a .text .now) (a .area .now) (c .before .before .parse-record .result)
 met-is c =
     let l = c .before .before .before .before .before .before .before .before .before in
-    let a = l .before .before .before .args in
-    c .meet .ensures .0 ∙ ap (λ s. isMet (a .text .now) s (c .before .before .parse-record .result)) (l .loop .inv .2)
+    let a = l .before .before .before .before .args in
+    c .find-or-enter .ensures .0 ∙ ap (λ s. isFound (a .way .seed) (a .text .now) s (c .before .before .parse-record .result)) (l .loop .inv .2)
 
 -- and they stay
-kept : (c : tie.After-meet Inv-loop μ-loop)
+kept : (c : tie.After-find-or-enter Inv-loop μ-loop)
     → let l = c .before .before .before .before .before .before .before .before .before in
-    c .meet .last .1 .0 ≡ l .before .before .before .args .area .now
+    c .find-or-enter .last .1 .0 ≡ l .before .before .before .before .args .area .now
 kept c =
     let l = c .before .before .before .before .before .before .before .before .before in
-    let a = l .before .before .before .args in
-    c .meet .ensures .1 ∙ meeting-none (a .text .now) (l .loop .area) (c .before .before .parse-record .result) ∙ l .loop .inv .2
+    let a = l .before .before .before .before .args in
+    c .find-or-enter .ensures .1 .1 ∙ entering-none (a .way .seed) (a .text .now) (l .loop .area) (c .before .before .parse-record .result) ∙ l .loop .inv .2
 
 loop-holds : tie.Need-loop-holds Inv-loop μ-loop
 loop-holds c = (omega arith, omega arith, refl, refl)
@@ -111,8 +111,8 @@ same-length c = ap length (c .before .before .loop .inv .2)
 returns : tie.Need-returns Inv-loop μ-loop
 returns c =
     let l = c .before .before in
-    let a = l .before .before .before .args in
-    (sym (l .loop .inv .3 ∙ clash-here (a .strict) (a .text .now) (a .area .now) (a .clash) (l .loop .at) (l .loop .line) (omega arith) (c .if1 .taken)), l .loop .inv .2)
+    let a = l .before .before .before .before .args in
+    (sym (l .loop .inv .3 ∙ clash-here (a .way .seed) (a .way .strict) (a .text .now) (a .area .now) (a .clash) (l .loop .at) (l .loop .line) (omega arith) (c .if1 .taken)), l .loop .inv .2)
 
 sub-first-line : tie.Need-sub-first-line Inv-loop μ-loop
 sub-first-line c = omega arith
@@ -142,14 +142,14 @@ parse-record-requires : tie.Need-parse-record-requires Inv-loop μ-loop
 parse-record-requires c κs =
     let q = c .before .before in
     let l = q .before .before .before .before in
-    let t = l .before .before .before .args .text .now in
-    omega (arith, inside q, length-take (l .loop .at + q .first-line .result .len - l .loop .at) (drop (l .loop .at) t), l .before .before .before .pre .0)
+    let t = l .before .before .before .before .args .text .now in
+    omega (arith, inside q, length-take (l .loop .at + q .first-line .result .len - l .loop .at) (drop (l .loop .at) t), l .before .before .before .before .pre .0)
 
-meet-requires : tie.Need-meet-requires Inv-loop μ-loop
-meet-requires c κs =
+find-or-enter-requires : tie.Need-find-or-enter-requires Inv-loop μ-loop
+find-or-enter-requires c κs =
     let q = c .before .before .before .before in
     let l = q .before .before .before .before in
-    let s = l .before .before .before in
+    let s = l .before .before .before .before in
     (s .pre .0, (omega (arith, s .pre .1 .0, ap length (l .loop .inv .2)), placed-head (c .before)))
 
 same-length-2 : tie.Need-same-length-2 Inv-loop μ-loop
@@ -160,8 +160,8 @@ returns-2 c =
     let m = c .before .before .before in
     let p = m .before .before in
     let l = p .before .before .before .before .before .before .before in
-    let a = l .before .before .before .args in
-    (sym (l .loop .inv .3 ∙ clash-met (a .strict) (a .text .now) (a .area .now) (a .clash) (l .loop .at) (l .loop .line) (omega arith) (p .parse-record .result) (unfold piece in head-is p) (p .before .before .before .before .before .if1 .left) (sym (met-is m) ∙ c .if2 .taken)), kept m)
+    let a = l .before .before .before .before .args in
+    (sym (l .loop .inv .3 ∙ clash-met (a .way .seed) (a .way .strict) (a .text .now) (a .area .now) (a .clash) (l .loop .at) (l .loop .line) (p .before .before .before .before .before .before .loop-test .taken) (p .parse-record .result) (unfold piece in head-is p) (p .before .before .before .before .before .if1 .left) (sym (met-is m) ∙ c .if2 .taken)), kept m)
 
 add-at : tie.Need-add-at Inv-loop μ-loop
 add-at c = omega (arith, inside (c .before .before .before .before .before .before .before .before .before))
@@ -178,15 +178,15 @@ loop-again c =
     let p = m .before .before in
     let q = p .before .before .before in
     let l = q .before .before .before .before in
-    let a = l .before .before .before .args in
+    let a = l .before .before .before .before .args in
     let t = a .text .now in
     let n : l .loop .at + q .first-line .result .next ≡ l .loop .at + firstLine (drop (l .loop .at) t) .next = ap (λ x. l .loop .at + x .next) (cut q) in (
       omega (arith, inside q),
       omega (arith, inside q),
       kept m,
       l .loop .inv .3
-          ∙ clash-on (a .strict) t (a .area .now) (a .clash) (l .loop .at) (l .loop .line) (omega arith) (p .parse-record .result) (unfold piece in head-is p) (q .before .before .if1 .left) (sym (met-is m) ∙ c .before .if2 .left)
-          ∙ ap (λ k. clashOf (a .strict) t (a .area .now) (a .clash) (l .loop .line + 1) (linesFrom k (drop k t))) (sym n),
+          ∙ clash-on (a .way .seed) (a .way .strict) t (a .area .now) (a .clash) (l .loop .at) (l .loop .line) (omega arith) (p .parse-record .result) (unfold piece in head-is p) (q .before .before .if1 .left) (sym (met-is m) ∙ c .before .if2 .left)
+          ∙ ap (λ k. clashOf (a .way .seed) (a .way .strict) t (a .area .now) (a .clash) (l .loop .line + 1) (linesFrom k (drop k t))) (sym n),
     )
 
 same-length-3 : tie.Need-same-length-3 Inv-loop μ-loop
@@ -195,8 +195,8 @@ same-length-3 c = ap length (c .before .loop .inv .2)
 returns-3 : tie.Need-returns-3 Inv-loop μ-loop
 returns-3 c =
     let l = c .before in
-    let a = l .before .before .before .args in
-    (sym (l .loop .inv .3 ∙ clash-none (a .strict) (a .text .now) (a .area .now) (a .clash) (l .loop .at) (l .loop .line) (c .loop-test .left)), l .loop .inv .2)
+    let a = l .before .before .before .before .args in
+    (sym (l .loop .inv .3 ∙ clash-none (a .way .seed) (a .way .strict) (a .text .now) (a .area .now) (a .clash) (l .loop .at) (l .loop .line) (c .loop-test .left)), l .loop .inv .2)
 
 pub first-met-spec : {M : Type 1} → statement M
 first-met-spec =
@@ -216,7 +216,7 @@ first-met-spec =
     part-parse-record-start
     part-parse-record-end
     parse-record-requires
-    meet-requires
+    find-or-enter-requires
     same-length-2
     returns-2
     add-at
