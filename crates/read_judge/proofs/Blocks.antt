@@ -36,6 +36,15 @@ use Rattle.read_judge.specs.Blocks.{clashOf, turned, emptied}
 use Rattle.read_judge.proofs.Judging.{Judging, judging-start, judging-on, passed-are, line-stands}
 use Rattle.key_look.specs.declared.Seed.{Seed}
 
+-- emptying leaves the length
+pub emptied-length : (slots : List ℕ) (n : ℕ) (b : Block) → length (emptied slots n b) ≡ length slots
+unfolding emptied
+emptied-length slots n b = go (ltb n (b .until))
+  where
+    go : (c : Bool) → length (cond c slots (replicate (length slots) 0)) ≡ length slots
+    go true = refl
+    go false = length-replicate (length slots) 0
+
 module _ (seed : Seed) where
   -- ---- which line ahead has a key of an earlier block
 
