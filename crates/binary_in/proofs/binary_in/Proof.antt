@@ -132,7 +132,7 @@ enum-known-once c = search needs
 -- src/lib.rt:27:17
 is-sq-list-requires : tie.Need-is-sq-list-requires
 is-sq-list-requires c κs =
-    let e = c .before .before in
+    let e = c .before in
     let u = e .before .before .before .before in
     let p = u .before .before .before .before .before in
     let t = textOf u in

@@ -93,7 +93,7 @@ enum-known-once : tie.Need-enum-known-once
 enum-known-once c = search needs
 
 parents-of-requires : tie.Need-parents-of-requires
-parents-of-requires c κs = (opens c .accepted, own c .own)
+parents-of-requires c κs = (opens (c .before) .accepted, own (c .before) .own)
 
 has-high-requires : tie.Need-has-high-requires
 has-high-requires c κs = search needs
