@@ -55,14 +55,7 @@ fn keys_in(head: Head) -> usize
 
 // The keys of the lines from the offset `at` on, up to the one with the `many`-th key, enter the area, of equal ones the first; the offset
 // after these lines.
-fn enter(
-    text: &[u8],
-    seed: Seed,
-    strict: bool,
-    area: &mut [u32],
-    at: usize,
-    many: usize,
-) -> usize
+fn enter(text: &[u8], seed: Seed, strict: bool, area: &mut [u32], at: usize, many: usize) -> usize
     requires { ⌜ length (now text) ≤ 16777216 ⌝ }
     requires { ⌜ 0 < length (now area) ⌝ }
     requires { ⌜ at ≤ length (now text) ⌝ }
@@ -85,14 +78,7 @@ fn enter(
 }
 
 // The lines that start from the offset `from` on and before `to`: a slot that tells the key of one tells it by that line's offset from now on.
-fn point_back(
-    text: &[u8],
-    seed: Seed,
-    strict: bool,
-    area: &mut [u32],
-    from: usize,
-    to: usize,
-)
+fn point_back(text: &[u8], seed: Seed, strict: bool, area: &mut [u32], from: usize, to: usize)
     requires { ⌜ length (now text) ≤ 16777216 ⌝ }
     requires { ⌜ 0 < length (now area) ⌝ }
     requires { ⌜ to ≤ length (now text) ⌝ }

@@ -111,16 +111,28 @@ fn look_from(text: &[u8], area: &[u32], number: usize, print: u32, id: &[u8]) ->
         slots += 1;
         if slot == 0 {
             let sought = Sought::Free(at);
-            return Looked { sought, slots, print };
+            return Looked {
+                sought,
+                slots,
+                print,
+            };
         }
         if slot_tells(text, slot, print, id) {
             let sought = Sought::Known(at);
-            return Looked { sought, slots, print };
+            return Looked {
+                sought,
+                slots,
+                print,
+            };
         }
         at = next(at, area.len());
     }
     let sought = Sought::Full;
-    Looked { sought, slots, print }
+    Looked {
+        sought,
+        slots,
+        print,
+    }
 }
 
 // Looks for the key `id` of this kind.

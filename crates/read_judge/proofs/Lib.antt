@@ -1,3 +1,4 @@
+pub mod Busy
 pub mod Judging
 pub mod Once
 pub mod Parsing

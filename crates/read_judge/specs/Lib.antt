@@ -2,3 +2,4 @@
 pub mod Judged
 pub mod Blocks
 pub mod Parsed
+pub mod Busy

@@ -1,17 +1,20 @@
 // Judges a whole text line by line: answers its first refusal, or the size of its catalogue.
 use format::LineNo;
+use key_look::Seed;
 use record::Head;
 ghost use mathlib.Core.Path.{_≡_};
-ghost use mathlib.Core.Bool.{_||_, false, cond};
+ghost use mathlib.Core.Bool.{_||_, true, false, cond};
 ghost use mathlib.Core.List.{[]};
-ghost use Prim.Native.Nat.{_+_, _≤_, _<_};
+ghost use Prim.Native.Nat.{_+_, _*_, _≤_, _<_};
 ghost use lib.ListN.{length, drop};
 ghost use lib.Dec.{ltb};
 ghost use Rattle.format.specs.Lines.{linesFrom};
 ghost use Rattle.format.specs.Work.{allZeros};
 ghost use Rattle.format.specs.Slots.{Held};
 ghost use Rattle.read_admission.specs.Admission.{barring};
-ghost use Rattle.key_index.specs.Told.{start};
+ghost use Rattle.key_look.specs.Seed.{plainSeed, Seeded};
+ghost use Rattle.key_index.specs.KeySlots.{start};
+ghost use Rattle.read_judge.specs.Busy.{countedSlots, tooMany};
 ghost use Rattle.read_judge.specs.Blocks.{clashOf, turned, emptied};
 ghost use Rattle.read_judge.specs.Judged.{judgedBy, judgement};
 ghost use Rattle.read_judge.specs.Parsed.{parsedBy};
@@ -34,17 +37,96 @@ pub enum Judged {
     Accepted(usize, bool),
 }
 
-// The line at which the next block begins, and the first later line whose key an earlier block has.
+// What looking ahead answers where it is given up: no line has this number.
+const GIVEN_UP: usize = 16777218;
+
+// No more slots are counted for a key: they are too many for any text.
+const MOST_COUNTED: usize = 4294967296;
+
+// What judging came to: what the text is, unless it was given up, since the numbers of its keys keep it `busy`; and how many slots were looked at, for
+// the keys of so many lines.
+struct Tried {
+    busy: bool,
+    judged: Judged,
+    lines: usize,
+    slots: usize,
+}
+
+// How a text is judged: whether a tag is refused that is repeated, and how keys are numbered.
+struct Way {
+    strict: bool,
+    seed: Seed,
+}
+
+// The line before which the index is begun anew, and the first line ahead whose key an earlier block of lines has.
 struct Block {
     until: usize,
     clash: usize,
 }
 
-// The first line that is `clash` or whose key is in the area, among the lines that start at `from`, the first of which has the number `first`. It is
-// `clash` if there is none.
+// How many slots were looked at, with those for one key more, as far as that is counted. By keyed numbers none is.
+fn counted(seed: Seed, slots: usize, more: usize) -> usize
+    requires { ⌜ slots ≤ 4294967296 ⌝ }
+    ensures { λ r. ⌜ r ≡ countedSlots (seed .keyed) slots more ⌝ }
+{
+    if seed.keyed {
+        return slots;
+    }
+    if MOST_COUNTED < more {
+        return MOST_COUNTED;
+    }
+    slots + more
+}
+
+// Whether so many slots for the keys of so many lines are too many: more than 16 for each line, beyond the first 65,536; or looking ahead was given up.
+fn is_busy(seed: Seed, clash: usize, lines: usize, slots: usize) -> bool
+    requires { ⌜ lines ≤ 16777216 ⌝ }
+    ensures { λ r. ⌜ r ≡ tooMany (seed .keyed) clash lines slots ⌝ }
+{
+    if seed.keyed {
+        return false;
+    }
+    if clash == GIVEN_UP {
+        return true;
+    }
+    65536 + 16 * lines < slots
+}
+
+// Judging that was given up after so many lines.
+fn given_up(lines: usize, slots: usize) -> Tried
+    ensures busy { λ r. ⌜ r .busy ≡ true ⌝ }
+    ensures lines { λ r. ⌜ r .lines ≡ lines ⌝ }
+    ensures slots { λ r. ⌜ r .slots ≡ slots ⌝ }
+{
+    let judged = Judged::Refused(0, LineNo(0));
+    Tried {
+        busy: true,
+        judged,
+        lines,
+        slots,
+    }
+}
+
+// Judging that came to its end after so many lines.
+fn ended(judged: Judged, lines: usize, slots: usize) -> Tried
+    ensures busy { λ r. ⌜ r .busy ≡ false ⌝ }
+    ensures judged { λ r. ⌜ r .judged ≡ judged ⌝ }
+    ensures lines { λ r. ⌜ r .lines ≡ lines ⌝ }
+    ensures slots { λ r. ⌜ r .slots ≡ slots ⌝ }
+{
+    Tried {
+        busy: false,
+        judged,
+        lines,
+        slots,
+    }
+}
+
+// The first line from `from` on, the line number `first`, that is `clash` or has a key that is in the area; `clash` where none is. Looking ahead is
+// given up where too many slots are looked at.
 fn first_met(
     text: &[u8],
-    strict: bool,
+    way: Way,
     area: &mut [u32],
     from: usize,
     first: usize,
@@ -54,19 +136,27 @@ fn first_met(
     requires { ⌜ 0 < length (now area) ⌝ }
     requires { ⌜ first ≤ from ⌝ }
     requires { ⌜ from ≤ length (now text) ⌝ }
-    ensures met { λ r. ⌜ r ≡ clashOf strict (now (text .entry)) (now (area .entry)) clash first (linesFrom from (drop from (now (text .entry)))) ⌝ }
+    ensures met { λ r. ⌜ ((way .seed .keyed ≡ false → r ≡ 16777218 → ⊥)
+        → r ≡ clashOf (way .seed) (way .strict) (now (text .entry)) (now (area .entry)) clash first (linesFrom from (drop from (now (text .entry))))) ⌝ }
     ensures kept { λ _. ⌜ now (area .exit) ≡ now (area .entry) ⌝ }
 {
+    let seed = way.seed;
     let mut at = from;
     let mut line = first;
+    let mut slots: usize = 0;
     while at < text.len() {
         if line == clash {
             return clash;
         }
         let cut = byte_slices::first_line(&text[at..]);
         let end = at + cut.len;
-        let head = record_parser::parse_record(&text[at..end], at, strict);
-        if key_index::meet(text, area, head, false) {
+        let head = record_parser::parse_record(&text[at..end], at, way.strict);
+        let found = key_index::find_or_enter(text, area, seed, head, false);
+        slots = counted(seed, slots, found.slots);
+        if is_busy(seed, clash, line - first, slots) {
+            return GIVEN_UP;
+        }
+        if found.known {
             return line;
         }
         at += cut.next;
@@ -75,19 +165,20 @@ fn first_met(
     clash
 }
 
-// The block that a line is in. If the line begins a new block, the lines ahead are searched for keys of the block before it, and the area is emptied.
-fn next_block(text: &[u8], strict: bool, area: &mut [u32], at: usize, line: usize, block: Block) -> Block
+// The block that a line stands in: where one begins, the keys of the one before are looked for in the lines ahead, and the area is emptied.
+fn turn(text: &[u8], way: Way, area: &mut [u32], at: usize, line: usize, block: Block) -> Block
     requires { ⌜ length (now text) ≤ 16777216 ⌝ }
     requires { ⌜ 0 < length (now area) ⌝ }
     requires { ⌜ line ≤ at ⌝ }
     requires { ⌜ at ≤ length (now text) ⌝ }
-    ensures block { λ r. ⌜ r ≡ turned strict (now (text .entry)) (now (area .entry)) at line block ⌝ }
+    ensures block { λ r. ⌜ ((way .seed .keyed ≡ false → r .clash ≡ 16777218 → ⊥)
+        → r ≡ turned (way .seed) (way .strict) (now (text .entry)) (now (area .entry)) at line block) ⌝ }
     ensures wrote { λ _. ⌜ now (area .exit) ≡ emptied (now (area .entry)) line block ⌝ }
 {
     if line < block.until {
         return block;
     }
-    let clash = first_met(text, strict, area, at, line, block.clash);
+    let clash = first_met(text, way, area, at, line, block.clash);
     key_index::clear(area);
     let until = line + area.len() / 4 * 3;
     Block { until, clash }
@@ -150,12 +241,16 @@ fn parse_line(line: &[u8], at: usize, strict: bool, once: bool) -> Parsed
 }
 
 // Line by line: each line's own refusal, then 17, 18 and 19. The keys of a block of lines, three for each four slots of `area`, are kept there.
-fn judge_indexed(text: &[u8], strict: bool, area: &mut [u32]) -> Judged
+fn judge_along(text: &[u8], way: Way, area: &mut [u32]) -> Tried
     requires { ⌜ length (now text) ≤ 16777216 ⌝ }
     requires { ⌜ 4 ≤ length (now area) ⌝ }
-    requires { ⌜ Held (start (now text) (length (now area))) (now area) [] ⌝ }
-    ensures { λ r. ⌜ r ≡ judgedBy strict (now (text .entry)) ⌝ }
+    requires { ⌜ Held (start (way .seed) (now text) (length (now area))) (now area) [] ⌝ }
+    requires { ⌜ Seeded (now text) (way .seed) ⌝ }
+    ensures judged { λ r. ⌜ (r .busy ≡ false → r .judged ≡ judgedBy (way .strict) (now (text .entry))) ⌝ }
+    ensures busy { λ r. ⌜ (r .busy ≡ true → way .seed .keyed ≡ false) ⌝ }
+    ensures looks { λ r. ⌜ r .slots ≤ 65536 + 16 * r .lines + length (now (area .entry)) ⌝ }
 {
+    let seed = way.seed;
     let until = area.len() / 4 * 3;
     let mut block = Block {
         until,
@@ -166,21 +261,26 @@ fn judge_indexed(text: &[u8], strict: bool, area: &mut [u32]) -> Judged
     let mut programs: usize = 0;
     let mut size: usize = 0;
     let mut once = true;
+    let mut slots: usize = 0;
     loop {
         let cut = byte_slices::first_line(&text[at..]);
         let next = at + cut.next;
         if at == text.len() {
-            return Judged::Accepted(size, once);
+            return ended(Judged::Accepted(size, once), line, slots);
         }
         let end = at + cut.len;
-        let parsed = parse_line(&text[at..end], at, strict, once);
+        let parsed = parse_line(&text[at..end], at, way.strict, once);
         let head = parsed.head;
         once = parsed.once;
-        block = next_block(text, strict, area, at, line, block);
-        let known = key_index::meet(text, area, head, true);
-        let n = barred(line, programs, head, known, line == block.clash);
+        block = turn(text, way, area, at, line, block);
+        let found = key_index::find_or_enter(text, area, seed, head, true);
+        slots = counted(seed, slots, found.slots);
+        if is_busy(seed, block.clash, line, slots) {
+            return given_up(line, slots);
+        }
+        let n = barred(line, programs, head, found.known, line == block.clash);
         if n != 0 {
-            return Judged::Refused(n, LineNo(line as u32));
+            return ended(Judged::Refused(n, LineNo(line as u32)), line, slots);
         }
         programs += read_admission::programs_of(head);
         size += catalogue_lines::entries_size(head);
@@ -189,7 +289,34 @@ fn judge_indexed(text: &[u8], strict: bool, area: &mut [u32]) -> Judged
     }
 }
 
-// A short text, in blocks of 384 lines. Its area is small, so little has to be cleared.
+// The same, first by plain numbers. Where they keep judging busy, the text is judged anew by keyed ones, whose key is taken from the text itself.
+fn judge_indexed(text: &[u8], strict: bool, area: &mut [u32]) -> Judged
+    requires { ⌜ length (now text) ≤ 16777216 ⌝ }
+    requires { ⌜ 4 ≤ length (now area) ⌝ }
+    requires { ⌜ Held (start plainSeed (now text) (length (now area))) (now area) [] ⌝ }
+    ensures { λ r. ⌜ r ≡ judgedBy strict (now (text .entry)) ⌝ }
+{
+    let plain = key_look::plain();
+    let first = judge_along(
+        text,
+        Way {
+            strict,
+            seed: plain,
+        },
+        area,
+    );
+    if !first.busy {
+        let judged = first.judged;
+        return judged;
+    }
+    key_index::clear(area);
+    let seed = key_look::seed_of(text);
+    let second = judge_along(text, Way { strict, seed }, area);
+    let judged = second.judged;
+    judged
+}
+
+// A short text, in blocks of 384 lines: little is cleared for it.
 fn judge_short(text: &[u8], strict: bool) -> Judged
     requires { ⌜ length (now text) ≤ 16777216 ⌝ }
     ensures { λ r. ⌜ r ≡ judgedBy strict (now (text .entry)) ⌝ }

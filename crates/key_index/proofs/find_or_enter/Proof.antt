@@ -88,8 +88,10 @@ returns-3 c =
     let e = m .before .before .before .head .given .1 in
     let a = m .before .before .before .before .before .before .before .args in (
       m .find-or-enter-at .ensures .0 ∙ sym (ap (isFound (a .seed) (a .text .now) (a .area .now)) e),
-      (m .find-or-enter-at .ensures .1 .0 ∙ sym (ap (looksOf (a .seed) (a .text .now) (a .area .now)) e),
-          m .find-or-enter-at .ensures .1 .1 ∙ sym (ap (afterEntering (a .seed) (a .room) (a .text .now) (a .area .now)) e)),
+      (
+        m .find-or-enter-at .ensures .1 .0 ∙ sym (ap (looksOf (a .seed) (a .text .now) (a .area .now)) e),
+        m .find-or-enter-at .ensures .1 .1 ∙ sym (ap (afterEntering (a .seed) (a .room) (a .text .now) (a .area .now)) e),
+      ),
     )
 
 same-length-2 : tie.Need-same-length-2
@@ -102,8 +104,10 @@ returns-4 c =
     let e = m .before .before .before .head2 .given .1 in
     let a = m .before .before .before .before .before .before .before .args in (
       m .find-or-enter-at2 .ensures .0 ∙ sym (ap (isFound (a .seed) (a .text .now) (a .area .now)) e),
-      (m .find-or-enter-at2 .ensures .1 .0 ∙ sym (ap (looksOf (a .seed) (a .text .now) (a .area .now)) e),
-          m .find-or-enter-at2 .ensures .1 .1 ∙ sym (ap (afterEntering (a .seed) (a .room) (a .text .now) (a .area .now)) e)),
+      (
+        m .find-or-enter-at2 .ensures .1 .0 ∙ sym (ap (looksOf (a .seed) (a .text .now) (a .area .now)) e),
+        m .find-or-enter-at2 .ensures .1 .1 ∙ sym (ap (afterEntering (a .seed) (a .room) (a .text .now) (a .area .now)) e),
+      ),
     )
 
 same-length-3 : tie.Need-same-length-3
@@ -116,8 +120,10 @@ returns-5 c =
     let e = m .before .before .before .head3 .given .1 in
     let a = m .before .before .before .before .before .before .before .args in (
       m .find-or-enter-at3 .ensures .0 ∙ sym (ap (isFound (a .seed) (a .text .now) (a .area .now)) e),
-      (m .find-or-enter-at3 .ensures .1 .0 ∙ sym (ap (looksOf (a .seed) (a .text .now) (a .area .now)) e),
-          m .find-or-enter-at3 .ensures .1 .1 ∙ sym (ap (afterEntering (a .seed) (a .room) (a .text .now) (a .area .now)) e)),
+      (
+        m .find-or-enter-at3 .ensures .1 .0 ∙ sym (ap (looksOf (a .seed) (a .text .now) (a .area .now)) e),
+        m .find-or-enter-at3 .ensures .1 .1 ∙ sym (ap (afterEntering (a .seed) (a .room) (a .text .now) (a .area .now)) e),
+      ),
     )
 
 returns-6 : tie.Need-returns-6

@@ -96,9 +96,12 @@ returns-2 c =
     let a = k .before .before .before .before .args in
     let j : ℕ = i .sought .given .0 .0 in (
       says k (Free j) (i .sought .given .1),
-      (k .look-at .ensures .1 .0, ap (λ m. set (a .area .now) j (m * 16777216 + a .place .at)) (k .look-at .ensures .1 .1)
-          ∙ sym (ap (λ b. cond b (set (a .area .now) j (value (fingerprint (a .seed) (a .kind) (keyAt (a .text .now) (a .place))) (a .place .at))) (a .area .now)) (c .before .if1 .taken))
-          ∙ after k (Free j) (i .sought .given .1)),
+      (
+        k .look-at .ensures .1 .0,
+        ap (λ m. set (a .area .now) j (m * 16777216 + a .place .at)) (k .look-at .ensures .1 .1)
+            ∙ sym (ap (λ b. cond b (set (a .area .now) j (value (fingerprint (a .seed) (a .kind) (keyAt (a .text .now) (a .place))) (a .place .at))) (a .area .now)) (c .before .if1 .taken))
+            ∙ after k (Free j) (i .sought .given .1),
+      ),
     )
 
 same-length-3 : tie.Need-same-length-3
@@ -112,9 +115,11 @@ returns-3 c =
     let a = k .before .before .before .before .args in
     let j : ℕ = i .sought .given .0 .0 in (
       says k (Free j) (i .sought .given .1),
-      (k .look-at .ensures .1 .0,
-          sym (ap (λ b. cond b (set (a .area .now) j (value (fingerprint (a .seed) (a .kind) (keyAt (a .text .now) (a .place))) (a .place .at))) (a .area .now)) (c .if1 .left))
-          ∙ after k (Free j) (i .sought .given .1)),
+      (
+        k .look-at .ensures .1 .0,
+        sym (ap (λ b. cond b (set (a .area .now) j (value (fingerprint (a .seed) (a .kind) (keyAt (a .text .now) (a .place))) (a .place .at))) (a .area .now)) (c .if1 .left))
+            ∙ after k (Free j) (i .sought .given .1),
+      ),
     )
 
 same-length-4 : tie.Need-same-length-4

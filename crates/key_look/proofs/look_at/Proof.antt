@@ -31,8 +31,10 @@ returns c =
     let a = c .before .before .before .before .before .args in
     let n : a .place .at + a .place .len - a .place .at ≡ a .place .len = omega arith in (
       c .look .ensures .0 ∙ ap (λ m. sought (a .seed) (a .text .now) (a .area .now) (a .kind) (take m (drop (a .place .at) (a .text .now)))) n,
-      (c .look .ensures .1 .0 ∙ ap (λ m. looks (a .seed) (a .text .now) (a .area .now) (a .kind) (take m (drop (a .place .at) (a .text .now)))) n,
-      c .look .ensures .1 .1 ∙ ap (λ m. fingerprint (a .seed) (a .kind) (take m (drop (a .place .at) (a .text .now)))) n),
+      (
+        c .look .ensures .1 .0 ∙ ap (λ m. looks (a .seed) (a .text .now) (a .area .now) (a .kind) (take m (drop (a .place .at) (a .text .now)))) n,
+        c .look .ensures .1 .1 ∙ ap (λ m. fingerprint (a .seed) (a .kind) (take m (drop (a .place .at) (a .text .now)))) n,
+      ),
     )
 
 pub look-at-spec : {M : Type 1} → statement M

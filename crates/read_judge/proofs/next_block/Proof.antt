@@ -22,8 +22,8 @@ unfolding turned emptied
 returns c =
     let a = c .before .before .before .before .args in
     let e = lt-ltb (a .line) (a .block .until) (c .if1 .taken) in
-    let other : Block = record { until = a .line + length (a .area .now) / 4 * 3; clash = clashOf (a .strict) (a .text .now) (a .area .now) (a .block .clash) (a .line) (linesFrom (a .at) (drop (a .at) (a .text .now))) } in
-    (sym (ap (λ t. cond t (a .block) other) e), sym (ap (λ t. cond t (a .area .now) (replicate (length (a .area .now)) 0)) e))
+    let other : Block = record { until = a .line + length (a .area .now) / 4 * 3; clash = clashOf (a .way .seed) (a .way .strict) (a .text .now) (a .area .now) (a .block .clash) (a .line) (linesFrom (a .at) (drop (a .at) (a .text .now))) } in
+    ((λ _. sym (ap (λ t. cond t (a .block) other) e)), sym (ap (λ t. cond t (a .area .now) (replicate (length (a .area .now)) 0)) e))
 
 first-met-requires : tie.Need-first-met-requires
 first-met-requires c κs = search needs
@@ -48,10 +48,10 @@ returns-2 c =
     let a = f .before .before .before .before .before .before .args in
     let e = le-ltb (a .line) (a .block .until) (f .before .before .if1 .left) in
     let next : ℕ → ℕ → Block = λ u v. record { until = u; clash = v } in
-    let clash = clashOf (a .strict) (a .text .now) (a .area .now) (a .block .clash) (a .line) (linesFrom (a .at) (drop (a .at) (a .text .now))) in
+    let clash = clashOf (a .way .seed) (a .way .strict) (a .text .now) (a .area .now) (a .block .clash) (a .line) (linesFrom (a .at) (drop (a .at) (a .text .now))) in
     let area : k .clear .last .0 ≡ replicate (length (a .area .now)) 0 = k .clear .ensures ∙ ap (λ l. replicate (length l) 0) (f .first-met .ensures .1) in
     let long : length (k .clear .last .0) ≡ length (a .area .now) = ap length area ∙ length-replicate (length (a .area .now)) 0 in (
-      ap₂ next (ap (λ n. a .line + n / 4 * 3) long) (f .first-met .ensures .0) ∙ sym (ap (λ t. cond t (a .block) (next (a .line + length (a .area .now) / 4 * 3) clash)) e),
+      (λ h. ap₂ next (ap (λ n. a .line + n / 4 * 3) long) (f .first-met .ensures .0 h) ∙ sym (ap (λ t. cond t (a .block) (next (a .line + length (a .area .now) / 4 * 3) clash)) e)),
       area ∙ sym (ap (λ t. cond t (a .area .now) (replicate (length (a .area .now)) 0)) e),
     )
 
