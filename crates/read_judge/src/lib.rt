@@ -166,7 +166,7 @@ fn first_met(
 }
 
 // The block that a line stands in: where one begins, the keys of the one before are looked for in the lines ahead, and the area is emptied.
-fn turn(text: &[u8], way: Way, area: &mut [u32], at: usize, line: usize, block: Block) -> Block
+fn next_block(text: &[u8], way: Way, area: &mut [u32], at: usize, line: usize, block: Block) -> Block
     requires { ⌜ length (now text) ≤ 16777216 ⌝ }
     requires { ⌜ 0 < length (now area) ⌝ }
     requires { ⌜ line ≤ at ⌝ }
@@ -272,7 +272,7 @@ fn judge_along(text: &[u8], way: Way, area: &mut [u32]) -> Tried
         let parsed = parse_line(&text[at..end], at, way.strict, once);
         let head = parsed.head;
         once = parsed.once;
-        block = turn(text, way, area, at, line, block);
+        block = next_block(text, way, area, at, line, block);
         let found = key_index::find_or_enter(text, area, seed, head, true);
         slots = counted(seed, slots, found.slots);
         if is_busy(seed, block.clash, line, slots) {

@@ -46,7 +46,7 @@ use Rattle.read_judge.proofs.counted.Reads as counted-reads
 use Rattle.read_judge.proofs.is_busy.Reads as is-busy-reads
 use Rattle.read_judge.proofs.given_up.Reads as given-up-reads
 use Rattle.read_judge.proofs.ended.Reads as ended-reads
-use Rattle.read_judge.proofs.turn.Reads as turn-reads
+use Rattle.read_judge.proofs.next_block.Reads as next-block-reads
 use Rattle.key_index.proofs.find_or_enter.Reads as find-or-enter-reads
 use Rattle.catalogue_lines.proofs.record_size.Reads as record-size-reads
 use Rattle.read_admission.proofs.programs_of.Reads as programs-of-reads
@@ -123,38 +123,38 @@ placed-head c =
     subst (KeyInText (length (a .text .now))) (sym (head-is c)) (head-placed (a .way .strict) (a .text .now) (l .loop .at) (l .before .before .before .before .pre .0) (stands q))
 
 -- what is known of its block and of its key
-turned-is : (c : tie.After-turn Inv-loop μ-loop)
+turned-is : (c : tie.After-next-block Inv-loop μ-loop)
     → let l = c .before .before .before .before .before .before .before .before .before in
     let a = l .before .before .before .before .args in
-    (a .way .seed .keyed ≡ false → c .turn .result .clash ≡ 16777218 → ⊥)
-    → Blocking (a .way .seed) (a .way .strict) (a .text .now) (a .area .now) (c .turn .last .1 .1 .0) (c .turn .result) (l .loop .at) (l .loop .line) (l .loop .programs) (l .loop .size) (l .loop .inv .0)
+    (a .way .seed .keyed ≡ false → c .next-block .result .clash ≡ 16777218 → ⊥)
+    → Blocking (a .way .seed) (a .way .strict) (a .text .now) (a .area .now) (c .next-block .last .1 .1 .0) (c .next-block .result) (l .loop .at) (l .loop .line) (l .loop .programs) (l .loop .size) (l .loop .inv .0)
 turned-is c calm =
     let l = c .before .before .before .before .before .before .before .before .before in
     let a = l .before .before .before .before .args in
-    rw (c .turn .ensures .0 calm, c .turn .ensures .1) (blocking-turn (a .way .seed) (a .way .strict) (a .text .now) (a .area .now) (l .loop .area) (l .loop .block) (l .loop .at) (l .loop .line) (l .loop .programs) (l .loop .size) (l .loop .inv .0) (l .loop .inv .1))
+    rw (c .next-block .ensures .0 calm, c .next-block .ensures .1) (blocking-turn (a .way .seed) (a .way .strict) (a .text .now) (a .area .now) (l .loop .area) (l .loop .block) (l .loop .at) (l .loop .line) (l .loop .programs) (l .loop .size) (l .loop .inv .0) (l .loop .inv .1))
 
-until : (c : tie.After-turn Inv-loop μ-loop)
+until : (c : tie.After-next-block Inv-loop μ-loop)
     → let l = c .before .before .before .before .before .before .before .before .before in
     let a = l .before .before .before .before .args in
-    (a .way .seed .keyed ≡ false → c .turn .result .clash ≡ 16777218 → ⊥)
-    → l .loop .line < c .turn .result .until
+    (a .way .seed .keyed ≡ false → c .next-block .result .clash ≡ 16777218 → ⊥)
+    → l .loop .line < c .next-block .result .until
 until c calm =
     let l = c .before .before .before .before .before .before .before .before .before in
     let a = l .before .before .before .before .args in
-    rw (c .turn .ensures .0 calm) (turn-until (a .way .seed) (a .way .strict) (a .text .now) (a .area .now) (l .loop .area) (l .loop .block) (l .loop .at) (l .loop .line) (l .loop .programs) (l .loop .size) (l .loop .inv .0) (l .loop .inv .1))
+    rw (c .next-block .ensures .0 calm) (turn-until (a .way .seed) (a .way .strict) (a .text .now) (a .area .now) (l .loop .area) (l .loop .block) (l .loop .at) (l .loop .line) (l .loop .programs) (l .loop .size) (l .loop .inv .0) (l .loop .inv .1))
 
-used : (c : tie.After-turn Inv-loop μ-loop) (y : Head)
+used : (c : tie.After-next-block Inv-loop μ-loop) (y : Head)
     → let p = c .before .before in
     let l = p .before .before .before .before .before .before .before in
     let a = l .before .before .before .before .args in
-    (a .way .seed .keyed ≡ false → c .turn .result .clash ≡ 16777218 → ⊥) → y ≡ p .parse-line .result .head → (isFound (a .way .seed) (a .text .now) (c .turn .last .1 .1 .0) y || eqb (l .loop .line) (c .turn .result .clash)) ≡ isTaken (l .loop .inv .0 .before) (a .text .now) y
+    (a .way .seed .keyed ≡ false → c .next-block .result .clash ≡ 16777218 → ⊥) → y ≡ p .parse-line .result .head → (isFound (a .way .seed) (a .text .now) (c .next-block .last .1 .1 .0) y || eqb (l .loop .line) (c .next-block .result .clash)) ≡ isTaken (l .loop .inv .0 .before) (a .text .now) y
 unfolding piece
 used c y calm e =
     let p = c .before .before in
     let q = p .before .before .before in
     let l = q .before .before .before .before in
     let a = l .before .before .before .before .args in
-    used-known (a .way .seed) (a .way .strict) (a .text .now) (a .area .now) (c .turn .last .1 .1 .0) (c .turn .result) (l .loop .at) (l .loop .line) (l .loop .programs) (l .loop .size) (l .loop .inv .0) (turned-is c calm) (below q) y (e ∙ head-is p)
+    used-known (a .way .seed) (a .way .strict) (a .text .now) (a .area .now) (c .next-block .last .1 .1 .0) (c .next-block .result) (l .loop .at) (l .loop .line) (l .loop .programs) (l .loop .size) (l .loop .inv .0) (turned-is c calm) (below q) y (e ∙ head-is p)
 
 -- the area is as long as before
 long-after : (c : tie.After-find-or-enter Inv-loop μ-loop)
@@ -165,21 +165,21 @@ long-after c =
     let w = c .before .before .before .before in
     let l = w .before .before .before .before .before .before .before .before .before in
     let a = l .before .before .before .before .args in
-    ap length (c .find-or-enter .ensures .1 .1) ∙ entering-length (a .way .seed) true (a .text .now) (w .turn .last .1 .1 .0) (w .before .before .parse-line .result .head)
-    ∙ ap length (w .turn .ensures .1) ∙ emptied-length (l .loop .area) (l .loop .line) (l .loop .block) ∙ l .loop .inv .1 .long
+    ap length (c .find-or-enter .ensures .1 .1) ∙ entering-length (a .way .seed) true (a .text .now) (w .next-block .last .1 .1 .0) (w .before .before .parse-line .result .head)
+    ∙ ap length (w .next-block .ensures .1) ∙ emptied-length (l .loop .area) (l .loop .line) (l .loop .block) ∙ l .loop .inv .1 .long
 
 -- not too many slots were looked at
 calm : (c : tie.Else2 Inv-loop μ-loop)
     → let w = c .before .before .before .before .before .before .before .before .before in
     let l = w .before .before .before .before .before .before .before .before .before in
     let a = l .before .before .before .before .args in
-    a .way .seed .keyed ≡ false → w .turn .result .clash ≡ 16777218 → ⊥
+    a .way .seed .keyed ≡ false → w .next-block .result .clash ≡ 16777218 → ⊥
 calm c =
     let b = c .before in
     let w = b .before .before .before .before .before .before .before .before in
     let l = w .before .before .before .before .before .before .before .before .before in
     let a = l .before .before .before .before .args in
-    calm-known (a .way .seed .keyed) (w .turn .result .clash) (l .loop .line) (b .before .counted .result) (sym (b .is-busy .ensures) ∙ c .if2 .left)
+    calm-known (a .way .seed .keyed) (w .next-block .result .clash) (l .loop .line) (b .before .counted .result) (sym (b .is-busy .ensures) ∙ c .if2 .left)
 
 few-slots : (c : tie.Else2 Inv-loop μ-loop)
     → let w = c .before .before .before .before .before .before .before .before .before in
@@ -191,8 +191,8 @@ few-slots c =
     let w = m .before .before .before .before in
     let l = w .before .before .before .before .before .before .before .before .before in
     let a = l .before .before .before .before .args in
-    let e = calm-few (a .way .seed .keyed) (w .turn .result .clash) (l .loop .line) (l .loop .slots) (m .find-or-enter .result .slots)
-    (ap (tooMany (a .way .seed .keyed) (w .turn .result .clash) (l .loop .line)) (sym (b .before .counted .ensures)) ∙ sym (b .is-busy .ensures) ∙ c .if2 .left) (l .loop .inv .3) in
+    let e = calm-few (a .way .seed .keyed) (w .next-block .result .clash) (l .loop .line) (l .loop .slots) (m .find-or-enter .result .slots)
+    (ap (tooMany (a .way .seed .keyed) (w .next-block .result .clash) (l .loop .line)) (sym (b .before .counted .ensures)) ∙ sym (b .is-busy .ensures) ∙ c .if2 .left) (l .loop .inv .3) in
     omega (arith, b .before .counted .ensures, e)
 
 barring-told : (c : tie.After-barred Inv-loop μ-loop)
@@ -207,7 +207,7 @@ barring-told c =
     let l = p .before .before .before .before .before .before .before in
     c .barred .ensures
     ∙ ap (λ t. barring t (l .loop .line) (l .loop .programs) (p .parse-line .result .head))
-    (ap (λ b. b || eqb (l .loop .line) (w .turn .result .clash)) (m .find-or-enter .ensures .0) ∙ used w (p .parse-line .result .head) (calm (c .before .before)) refl)
+    (ap (λ b. b || eqb (l .loop .line) (w .next-block .result .clash)) (m .find-or-enter .ensures .0) ∙ used w (p .parse-line .result .head) (calm (c .before .before)) refl)
 
 -- whether it may follow the lines before
 number : (c : tie.After-barred Inv-loop μ-loop)
@@ -246,7 +246,7 @@ fresh : (c : tie.Else3 Inv-loop μ-loop)
     → let w = c .before .before .before .before .before .before .before .before .before .before .before .before in
     let l = w .before .before .before .before .before .before .before .before .before in
     let a = l .before .before .before .before .args in
-    (isFound (a .way .seed) (a .text .now) (w .turn .last .1 .1 .0) (recordHead (accepted c .0)) || eqb (l .loop .line) (w .turn .result .clash)) ≡ false
+    (isFound (a .way .seed) (a .text .now) (w .next-block .last .1 .1 .0) (recordHead (accepted c .0)) || eqb (l .loop .line) (w .next-block .result .clash)) ≡ false
 fresh c =
     let w = c .before .before .before .before .before .before .before .before .before .before .before .before in
     let l = w .before .before .before .before .before .before .before .before .before in
@@ -373,8 +373,8 @@ parse-line-requires c κs =
     let t = l .before .before .before .before .args .text .now in
     omega (arith, inside q, length-take (l .loop .at + q .before .before .first-line .result .len - l .loop .at) (drop (l .loop .at) t), l .before .before .before .before .pre .0)
 
-turn-requires : tie.Need-turn-requires Inv-loop μ-loop
-turn-requires c κs =
+next-block-requires : tie.Need-next-block-requires Inv-loop μ-loop
+next-block-requires c κs =
     let q = c .before .before .before .before in
     let l = q .before .before .before .before in
     (l .before .before .before .before .pre .0, (omega (arith, l .loop .inv .1 .some), (l .loop .inv .0 .slow, l .loop .inv .0 .inside)))
@@ -384,7 +384,7 @@ find-or-enter-requires c κs =
     let w = c .before .before .before in
     let p = w .before .before in
     let l = p .before .before .before .before .before .before .before in
-    (l .before .before .before .before .pre .0, (omega (arith, ap length (w .turn .ensures .1), emptied-length (l .loop .area) (l .loop .line) (l .loop .block), l .loop .inv .1 .some), placed-head p))
+    (l .before .before .before .before .pre .0, (omega (arith, ap length (w .next-block .ensures .1), emptied-length (l .loop .area) (l .loop .line) (l .loop .block), l .loop .inv .1 .some), placed-head p))
 
 counted-requires : tie.Need-counted-requires Inv-loop μ-loop
 counted-requires c κs =
@@ -413,9 +413,9 @@ returns-2 c =
     let l = w .before .before .before .before .before .before .before .before .before in
     let a = l .before .before .before .before .args in
     let x = w .before .before .parse-line .result .head in
-    let plain = busy-plain (a .way .seed .keyed) (w .turn .result .clash) (l .loop .line) (b .before .counted .result) (sym (b .is-busy .ensures) ∙ c .before .if2 .taken) in
-    let long : length (w .turn .last .1 .1 .0) ≡ length (a .area .now) = ap length (w .turn .ensures .1) ∙ emptied-length (l .loop .area) (l .loop .line) (l .loop .block) ∙ l .loop .inv .1 .long in
-    let more = head-looks-few (a .way .seed) (a .text .now) (w .turn .last .1 .1 .0) x (omega (arith, long, l .before .before .before .before .pre .1 .0)) in (
+    let plain = busy-plain (a .way .seed .keyed) (w .next-block .result .clash) (l .loop .line) (b .before .counted .result) (sym (b .is-busy .ensures) ∙ c .before .if2 .taken) in
+    let long : length (w .next-block .last .1 .1 .0) ≡ length (a .area .now) = ap length (w .next-block .ensures .1) ∙ emptied-length (l .loop .area) (l .loop .line) (l .loop .block) ∙ l .loop .inv .1 .long in
+    let more = head-looks-few (a .way .seed) (a .text .now) (w .next-block .last .1 .1 .0) x (omega (arith, long, l .before .before .before .before .pre .1 .0)) in (
       (λ q. absurd (false≢true (sym q ∙ c .given-up .ensures .0))),
       ((λ _. plain), omega (arith, c .given-up .ensures .1 .0, c .given-up .ensures .1 .1, b .before .counted .ensures, counted-most (a .way .seed .keyed) (l .loop .slots) (m .find-or-enter .result .slots), m .find-or-enter .ensures .1 .0, more, long, l .loop .inv .3)),
     )
@@ -499,7 +499,7 @@ loop-again c =
     let long : length (catalogue (j .before ++ (r ∷ []))) ≡ length (catalogue (j .before)) + c .record-size .result = catalogue-length (j .before) r ∙ ap (λ n. length (catalogue (j .before)) + n) (sym size) in
     rw (cut q, c .before .programs-of .ensures, m .find-or-enter .ensures .1 .1, record-is e) (
       judging-on (a .way .strict) (a .text .now) (l .loop .at) (l .loop .line) (l .loop .programs) (l .loop .size) j (below q) r (accepted e .1) (accepted e .2) (c .record-size .result) long bound,
-      blocking-on (a .way .seed) (a .way .strict) (a .text .now) (a .area .now) (w .turn .last .1 .1 .0) (w .turn .result) (l .loop .at) (l .loop .line) (l .loop .programs) (l .loop .size) j (turned-is w (calm (e .before .before .before))) (below q) (l .before .before .before .before .pre .0) (until w (calm (e .before .before .before))) r (accepted e .1) (accepted e .2)
+      blocking-on (a .way .seed) (a .way .strict) (a .text .now) (a .area .now) (w .next-block .last .1 .1 .0) (w .next-block .result) (l .loop .at) (l .loop .line) (l .loop .programs) (l .loop .size) j (turned-is w (calm (e .before .before .before))) (below q) (l .before .before .before .before .pre .0) (until w (calm (e .before .before .before))) r (accepted e .1) (accepted e .2)
           (fresh e) (c .record-size .result) long bound,
       once-after e,
       omega (arith, few-slots (e .before .before .before)),
@@ -526,7 +526,7 @@ judge-along-spec =
     part-parse-line-start
     part-parse-line-end
     parse-line-requires
-    turn-requires
+    next-block-requires
     find-or-enter-requires
     counted-requires
     is-busy-requires
