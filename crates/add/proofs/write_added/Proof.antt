@@ -10,7 +10,7 @@ use Rattle.format.specs.Calls.{writing, yes}
 use Rattle.accepted.specs.Read.{recordsOf}
 use Rattle.accepted_rule.specs.Rule.{ReadsBy}
 use Rattle.byte_slices.specs.Over.{over}
-use Rattle.read.proofs.Told.{refused-answer, written-answer}
+use Rattle.read.proofs.AnswerCases.{refused-answer, written-answer}
 use Rattle.tidy_text.specs.Sizes.{sizesOf}
 use Rattle.add_lines.specs.Lines.{newText}
 use Rattle.add.specs.Added.{withAdded}

@@ -48,7 +48,7 @@ use Rattle.read_judge.proofs.given_up.Reads as given-up-reads
 use Rattle.read_judge.proofs.ended.Reads as ended-reads
 use Rattle.read_judge.proofs.next_block.Reads as next-block-reads
 use Rattle.key_index.proofs.find_or_enter.Reads as find-or-enter-reads
-use Rattle.catalogue_lines.proofs.record_size.Reads as record-size-reads
+use Rattle.catalogue_lines.proofs.entries_size.Reads as entries-size-reads
 use Rattle.read_admission.proofs.programs_of.Reads as programs-of-reads
 use Rattle.read_judge.proofs.parse_line.Reads as parse-line-reads
 use Rattle.byte_slices.proofs.first_line.Reads as first-line-reads
@@ -460,8 +460,8 @@ add-programs c =
     let j = l .loop .inv .0 in
     omega (arith, c .programs-of .ensures, programs-most (c .before .before .before .before .before .before .before .before .before .before .before .before .before .before .before .parse-line .result .head), j .told, kind-few 4 (j .before), j .counted, j .slow, inside q)
 
-record-size-requires : tie.Need-record-size-requires Inv-loop μ-loop
-record-size-requires c κs =
+entries-size-requires : tie.Need-entries-size-requires Inv-loop μ-loop
+entries-size-requires c κs =
     let q = c .before .before .before .before .before .before .before .before .before .before .before .before .before .before .before .before .before .before in
     let l = q .before .before .before .before in
     omega (arith, few (c .before), ap (λ x. x .len) (cut q), inside q .0, l .before .before .before .before .pre .0)
@@ -471,7 +471,7 @@ add-size c =
     let e = c .before .before in
     let q = e .before .before .before .before .before .before .before .before .before .before .before .before .before .before .before .before .before in
     let l = q .before .before .before .before in
-    omega (arith, c .record-size .ensures, entry-most e, l .loop .inv .0 .small, inside q .1, l .before .before .before .before .pre .0)
+    omega (arith, c .entries-size .ensures, entry-most e, l .loop .inv .0 .small, inside q .1, l .before .before .before .before .pre .0)
 
 add-line : tie.Need-add-line Inv-loop μ-loop
 add-line c =
@@ -491,16 +491,16 @@ loop-again c =
     let a = l .before .before .before .before .args in
     let j = l .loop .inv .0 in
     let r = accepted e .0 in
-    let size : c .record-size .result ≡ length (recordBytes (length (j .before)) (read r)) =
-    c .record-size .ensures ∙ ap sizeOfHead (head-is (e .before .before .before .before .before .before .before .before .before .before .before .before .before .before)) ∙ size-length (length (j .before)) (line (a .way .strict) (piece q)) ∙ ap (λ x. length (recordBytes (length (j .before)) x)) (accepted e .1) in
-    let bound : c .record-size .result ≤ 32 * firstLine (drop (l .loop .at) (a .text .now)) .next = omega (arith, c .record-size .ensures, entry-most e, ap (λ x. x .next) (cut q)) in
+    let size : c .entries-size .result ≡ length (recordBytes (length (j .before)) (read r)) =
+    c .entries-size .ensures ∙ ap sizeOfHead (head-is (e .before .before .before .before .before .before .before .before .before .before .before .before .before .before)) ∙ size-length (length (j .before)) (line (a .way .strict) (piece q)) ∙ ap (λ x. length (recordBytes (length (j .before)) x)) (accepted e .1) in
+    let bound : c .entries-size .result ≤ 32 * firstLine (drop (l .loop .at) (a .text .now)) .next = omega (arith, c .entries-size .ensures, entry-most e, ap (λ x. x .next) (cut q)) in
     let m = e .before .before .before .before .before .before .before .before in
     let w = m .before .before .before .before in
-    let long : length (catalogue (j .before ++ (r ∷ []))) ≡ length (catalogue (j .before)) + c .record-size .result = catalogue-length (j .before) r ∙ ap (λ n. length (catalogue (j .before)) + n) (sym size) in
+    let long : length (catalogue (j .before ++ (r ∷ []))) ≡ length (catalogue (j .before)) + c .entries-size .result = catalogue-length (j .before) r ∙ ap (λ n. length (catalogue (j .before)) + n) (sym size) in
     rw (cut q, c .before .programs-of .ensures, m .find-or-enter .ensures .1 .1, record-is e) (
-      judging-on (a .way .strict) (a .text .now) (l .loop .at) (l .loop .line) (l .loop .programs) (l .loop .size) j (below q) r (accepted e .1) (accepted e .2) (c .record-size .result) long bound,
+      judging-on (a .way .strict) (a .text .now) (l .loop .at) (l .loop .line) (l .loop .programs) (l .loop .size) j (below q) r (accepted e .1) (accepted e .2) (c .entries-size .result) long bound,
       blocking-on (a .way .seed) (a .way .strict) (a .text .now) (a .area .now) (w .next-block .last .1 .1 .0) (w .next-block .result) (l .loop .at) (l .loop .line) (l .loop .programs) (l .loop .size) j (turned-is w (calm (e .before .before .before))) (below q) (l .before .before .before .before .pre .0) (until w (calm (e .before .before .before))) r (accepted e .1) (accepted e .2)
-          (fresh e) (c .record-size .result) long bound,
+          (fresh e) (c .entries-size .result) long bound,
       once-after e,
       omega (arith, few-slots (e .before .before .before)),
     )
@@ -540,7 +540,7 @@ judge-along-spec =
     returns-3
     programs-of-requires
     add-programs
-    record-size-requires
+    entries-size-requires
     add-size
     add-line
     loop-less

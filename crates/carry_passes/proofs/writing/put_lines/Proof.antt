@@ -13,7 +13,7 @@ use Rattle.format.specs.Carrying.{keptOf, skips, rows}
 use Rattle.carry_early.specs.declared.Begin.{Begin}
 use Rattle.carry_lines.specs.Going.{Going}
 use Rattle.carry_passes.specs.From.{linesKeptFrom, keptFrom, rowsOf}
-use Rattle.carry_passes.specs.Turn.{Turn}
+use Rattle.carry_passes.specs.NextLine.{Turn}
 use borrow.Author.Needs.{needs}
 use Rattle.carry_passes.proofs.Begun.{begun}
 use Rattle.carry_passes.proofs.NextLine.{turn, kept-next, none-left}
