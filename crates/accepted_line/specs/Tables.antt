@@ -53,7 +53,7 @@ pub record Noted (at : ℕ) (line t : List ℕ) : Type 0 where
   pub tags : Each HasTag (fieldsFrom at line 3)
   pub is : t ≡ noted blank (at + 3) (fieldsFrom at line 3)
 
--- a walk over a line may start with the tables `t`: they are none and no tag stands twice in the line, or they are the line's
+-- a walk over a line may start with the tables `t`: they are none and no tag is repeated in the line, or they are the line's
 pub record Walkable (at : ℕ) (line t : List ℕ) : Type 0 where
   pub start : AtField (none? t) at line 3
   pub tables : none? t ≡ false → Noted at line t

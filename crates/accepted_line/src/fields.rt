@@ -112,14 +112,14 @@ fn noted_value(line: &[u8], at: usize, a: u8, b: u8, tables: &[u32]) -> Stretch
     value_at(at, i, field_end(line, i))
 }
 
-// Whether it is known that no tag stands twice in a line that is walked with these tables: then there are none.
+// Whether it is known that no tag is repeated in a line that is walked with these tables: then there are none.
 fn has_no_repeat(tables: &[u32]) -> bool
     ensures { λ r. ⌜ r ≡ none? (now (tables .entry)) ⌝ }
 {
     tables.len() == 0
 }
 
-// Whether the field at `i` stands at its tag's first place: where no tag stands twice, it does.
+// Whether the field at `i` is the first with its tag. It is if no tag is repeated.
 pub fn is_first_of_tag(line: &[u8], at: usize, i: usize, tables: &[u32]) -> bool
     requires { ⌜ Walkable at (now line) (now tables) ⌝ }
     requires { ⌜ AtField (none? (now tables)) at (now line) i ⌝ }
@@ -133,7 +133,7 @@ pub fn is_first_of_tag(line: &[u8], at: usize, i: usize, tables: &[u32]) -> bool
     tables[super::tag_number::tag_number(line[i + 1], line[i + 2])] as usize == at + i
 }
 
-// The last value of the tag of the field from `i` up to `end`: its own, where no tag stands twice.
+// The last value of the tag of the field from `i` up to `end`. It is the field's own value if no tag is repeated.
 pub fn kept_value(line: &[u8], at: usize, i: usize, end: usize, tables: &[u32]) -> Stretch
     requires { ⌜ Walkable at (now line) (now tables) ⌝ }
     requires { ⌜ AtField (none? (now tables)) at (now line) i ⌝ }
@@ -164,7 +164,7 @@ fn only_value(line: &[u8], at: usize, a: u8, b: u8) -> Stretch
     Stretch { at: 0, len: 0 }
 }
 
-// The last value with the tag `a`, `b` in the accepted line at the offset `at`.
+// The last value of the tag `a`, `b` in the accepted line at the offset `at`.
 pub fn find_value(line: &[u8], at: usize, a: u8, b: u8, tables: &[u32]) -> Stretch
     requires { ⌜ Walkable at (now line) (now tables) ⌝ }
     requires { ⌜ isTag a b ≡ true ⌝ }

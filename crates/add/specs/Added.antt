@@ -35,7 +35,7 @@ withAdded rs new = frontText rs ++ new ++ textOfKind Comment rs
 abbrev pub grownText : List ℕ → List ℕ → Shape → List ℕ → List ℕ → List ℕ → List ℕ
 grownText t ids shape prefix fields ks = withAdded (recordsOf t) (newText t ids shape prefix fields ks)
 
--- it is written, or why not: 24, 1, 20
+-- it is written, or the refusal: 24, 1, 20
 abbrev pub writingGrown : List ℕ → List ℕ → Shape → List ℕ → List ℕ → List ℕ → ℕ → Answer (List ℕ)
 writingGrown t ids shape prefix fields ks room = writing room (unwritable 0 (recordsOf t)) (grownText t ids shape prefix fields ks)
 

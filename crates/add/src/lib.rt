@@ -178,7 +178,7 @@ fn write_added(
     }
 }
 
-// Whether an ID is no program's yet.
+// Whether no program has this ID yet.
 fn is_free(text: &[u8], ids: &[u32], id: &[u8]) -> bool
     requires { ⌜ IdsInText (now text) (now ids) ⌝ }
     ensures { λ r. ⌜ r ≡ not (isAmong (now (id .entry)) (idsAt (now (text .entry)) (now (ids .entry)))) ⌝ }
@@ -199,7 +199,7 @@ fn is_linked(previous: Given) -> bool
     }
 }
 
-// Whether a PP is given that equals no ID.
+// Whether a PP is given and it equals no ID.
 fn is_stray(text: &[u8], ids: &[u32], fields: &[u8], previous: Given) -> bool
     requires { ⌜ IdsInText (now text) (now ids) ⌝ }
     requires { ⌜ previous ≡ givenOf (lastOf 80 80 (given (now fields) .fields)) ⌝ }

@@ -29,7 +29,7 @@ module _ (t ids : List ℕ) (p : IdsInText t ids) (k : ℕ) where
       let z : getD ids (k * 3 + 1) 0 ≡ getD ids (k * 3) 0 + getD ids (k * 3 + 1) 0 - getD ids (k * 3) 0 = omega arith in
       ids-at t ids p k (omega (arith, ids-length t ids p)) ∙ ap (λ n. take n (drop (getD ids (k * 3) 0) t)) z
 
-  -- where no bytes stand
+  -- where there are no bytes
   pub standing-none : (text : ℕ × ℕ) → length ids / 3 ≤ k → text ≡ idStanding ids k text
   unfolding idStanding
   standing-none text h =

@@ -1,4 +1,4 @@
--- The IDs that adding makes of a prefix and the IDs that are there, and whether one of them is there already.
+-- The IDs that adding makes of a prefix and the IDs of programs, and whether a program has one of them already.
 use Prim.Native.Nat.{ℕ, _+_, _*_}
 use mathlib.Core.Bool.{Bool, false, _||_}
 use mathlib.Core.List.{List, [], _∷_, _++_}
@@ -19,7 +19,7 @@ isAmong id ids = isKnown (idOrdinalFrom id 0 ids)
 unfoldable pub idIn : List (List ℕ) → ℕ → List ℕ
 idIn ids k = getD ids k []
 
--- where it stands in the text, by the list of IDs: no bytes stand at its front
+-- where it is in the text, by the list of IDs: no bytes are at its front
 unfoldable pub idStanding : List ℕ → ℕ → ℕ × ℕ → ℕ × ℕ
 idStanding ids k text = (text .0, getD ids (k * 3) 0 + text .1)
 

@@ -27,7 +27,7 @@ fn is_joined(id: &[u8], prefix: &[u8], other: &[u8]) -> bool
     byte_slices::same(other, rest)
 }
 
-// The ID of the program with an ordinal, as a part of the text: no bytes where there is none.
+// The ID of the program with an ordinal, as a part of the text. It is empty if there is no such program.
 pub fn find_id<'a>(text: &'a [u8], ids: &[u32], program: ProgramNo) -> &'a [u8]
     requires { ⌜ IdsInText (now text) (now ids) ⌝ }
     ensures value { λ r. ⌜ now r ≡ idIn (idsAt (now (text .entry)) (now (ids .entry))) (program .0) ⌝ }
@@ -43,7 +43,7 @@ pub fn find_id<'a>(text: &'a [u8], ids: &[u32], program: ProgramNo) -> &'a [u8]
     &text[start..end]
 }
 
-// Whether some program's ID is the prefix, `-` and another ID: the search stops at the first.
+// Whether the ID of some program is the prefix, `-` and another ID. The search stops at the first.
 fn is_known(text: &[u8], ids: &[u32], prefix: &[u8], other: &[u8]) -> bool
     requires { ⌜ IdsInText (now text) (now ids) ⌝ }
     ensures { λ r. ⌜ r ≡ isAmong (joined (now (prefix .entry)) (now (other .entry))) (idsAt (now (text .entry)) (now (ids .entry))) ⌝ }
@@ -59,7 +59,7 @@ fn is_known(text: &[u8], ids: &[u32], prefix: &[u8], other: &[u8]) -> bool
     false
 }
 
-// Whether an ID that is made of the prefix and a leaf's ID is there already.
+// Whether a program has an ID that is made of the prefix and the ID of a leaf.
 pub fn is_taken(text: &[u8], ids: &[u32], prefix: &[u8], leaves: &[u32]) -> bool
     requires { ⌜ IdsInText (now text) (now ids) ⌝ }
     ensures { λ r. ⌜ r ≡ taken (idsAt (now (text .entry)) (now (ids .entry))) (now (prefix .entry)) (now (leaves .entry)) ⌝ }

@@ -23,7 +23,7 @@ pub struct Look {
     pub linked: bool,
 }
 
-// Writes bytes, and answers the place after them.
+// Writes bytes, and returns the place after them.
 fn put_slice(out: &mut [u8], o: usize, from: &[u8]) -> usize
     requires { ⌜ o + length (now from) ≤ length (now out) ⌝ }
     ensures next { λ r. ⌜ r ≡ o + length (now (from .entry)) ⌝ }
@@ -70,7 +70,7 @@ fn put_ending(out: &mut [u8], o: usize, fields: &[u8], id: &[u8], linked: bool) 
     n + 1
 }
 
-// Writes the line of a new program after the leaf `id`, and answers the place after it.
+// Writes the line of a new program after the leaf `id`, and returns the place after it.
 fn put_program_line(out: &mut [u8], o: usize, prefix: &[u8], fields: &[u8], id: &[u8], look: Look) -> usize
     requires { ⌜ o + length (newLine (look .alone) (look .linked) (now prefix) (now fields) (now id)) ≤ length (now out) ⌝ }
     ensures next { λ r. ⌜ r ≡ o + length (newLine (look .alone) (look .linked) (now (prefix .entry)) (now (fields .entry)) (now (id .entry))) ⌝ }

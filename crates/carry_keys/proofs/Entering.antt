@@ -46,9 +46,9 @@ pick-one hit zero z = absurd (z refl)
 pick-one hit (suc j) z = refl
 
 module _ (seed : Seed) where
-  -- ---- one record more
+  -- ---- one more record
 
-  -- the slots tell the keys of some records, each by the first record that has it
+  -- the slots hold the keys of some records, each with the offset of the first record that has it
   record Holds (t slots : List ℕ) (rs : List Record) : Type 0 where
     vs : List ℕ
     held : Held (start seed t (length slots)) slots vs

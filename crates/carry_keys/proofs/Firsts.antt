@@ -48,7 +48,7 @@ unfolding readIn
 read-append strict [] qs = refl
 read-append strict (p ∷ ps) qs = ap (λ l. recordIfRead (line strict p) ++ l) (read-append strict ps qs) ∙ sym (append-assoc (recordIfRead (line strict p)) (readIn strict ps) (readIn strict qs))
 
--- ---- the value that tells a key, among earlier ones
+-- ---- the value that holds a key, among earlier ones
 
 low-pick : (hit : ℕ → Bool) (n : ℕ) (vs : List ℕ) → Each (Low n) vs → 0 < pick hit vs → Low n (pick hit vs)
 unfolding pick Each
@@ -240,7 +240,7 @@ module _ (seed : Seed) where
     slots-some : 0 < length slots
     slots-some = omega (arith, ap length slots-are, pointed-length strict t (entered seed strict t (replicate n 0) (xs ++ (p ∷ ys))) es, entered-some)
 
-    -- what tells a key
+    -- the value that holds a key
     told-by : (k : ℕ) (id : List ℕ) → toldBy seed t slots k id ≡ latest (tellsKey seed t k id) (pick (tellsKey seed t k id) (keyValuesOf seed (readIn strict (xs ++ (p ∷ ys))))) (keyValuesOf seed (readIn strict es))
     told-by k id =
         let b : Each (Sits t) (xs ++ (p ∷ ys)) =
@@ -257,7 +257,7 @@ module _ (seed : Seed) where
     before : Each (Sits t) (es ++ xs)
     before = each-left (Sits t) (es ++ xs) (p ∷ rest) sits
 
-    -- the keys of the lines before `p` stand before it
+    -- the keys of the lines before `p` come before it
     low : Each (Low (p .at)) (keyValuesOf seed (readIn strict es) ++ keyValuesOf seed (readIn strict xs))
     low =
         subst (Each (Low (p .at))) (ap (keyValuesOf seed) (read-append strict es xs) ∙ keys-append (readIn strict es) (readIn strict xs))
@@ -310,7 +310,7 @@ module _ (seed : Seed) where
         first-told r is
         ∙ ap not (told-taken seed t (readIn strict (es ++ xs)) (reads-ended strict t small (es ++ xs) before) (recordHead r) ∙ taken-clash t (readIn strict (es ++ xs)) r (sits-stand strict t small p sit r is))
 
-  -- a line of the block from `at` on is the first with its key exactly where no line before it, from `from` on, clashes with it
+  -- a line of the block from `at` on is the first with its key exactly if no line before it, from `from` on, clashes with it
   module _ (strict : Bool) (t : List ℕ) (n from at : ℕ) (es xs ys : List Piece) (p : Piece)
       (split : linesFrom from (drop from t) ≡ es ++ linesFrom at (drop at t))
       (block : keyedFront strict (n / 4 * 3) (linesFrom at (drop at t)) ≡ xs ++ (p ∷ ys)) where

@@ -112,7 +112,7 @@ module _ (seed : Seed) where
           ap (λ l. entered seed strict t slots (keyedFront strict m l)) (ahead-one t at h) ∙ ap (entered seed strict t slots) (front-one strict (firstAt at t) (linesFrom next (drop next t)) m k p e)
 
   module _ (strict : Bool) (t : List ℕ) where
-    -- the lines behind the block are those from the offset after it on
+    -- the lines after the block are those from the offset after it on
     abbrev Behind : ℕ → ℕ → Type 0
     Behind m at = keyedBehind strict m (linesFrom at (drop at t)) ≡ linesFrom (afterKeyed strict m at t) (drop (afterKeyed strict m at t) t)
 

@@ -59,19 +59,19 @@ readIn strict [] = []
 readIn strict (p ∷ ps) = recordIfRead (line strict p) ++ readIn strict ps
 
 module _ (seed : Seed) where
-  -- the slots after the keys of some lines entered, one after the other: one that is told already does not enter
+  -- the slots after the keys of some lines entered, one after the other: one that is there already does not enter
   unfoldable pub entered : Bool → List ℕ → List ℕ → List Piece → List ℕ
   unfolding afterEntering headOf line
   entered strict t slots [] = slots
   entered strict t slots (p ∷ ps) = entered strict t (afterEntering seed true t slots (headOf (line strict p))) ps
 
-  -- and after slots that tell a key of some lines were set to these lines' offsets, one after the other
+  -- and after slots with a key of some lines were set to these lines' offsets, one after the other
   unfoldable pub pointedBack : Bool → List ℕ → List ℕ → List Piece → List ℕ
   unfolding afterPointing headOf line
   pointedBack strict t slots [] = slots
   pointedBack strict t slots (p ∷ ps) = pointedBack strict t (afterPointing seed t slots (headOf (line strict p))) ps
 
-  -- ---- by where the lines stand in the text
+  -- ---- by where the lines are in the text
 
   -- the keys of the lines from the offset `at` on entered, up to the line with the `n`-th key
   abbrev pub enteredFrom : Bool → List ℕ → List ℕ → ℕ → ℕ → List ℕ

@@ -1,5 +1,5 @@
-// Where the keys of a block of lines stood first: each key of the block is told by the offset of its first line there, or by one before
-// the block, where a line before it has the key too.
+// Finds where each key of a block of lines occurs first. The slots hold one offset for each key of the block: that of its first line in the block, or
+// of an earlier line if the key occurs before the block.
 use key_look::Seed;
 use record::Head;
 ghost use mathlib.Core.Path.{_≡_};
@@ -17,7 +17,7 @@ pub struct Filled {
     pub seed: Seed,
 }
 
-// A line's head, and the offset of the line after it.
+// The head of a line, and the offset of the line after it.
 struct Parsed {
     head: Head,
     next: usize,
@@ -53,8 +53,8 @@ fn keys_in(head: Head) -> usize
     }
 }
 
-// The keys of the lines from the offset `at` on, up to the one with the `many`-th key, enter the area, of equal ones the first; the offset
-// after these lines.
+// Puts the keys of the lines from the offset `at` on into the area, up to the line with the `many`-th key. Of equal keys only the first is put in.
+// Returns the offset after these lines.
 fn enter(text: &[u8], seed: Seed, strict: bool, area: &mut [u32], at: usize, many: usize) -> usize
     requires { ⌜ length (now text) ≤ 16777216 ⌝ }
     requires { ⌜ 0 < length (now area) ⌝ }
@@ -77,7 +77,7 @@ fn enter(text: &[u8], seed: Seed, strict: bool, area: &mut [u32], at: usize, man
     end
 }
 
-// The lines that start from the offset `from` on and before `to`: a slot that tells the key of one tells it by that line's offset from now on.
+// Goes through the lines that start at `from` or later and before `to`. A slot that holds the key of such a line gets the offset of that line.
 fn point_back(text: &[u8], seed: Seed, strict: bool, area: &mut [u32], from: usize, to: usize)
     requires { ⌜ length (now text) ≤ 16777216 ⌝ }
     requires { ⌜ 0 < length (now area) ⌝ }
@@ -94,7 +94,7 @@ fn point_back(text: &[u8], seed: Seed, strict: bool, area: &mut [u32], from: usi
 }
 
 // Fills the area for the block of lines from the offset `at` on, three with a key for each four slots, after the lines from `from` on:
-// whether a line of the block has its key for the first time is told by `key_index::is_first_with_key` from now on.
+// whether a line of the block has its key for the first time is then answered by `key_index::is_first_with_key`.
 fn fill_by(
     text: &[u8],
     seed: Seed,

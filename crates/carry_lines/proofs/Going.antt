@@ -166,7 +166,7 @@ module _ (strict : Bool) (t : List ℕ) (from : ℕ) (area ids : List ℕ) (c : 
     abbrev x : Head
     x = headOf (records.line strict p)
 
-    -- the area tells of an SQ or RG what the records kept say
+    -- the area says of an SQ or RG what the kept records say
     first-used : (r : Record) → records.line strict p ≡ read r → eqb (code r) 1 ≡ false → eqb (code r) 4 ≡ false → not (isFirstKey seed t filled (recordHead r)) ≡ any (clash r) before
     unfolding any
     first-used r is a b =
@@ -182,7 +182,7 @@ module _ (strict : Bool) (t : List ℕ) (from : ℕ) (area ids : List ℕ) (c : 
         not-not true = refl
         not-not false = refl
 
-    -- the area and the slots of programs tell of a record what the records kept say
+    -- the area and the slots of programs say of a record what the kept records say
     told-record : (r : Record) → records.line strict p ≡ read r
         → barring (usedBy seed t filled ids (recordHead r)) (c .kept) (c .programs) (recordHead r) ≡ barring (isTaken before t (recordHead r)) (c .kept) (c .programs) (recordHead r)
     unfolding barring usedBy isTaken recordHead pieces Each code key
@@ -210,7 +210,7 @@ module _ (strict : Bool) (t : List ℕ) (from : ℕ) (area ids : List ℕ) (c : 
         go (refusedLine n) e = refl
         go (read r) e = told-record r e
 
-    -- ---- a line further
+    -- ---- one line further
 
     abbrev passed : List Piece
     passed = g .passed ++ (p ∷ [])

@@ -20,7 +20,7 @@ use Rattle.carry_lines.specs.declared.Cursor.{Cursor}
 abbrev pub headAt : Bool → List ℕ → ℕ → Head
 headAt strict t at = headOf (line strict (firstAt at t))
 
--- is a head's key used? Programs that are kept are in the slots `ids`, by the plain numbers; the slots `area` tell where other keys stood first
+-- is a head's key used? Programs that are kept are in the slots `ids`, by the plain numbers; the slots `area` hold where other keys came first
 unfoldable pub usedBy : Seed → List ℕ → List ℕ → List ℕ → Head → Bool
 unfolding isFound isFirstKey
 usedBy seed t area ids (head.Refused n) = not (isFirstKey seed t area (head.Refused n))
@@ -50,7 +50,7 @@ unfoldable pub filledAt : Seed → Bool → List ℕ → ℕ → List ℕ → �
 unfolding filledFor
 filledAt seed strict t from area at until = cond (eqb at until) (filledFor seed strict t (length area) from at) area
 
--- where judging stands after a line, in a block that ends at `until`: `n` is 0 where it is kept
+-- where judging is after a line, in a block that ends at `until`: `n` is 0 where it is kept
 unfoldable pub advanced : Cursor → ℕ → ℕ → Seed → Head → ℕ → Cursor
 unfolding programsOf
 advanced c next until seed x zero =

@@ -1,4 +1,4 @@
-// Carrying on, line by line from the first that is kept: each line is judged after the lines that were kept before it.
+// Carrying on line by line, from the first kept line on: each line is judged after the lines that were kept before it.
 use carry_keys::Filled;
 use key_look::Seed;
 use record::Head;
@@ -11,7 +11,7 @@ ghost use Rattle.key_index.specs.Keyed.{KeyInText};
 ghost use Rattle.carry_lines.specs.Kept.{headAt, usedBy, idsAfter, advanced, filledAt, untilAt};
 ghost use Rattle.carry_lines.specs.Going.{Going, judgedLines, refusalAt};
 
-// Where judging stands: the offset of the next line, how many lines are judged, the offset where the block ends for which the area is
+// Where judging is: the offset of the next line, how many lines are judged, the offset where the block ends for which the area is
 // filled and the numbers that it is filled by, and how many lines, and programs among them, are kept. Where judging begins no block has begun, and both offsets are the same.
 pub struct Cursor {
     pub at: usize,
@@ -29,8 +29,8 @@ pub struct Step {
     pub next: Cursor,
 }
 
-// Whether the key of a head stood in a line that was kept. Programs that are kept enter `ids`, by the plain numbers: they are so few that looking for one
-// is never long. Where other keys stood first is in `area`.
+// Whether a line that was kept has the key of a head. Programs that are kept enter `ids`, by the plain numbers: they are so few that looking for one
+// is never long. Where other keys came first is in `area`.
 fn is_used(
     text: &[u8],
     area: &[u32],

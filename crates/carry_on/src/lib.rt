@@ -210,8 +210,8 @@ pub fn carry_on(text: &[u8], out: &mut [u8], table: &mut [u32]) -> Carried
     }
 }
 
-// A text by the front of a lent area, where that is longer than an own one: a slot for each eight bytes of the text is enough for all keys in one
-// block.
+// Carries on with the front of a lent area if that is longer than an area of this crate's own. One slot per eight bytes of the text is enough for all
+// keys in one block.
 fn carry_lent(text: &[u8], out: &mut [u8], table: &mut [u32], area: &mut [u32]) -> Carried
     requires { ⌜ length (now text) ≤ 16777216 ⌝ }
     ensures answer { λ r. ⌜ r ≡ carriedAnswer (now (text .entry)) (now (out .entry)) (now (table .entry)) ⌝ }
@@ -246,7 +246,7 @@ fn carry_refused_with(text: &[u8], out: &mut [u8], table: &mut [u32], work: &mut
     carried
 }
 
-// The same as `carry_on`, by a lent area of any length and with any content, which is all zeros afterwards.
+// The same as `carry_on`, with a lent area of any length and any content. The area is all zeros afterwards.
 pub fn carry_on_with(text: &[u8], out: &mut [u8], table: &mut [u32], work: &mut [u32]) -> Carried
     ensures answer { λ r. ⌜ r ≡ carriedAnswer (now (text .entry)) (now (out .entry)) (now (table .entry)) ⌝ }
     ensures wrote { λ _. ⌜ now (out .exit) ≡ textLeft (now (text .entry)) (now (out .entry)) (now (table .entry)) ⌝ }

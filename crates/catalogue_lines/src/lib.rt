@@ -37,7 +37,7 @@ struct LinePlace {
     number: u32,
 }
 
-// Where a walk over a line met its keys, and the place after the entries of its other fields.
+// Where a walk over a line found its keys, and the place after the entries of its other fields.
 struct Met {
     next: usize,
     keys: KeyValues,
@@ -146,7 +146,7 @@ fn comment_entry(src: &[u8], at: usize, number: u32) -> Entry
     line_entry(Kind::Comment, src, at, number, KeyValues::new())
 }
 
-// Writes the entries of an accepted line's other fields from `o` on. The same walk meets the keys.
+// Writes the entries of an accepted line's other fields from `o` on. The same walk finds the keys.
 fn put_fields(out: &mut [u8], o: usize, kind: Kind, src: &[u8], at: usize, tables: &[u32]) -> Met
     requires { ⌜ Walkable at (now src) (now tables) ⌝ }
     requires { ⌜ at + length (now src) ≤ 16777216 ⌝ }

@@ -105,7 +105,7 @@ module _ (seed : Seed) where
     pub found : seek (tellsKey seed t k id) (around (firstSlot seed (length slots) k id) slots) ≡ pick (tellsKey seed t k id) vs
     found = g .finds (tellsKey seed t k id) (firstSlot seed (length slots) k id) begins-lt starts
 
-    -- it is known exactly where one of them tells it
+    -- it is known exactly if one of them holds it
     pub sought-known : saysKnown (sought seed t slots k id) ≡ ltb 0 (pick (tellsKey seed t k id) vs)
     unfolding sought
     sought-known = known-seek (tellsKey seed t k id) (length slots) (firstSlot seed (length slots) k id) (around (firstSlot seed (length slots) k id) slots) ∙ ap (ltb 0) found

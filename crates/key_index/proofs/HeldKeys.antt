@@ -60,7 +60,7 @@ pick-append hit (suc k ∷ vs) ws = go (hit (suc k)) (pick-append hit vs ws)
     go true ih = lt-ltb 0 (suc k) (omega arith) ∙ ap (λ b. b || ltb 0 (pick hit ws)) (sym (lt-ltb 0 (suc k) (omega arith)))
     go false ih = ih
 
--- ---- one record more
+-- ---- one more record
 
 after-length : (room : Bool) (v : ℕ) (slots : List ℕ) (s : Sought) → length (afterLooking room v slots s) ≡ length slots
 unfolding afterLooking
@@ -89,7 +89,7 @@ after-none v slots (Known i) = refl
 after-none v slots (Free i) = refl
 after-none v slots Full = refl
 
--- ---- where the key of a line stands
+-- ---- where the key of a line is
 
 record-placed : (t : List ℕ) (r : Record) → Ended t r → Each (Stands t 0) (pieces r) → KeyInText (length t) (recordHead r)
 unfolding Ended KeyInText recordHead stretchOf pieces Each

@@ -1,4 +1,4 @@
--- The slot that tells the key of a head, and the offset of that key.
+-- The slot that holds the key of a head, and the offset of that key.
 use Prim.Native.Nat.{ℕ, _≤_, _<_}
 use mathlib.Core.Path.{_≡_, subst}
 use mathlib.Core.List.{List}

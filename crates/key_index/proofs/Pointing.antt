@@ -97,14 +97,14 @@ latest-one hit w zero z = absurd (z refl)
 latest-one hit w (suc j) z = refl
 
 module _ (seed : Seed) where
-  -- ---- what tells a key
+  -- ---- the value that holds a key
 
-  -- the value that tells the key `id` of kind `k`, or 0
+  -- the value that holds the key `id` of kind `k`, or 0
   unfoldable pub toldBy : List ℕ → List ℕ → ℕ → List ℕ → ℕ
   unfolding tellsKey firstSlot around seek
   toldBy t slots k id = seek (tellsKey seed t k id) (around (firstSlot seed (length slots) k id) slots)
 
-  -- a value tells one key alone
+  -- a value holds only one key
   pub tells-one : (t : List ℕ) (k j : ℕ) (id ib : List ℕ) (v : ℕ) → tellsKey seed t k id v ≡ true → tellsKey seed t j ib v ≡ true → (k ≡ j) × (id ≡ ib)
   unfolding tellsKey
   tells-one t k j id ib v e f =
@@ -114,7 +114,7 @@ module _ (seed : Seed) where
       let b : ib ≡ keyTold t v = same-equal ib (keyTold t v) (and-right (eqb (fingerprint seed j ib) (v / 16777216)) (same ib (keyTold t v)) f) in
       (sym (fingerprint-kind seed k id) ∙ ap (λ x. x / 32) (m ∙ sym n) ∙ fingerprint-kind seed j ib, a ∙ sym b)
 
-  -- the value of a key tells it
+  -- the value of a key holds it
   pub tells-own : (t : List ℕ) (k : ℕ) (id : List ℕ) (at : ℕ) → at < 16777216 → word (drop at t) ≡ id → tellsKey seed t k id (value (fingerprint seed k id) at) ≡ true
   tells-own t k id at h e = value-tells seed t k id (fingerprint seed k id) at h ∙ ap₂ (λ b c. b && c) (eq-eqb (fingerprint seed k id) (fingerprint seed k id) refl) (ap (same id) e ∙ same-self id)
 
@@ -126,7 +126,7 @@ module _ (seed : Seed) where
     unfolding s firstSlot
     s-lt = mod-lt _ p
 
-    -- looking ends at a slot exactly where the key is told
+    -- a search ends at a slot exactly if the key is held
     pub known-told : saysKnown (sought seed t slots k id) ≡ ltb 0 (toldBy t slots k id)
     unfolding sought toldBy
     known-told = known-seek (tellsKey seed t k id) (length slots) (firstSlot seed (length slots) k id) (around (firstSlot seed (length slots) k id) slots)
@@ -180,7 +180,7 @@ module _ (seed : Seed) where
     v : ℕ
     v = value (fingerprint seed j ib) at
 
-    -- a key that `v` tells is the one
+    -- a key that `v` holds is the one
     one : tellsKey seed t k id v ≡ true → (k ≡ j) × (id ≡ ib)
     unfolding v
     one e = tells-one t k j id ib v e (tells-own t j ib at small is)
@@ -188,7 +188,7 @@ module _ (seed : Seed) where
     after : ℕ
     after = cond (tellsKey seed t k id v && ltb 0 (toldBy t slots k id)) v (toldBy t slots k id)
 
-    -- no slot tells it
+    -- no slot holds it
     none : saysKnown (sought seed t slots j ib) ≡ false → toldBy t slots k id ≡ after
     unfolding after
     none e = go (tellsKey seed t k id v) refl

@@ -1,4 +1,4 @@
--- The value that tells a key, and the slots after a key was looked for.
+-- The value of a slot that holds a key, and the slots after a key was looked for.
 use Prim.Native.Nat.{ℕ, _+_, _*_, _/_, _%_}
 use mathlib.Core.Bool.{Bool, true, false, cond}
 use mathlib.Core.List.{List}
@@ -14,7 +14,7 @@ use Rattle.key_look.specs.declared.Seed.{Seed}
 
 -- ---- a value
 
--- what tells a key with this fingerprint at the offset `at`: offsets are below 2 ^ 24
+-- the value for a key with this fingerprint at the offset `at`: offsets are below 2 ^ 24
 unfoldable pub value : ℕ → ℕ → ℕ
 value m at = m * 16777216 + at
 
@@ -32,20 +32,20 @@ afterLooking room v slots (Known i) = slots
 afterLooking room v slots (Free i) = cond room (set slots i v) slots
 afterLooking room v slots Full = slots
 
--- where a slot tells it, that slot keeps its fingerprint and tells it by the offset `at`
+-- if a slot holds it, that slot keeps its fingerprint and gets the offset `at`
 unfoldable pub pointed : ℕ → List ℕ → Sought → List ℕ
 unfolding value
 pointed at slots (Known i) = set slots i (value (getD slots i 0 / 16777216) at)
 pointed at slots (Free i) = slots
 pointed at slots Full = slots
 
--- does no slot tell it by another offset than `at`?
+-- does no slot hold it with another offset than `at`?
 unfoldable pub isOwn : ℕ → List ℕ → Sought → Bool
 isOwn at slots (Known i) = eqb (getD slots i 0 % 16777216) at
 isOwn at slots (Free i) = true
 isOwn at slots Full = true
 
--- where it stands; 0 for a head without a key
+-- where it is; 0 for a head without a key
 unfoldable pub offsetOf : Head → ℕ
 offsetOf (head.Refused n) = 0
 offsetOf (head.Header v n) = 0
@@ -55,7 +55,7 @@ offsetOf (head.Program p n) = p .at
 offsetOf (head.Comment p) = 0
 
 module _ (seed : Seed) where
-  -- the slot, of `n`, at which looking for the key that it tells starts
+  -- the slot, of `n`, at which looking for the key in it starts
   unfoldable pub start : List ℕ → ℕ → ℕ → ℕ
   unfolding firstSlot keyTold
   start t n v = firstSlot seed n (v / 536870912) (keyTold t v)
@@ -96,7 +96,7 @@ module _ (seed : Seed) where
   afterEntering room t slots (head.Program p n) = afterEnteringAt room t slots 4 p
   afterEntering room t slots (head.Comment p) = slots
 
-  -- looking for it; no slot tells a head without a key
+  -- looking for it; no slot holds a head without a key
   unfoldable pub soughtOf : List ℕ → List ℕ → Head → Sought
   unfolding sought
   soughtOf t slots (head.Refused n) = Full
@@ -106,12 +106,12 @@ module _ (seed : Seed) where
   soughtOf t slots (head.Program p n) = soughtAt seed t slots 4 p
   soughtOf t slots (head.Comment p) = Full
 
-  -- the slots after a slot that tells it was set to the head's own offset
+  -- the slots after a slot that holds it was set to the head's own offset
   unfoldable pub afterPointing : List ℕ → List ℕ → Head → List ℕ
   unfolding pointed offsetOf soughtOf
   afterPointing t slots x = pointed (offsetOf x) slots (soughtOf t slots x)
 
-  -- does no slot tell it by another offset than the head's own?
+  -- does no slot hold it with another offset than the head's own?
   unfoldable pub isFirstKey : List ℕ → List ℕ → Head → Bool
   unfolding isOwn offsetOf soughtOf
   isFirstKey t slots x = isOwn (offsetOf x) slots (soughtOf t slots x)

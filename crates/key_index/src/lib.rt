@@ -27,7 +27,7 @@ pub struct Standing {
     pub slots: usize,
 }
 
-// Whether the key of this kind at a place of the text is in the area. One that is not enters, where there is `room`.
+// Whether the area holds the key of this kind at a place of the text. If not, the key is put in where there is `room`.
 fn find_or_enter_at(
     text: &[u8],
     area: &mut [u32],
@@ -77,7 +77,7 @@ fn none_found() -> Found
     }
 }
 
-// Whether the key of a head is in the area. One that is not enters, where there is `room`; a head without a key changes nothing.
+// Whether the area holds the key of a head. If not, the key is put in where there is `room`. A head without a key changes nothing.
 pub fn find_or_enter(text: &[u8], area: &mut [u32], seed: Seed, head: Head, room: bool) -> Found
     requires { ⌜ length (now text) ≤ 16777216 ⌝ }
     requires { ⌜ 0 < length (now area) ⌝ }
@@ -103,7 +103,7 @@ pub fn find_or_enter(text: &[u8], area: &mut [u32], seed: Seed, head: Head, room
     }
 }
 
-// What looking for no key comes to: no slot tells it, and none is looked at.
+// What looking for no key comes to: no slot holds it, and none is looked at.
 fn none_looked() -> Looked
     ensures sought { λ r. ⌜ r .sought ≡ Full ⌝ }
     ensures slots { λ r. ⌜ r .slots ≡ 0 ⌝ }
@@ -115,7 +115,7 @@ fn none_looked() -> Looked
     }
 }
 
-// Looks for the key of a head. No slot tells a head without a key.
+// Looks for the key of a head. No slot holds the key of a head without one.
 fn look_for(text: &[u8], area: &[u32], seed: Seed, head: Head) -> Looked
     requires { ⌜ length (now text) ≤ 16777216 ⌝ }
     requires { ⌜ 0 < length (now area) ⌝ }
@@ -153,7 +153,7 @@ fn offset_of(head: Head) -> usize
     }
 }
 
-// The slot that tells the key of a head, if one does, tells it by the head's own offset from now on. How many slots were looked at.
+// Puts the head's own offset into the slot that holds the head's key, if there is one. Answers how many slots were looked at.
 pub fn point_to_head(text: &[u8], area: &mut [u32], seed: Seed, head: Head) -> usize
     requires { ⌜ length (now text) ≤ 16777216 ⌝ }
     requires { ⌜ 0 < length (now area) ⌝ }
@@ -175,7 +175,7 @@ pub fn point_to_head(text: &[u8], area: &mut [u32], seed: Seed, head: Head) -> u
     slots
 }
 
-// Whether no slot tells the key of a head by another offset than the head's own.
+// Whether no slot holds the key of a head with an offset other than the head's own.
 pub fn is_first_with_key(text: &[u8], area: &[u32], seed: Seed, head: Head) -> Standing
     requires { ⌜ length (now text) ≤ 16777216 ⌝ }
     requires { ⌜ 0 < length (now area) ⌝ }

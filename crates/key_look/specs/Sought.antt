@@ -15,12 +15,12 @@ use Rattle.key_look.specs.declared.Sought.the-variants.{Known, Free, Ful
 
 -- ---- a slot
 
--- the key that a slot tells
+-- the key that a slot holds
 unfoldable pub keyTold : List ℕ → ℕ → List ℕ
 unfolding word
 keyTold t v = word (drop (v % 16777216) t)
 
--- does it tell the key `id` with this fingerprint?
+-- does it hold the key `id` with this fingerprint?
 unfoldable pub tellsPrint : List ℕ → ℕ → List ℕ → ℕ → Bool
 unfolding same keyTold
 tellsPrint t print id v = eqb print (v / 16777216) && same id (keyTold t v)
@@ -63,7 +63,7 @@ module _ (seed : Seed) where
   unfolding keyNumber
   fingerprint k id = k * 32 + keyNumber seed k id / 134217728 % 32
 
-  -- does a slot tell the key `id` of kind `k`?
+  -- does a slot hold the key `id` of kind `k`?
   unfoldable pub tellsKey : List ℕ → ℕ → List ℕ → ℕ → Bool
   unfolding fingerprint same keyTold
   tellsKey t k id v = eqb (fingerprint k id) (v / 16777216) && same id (keyTold t v)

@@ -67,14 +67,14 @@ pub fn number(seed: Seed, kind: u8, id: &[u8]) -> usize
     hash::hash(kind, id)
 }
 
-// What a slot keeps of a key besides its place, by the key's number.
+// What a slot keeps of a key besides its place, from the key's hash.
 pub fn fingerprint(kind: u8, number: usize) -> u32
     ensures { λ r. ⌜ r ≡ kind * 32 + number / 134217728 % 32 ⌝ }
 {
     (kind as u32) * 32 + (number / 134217728 % 32) as u32
 }
 
-// Whether a slot tells the key `id` with this fingerprint: only where the fingerprints are equal the text is looked at.
+// Whether a slot holds the key `id` with this fingerprint. The text is looked at only where the fingerprints are equal.
 fn slot_tells(text: &[u8], slot: u32, print: u32, id: &[u8]) -> bool
     requires { ⌜ length (now id) ≤ 16777216 ⌝ }
     ensures { λ r. ⌜ r ≡ (eqb print (slot / 16777216) && same (now (id .entry)) (keyTold (now (text .entry)) slot)) ⌝ }

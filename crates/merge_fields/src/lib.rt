@@ -29,7 +29,7 @@ fn is_passed(a: u8, b: u8) -> bool
     field_tag::is_same_tag(a, b, b'P', b'P')
 }
 
-// The first field from the place `start` on that is not passed over and stands at its tag's first place, with its tag's last value.
+// The first field from the place `start` on that is neither ID nor PP and is the first with its tag, with the last value of that tag.
 fn next_field(line: &[u8], at: usize, start: usize, tables: &[u32]) -> NextField
     requires { ⌜ Walkable at (now line) (now tables) ⌝ }
     requires { ⌜ AtField (none? (now tables)) at (now line) start ⌝ }
@@ -117,7 +117,7 @@ fn same_walks(
     }
 }
 
-// The same, where the second line's tables are still to be made.
+// The same, if the tables of the second line still have to be made.
 fn same_as_line(a: &[u8], at_a: usize, tables: &[u32], b: &[u8], at_b: usize, strict: bool) -> bool
     requires { ⌜ Walkable «at_a» (now a) (now tables) ⌝ }
     requires { ⌜ «at_a» + length (now a) ≤ 16777216 ⌝ }

@@ -41,7 +41,7 @@ struct Pair {
     b: bool,
 }
 
-// Three accepted texts in which nothing is tangled: 30, 31 and 32.
+// Judges three accepted texts without dangling PPs and cycles: refuses with 30, 31 or 32.
 fn judge_untangled(
     a: &[u8],
     b: &[u8],
@@ -82,7 +82,7 @@ fn judge_untangled(
     Verdict::Accepted
 }
 
-// Three accepted texts: 22 and 23 for each, then how they go together.
+// Judges three accepted texts: refuses with 22 or 23 for each, then judges whether they fit together.
 fn judge_accepted(
     a: &[u8],
     b: &[u8],
@@ -120,7 +120,7 @@ fn judge_accepted(
     judge_untangled(a, b, m, of, list_a, list_b)
 }
 
-// The merged text is read, after A and B were.
+// Reads the merged text, after A and B were read.
 fn judge_merged(
     a: &[u8],
     b: &[u8],

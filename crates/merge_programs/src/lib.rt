@@ -17,7 +17,7 @@ ghost use Rattle.merge_programs.specs.Opened.{IsOpened, Untangled};
 ghost use Rattle.merge_programs.specs.Members.{memberOf, shapeAt, IsMember};
 
 // What an accepted text is judged by: the rule for repeated tags that its lines are read by, 0 or 22 or 23, where the lines of its programs
-// stand, and their parents.
+// are, and their parents.
 pub struct Opened {
     pub strict: bool,
     pub refusal: u8,
@@ -43,7 +43,7 @@ pub fn open_text(text: &[u8], strict: bool) -> Opened
     }
 }
 
-// A program of a text: the rule for repeated tags that the text's lines are read by, where the program's line stands, and its parent.
+// A program of a text: the rule for repeated tags that the text's lines are read by, where the program's line is, and its parent.
 struct Member {
     strict: bool,
     at: u32,

@@ -1,4 +1,4 @@
--- The laws of the search for a program: the IDs stand one after another, and what is still ahead decides.
+-- The laws of the search for a program: the IDs come one after another, and what is still ahead decides.
 use Prim.Native.Nat.{ℕ, _+_, _-_, _*_, _≤_, _<_}
 use mathlib.Core.Path.{_≡_, refl, sym, ap, _∙_}
 use mathlib.Core.Bool.{Bool, true, false, cond}
@@ -37,7 +37,7 @@ module _ (id : List ℕ) (ids : List (List ℕ)) (k : ℕ) (a : Ahead id ids k) 
     ahead-on : same id (getD ids k []) ≡ false → Ahead id ids (k + 1)
     ahead-on e = (omega arith, first ∙ rw e refl)
 
--- ---- a turn at `k`: the number there decides, and then the bytes
+-- ---- a step at `k`: the number there decides, and then the bytes
 
 module _ (t ids id : List ℕ) (p : IdsInText t ids) (k : ℕ) (h : k < length (idsAt t ids)) (a : Ahead id (idsAt t ids) k) where
   -- another number, so another ID

@@ -13,7 +13,7 @@ unfoldable pub idNumber : List ℕ → ℕ
 unfolding keyHash
 idNumber id = keyHash 4 id % 4294967296
 
--- the list of the IDs that stand at some places of a text
+-- the list of the IDs at some places of a text
 unfoldable pub idList : List ℕ → List Place → List ℕ
 unfolding bytesAt idNumber
 idList t [] = []
@@ -31,7 +31,7 @@ unfoldable pub idsAt : List ℕ → List ℕ → List (List ℕ)
 unfolding bytesAt placesIn
 idsAt t ids = map (bytesAt t) (placesIn ids)
 
--- it is the list of IDs that stand in the text, of 1,024 at most
+-- it is a list of IDs in the text, of 1,024 at most
 pub record IdsInText (t ids : List ℕ) : Type 0 where
   pub places : List Place
   pub is : ids ≡ idList t places

@@ -24,7 +24,7 @@ placesOf [] lens = []
 placesOf (a ∷ ats) [] = []
 placesOf (a ∷ ats) (l ∷ lens) = record { at = a; len = l } ∷ placesOf ats lens
 
--- as many offsets as lengths, 1,024 at most, and each place is within the text
+-- there are as many offsets as lengths, 1,024 at most, and each place is within the text
 pub record PlacesInText (t ats lens : List ℕ) : Type 0 where
   pub even : length ats ≡ length lens
   pub few : length ats ≤ 1024

@@ -101,7 +101,7 @@ fn narrow_previous(v: Stretch) -> Place
     narrow(v)
 }
 
-// The ID and the PP of an accepted PG line, by a walk.
+// The ID and the PP of an accepted PG line, found by walking over it.
 fn find_places(line: &[u8], at: usize, tables: &[u32]) -> Noted
     requires { ⌜ Walkable at (now line) (now tables) ⌝ }
     requires { ⌜ at + length (now line) ≤ 16777216 ⌝ }

@@ -20,7 +20,7 @@ ghost use Rattle.program_parents.specs.Placed.{PlacesOf, ArePlaces, List
 // The parent of a program whose PP equals no ID. It is neither an ordinal nor `NOBODY`.
 pub const STRANGER: u32 = 4294967294;
 
-// The parent of a program by the place of its PP: nobody without PP, a stranger where PP equals no ID.
+// The parent of a program, from the place of its PP: `NOBODY` without a PP, `STRANGER` if the PP equals no ID.
 fn find_parent(text: &[u8], ids: &[u32], previous: Place) -> u32
     requires { ⌜ IdsInText (now text) (now ids) ⌝ }
     requires { ⌜ Somewhere (length (now text)) previous ⌝ }
@@ -115,7 +115,7 @@ fn parents_again(text: &[u8], catalogue: &[u8], more: usize) -> Parents
     find_parents(text, &ats, &lens, &from, &widths, count)
 }
 
-// The parents of the programs of an accepted text, by its own catalogue, which is far shorter than is needed for one time more.
+// The parents of the programs of an accepted text, from its own catalogue. No catalogue is long enough for a second time.
 pub fn parents_of(text: &[u8], catalogue: &[u8]) -> Parents
     requires { ⌜ isAccepted (readText (now text)) ≡ true ⌝ }
     requires { ⌜ now catalogue ≡ format.catalogue (recordsOf (now text)) ⌝ }

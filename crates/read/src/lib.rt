@@ -153,7 +153,7 @@ fn without_rule(checked: CheckedText) -> Checked
     }
 }
 
-// Whether `kept` is the catalogue of `text`: reading's own refusal comes first, then 21.
+// Whether `kept` is the catalogue of `text`. The refusals of reading come first, then 21.
 pub fn check(text: &[u8], catalogue: &[u8]) -> Checked
     ensures { λ r. ⌜ r ≡ checkedOf (fresh (now (text .entry)) (now (catalogue .entry))) ⌝ }
 {

@@ -49,7 +49,7 @@ emptied-length slots n b = go (ltb n (b .until))
 module _ (seed : Seed) where
   -- ---- which line ahead has a key of an earlier block
 
-  -- of the lines `ps`, counted from `n`, up to `clash`: that one alone has a key among the values `vs`
+  -- of the lines `ps`, counted from `n`, up to `clash`: only that one has a key among the values `vs`
   unfoldable pub Ahead : Bool → List ℕ → List ℕ → ℕ → ℕ → List Piece → Type 0
   unfolding toldIn headOf
   Ahead strict t vs clash n [] = Unit
@@ -190,7 +190,7 @@ module _ (seed : Seed) where
       now-ahead : Ahead strict t (x .old) (b .clash) n (record { at = at; bytes = take (firstLine (drop at t) .len) (drop at t) } ∷ linesFrom (at + firstLine (drop at t) .next) (drop (at + firstLine (drop at t) .next) t))
       now-ahead = subst (Ahead strict t (x .old) (b .clash) n) (ahead-one t at h) (x .ahead)
 
-      -- the index and the line that is known tell whether its key was used
+      -- the index and the line that is known say whether its key was used
       pub used-known : (y : Head) → y ≡ headOf (records.line strict (record { at = at; bytes = take (firstLine (drop at t) .len) (drop at t) })) → (isFound seed t area y || eqb n (b .clash)) ≡ isTaken (j .before) t y
       unfolding Ahead
       used-known y e =

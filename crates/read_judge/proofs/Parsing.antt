@@ -17,7 +17,7 @@ use Rattle.record.specs.Head.{headOf, recordHead}
 use Rattle.read_judge.specs.declared.Parsed.{Parsed}
 use Rattle.read_judge.specs.Parsed.{parsedBy}
 
--- a head that is no refusal is a record's
+-- a head that is not a refusal is a record's
 pub head-read : (l : Line) → OneOf (1 ∷ 2 ∷ 3 ∷ 4 ∷ 5 ∷ []) (tagOf the-type (headOf l)) → isRead l ≡ true
 unfolding headOf isRead
 head-read (refusedLine n) k = absurd (miss (1 ∷ 2 ∷ 3 ∷ 4 ∷ 5 ∷ []) 0 tt k)

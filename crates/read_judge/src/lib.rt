@@ -58,7 +58,7 @@ struct Way {
     seed: Seed,
 }
 
-// The line before which the index is begun anew, and the first line ahead whose key an earlier block of lines has.
+// The line at which the next block begins, and the first later line whose key an earlier block has.
 struct Block {
     until: usize,
     clash: usize,
@@ -165,7 +165,7 @@ fn first_met(
     clash
 }
 
-// The block that a line stands in: where one begins, the keys of the one before are looked for in the lines ahead, and the area is emptied.
+// The block that a line is in. If the line begins a new block, the lines ahead are searched for keys of the block before it, and the area is emptied.
 fn next_block(text: &[u8], way: Way, area: &mut [u32], at: usize, line: usize, block: Block) -> Block
     requires { ⌜ length (now text) ≤ 16777216 ⌝ }
     requires { ⌜ 0 < length (now area) ⌝ }
@@ -240,7 +240,7 @@ fn parse_line(line: &[u8], at: usize, strict: bool, once: bool) -> Parsed
     parse_lenient(line, at, once)
 }
 
-// Line by line: each line's own refusal, then 17, 18 and 19. The keys of a block of lines, three for each four slots of `area`, are kept there.
+// Judges line by line: first a line's own refusal, then 17, 18 and 19. `area` holds the keys of one block of lines, three for every four slots.
 fn judge_along(text: &[u8], way: Way, area: &mut [u32]) -> Tried
     requires { ⌜ length (now text) ≤ 16777216 ⌝ }
     requires { ⌜ 4 ≤ length (now area) ⌝ }
@@ -316,7 +316,7 @@ fn judge_indexed(text: &[u8], strict: bool, area: &mut [u32]) -> Judged
     judged
 }
 
-// A short text, in blocks of 384 lines: little is cleared for it.
+// A short text, in blocks of 384 lines. Its area is small, so little has to be cleared.
 fn judge_short(text: &[u8], strict: bool) -> Judged
     requires { ⌜ length (now text) ≤ 16777216 ⌝ }
     ensures { λ r. ⌜ r ≡ judgedBy strict (now (text .entry)) ⌝ }

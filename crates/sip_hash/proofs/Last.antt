@@ -1,4 +1,4 @@
--- The last word of a message: the bytes behind its whole words, zeros, and its length.
+-- The last word of a message: the bytes after its whole words, zeros, and its length.
 use Prim.Native.Nat.{ℕ, zero, suc, _+_, _-_, _*_, _/_, _%_, _^_, _≤_, _<_}
 use mathlib.Core.Path.{_≡_, refl, sym, ap, _∙_}
 use mathlib.Core.List.{List, [], _∷_, _++_}
@@ -11,7 +11,7 @@ use Rattle.little_endian.proofs.Little.{of-append}
 use Rattle.format.specs.SipHash.{SipState}
 use Rattle.format.specs.SipHash.{initial, absorb, absorbed, pad, words, finish, sip}
 
--- ---- the bytes behind the whole words, from the last on
+-- ---- the bytes after the whole words, from the last on
 
 module _ (s : List ℕ) where
   -- the number in the bytes from `i` on, and its bound

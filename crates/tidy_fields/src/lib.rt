@@ -13,7 +13,7 @@ ghost use Rattle.accepted_line.specs.Next.{isFirst};
 ghost use Rattle.accepted_line.specs.Tables.{Walkable};
 ghost use Rattle.tidy_fields.specs.Others.{othersText};
 
-// Whether the field at `i` is no key and stands at its tag's first place.
+// Whether the field at `i` is not a key and is the first with its tag.
 fn is_other(kind: Kind, line: &[u8], at: usize, i: usize, tables: &[u32]) -> bool
     requires { ⌜ Walkable at (now line) (now tables) ⌝ }
     requires { ⌜ AtField (none? (now tables)) at (now line) i ⌝ }

@@ -82,7 +82,7 @@ fn put_reference_sequence(
     tidy_fields::put_rest(out, n, Kind::ReferenceSequence, line, at, tables)
 }
 
-// Writes an RG or a PG: the ID that stands in its line, then the other fields.
+// Writes an RG or a PG: the ID from its line, then the other fields.
 fn put_map(out: &mut [u8], o: usize, key: MapKey, line: &[u8], at: usize, tables: &[u32]) -> usize
     requires { ⌜ Walkable at (now line) (now tables) ⌝ }
     requires { ⌜ at + length (now line) ≤ 16777216 ⌝ }

@@ -73,7 +73,7 @@ free c =
     let s = c .before .before .before .before .before .before .before in
     c .is-free .ensures ∙ ap (λ xs. not (isAmong (s .args .prefix .now) xs)) (s .pre .1 .1 .0 .1) ∙ free-is (s .args .text .now) (records s) (reads s) (s .args .prefix .now) (fieldsOf s)
 
--- the first leaf whose ID is joined is one of them, or behind them
+-- the first leaf whose ID is joined is one of them, or after them
 within : (c : tie.After-first-joined) → c .first-joined .result ≤ length (c .before .before .before .before .before .before .before .before .args .leaves .now)
 within c = omega (arith, c .first-joined .ensures, joined-within (length (c .before .before .before .before .before .before .before .before .args .leaves .now)) (c .before .is-free .result))
 

@@ -23,7 +23,7 @@ use Rattle.key_index.proofs.find_or_enter.Reads as find-or-enter-reads
 use Rattle.key_index.proofs.is_first_with_key.Reads as is-first-with-key-reads
 use Rattle.key_look.proofs.plain.Reads as plain-reads
 
--- no program: the area tells
+-- not a program: the area decides
 module _ (seed : Seed) (t area ids : List ℕ) (room : Bool) where
   elsewhere : (x : Head) → OneOf (0 ∷ 1 ∷ 2 ∷ 3 ∷ 5 ∷ []) (tagOf the-type x) → (not (isFirstKey seed t area x) ≡ usedBy seed t area ids x) × (ids ≡ idsAfter room t ids x)
   unfolding usedBy idsAfter
@@ -34,7 +34,7 @@ module _ (seed : Seed) (t area ids : List ℕ) (room : Bool) where
   elsewhere (head.Program p n) k = absurd (miss (0 ∷ 1 ∷ 2 ∷ 3 ∷ 5 ∷ []) 4 tt k)
   elsewhere (head.Comment p) k = (refl, refl)
 
-  -- a program: the kept ones do
+  -- a program: the kept ones decide
   here : (x : Head) (p : Stretch) (n : ℕ) → x ≡ head.Program p n → (isFound plainSeed t ids x ≡ usedBy seed t area ids x) × (afterEntering plainSeed room t ids x ≡ idsAfter room t ids x)
   unfolding usedBy idsAfter
   here x p n e = rw e (refl, refl)

@@ -32,7 +32,7 @@ few c =
     let a = s .args in
     omega (arith, c .look-at .ensures .1 .1, s .pre .1 .1 .1 .1, mod-lt (keyNumber (a .seed) (a .kind) (keyAt (a .text .now) (a .place)) / 134217728) {m = 32} (omega arith))
 
--- what the slots become, by how the looking ended
+-- what the slots become, by how the search ended
 after : (c : tie.After-look-at) (s : Sought) → c .look-at .result .sought ≡ s
     → let a = c .before .before .before .before .args in
     afterLooking (a .room) (value (fingerprint (a .seed) (a .kind) (keyAt (a .text .now) (a .place))) (a .place .at)) (a .area .now) s

@@ -15,14 +15,14 @@ use Rattle.key_index.proofs.is_first_with_key.Lts as lts
 use Rattle.key_index.proofs.look_for.Reads as look-for-reads
 use Rattle.key_index.proofs.offset_of.Reads as offset-of-reads
 
--- the slot that tells the key is one of the slots
+-- the slot that holds the key is one of the slots
 below : (c : tie.After-sought) → c .sought .given .0 .0 < length (c .before .before .before .before .before .before .args .area .now)
 below c =
     let k = c .before .before in
     let s = k .before .before .before .before in
     known-below (s .args .seed) (s .args .text .now) (s .args .area .now) (s .args .head) (c .sought .given .0 .0) (s .pre .1 .0) (sym (k .look-for .ensures .0) ∙ c .sought .given .1)
 
--- what is told, by how the looking ended
+-- what is answered, by how the search ended
 told : (c : tie.After-look-for) (s : Sought) → c .look-for .result .sought ≡ s
     → let a = c .before .before .before .before .args in
     isOwn (c .before .offset-of .result) (a .area .now) s ≡ isFirstKey (a .seed) (a .text .now) (a .area .now) (a .head)

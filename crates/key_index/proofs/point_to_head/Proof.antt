@@ -15,7 +15,7 @@ use Rattle.key_index.proofs.point_to_head.Lts as lts
 use Rattle.key_index.proofs.look_for.Reads as look-for-reads
 use Rattle.key_index.proofs.offset_of.Reads as offset-of-reads
 
--- the slot that tells the key is one of the slots
+-- the slot that holds the key is one of the slots
 below : (c : tie.After-sought) → c .sought .given .0 .0 < length (c .before .before .before .before .before .before .before .args .area .now)
 below c =
     let k = c .before .before in
@@ -27,7 +27,7 @@ small c =
     let s = c .before .before .before in
     omega (arith, c .offset-of .ensures, offset-small (length (s .args .text .now)) (s .args .head) (s .pre .1 .1))
 
--- what the slots become, by how the looking ended
+-- what the slots become, by how the search ended
 told : (c : tie.After-look-for) (s : Sought) → c .look-for .result .sought ≡ s
     → let a = c .before .before .before .before .before .args in
     pointed (c .before .before .offset-of .result) (a .area .now) s ≡ afterPointing (a .seed) (a .text .now) (a .area .now) (a .head)

@@ -67,7 +67,7 @@ returns c =
 slot-tells-requires : tie.Need-slot-tells-requires Inv-loop μ-loop
 slot-tells-requires c κs = search needs
 
--- what the slot tells
+-- what the slot holds
 tells : (c : tie.After-slot-tells Inv-loop μ-loop)
     → let l = c .before .before .before .before in
     let a = l .before .before .before .before .args in

@@ -1,4 +1,4 @@
--- The proof of the cycle of calls {list_again}: what is listed is where the IDs of the text's programs stand. The measure is how many times more.
+-- The proof of the cycle of calls {list_again}: what is listed is where the IDs of the text's programs are. The measure is how many times more.
 use Prim.Native.Nat.{ℕ, _<_}
 use native.Mathlib.Omega.{arith}
 use borrow.Author.Needs.{needs}

@@ -53,7 +53,7 @@ mul-end c = omega (arith, few (c .before .before .before .before .before .before
 loop-holds : tie.Need-loop-holds Inv-loop μ-loop
 loop-holds c = (λ ps x. found-none ps, omega arith)
 
--- ---- in a turn
+-- ---- in a step of the loop
 
 -- what the list was before
 abbrev zeros : List ℕ

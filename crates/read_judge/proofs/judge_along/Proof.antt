@@ -60,7 +60,7 @@ Inv-loop text way area₀ seed until block₀ at₀ line₀ programs₀ size₀ 
 abbrev μ-loop : tie.MeasureT-loop
 μ-loop text way area₀ seed until block₀ at₀ line₀ programs₀ size₀ once₀ slots₀ area block at line programs size once slots = length text - at
 
--- ---- in a turn
+-- ---- in a step of the loop
 
 -- the first of the lines ahead
 cut-at : (c : tie.After-first-line Inv-loop μ-loop) → c .first-line .result ≡ firstLine (drop (c .before .before .loop .at) (c .before .before .before .before .before .before .args .text .now))
@@ -226,7 +226,7 @@ number c =
     ∙ ap (λ n. barring (isTaken (j .before) (a .text .now) h) (length (j .before)) n h) (j .told)
     ∙ barring-is (a .text .now) (j .before) (a .way .strict) (piece q) (stands q)
 
--- it is a record more
+-- it is one more record
 accepted : (c : tie.Else3 Inv-loop μ-loop)
     → let q = c .before .before .before .before .before .before .before .before .before .before .before .before .before .before .before .before .before in
     let l = q .before .before .before .before in

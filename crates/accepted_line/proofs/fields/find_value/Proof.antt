@@ -1,4 +1,4 @@
--- `accepted_line::fields::find_value` meets its contract: a search where no tag stands twice, and else the tables.
+-- `accepted_line::fields::find_value` meets its contract: a search where no tag is repeated, and otherwise the tables.
 use mathlib.Core.Path.{sym, subst, _∙_}
 use borrow.Author.Needs.{needs}
 use Rattle.format.specs.Bytes.{none?}
