@@ -71,7 +71,14 @@ fn put_ending(out: &mut [u8], o: usize, fields: &[u8], id: &[u8], linked: bool) 
 }
 
 // Writes the line of a new program after the leaf `id`, and returns the place after it.
-fn put_program_line(out: &mut [u8], o: usize, prefix: &[u8], fields: &[u8], id: &[u8], look: Look) -> usize
+fn put_program_line(
+    out: &mut [u8],
+    o: usize,
+    prefix: &[u8],
+    fields: &[u8],
+    id: &[u8],
+    look: Look,
+) -> usize
     requires { ⌜ o + length (newLine (look .alone) (look .linked) (now prefix) (now fields) (now id)) ≤ length (now out) ⌝ }
     ensures next { λ r. ⌜ r ≡ o + length (newLine (look .alone) (look .linked) (now (prefix .entry)) (now (fields .entry)) (now (id .entry))) ⌝ }
     ensures wrote { λ _. ⌜ now (out .exit) ≡ over (now (out .entry)) o (newLine (look .alone) (look .linked) (now (prefix .entry)) (now (fields .entry)) (now (id .entry))) ⌝ }

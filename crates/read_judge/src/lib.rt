@@ -166,7 +166,14 @@ fn first_met(
 }
 
 // The block that a line is in. If the line begins a new block, the lines ahead are searched for keys of the block before it, and the area is emptied.
-fn next_block(text: &[u8], way: Way, area: &mut [u32], at: usize, line: usize, block: Block) -> Block
+fn next_block(
+    text: &[u8],
+    way: Way,
+    area: &mut [u32],
+    at: usize,
+    line: usize,
+    block: Block,
+) -> Block
     requires { ⌜ length (now text) ≤ 16777216 ⌝ }
     requires { ⌜ 0 < length (now area) ⌝ }
     requires { ⌜ line ≤ at ⌝ }

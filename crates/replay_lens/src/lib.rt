@@ -60,5 +60,6 @@ fn answer_by_fronts(bytes: &[u8]) -> BinaryLen {
 pub fn is_binary_len(line: &[u8]) -> bool {
     let mut bytes = io::large_buffer();
     let n = replay_cases::decode(replay_cases::word(line, 1), &mut bytes);
-    is_answer(line, binary_len::binary_len(&bytes[..n])) && is_answer(line, answer_by_fronts(&bytes[..n]))
+    is_answer(line, binary_len::binary_len(&bytes[..n]))
+        && is_answer(line, answer_by_fronts(&bytes[..n]))
 }
