@@ -172,7 +172,7 @@ fn write_added(
     match measure_all(text, ids, prefix, fields, leaves, ways, out.len()) {
         Planned::Refused(n, line) => CountAnswer::Refused(n, line),
         Planned::Is(plan) => {
-            let n = put_all(text, ids, prefix, fields, leaves, plan, out);
+            let n = put_grown_text(text, ids, prefix, fields, leaves, plan, out);
             CountAnswer::Count(n)
         }
     }

@@ -1,5 +1,5 @@
 pub mod Front
-pub mod Turns
-pub mod Told
+pub mod SearchSteps
+pub mod OwnCatalogue
 pub mod Laws
 pub mod Names

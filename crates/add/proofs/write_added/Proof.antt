@@ -95,9 +95,9 @@ returns-2 c =
     let s = p .before .before .before .before .before .before .before .before .before in
     let f = fits p in
     let e = sym (f .0) in
-    written-answer (writing (length (s .args .out .now)) (unwritable 0 (records s)) (whole s)) (s .args .out .now) (whole s) (w .put-all .last .1 .1 .1 .1 .1 .1 .0)
-    (w .put-all .result) (f .1) (w .put-all .ensures .0 ∙ ap (λ q. length (withAdded (records s) (newBy s q))) e)
-    (w .put-all .ensures .1 ∙ ap (λ q. over (s .args .out .now) 0 (withAdded (records s) (newBy s q))) e)
+    written-answer (writing (length (s .args .out .now)) (unwritable 0 (records s)) (whole s)) (s .args .out .now) (whole s) (w .put-grown-text .last .1 .1 .1 .1 .1 .1 .0)
+    (w .put-grown-text .result) (f .1) (w .put-grown-text .ensures .0 ∙ ap (λ q. length (withAdded (records s) (newBy s q))) e)
+    (w .put-grown-text .ensures .1 ∙ ap (λ q. over (s .args .out .now) 0 (withAdded (records s) (newBy s q))) e)
 
 pub write-added-spec : {M : Type 1} → statement M
 write-added-spec =

@@ -24,7 +24,7 @@ returns : tie.Need-returns
 unfolding Leaves
 returns c =
     let w = c .before .before .before .before .before in
-    let s = w .before .before .before .before .before .before in
+    let s = w .before .before .before .before .before in
     let g = c .before .n .given in
     refused-accepted (s .args .text .now) (s .args .out .now) (s .args .table .now) (w .write-accepted .last .1 .1 .0) (s .pre .0) (g .0 .0) (g .0 .1 .0)
     (sym (g .1) ∙ w .write-accepted .ensures .0) (w .write-accepted .ensures .1)
@@ -36,7 +36,7 @@ returns-2 : tie.Need-returns-2
 unfolding Leaves
 returns-2 c =
     let w = c .before .before .before .before .before in
-    let s = w .before .before .before .before .before .before in
+    let s = w .before .before .before .before .before in
     let g = c .before .n2 .given in
     written-accepted (s .args .text .now) (s .args .out .now) (s .args .table .now) (w .write-accepted .last .1 .1 .0) (s .pre .0) (g .0 .0)
     (sym (g .1) ∙ w .write-accepted .ensures .0) (w .write-accepted .ensures .1)

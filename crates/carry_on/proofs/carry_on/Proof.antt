@@ -26,8 +26,8 @@ enum-known-once c = search needs
 carry-accepted-requires : tie.Need-carry-accepted-requires
 unfolding isAccepted
 carry-accepted-requires c κs =
-    let j = c .before .before .before .before in
-    let g = c .before .before .once .given in
+    let j = c .before .before .before .before .before in
+    let g = c .before .before .before .once .given in
     let told = text-accepted (j .before .before .before .before .args .text .now) (g .0 .0) (g .0 .1 .0) (sym (j .judge .ensures) ∙ g .1) in
     (ap isAccepted (told .reads), told .rule)
 

@@ -29,8 +29,8 @@ enum-known-once c = search needs
 carry-accepted-requires : tie.Need-carry-accepted-requires
 unfolding isAccepted
 carry-accepted-requires c κs =
-    let j = c .before .before .before .before .before .before in
-    let g = c .before .before .once .given in
+    let j = c .before .before .before .before .before .before .before in
+    let g = c .before .before .before .once .given in
     let told = text-accepted (j .before .before .before .before .before .before .args .text .now) (g .0 .0) (g .0 .1 .0) (sym (j .judge-with .ensures .0) ∙ g .1) in
     (ap isAccepted (told .reads), told .rule)
 
@@ -63,7 +63,7 @@ same-length-6 c = search needs
 returns-2 : tie.Need-returns-2
 returns-2 c =
     let w = c .before .before .before .before in
-    let j = w .before .before .before .before .before .before .before in
+    let j = w .before .before .before .before .before .before .before .before in
     let e = w .carry-accepted .ensures in
     (e .0, (e .1 .0, (e .1 .1, j .judge-with .ensures .1)))
 
