@@ -10,9 +10,9 @@ use Rattle.format.specs.Bytes.{any, none?}
 use Rattle.format.specs.Lines.{Piece}
 use Rattle.format.specs.Records.{Record, code, Line, refusedLine, read, line}
 use Rattle.format.specs.Reading.{accept, clash, ofKind, barred, unless, following, admitted, readOn, readFrom}
-use Rattle.accepted.specs.Pieces.{Pairs}
+use Rattle.lists.specs.Pairs.{Pairs}
 use Rattle.accepted.specs.Admits.{Admits, Unbarred, MayFollow}
-use Rattle.accepted.proofs.Bools.{never}
+use Rattle.lists.proofs.Bools.{never}
 
 -- ---- one line
 

@@ -1,4 +1,4 @@
--- The lines of a text from an offset on, one by one: a turn of a loop takes the first of them.
+-- The lines of a text from an offset on, one by one: a step of a loop takes the first of them.
 use Prim.Native.Nat.{ℕ, _+_, _-_, _≤_, _<_}
 use mathlib.Core.Path.{_≡_, sym, ap, _∙_}
 use mathlib.Core.List.{List, [], _∷_}
@@ -38,7 +38,7 @@ module _ (t : List ℕ) (at : ℕ) (h : at < length t) where
   pub next-more : at < at + firstLine (drop at t) .next
   next-more = omega (arith, first-some (drop at t) some)
 
-  -- it stands in the text
+  -- it is in the text
   pub ahead-stands : Stands t 0 (firstAt at t)
   ahead-stands =
       record {
@@ -47,7 +47,7 @@ module _ (t : List ℕ) (at : ℕ) (h : at < length t) where
         bytes = ap (λ k. take k (drop at t)) (sym first-length) ∙ ap (λ k. take (length (firstAt at t .bytes)) (drop k t)) (let z : at ≡ at - 0 = omega arith in z);
       }
 
--- ---- in a turn the line was cut to `c`
+-- ---- in a step the line was cut to `c`
 
 -- the part of the text that it is lent as
 abbrev pub lent : List ℕ → ℕ → ℕ → List ℕ

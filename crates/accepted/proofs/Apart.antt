@@ -15,7 +15,7 @@ use Rattle.format.specs.Reading.{clash, sameKeys, ofKind}
 use Rattle.byte_slices.specs.Stands.{Each}
 use Rattle.byte_slices.proofs.Stands.{each-map}
 use Rattle.accepted.specs.Admits.{Unbarred, KeysDiffer, MayFollow}
-use Rattle.accepted.proofs.Bools.{or-left, or-right, eqb-sym, any-snoc}
+use Rattle.lists.proofs.Bools.{or-left, or-right, eqb-sym, any-snoc}
 use Rattle.accepted.proofs.OfKind.{ofKind-append}
 use Rattle.accepted.proofs.Admits.{barred-clear}
 

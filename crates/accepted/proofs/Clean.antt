@@ -20,8 +20,8 @@ use Rattle.utf8.proofs.Shown.{shown-byte, whole-shown}
 use Rattle.accepted.specs.Clean.{clean}
 use Rattle.accepted.specs.Spelled as sp
 use Rattle.accepted.specs.Spelled.{Good, kind₀, kind₁, AcceptedLine}
-use Rattle.accepted.proofs.Bools.{never, and-left, and-right, or-true, or-split}
-use Rattle.accepted.proofs.Pairs.{pairs-left}
+use Rattle.lists.proofs.Bools.{never, and-left, and-right, or-true, or-split}
+use Rattle.lists.proofs.Pairs.{pairs-left}
 use Rattle.accepted.proofs.Spelled.{prefixed-accepted}
 
 -- ---- bytes

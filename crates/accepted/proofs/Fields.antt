@@ -8,7 +8,7 @@ use Rattle.format.specs.Lines.{Piece}
 use Rattle.format.specs.Fields.{Field, tagged, repeats, later, lastOf, without, put, settledOn, settled}
 use Rattle.byte_slices.specs.Stands.{Each}
 use Rattle.accepted.specs.Pieces.{values}
-use Rattle.accepted.proofs.Bools.{never}
+use Rattle.lists.proofs.Bools.{never}
 use Rattle.accepted.proofs.Tags.{repeats-put}
 
 -- `p` is the value of a field with the tag `a`, `b` of which `P` holds
@@ -56,7 +56,7 @@ module _ (P : Field → Type 0) where
   unfolding settled Each
   each-settled fs h = each-settledOn [] fs tt h
 
--- the values alone
+-- only the values
 pub each-values : (P : Piece → Type 0) (fs : List Field) → Each (λ f. P (f .value)) fs → Each P (values fs)
 unfolding Each values
 each-values P [] h = tt

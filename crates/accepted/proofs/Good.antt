@@ -15,7 +15,7 @@ use Rattle.format.specs.declared.Version.{Version}
 use Rattle.format.specs.declared.Kind.{Kind}
 use Rattle.format.specs.declared.Kind.the-variants.{Header, ReferenceSequence, ReadGroup, Program, Comment}
 use Rattle.accepted.specs.Spelled.{LengthInRange, Good}
-use Rattle.accepted.proofs.Bools.{never, and-left, and-right}
+use Rattle.lists.proofs.Bools.{never, and-left, and-right}
 
 -- ---- digits
 
@@ -52,7 +52,7 @@ span-join (b ∷ s) = go (digit b) (span-join s)
 
 -- ---- values
 
--- the value `v` was kept as it stands
+-- the value `v` was kept as it is
 record Kept (k : Kind) (a b at : ℕ) (v : List ℕ) (f : Field) : Type 0 where
   same : f ≡ record { tag₀ = a; tag₁ = b; value = record { at = at; bytes = v } }
   value : allows k a b v ≡ true

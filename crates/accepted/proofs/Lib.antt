@@ -1,6 +1,4 @@
-pub mod Bools
 pub mod Tags
-pub mod Pairs
 pub mod Good
 pub mod Spelled
 pub mod Clean

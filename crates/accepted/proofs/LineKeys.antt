@@ -25,10 +25,10 @@ use Rattle.accepted.specs.Sound.{KeyIsValue}
 use Rattle.accepted.specs.Spelled as sp
 use Rattle.accepted.specs.Spelled.{Good, Made, Spelled, AcceptedLine, kind₀, kind₁}
 use Rattle.accepted.specs.Pieces.{pieces}
-use Rattle.accepted.proofs.Bools.{and-left, and-right}
+use Rattle.lists.proofs.Bools.{and-left, and-right}
 use Rattle.accepted.proofs.Clean.{between-bounds}
 use Rattle.accepted.proofs.Fields.{Of, lastOf-of}
-use Rattle.accepted.proofs.Pairs.{pairs-right}
+use Rattle.lists.proofs.Pairs.{pairs-right}
 use Rattle.accepted.proofs.Spelled.{line-accepted}
 use Rattle.accepted.proofs.Sound.{line-sound}
 use Rattle.key_at.specs.Word.{word}
@@ -44,7 +44,7 @@ word-none : (t : List ℕ) (at : ℕ) → length t ≤ at → word (drop at t) �
 unfolding word
 word-none t at h = rw (drop-of-length-le t h) refl
 
--- a value, and behind it nothing that a key goes on with
+-- a value, and after it nothing that a key goes on with
 word-value : (v tail : List ℕ) → all printable v ≡ true → word tail ≡ [] → word (v ++ tail) ≡ v
 unfolding word all printable
 word-value [] tail h e = e
@@ -66,9 +66,9 @@ drop-append zero a b h = refl
 drop-append (suc i) [] b h = absurd (omega (arith, h))
 drop-append (suc i) (c ∷ a) b h = drop-append i a b (omega (arith, h))
 
--- ---- a piece, and what stands behind it
+-- ---- a piece, and what comes after it
 
--- `p` stands in `s`, whose first byte has the offset `at`, and behind it no key goes on
+-- `p` is in `s`, whose first byte has the offset `at`, and after it no key goes on
 record Parted (s : List ℕ) (at : ℕ) (p : Piece) : Type 0 where
   from : at ≤ p .at
   within : p .at - at ≤ length s
@@ -154,7 +154,7 @@ accepted-parted strict at s r (sp.of-fields a) = made-parted s at (a .fields) (a
 
 -- ---- a line in its text
 
--- behind a line no key goes on
+-- no key goes on after a line
 line-stops : (s : List ℕ) → word (drop (firstLine s .len) s) ≡ []
 line-stops s = ⊎-elim more (λ h. rw (first-whole s h) (word-none s (length s) (omega arith))) (upto-cases 10 s)
   where

@@ -9,7 +9,7 @@ use Rattle.format.specs.Records.{Record, code}
 use Rattle.format.specs.Reading.{clash, ofKind}
 use Rattle.byte_slices.specs.Stands.{Each}
 use Rattle.accepted.specs.Admits.{KeysDiffer}
-use Rattle.accepted.proofs.Bools.{or-left, or-right}
+use Rattle.lists.proofs.Bools.{or-left, or-right}
 
 pub ofKind-append : (k : ℕ) (rs qs : List Record) → ofKind k (rs ++ qs) ≡ ofKind k rs ++ ofKind k qs
 unfolding ofKind

@@ -1,4 +1,4 @@
--- Reading a text by one line: its first line is judged, and reading goes on behind it.
+-- Reading a text by one line: its first line is judged, and reading goes on after it.
 use Prim.Native.Nat.{ℕ, _+_, _<_, _≤_}
 use mathlib.Core.Path.{_≡_, refl, ap}
 use mathlib.Core.Bool.{Bool}

@@ -20,8 +20,8 @@ use Rattle.accepted.specs.Sound.{kind, FitsRecord, KeyIsValue, Other, So
 use Rattle.format.specs.Keys.{isKey}
 use Rattle.accepted.specs.Spelled as sp
 use Rattle.accepted.specs.Spelled.{LengthInRange, Good, Made, Spelled, AcceptedLine}
-use Rattle.accepted.proofs.Bools.{never, and-left, and-right}
-use Rattle.accepted.proofs.Pairs.{each-all, each-both, pairs-right}
+use Rattle.lists.proofs.Bools.{never, and-left, and-right}
+use Rattle.lists.proofs.Pairs.{each-all, each-both, pairs-right}
 use Rattle.accepted.proofs.Fields.{Of, lastOf-of, each-without, each-settled, without-none, repeats-settled}
 use Rattle.accepted.proofs.Spelled.{line-accepted}
 

@@ -16,10 +16,10 @@ use Rattle.format.specs.Version.{version}
 use Rattle.format.specs.declared.Version.{Version}
 use Rattle.format.specs.declared.Kind.{Kind}
 use Rattle.format.specs.declared.Kind.the-variants.{Header, ReferenceSequence, ReadGroup, Program, Comment}
-use Rattle.accepted.specs.Pieces.{Pairs}
+use Rattle.lists.specs.Pairs.{Pairs}
 use Rattle.accepted.specs.Spelled as sp
 use Rattle.accepted.specs.Spelled.{Good, Made, kind₀, kind₁, Spelled, AcceptedLine}
-use Rattle.accepted.proofs.Bools.{never, and-left, and-right}
+use Rattle.lists.proofs.Bools.{never, and-left, and-right}
 use Rattle.accepted.proofs.Good.{good-field}
 
 -- ---- a refusal is never 0

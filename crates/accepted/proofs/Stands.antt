@@ -1,4 +1,4 @@
--- The pieces of an accepted record stand in its line.
+-- The pieces of an accepted record are in its line.
 use Prim.Native.Nat.{ℕ, zero, suc, _+_, _-_, _≤_}
 use mathlib.Core.Path.{_≡_, refl, ap, subst, _∙_}
 use mathlib.Core.Bool.{Bool}
@@ -16,7 +16,7 @@ use Rattle.byte_slices.proofs.Stands.{stands-front, stands-onward, pieces-stand
 use Rattle.accepted.specs.Pieces.{values, pieces}
 use Rattle.accepted.specs.Spelled as sp
 use Rattle.accepted.specs.Spelled.{Good, Made, kind₀, kind₁, Spelled, AcceptedLine}
-use Rattle.accepted.proofs.Pairs.{pairs-right}
+use Rattle.lists.proofs.Pairs.{pairs-right}
 use Rattle.accepted.proofs.Fields.{Of, lastOf-of, each-without, each-settled, each-values}
 use Rattle.accepted.proofs.Spelled.{line-accepted}
 

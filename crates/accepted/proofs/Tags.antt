@@ -1,4 +1,4 @@
--- Lists of fields by their tags: one field more at the end, for every definition that a line's fields go through.
+-- Lists of fields by their tags: one more field at the end, for every definition that a line's fields go through.
 use Prim.Native.Nat.{ℕ, suc, _+_}
 use mathlib.Core.Path.{_≡_, refl, sym, ap, _∙_}
 use mathlib.Core.Bool.{Bool, true, false, _||_, cond}
@@ -10,7 +10,7 @@ use borrow.Author.Tests.{eqb-true}
 use Rattle.format.specs.Bytes.{any}
 use Rattle.format.specs.Lines.{Piece}
 use Rattle.format.specs.Fields.{Field, tagged, repeats, later, lastOf, without, put, settledOn, settled}
-use Rattle.accepted.proofs.Bools.{never, or-assoc, or-true, or-false, eqb-sym, any-append, any-snoc, and-left, and-right, or-left, or-right}
+use Rattle.lists.proofs.Bools.{never, or-assoc, or-true, or-false, eqb-sym, any-append, any-snoc, and-left, and-right, or-left, or-right}
 
 -- the tags of two fields are equal, seen from either
 pub tagged-sym : (f g : Field) → tagged (f .tag₀) (f .tag₁) g ≡ tagged (g .tag₀) (g .tag₁) f
@@ -59,7 +59,7 @@ repeats-snoc (g ∷ fs) f =
     shuffle false false true r = sym (or-true false)
     shuffle false false false r = refl
 
--- once a tag stands twice, it stands twice whatever follows
+-- once a tag is repeated, it is repeated whatever follows
 pub repeats-more : (fs gs : List Field) → repeats fs ≡ true → repeats (fs ++ gs) ≡ true
 unfolding repeats any
 repeats-more [] gs h = absurd (never (cc))
@@ -109,7 +109,7 @@ pub settled-snoc : (fs : List Field) (f : Field) → settled (fs ++ (f ∷ [])) 
 unfolding settled
 settled-snoc fs f = settledOn-snoc [] fs f
 
--- a field more adds its tag, and no other
+-- one more field adds its tag, and no other
 pub any-put : (a b : ℕ) (f : Field) (gs : List Field) → any (tagged a b) (put f gs) ≡ any (tagged a b) gs || tagged a b f
 unfolding any put
 any-put a b f [] = or-false (tagged a b f)
@@ -135,7 +135,7 @@ pub any-settled : (a b : ℕ) (fs : List Field) → any (tagged a b) (settled fs
 unfolding any settled
 any-settled a b fs = any-settledOn a b [] fs
 
--- it is one field more, unless its tag was there
+-- it is one more field, unless its tag was there
 pub length-put : (f : Field) (gs : List Field) → length (put f gs) ≡ cond (any (tagged (f .tag₀) (f .tag₁)) gs) (length gs) (suc (length gs))
 unfolding any put
 length-put f [] = refl

@@ -12,11 +12,12 @@ use Rattle.format.specs.Records.{Record, code, read, line}
 use Rattle.format.specs.Reading.{accept, refusedText, admitted, readFrom, longest, readText, ofKind}
 use Rattle.byte_slices.specs.Stands.{Stands, Each}
 use Rattle.byte_slices.proofs.Stands.{each-map, lines-stand}
-use Rattle.accepted.specs.Pieces.{pieces, Pairs}
+use Rattle.accepted.specs.Pieces.{pieces}
+use Rattle.lists.specs.Pairs.{Pairs}
 use Rattle.accepted.specs.Sound.{Sound}
 use Rattle.accepted.specs.Admits.{strictly, Admits, Unbarred, KeysDiffer}
-use Rattle.accepted.proofs.Bools.{never}
-use Rattle.accepted.proofs.Pairs.{each-all, pairs-right, pairs-length}
+use Rattle.lists.proofs.Bools.{never}
+use Rattle.lists.proofs.Pairs.{each-all, pairs-right, pairs-length}
 use Rattle.accepted.proofs.Stands.{stands-within, line-stand}
 use Rattle.accepted.proofs.Sound.{line-sound}
 use Rattle.accepted.proofs.Admits.{Rest, read-rest, admits-lines, admits-unbarred, admits-at}

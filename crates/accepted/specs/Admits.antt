@@ -1,4 +1,4 @@
--- The records of a text, line by line, and what each is to those before it.
+-- The records of a text, line by line, and how each relates to those before it.
 use Prim.Native.Nat.{ℕ}
 use mathlib.Core.Path.{_≡_}
 use mathlib.Core.Bool.{Bool, false, not, _&&_}
@@ -29,7 +29,7 @@ unfolding barred
 Unbarred before [] = Unit
 Unbarred before (r ∷ rs) = (barred before r ≡ 0) × Unbarred (before ++ (r ∷ [])) rs
 
--- no two of one kind have one key
+-- no two records of one kind have the same key
 unfoldable pub KeysDiffer : List Record → Type 0
 unfolding any clash
 KeysDiffer [] = Unit

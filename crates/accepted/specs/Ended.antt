@@ -1,4 +1,4 @@
--- The key of a record by its place.
+-- The key of a record, given by its place.
 use Prim.Native.Nat.{ℕ, _<_}
 use mathlib.Core.Path.{_≡_}
 use mathlib.Core.List.{List}
@@ -6,7 +6,7 @@ use lib.ListN.{drop}
 use Rattle.format.specs.Records.{Record, header, reference, group, program, comment}
 use Rattle.key_at.specs.Word.{word}
 
--- a record's key is told by its place: below 2 ^ 24, and it ends where the next byte is below 32
+-- a record's key is given by its place: the offset is below 2 ^ 24, and the key ends before the first byte below 32
 unfoldable pub Ended : List ℕ → Record → Type 0
 unfolding word
 Ended t (header v fs) = Unit

@@ -1,4 +1,4 @@
--- The pieces of a record, and two lists whose elements belong together one by one.
+-- The pieces of a record.
 use mathlib.Core.List.{List, [], _∷_, map}
 use Rattle.format.specs.Lines.{Piece}
 use Rattle.format.specs.Fields.{Field}
@@ -15,10 +15,3 @@ pieces (reference p n fs) = p ∷ values fs
 pieces (group p fs) = p ∷ values fs
 pieces (program p fs) = p ∷ values fs
 pieces (comment p) = p ∷ []
-
--- as many in the one list as in the other, and `R` holds of those at one place
-unfoldable pub Pairs : {A B : Type 0} → (A → B → Type 0) → List A → List B → Type 0
-Pairs R [] [] = Unit
-Pairs R [] (y ∷ ys) = ⊥
-Pairs R (x ∷ xs) [] = ⊥
-Pairs R (x ∷ xs) (y ∷ ys) = R x y × Pairs R xs ys

@@ -10,7 +10,7 @@ unfoldable pub isRead : Line → Bool
 isRead (refusedLine n) = false
 isRead (read r) = true
 
--- is the text?
+-- is the text accepted?
 unfoldable pub isAccepted : Reading → Bool
 isAccepted (refusedText n l) = false
 isAccepted (accept rs) = true

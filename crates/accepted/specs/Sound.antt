@@ -1,4 +1,4 @@
--- What every record of an accepted line is: its numbers fit, its values are values, and its other fields are no keys.
+-- What every record of an accepted line satisfies: its numbers fit, its values are values, and its other fields are not keys.
 use Prim.Native.Nat.{ℕ, _^_, _≤_, _<_}
 use mathlib.Core.Path.{_≡_}
 use mathlib.Core.Bool.{Bool, true, false}
@@ -27,13 +27,13 @@ FitsRecord (group p fs) = Unit
 FitsRecord (program p fs) = Unit
 FitsRecord (comment p) = Unit
 
--- a key, where there is one, is a value
+-- a key, if there is one, is a value
 unfoldable pub KeyIsValue : Option Piece → Type 0
 unfolding isValue
 KeyIsValue none = Unit
 KeyIsValue (some p) = isValue (p .bytes) ≡ true
 
--- a field beside the keys of a record of kind `k`
+-- a field of a record of kind `k` that is not a key
 pub record Other (k : Kind) (f : Field) : Type 0 where
   pub tag : isTag (f .tag₀) (f .tag₁) ≡ true
   pub no-key : isKey k (f .tag₀) (f .tag₁) ≡ false

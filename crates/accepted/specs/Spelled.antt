@@ -12,7 +12,7 @@ use Rattle.format.specs.Version.{version}
 use Rattle.format.specs.declared.Version.{Version}
 use Rattle.format.specs.declared.Kind.{Kind}
 use Rattle.format.specs.declared.Kind.the-variants.{Header, ReferenceSequence, ReadGroup, Program, Comment}
-use Rattle.accepted.specs.Pieces.{Pairs}
+use Rattle.lists.specs.Pairs.{Pairs}
 
 -- LN of SQ is a number from 1 to 2 ^ 31 - 1, all digits
 unfoldable pub LengthInRange : Kind → Field → Type 0
@@ -54,7 +54,7 @@ kind₁ ReadGroup = 71
 kind₁ Program = 71
 kind₁ Comment = 79
 
--- `@`, two kind bytes, a tab, then fields with a tab between two
+-- `@`, two kind bytes, a tab, then fields with a tab between each two
 pub record Spelled (strict : Bool) (at : ℕ) (s : List ℕ) (r : Record) : Type 0 where
   pub kind : Kind
   pub rest : List ℕ
@@ -64,7 +64,7 @@ pub record Spelled (strict : Bool) (at : ℕ) (s : List ℕ) (r : Record) : Type
   pub once : strict && repeats fields ≡ false
   pub made : Made fields kind r
 
--- an accepted line is a comment, or fields
+-- an accepted line is a comment or consists of fields
 pub data AcceptedLine (strict : Bool) (at : ℕ) : List ℕ → Record → Type 0 where
   of-remark : (s : List ℕ) → AcceptedLine strict at (64 ∷ 67 ∷ 79 ∷ 9 ∷ s) (comment (record { at = at + 4; bytes = s }))
   of-fields : {s : List ℕ} {r : Record} → Spelled strict at s r → AcceptedLine strict at s r

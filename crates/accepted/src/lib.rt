@@ -1,1 +1,1 @@
-// Laws of accepted lines and texts, for every call that works on what reading accepted. There is no code here.
+// Laws of accepted lines and texts, for every call that works on what reading accepted. This crate has no code.

@@ -1,4 +1,4 @@
--- What an accepted line of each kind holds: the fields that its head is made from, and where they stand.
+-- What an accepted line of each kind holds: the fields that its head is made from, and where they are.
 use Prim.Native.Nat.{ℕ, _+_, _-_, _≤_, _<_, _^_}
 use mathlib.Core.Path.{_≡_, refl, sym, ap, subst, _∙_}
 use mathlib.Core.Bool.{Bool, true, false, not, _&&_}
@@ -19,9 +19,9 @@ use Rattle.accepted.specs.Sound.{kind}
 use Rattle.accepted.specs.Spelled as sp
 use Rattle.accepted.specs.Spelled.{LengthInRange, Good, Made, Spelled, AcceptedLine, kind₀, kind₁}
 use Rattle.accepted.specs.Read.{isRead}
-use Rattle.accepted.proofs.Bools.{never, and-left, and-right}
+use Rattle.lists.proofs.Bools.{never, and-left, and-right}
 use Rattle.accepted.proofs.Fields.{Of, lastOf-of}
-use Rattle.accepted.proofs.Pairs.{pairs-right}
+use Rattle.lists.proofs.Pairs.{pairs-right}
 use Rattle.accepted.proofs.Sound.{made-kind}
 use Rattle.accepted.proofs.Spelled.{line-accepted}
 use Rattle.accepted.proofs.Stands.{fields-stand}
@@ -32,7 +32,6 @@ use Rattle.record.specs.declared.Head.{Head}
 use Rattle.record.specs.declared.Head.the-variants as head
 use Rattle.accepted_line.specs.Run.{AtField, fieldsFrom}
 use Rattle.accepted_line.specs.Next.{valueOfPiece, orValue, noValue}
-use Rattle.accepted_line.specs.declared.fields.Value.{Value}
 use Rattle.accepted_line.specs.Tables.{HasTag}
 use Rattle.accepted_line.proofs.fields.Start.{accepted-start, accepted-fields, accepted-tags}
 use borrow.Author.Tests.{lt-ltb, not-true}
@@ -169,7 +168,7 @@ module _ (strict : Bool) (at : ℕ) (s : List ℕ) (h : isRead (line strict (rec
   pub three : 3 ≤ length s
   three = by-accepted (λ l. 3 ≤ length s) (λ r a. accepted-byte strict at s r a .0)
 
-  -- the head by the kind that the second byte tells
+  -- the head by the kind that the second byte gives
   pub held : (k : Kind) → kindBy (getD s 1 0) ≡ k → Held strict k at s (uncounted (headOf (line strict (record { at = at; bytes = s }))))
   unfolding headOf
   held k e =
@@ -182,7 +181,7 @@ module _ (strict : Bool) (at : ℕ) (s : List ℕ) (h : isRead (line strict (rec
 
 -- ---- a piece by its place
 
-module _ (at : ℕ) (s : List ℕ) (a b : ℕ) (p : Piece) (h : Has at s a b p) (v : Value) (e : v ≡ orValue noValue (lastOf a b (fieldsFrom at s 3))) where
+module _ (at : ℕ) (s : List ℕ) (a b : ℕ) (p : Piece) (h : Has at s a b p) (v : Stretch) (e : v ≡ orValue noValue (lastOf a b (fieldsFrom at s 3))) where
   -- the value that is found
   found : v ≡ valueOfPiece p
   unfolding orValue

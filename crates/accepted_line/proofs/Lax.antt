@@ -12,7 +12,7 @@ use Rattle.format.specs.declared.Kind.{Kind}
 use Rattle.format.specs.declared.Kind.the-variants.{Header, ReferenceSequence, ReadGroup, Program, Comment}
 use Rattle.format.specs.Bytes.{any}
 use Rattle.accepted.specs.Read.{isRead}
-use Rattle.accepted.proofs.Bools.{never}
+use Rattle.lists.proofs.Bools.{never}
 
 -- a test on the way that both take
 both : (t : Bool) (x y : Line) (n : ℕ) → (isRead x ≡ true → x ≡ y) → isRead (cond t x (refusedLine n)) ≡ true → cond t x (refusedLine n) ≡ cond t y (refusedLine n)

@@ -12,10 +12,10 @@ use Rattle.format.specs.declared.Kind.{Kind}
 use Rattle.format.specs.declared.Kind.the-variants.{Header, ReferenceSequence, ReadGroup, Program, Comment}
 use Rattle.byte_slices.specs.Upto.{upto}
 use Rattle.format.specs.Keys.{isKey}
-use Rattle.accepted.proofs.Bools.{never, and-left, or-left, or-right, or-split}
+use Rattle.lists.proofs.Bools.{never, and-left, or-left, or-right, or-split}
 use Rattle.accepted_line.specs.Run.{fieldsFrom, AtField}
 use Rattle.accepted_line.specs.Next.{orValue, valueAt}
-use Rattle.accepted_line.specs.declared.fields.Value.{Value}
+use Rattle.record.specs.declared.Stretch.{Stretch}
 use Rattle.accepted_line.proofs.fields.Place.{same-at, other-at}
 use Rattle.accepted_line.specs.Keys.{lastKey, lastNumber, keysFrom, withKey}
 use Rattle.accepted_line.specs.declared.KeyValues.{KeyValues}
@@ -38,17 +38,17 @@ module _ (once : Bool) (at : ℕ) (line : List ℕ) (i : ℕ) (h : AtField once 
   b : ℕ
   b = getD line (i + 2) 0
 
-  v : Value
+  v : Stretch
   v = valueAt at i end
 
   rest : List Field
   rest = fieldsFrom at line end
 
-  same : (x y : ℕ) (w : Value) → eqb a x && eqb b y ≡ true → orValue w (lastOf x y (fieldsFrom at line i)) ≡ orValue v (lastOf x y rest)
+  same : (x y : ℕ) (w : Stretch) → eqb a x && eqb b y ≡ true → orValue w (lastOf x y (fieldsFrom at line i)) ≡ orValue v (lastOf x y rest)
   unfolding a b v rest
   same x y w t = same-at once at line i h l end q x y w t
 
-  other : (x y : ℕ) (w : Value) → eqb a x && eqb b y ≡ false → orValue w (lastOf x y (fieldsFrom at line i)) ≡ orValue w (lastOf x y rest)
+  other : (x y : ℕ) (w : Stretch) → eqb a x && eqb b y ≡ false → orValue w (lastOf x y (fieldsFrom at line i)) ≡ orValue w (lastOf x y rest)
   unfolding a b rest
   other x y w t = other-at once at line i h l end q x y w t
 

@@ -1,4 +1,4 @@
--- An accepted line of fields can be walked, by its tables where a tag may stand twice.
+-- An accepted line of fields can be walked, by its tables where a tag may be repeated.
 use Prim.Native.Nat.{ℕ, _+_, _≤_}
 use mathlib.Core.Path.{_≡_, ap, _∙_}
 use mathlib.Core.Bool.{false}
@@ -23,5 +23,5 @@ module _ (k : Kind) (at : ℕ) (s : List ℕ) (h : LineOf k at s) (n : isComment
   noting = (of-fields .0, (of-fields .1, (omega (arith, h .short), length-replicate {A = ℕ} 6448 0)))
 
   -- and then it can be walked
-  pub noted-line : (t : List ℕ) → t ≡ noted (replicate 6448 0) (at + 3) (fieldsFrom at s 3) → Walkable false at s t
+  pub noted-line : (t : List ℕ) → t ≡ noted (replicate 6448 0) (at + 3) (fieldsFrom at s 3) → Walkable at s t
   noted-line t e = noted-walkable false at s (replicate 6448 0) t (of-fields .0) (of-fields .1) blank-tables e

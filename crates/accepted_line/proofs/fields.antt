@@ -1,6 +1,6 @@
 pub mod Runs
 pub mod Here
-pub mod Turn
+pub mod NextField
 pub mod Walked
 pub mod Spread
 pub mod Noted

@@ -1,4 +1,4 @@
--- An accepted line of a text, by its kind and by its form: a comment, or fields in which no tag stands twice, or in which one may.
+-- An accepted line of a text, with its kind and its form: a comment, fields that repeat no tag, or fields that may repeat one.
 use Prim.Native.Nat.{ℕ, _+_, _≤_}
 use mathlib.Core.Path.{_≡_}
 use mathlib.Core.Bool.{Bool, true, false, _||_, cond}
@@ -20,13 +20,13 @@ pub record LineOf (k : Kind) (at : ℕ) (s : List ℕ) : Type 0 where
   pub kind : kindBy (getD s 1 0) ≡ k
   pub short : at + length s ≤ 16777216
 
--- its form is told rightly
+-- the form is right
 unfoldable pub IsForm : ℕ → List ℕ → Form → Type 0
 IsForm at s Comment = LineOf kind.Comment at s
 IsForm at s (Once k) = LineOf k at s × (isComment k ≡ false) × AtField true at s 3
 IsForm at s (Repeating k) = LineOf k at s × (isComment k ≡ false)
 
--- which form is told: `Once` where repeated tags are forbidden, or where all tags take different marks of 112
+-- which form is answered: `Once` if repeated tags are forbidden or all tags have different marks out of 112
 unfoldable pub formOf : Bool → ℕ → List ℕ → Form
 unfolding kindBy spread
 formOf strict at s =

@@ -1,4 +1,4 @@
--- The kind of an accepted line by its second byte, and a head without the number of its other fields.
+-- The kind of an accepted line, from its second byte, and a head without the number of its other fields.
 use Prim.Native.Nat.{ℕ}
 use mathlib.Core.Bool.{Bool, true, false, cond}
 use lib.Dec.{eqb}
@@ -7,11 +7,11 @@ use Rattle.format.specs.declared.Kind.the-variants.{Header, ReferenceSequence, 
 use Rattle.record.specs.declared.Head.{Head}
 use Rattle.record.specs.declared.Head.the-variants as head
 
--- the kind of an accepted line by the byte after its `@`
+-- the kind of an accepted line, from the byte after its `@`
 unfoldable pub kindBy : ℕ → Kind
 kindBy b = cond (eqb b 72) Header (cond (eqb b 83) ReferenceSequence (cond (eqb b 82) ReadGroup (cond (eqb b 80) Program Comment)))
 
--- has a line of the kind no fields?
+-- does a line of this kind have no fields?
 abbrev pub isComment : Kind → Bool
 isComment Header = false
 isComment ReferenceSequence = false
@@ -19,7 +19,7 @@ isComment ReadGroup = false
 isComment Program = false
 isComment Comment = true
 
--- with no number of other fields
+-- the head with 0 as the number of other fields
 unfoldable pub uncounted : Head → Head
 uncounted (head.Refused n) = head.Refused n
 uncounted (head.Header v n) = head.Header v 0

@@ -1,4 +1,4 @@
--- The keys of a line: where the last value of each stands.
+-- The keys of a line: where the last value of each is.
 use Prim.Native.Nat.{ℕ}
 use mathlib.Core.Bool.{cond}
 use mathlib.Core.List.{List}
@@ -9,7 +9,7 @@ use Rattle.format.specs.Fields.{Field, lastOf}
 use Rattle.format.specs.declared.Kind.{Kind}
 use Rattle.format.specs.declared.Kind.the-variants.{Header, ReferenceSequence, ReadGroup, Program, Comment}
 use Rattle.accepted_line.specs.Next.{orValue, noValue}
-use Rattle.accepted_line.specs.declared.fields.Value.{Value}
+use Rattle.record.specs.declared.Stretch.{Stretch}
 use Rattle.accepted_line.specs.declared.KeyValues.{KeyValues}
 
 -- VN of HD, SN of SQ, ID of RG and PG
@@ -30,7 +30,7 @@ lastNumber ReadGroup fs = none
 lastNumber Program fs = none
 lastNumber Comment fs = none
 
--- the keys among fields, or else `ks`
+-- the last values of the keys among some fields, or those in `ks` where there are none
 unfoldable pub keysFrom : Kind → KeyValues → List Field → KeyValues
 unfolding orValue lastKey lastNumber
 keysFrom k ks fs = record { key = orValue (ks .key) (lastKey k fs); number = orValue (ks .number) (lastNumber k fs) }
@@ -42,6 +42,6 @@ unfoldable pub keysIn : Kind → List Field → KeyValues
 unfolding keysFrom
 keysIn k fs = keysFrom k noKeyValues fs
 
--- one key more: LN is told by its first letter
-unfoldable pub withKey : KeyValues → ℕ → Value → KeyValues
+-- with the value of one more key: the first letter of the tag is enough to recognize LN
+unfoldable pub withKey : KeyValues → ℕ → Stretch → KeyValues
 withKey ks a v = cond (eqb a 76) (record { key = ks .key; number = v }) (record { key = v; number = ks .number })

@@ -7,7 +7,7 @@ use lib.Dec.{leb}
 unfoldable pub byteNumber : ℕ → ℕ
 byteNumber b = cond (leb 97 b) (b - 71) (cond (leb 65 b) (b - 65) (b + 4))
 
--- 62 for each letter before the first
+-- 62 for each letter before the first, plus the place of the second
 unfoldable pub tagNumber : ℕ → ℕ → ℕ
 unfolding byteNumber
 tagNumber a b = byteNumber a * 62 + byteNumber b

@@ -14,7 +14,7 @@ use Rattle.record_tags.proofs.Region.{Clean}
 unfoldable pub fieldOf : Piece → Field
 fieldOf p = record { tag₀ = getD (p .bytes) 0 0; tag₁ = getD (p .bytes) 1 0; value = record { at = p .at + 3; bytes = drop 3 (p .bytes) } }
 
--- the fields of a run of bytes at the offset `at`, each with a tab in front
+-- the fields of a run of bytes at the offset `at`, each with a tab before it
 unfoldable pub fieldsOf : ℕ → List ℕ → List Field
 unfolding fieldOf placed cut
 fieldsOf at [] = []
@@ -26,15 +26,15 @@ pub record Runs (at : ℕ) (s : List ℕ) (fs : List Field) : Type 0 where
   pub clean : Each Clean fs
   pub places : fieldsOf at s ≡ fs
 
--- the fields of a line that stand before the place `pos`, after the `@` and the two kind bytes
+-- the fields of a line before the place `pos`, after the `@` and the two kind bytes
 abbrev pub fieldsTo : ℕ → List ℕ → ℕ → List Field
 fieldsTo at line pos = fieldsOf (at + 3) (take (pos - 3) (drop 3 line))
 
--- those from there on
+-- the fields from the place `pos` on
 abbrev pub fieldsFrom : ℕ → List ℕ → ℕ → List Field
 fieldsFrom at line pos = fieldsOf (at + pos) (drop pos line)
 
--- at `pos` a field of the line starts, or the line ends; where `strict` forbids it, no tag stands twice in the line
+-- at `pos` a field of the line starts, or the line ends; if `strict` forbids repeated tags, the line has none
 pub record AtField (strict : Bool) (at : ℕ) (line : List ℕ) (pos : ℕ) : Type 0 where
   pub from : 3 ≤ pos
   pub within : pos ≤ length line

@@ -1,10 +1,11 @@
--- What one pass over a line notes of its tags, by their numbers: which stand there, and where each stands first and last.
+-- What one pass over a line notes of its tags, by their numbers: which tags occur, and where each occurs first and last.
 use Prim.Native.Nat.{ℕ, _+_, _%_}
 use mathlib.Core.Path.{_≡_}
 use mathlib.Core.Bool.{Bool, true, false, cond}
 use mathlib.Core.List.{List, [], _∷_}
 use lib.ListN.{length, getD, set}
 use lib.Dec.{eqb}
+use Rattle.format.specs.Bytes.{none?}
 use Rattle.format.specs.Fields.{Field, isTag}
 use Rattle.byte_slices.specs.Stands.{Each}
 use Rattle.accepted_line.specs.Number.{tagNumber}
@@ -15,32 +16,32 @@ unfoldable pub fieldNumber : Field → ℕ
 unfolding tagNumber
 fieldNumber f = tagNumber (f .tag₀) (f .tag₁)
 
--- its tag is a letter, then a letter or digit
+-- the tag of a field is a letter, then a letter or digit
 unfoldable pub HasTag : Field → Type 0
 unfolding isTag
 HasTag f = isTag (f .tag₀) (f .tag₁) ≡ true
 
 -- ---- marks
 
--- do all fields take different places of 112, none of them marked before?
+-- do all fields have different marks out of 112, none of them set before?
 unfoldable pub spread : List Bool → List Field → Bool
 unfolding fieldNumber
 spread seen [] = true
 spread seen (f ∷ fs) = cond (getD seen (fieldNumber f % 112) false) false (spread (set seen (fieldNumber f % 112) true) fs)
 
--- ---- two tables in one list: 3,224 first places, then 3,224 last ones, 0 for a tag that was not met
+-- ---- two tables in one list: 3,224 first places, then 3,224 last places, 0 for a tag that does not occur
 
--- a field with the number `n` stands at the offset `p`
+-- the tables after noting a field at the offset `p` whose tag has the number `n`
 unfoldable pub marked : List ℕ → ℕ → ℕ → List ℕ
 marked t n p = set (cond (eqb (getD t n 0) 0) (set t n p) t) (3224 + n) p
 
--- the fields from the offset `p` on
+-- the tables after noting the fields from the offset `p` on
 unfoldable pub noted : List ℕ → ℕ → List Field → List ℕ
 unfolding marked fieldNumber fieldLength
 noted t p [] = t
 noted t p (f ∷ fs) = noted (marked t (fieldNumber f) p) (p + fieldLength f) fs
 
--- no tag is met yet
+-- no tag has been noted yet
 pub record Blank (t : List ℕ) : Type 0 where
   pub size : length t ≡ 6448
   pub zero : (n : ℕ) → getD t n 0 ≡ 0
@@ -52,7 +53,7 @@ pub record Noted (at : ℕ) (line t : List ℕ) : Type 0 where
   pub tags : Each HasTag (fieldsFrom at line 3)
   pub is : t ≡ noted blank (at + 3) (fieldsFrom at line 3)
 
--- a walk over a line may start: no tag stands twice in it, or its tables are lent
-pub record Walkable (once : Bool) (at : ℕ) (line t : List ℕ) : Type 0 where
-  pub start : AtField once at line 3
-  pub tables : once ≡ false → Noted at line t
+-- a walk over a line may start with the tables `t`: they are none and no tag is repeated in the line, or they are the line's
+pub record Walkable (at : ℕ) (line t : List ℕ) : Type 0 where
+  pub start : AtField (none? t) at line 3
+  pub tables : none? t ≡ false → Noted at line t

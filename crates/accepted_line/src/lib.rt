@@ -1,10 +1,9 @@
-// The head of an accepted line: its kind, its key and its number, by where their values stand. Nothing is judged again.
+// The head of an accepted line: its kind, its key and its number, found from where their values are. Nothing is judged again.
 pub mod fields;
 pub mod tag_number;
 
 use decimal::Number;
 use field::version::ParsedVersion;
-use fields::Value;
 use format::Kind;
 use record::Head;
 use record::Stretch;
@@ -22,17 +21,17 @@ ghost use Rattle.accepted_line.specs.Found.{kindBy, isComment, uncounted
 ghost use Rattle.accepted_line.specs.Keys.{noKeyValues, withKey, keysIn};
 ghost use Rattle.accepted_line.specs.Form.{LineOf, IsForm, formOf};
 
-// The form of an accepted line: a comment, or fields in which no tag stands twice, or in which one may.
+// The form of an accepted line: a comment, fields that repeat no tag, or fields that may repeat one.
 pub enum Form {
     Comment,
     Once(Kind),
     Repeating(Kind),
 }
 
-// Where the last values of a line's keys stand: VN, SN or ID, and LN of SQ.
+// Where the last values of a line's keys are: VN, SN or ID, and LN of SQ.
 pub struct KeyValues {
-    pub key: Value,
-    pub number: Value,
+    pub key: Stretch,
+    pub number: Stretch,
 }
 
 impl KeyValues {
@@ -40,13 +39,13 @@ impl KeyValues {
         ensures { λ r. ⌜ r ≡ noKeyValues ⌝ }
     {
         KeyValues {
-            key: Value { at: 0, len: 0 },
-            number: Value { at: 0, len: 0 },
+            key: Stretch { at: 0, len: 0 },
+            number: Stretch { at: 0, len: 0 },
         }
     }
 
-    // With the value of a key whose tag starts with `a`: that of LN alone starts with L.
-    pub fn with(self, a: u8, v: Value) -> KeyValues
+    // With the value of a key whose tag starts with `a`. Of the keys, only LN starts with L.
+    pub fn with(self, a: u8, v: Stretch) -> KeyValues
         ensures { λ r. ⌜ r ≡ withKey self a v ⌝ }
     {
         let mut key_at = self.key.at;
@@ -61,11 +60,11 @@ impl KeyValues {
             key_len = v.len;
         }
         KeyValues {
-            key: Value {
+            key: Stretch {
                 at: key_at,
                 len: key_len,
             },
-            number: Value {
+            number: Stretch {
                 at: number_at,
                 len: number_len,
             },
@@ -73,7 +72,7 @@ impl KeyValues {
     }
 }
 
-// The kind of an accepted line: its second byte tells it.
+// The kind of an accepted line, from its second byte.
 pub fn kind_of(src: &[u8]) -> Kind
     requires { ⌜ 3 ≤ length (now src) ⌝ }
     ensures { λ r. ⌜ r ≡ kindBy (getD (now (src .entry)) 1 0) ⌝ }
@@ -125,36 +124,35 @@ pub fn form_of(src: &[u8], at: usize, strict: bool) -> Form
 }
 
 // The keys of an accepted line of fields.
-pub fn find_keys(kind: Kind, src: &[u8], at: usize, once: bool, tables: &[u32]) -> KeyValues
-    requires { ⌜ Walkable once at (now src) (now tables) ⌝ }
+pub fn find_keys(kind: Kind, src: &[u8], at: usize, tables: &[u32]) -> KeyValues
+    requires { ⌜ Walkable at (now src) (now tables) ⌝ }
     requires { ⌜ at + length (now src) ≤ 4294967295 ⌝ }
     ensures { λ r. ⌜ r ≡ keysIn kind (fieldsFrom at (now (src .entry)) 3) ⌝ }
 {
-    let nowhere = Value { at: 0, len: 0 };
+    let nowhere = Stretch { at: 0, len: 0 };
     match kind {
         Kind::Header => KeyValues {
-            key: fields::find_value(src, at, b'V', b'N', once, tables),
+            key: fields::find_value(src, at, b'V', b'N', tables),
             number: nowhere,
         },
         Kind::ReferenceSequence => KeyValues {
-            key: fields::find_value(src, at, b'S', b'N', once, tables),
-            number: fields::find_value(src, at, b'L', b'N', once, tables),
+            key: fields::find_value(src, at, b'S', b'N', tables),
+            number: fields::find_value(src, at, b'L', b'N', tables),
         },
         Kind::ReadGroup => KeyValues {
-            key: fields::find_value(src, at, b'I', b'D', once, tables),
+            key: fields::find_value(src, at, b'I', b'D', tables),
             number: nowhere,
         },
         Kind::Program => KeyValues {
-            key: fields::find_value(src, at, b'I', b'D', once, tables),
+            key: fields::find_value(src, at, b'I', b'D', tables),
             number: nowhere,
         },
         Kind::Comment => KeyValues::new(),
     }
 }
 
-// The head of an accepted HD: the version that its VN spells. It spells one, since the line is accepted; the arm for the other case is there because a
-// `match` has one for each.
-fn header_of(src: &[u8], at: usize, version: Value) -> Head
+// The head of an accepted HD: the version in its VN. An accepted line has one; the other arm is there because a `match` needs an arm for every case.
+fn header_of(src: &[u8], at: usize, version: Stretch) -> Head
     requires { ⌜ LineOf Header at (now src) ⌝ }
     requires { ⌜ version ≡ keysIn Header (fieldsFrom at (now src) 3) .key ⌝ }
     ensures { λ r. ⌜ r ≡ uncounted (headOf (line false (record { at = at; bytes = now (src .entry) }))) ⌝ }
@@ -167,8 +165,8 @@ fn header_of(src: &[u8], at: usize, version: Value) -> Head
     }
 }
 
-// The head of an accepted SQ: where its SN stands, and the number that its LN spells. It spells one, since the line is accepted; the arms for the other
-// cases are there because a `match` has one for each.
+// The head of an accepted SQ: where its SN is, and the number in its LN. An accepted line has one; the other arms are there because a `match` needs
+// an arm for every case.
 fn sequence_of(src: &[u8], at: usize, keys: KeyValues) -> Head
     requires { ⌜ LineOf ReferenceSequence at (now src) ⌝ }
     requires { ⌜ keys ≡ keysIn ReferenceSequence (fieldsFrom at (now src) 3) ⌝ }
@@ -189,7 +187,7 @@ fn sequence_of(src: &[u8], at: usize, keys: KeyValues) -> Head
     }
 }
 
-// The head of an accepted line at the offset `at` by its keys, without the number of its other fields.
+// The head of an accepted line at the offset `at`, from its keys. The number of other fields is left out.
 pub fn head_of(kind: Kind, src: &[u8], at: usize, keys: KeyValues) -> Head
     requires { ⌜ LineOf kind at (now src) ⌝ }
     requires { ⌜ keys ≡ keysIn kind (fieldsFrom at (now src) 3) ⌝ }

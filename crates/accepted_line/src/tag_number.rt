@@ -1,4 +1,4 @@
-// A number for each tag, a letter and a letter or digit: 3,224 of them, and no two tags have one number.
+// A number for every tag of a letter and a letter or digit. There are 3,224 such tags, and no two have the same number.
 ghost use mathlib.Core.Path.{_≡_};
 ghost use Rattle.accepted_line.specs.Number.{byteNumber, tagNumber};
 
@@ -15,7 +15,7 @@ fn place_of(b: u8) -> u8
     b + 4
 }
 
-// The number of the tag `a`, `b`: 62 for each letter before `a`.
+// The number of the tag `a`, `b`: 62 for each letter before `a`, plus the place of `b`.
 pub fn tag_number(a: u8, b: u8) -> usize
     ensures { λ r. ⌜ r ≡ tagNumber a b ⌝ }
 {

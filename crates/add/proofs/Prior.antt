@@ -74,7 +74,7 @@ module _ (ids : List (List ℕ)) (fields : List ℕ) where
       go none q = unfold stray in refl
       go (some p) q = absurd (false≢true (unfold givenOf isNothing in ap isNothing q))
 
-  -- where it stands, its bytes are those of the fields
+  -- where it is, its bytes are those of the fields
   pub stray-at : (a n : ℕ) → givenOf prior ≡ At a n
       → (a + n ≤ length fields) × (not (isAmong (take (a + n - a) (drop a fields)) ids) ≡ stray ids prior)
   stray-at a n e = go prior refl e

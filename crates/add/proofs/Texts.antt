@@ -1,4 +1,4 @@
--- The new programs' lines are the text of the records that adding makes, and stand behind the old ones in the tidy text.
+-- The new programs' lines are the text of the records that adding makes, and come after the old ones in the tidy text.
 use Prim.Native.Nat.{ℕ, _+_}
 use mathlib.Core.Path.{_≡_, refl, sym, ap, ap₂, _∙_}
 use mathlib.Core.Bool.{Bool, true, false, not, cond}
@@ -36,7 +36,7 @@ fields-append (f ∷ fs) gs =
     ap (λ l. fieldText (f .tag₀) (f .tag₁) (f .value .bytes) ++ l) (fields-append fs gs)
     ∙ sym (append-assoc (fieldText (f .tag₀) (f .tag₁) (f .value .bytes)) (fieldsText fs) (fieldsText gs))
 
--- the fields, and PP behind them where none is given
+-- the fields, and PP after them where none is given
 chained-text : (fs : List Field) (fields id : List ℕ) → fieldsText fs ≡ fields → fieldsText (chained id fs) ≡ fields ++ linking (isNone (lastOf 80 80 fs)) id
 unfolding chained
 chained-text fs fields id e = go (lastOf 80 80 fs)
@@ -97,7 +97,7 @@ module _ (ps : List Program) (prefix fields : List ℕ) (fs : List Field) (e : f
       go [] q = unfold added addedText none? in one-text
       go (p ∷ qs) q = unfold added addedText none? in (ap (λ x. text (afterLeaves (not (isKnown (ordinalFrom 0 prefix x))) prefix fs x (leaves (links x)))) (sym q) ∙ after-text (not (isKnown (ordinalFrom 0 prefix ps))) (leaves (links ps)) ∙ ap (λ x. newLines ids (not (isKnown (ordinalFrom 0 prefix x))) linked prefix fields (leaves (links x))) q)
 
--- ---- behind the old ones
+-- ---- after the old ones
 
 -- all are programs
 abbrev Programs : List Record → Type 0

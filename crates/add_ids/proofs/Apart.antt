@@ -15,8 +15,8 @@ use Rattle.format.specs.Reading.{readText, accept, clash, sameKeys, ofKind}
 use Rattle.format.specs.Programs.{bytesOf, programOf, programs}
 use Rattle.format.specs.Adding.{noProgram, unplaced}
 use Rattle.accepted.specs.Admits.{KeysDiffer}
-use Rattle.accepted.proofs.Bools.{never, split}
-use Rattle.accepted.proofs.Pairs.{each-at}
+use Rattle.lists.proofs.Bools.{never, split}
+use Rattle.lists.proofs.Pairs.{each-at}
 use Rattle.accepted.proofs.OfKind.{ofKind-code, apart-ofKind}
 use Rattle.accepted.proofs.Apart.{clash-sym, apart-at}
 use Rattle.accepted.proofs.Text.{text-apart}

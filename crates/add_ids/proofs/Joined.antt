@@ -11,7 +11,7 @@ use lib.Dec.{eqb}
 use borrow.Author.Tests.{eq-eqb, ne-eqb}
 use Rattle.format.specs.Bytes.{same, starts}
 use Rattle.byte_slices.proofs.Equal.{same-other}
-use Rattle.accepted.proofs.Bools.{eqb-sym}
+use Rattle.lists.proofs.Bools.{eqb-sym}
 use Rattle.add_ids.specs.Taken.{joined}
 
 pub joined-length : (prefix id : List ℕ) → length (joined prefix id) ≡ length prefix + suc (length id)
@@ -56,6 +56,6 @@ unfolding joined same
 joined-same [] a b = refl
 joined-same (x ∷ prefix) a b = rw (eq-eqb x x refl) (joined-same prefix a b)
 
--- the prefix alone is another
+-- the prefix by itself is another
 pub joined-prefix : (prefix id : List ℕ) → same (joined prefix id) prefix ≡ false
 joined-prefix prefix id = joined-other prefix id prefix (λ e. omega arith)

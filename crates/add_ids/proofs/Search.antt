@@ -1,5 +1,5 @@
 -- The laws of the search among the IDs, and of the IDs that are made: one after another, and what is still ahead decides.
-use Prim.Native.Nat.{ℕ, suc, _+_, _-_, _≤_, _<_}
+use Prim.Native.Nat.{ℕ, suc, _+_, _-_, _*_, _/_, _≤_, _<_}
 use mathlib.Core.Path.{_≡_, refl, sym, ap, _∙_}
 use mathlib.Core.Bool.{Bool, true, false, _||_, cond}
 use mathlib.Core.List.{List, [], _∷_}
@@ -10,29 +10,32 @@ use lib.ListN.{length, take, drop, getD, drop-of-length-le, List·getD-eq-defaul
 use lib.Seq.{drop-cons}
 use Rattle.format.specs.Bytes.{same}
 use Rattle.format.specs.Adding.{isKnown}
-use Rattle.program_ids.specs.Places.{idsAt, PlacesInText}
+use Rattle.program_ids.specs.Ids.{idsAt, IdsInText}
 use Rattle.program_ids.specs.Search.{idOrdinalFrom}
-use Rattle.program_ids.proofs.Search.{ids-length, ids-at}
+use Rattle.program_ids.proofs.Ids.{ids-length, ids-at}
 use Rattle.add_ids.specs.Taken.{joined, isAmong, idIn, idStanding, taken}
 
 -- ---- one ID
 
-module _ (t ats lens : List ℕ) (p : PlacesInText t ats lens) (k : ℕ) where
-  pub id-none : length ats ≤ k → idIn (idsAt t ats lens) k ≡ []
+module _ (t ids : List ℕ) (p : IdsInText t ids) (k : ℕ) where
+  pub id-none : length ids / 3 ≤ k → idIn (idsAt t ids) k ≡ []
   unfolding idIn
-  id-none h = List·getD-eq-default (idsAt t ats lens) [] (omega (arith, ids-length t ats lens p))
+  id-none h = List·getD-eq-default (idsAt t ids) [] (omega (arith, ids-length t ids p))
 
   -- as it is lent
-  pub id-some : k < length ats → idIn (idsAt t ats lens) k ≡ take (getD ats k 0 + getD lens k 0 - getD ats k 0) (drop (getD ats k 0) t)
+  pub id-some : k < length ids / 3 → idIn (idsAt t ids) k ≡ take (getD ids (k * 3) 0 + getD ids (k * 3 + 1) 0 - getD ids (k * 3) 0) (drop (getD ids (k * 3) 0) t)
   unfolding idIn
   id-some h =
-      let z : getD lens k 0 ≡ getD ats k 0 + getD lens k 0 - getD ats k 0 = omega arith in
-      ids-at t ats lens p k h ∙ ap (λ n. take n (drop (getD ats k 0) t)) z
+      let z : getD ids (k * 3 + 1) 0 ≡ getD ids (k * 3) 0 + getD ids (k * 3 + 1) 0 - getD ids (k * 3) 0 = omega arith in
+      ids-at t ids p k (omega (arith, ids-length t ids p)) ∙ ap (λ n. take n (drop (getD ids (k * 3) 0) t)) z
 
-  -- where no bytes stand
-  pub standing-none : (text : ℕ × ℕ) → length ats ≤ k → text ≡ idStanding ats k text
+  -- where there are no bytes
+  pub standing-none : (text : ℕ × ℕ) → length ids / 3 ≤ k → text ≡ idStanding ids k text
   unfolding idStanding
-  standing-none text h = let z : text .1 ≡ getD ats k 0 + text .1 = omega (arith, List·getD-eq-default ats 0 h) in ap (λ n. (text .0, n)) z
+  standing-none text h =
+      let l : length ids ≤ k * 3 = omega (arith, ids-length t ids p) in
+      let z : text .1 ≡ getD ids (k * 3) 0 + text .1 = omega (arith, List·getD-eq-default ids 0 l) in
+      ap (λ n. (text .0, n)) z
 
 -- ---- one after another
 

@@ -15,8 +15,8 @@ use Rattle.format.specs.Programs.{Program, bytesOf, programOf, programs, ordina
 use Rattle.format.specs.Adding.{noProgram, unplaced, chained, isKnown, afterLeaves, added, used}
 use Rattle.byte_slices.specs.Stands.{Each}
 use Rattle.byte_slices.proofs.Stands.{each-map}
-use Rattle.accepted.proofs.Bools.{or-left, or-right, or-false, or-true, and-left, and-right, split}
-use Rattle.accepted.proofs.Pairs.{each-all, each-both}
+use Rattle.lists.proofs.Bools.{or-left, or-right, or-false, or-true, and-left, and-right, split}
+use Rattle.lists.proofs.Pairs.{each-all, each-both}
 use Rattle.program_chains.specs.Listed.{named}
 use Rattle.program_chains.proofs.Leaf.{leaves-exactly, leaves-distinct}
 use Rattle.program_ids.specs.Search.{idsOf, idOrdinalFrom}

@@ -1,5 +1,5 @@
--- The IDs that adding makes of a prefix and the IDs that are there, and whether one of them is there already.
-use Prim.Native.Nat.{ℕ, _+_}
+-- The IDs that adding makes of a prefix and the IDs of programs, and whether a program has one of them already.
+use Prim.Native.Nat.{ℕ, _+_, _*_}
 use mathlib.Core.Bool.{Bool, false, _||_}
 use mathlib.Core.List.{List, [], _∷_, _++_}
 use lib.ListN.{getD}
@@ -15,15 +15,15 @@ unfoldable pub isAmong : List ℕ → List (List ℕ) → Bool
 unfolding isKnown idOrdinalFrom
 isAmong id ids = isKnown (idOrdinalFrom id 0 ids)
 
--- the ID of the program with an ordinal, no bytes where there is none
+-- the ID of the program with an ordinal; empty if there is none
 unfoldable pub idIn : List (List ℕ) → ℕ → List ℕ
 idIn ids k = getD ids k []
 
--- where it stands in the text: no bytes stand at its front
+-- where it is in the text, by the list of IDs: no bytes are at its front
 unfoldable pub idStanding : List ℕ → ℕ → ℕ × ℕ → ℕ × ℕ
-idStanding ats k text = (text .0, getD ats k 0 + text .1)
+idStanding ids k text = (text .0, getD ids (k * 3) 0 + text .1)
 
--- is there a program whose ID is made of the prefix and the ID of one of these?
+-- does a program have an ID that is made of the prefix and one of these IDs?
 unfoldable pub taken : List (List ℕ) → List ℕ → List ℕ → Bool
 unfolding joined isAmong idIn
 taken ids prefix [] = false

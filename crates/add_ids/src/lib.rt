@@ -1,11 +1,11 @@
-// The IDs that adding makes: whether a program has one of them already. None is built: each is compared in its parts.
+// The IDs that adding makes, and whether a program has one of them already. They are not built: each is compared part by part.
 use format::ProgramNo;
 ghost use mathlib.Core.Path.{_≡_};
 ghost use Rattle.format.specs.Bytes.{same};
-ghost use Rattle.program_ids.specs.Places.{idsAt, PlacesInText};
+ghost use Rattle.program_ids.specs.Ids.{idsAt, IdsInText};
 ghost use Rattle.add_ids.specs.Taken.{joined, isAmong, idIn, idStanding, taken};
 
-// Whether an ID is the prefix, `-` and another ID: the lengths first, then part by part.
+// Whether an ID is the prefix, `-` and another ID: compares the lengths first, and then part by part.
 fn is_joined(id: &[u8], prefix: &[u8], other: &[u8]) -> bool
     ensures { λ r. ⌜ r ≡ same (joined (now (prefix .entry)) (now (other .entry))) (now (id .entry)) ⌝ }
 {
@@ -27,29 +27,30 @@ fn is_joined(id: &[u8], prefix: &[u8], other: &[u8]) -> bool
     byte_slices::same(other, rest)
 }
 
-// The ID of the program with an ordinal, as a part of the text: no bytes where there is none.
-pub fn find_id<'a>(text: &'a [u8], ats: &[u32], lens: &[u32], program: ProgramNo) -> &'a [u8]
-    requires { ⌜ PlacesInText (now text) (now ats) (now lens) ⌝ }
-    ensures value { λ r. ⌜ now r ≡ idIn (idsAt (now (text .entry)) (now (ats .entry)) (now (lens .entry))) (program .0) ⌝ }
-    ensures place { λ r. ⌜ r .ptr ≡ idStanding (now (ats .entry)) (program .0) (text .entry .ptr) ⌝ }
+// The ID of the program with an ordinal, as a part of the text. It is empty if there is no such program.
+pub fn find_id<'a>(text: &'a [u8], ids: &[u32], program: ProgramNo) -> &'a [u8]
+    requires { ⌜ IdsInText (now text) (now ids) ⌝ }
+    ensures value { λ r. ⌜ now r ≡ idIn (idsAt (now (text .entry)) (now (ids .entry))) (program .0) ⌝ }
+    ensures place { λ r. ⌜ r .ptr ≡ idStanding (now (ids .entry)) (program .0) (text .entry .ptr) ⌝ }
 {
     let k = program.0 as usize;
-    if ats.len() <= k {
+    if ids.len() / program_ids::ROW <= k {
         return &text[..0];
     }
-    let start = ats[k] as usize;
-    let end = start + lens[k] as usize;
+    let row = k * program_ids::ROW;
+    let start = ids[row] as usize;
+    let end = start + ids[row + 1] as usize;
     &text[start..end]
 }
 
-// Whether some program's ID is the prefix, `-` and another ID: the search stops at the first.
-fn is_known(text: &[u8], ats: &[u32], lens: &[u32], prefix: &[u8], other: &[u8]) -> bool
-    requires { ⌜ PlacesInText (now text) (now ats) (now lens) ⌝ }
-    ensures { λ r. ⌜ r ≡ isAmong (joined (now (prefix .entry)) (now (other .entry))) (idsAt (now (text .entry)) (now (ats .entry)) (now (lens .entry))) ⌝ }
+// Whether the ID of some program is the prefix, `-` and another ID. The search stops at the first.
+fn is_known(text: &[u8], ids: &[u32], prefix: &[u8], other: &[u8]) -> bool
+    requires { ⌜ IdsInText (now text) (now ids) ⌝ }
+    ensures { λ r. ⌜ r ≡ isAmong (joined (now (prefix .entry)) (now (other .entry))) (idsAt (now (text .entry)) (now (ids .entry))) ⌝ }
 {
     let mut k: usize = 0;
-    while k < ats.len() {
-        let id = find_id(text, ats, lens, ProgramNo(k as u32));
+    while k < ids.len() / program_ids::ROW {
+        let id = find_id(text, ids, ProgramNo(k as u32));
         if is_joined(id, prefix, other) {
             return true;
         }
@@ -58,15 +59,15 @@ fn is_known(text: &[u8], ats: &[u32], lens: &[u32], prefix: &[u8], other: &[u8])
     false
 }
 
-// Whether an ID that is made of the prefix and a leaf's ID is there already.
-pub fn is_taken(text: &[u8], ats: &[u32], lens: &[u32], prefix: &[u8], leaves: &[u32]) -> bool
-    requires { ⌜ PlacesInText (now text) (now ats) (now lens) ⌝ }
-    ensures { λ r. ⌜ r ≡ taken (idsAt (now (text .entry)) (now (ats .entry)) (now (lens .entry))) (now (prefix .entry)) (now (leaves .entry)) ⌝ }
+// Whether a program has an ID that is made of the prefix and the ID of a leaf.
+pub fn is_taken(text: &[u8], ids: &[u32], prefix: &[u8], leaves: &[u32]) -> bool
+    requires { ⌜ IdsInText (now text) (now ids) ⌝ }
+    ensures { λ r. ⌜ r ≡ taken (idsAt (now (text .entry)) (now (ids .entry))) (now (prefix .entry)) (now (leaves .entry)) ⌝ }
 {
     let mut i: usize = 0;
     while i < leaves.len() {
-        let id = find_id(text, ats, lens, ProgramNo(leaves[i]));
-        if is_known(text, ats, lens, prefix, id) {
+        let id = find_id(text, ids, ProgramNo(leaves[i]));
+        if is_known(text, ids, prefix, id) {
             return true;
         }
         i += 1;

@@ -1,4 +1,4 @@
--- What stands at the front of given fields: nothing, a field, or a refusal.
+-- What is at the front of given fields: nothing, a field, or a refusal.
 use Prim.Native.Nat.{ℕ, suc, _+_, _-_, _<_}
 use mathlib.Core.Path.{_≡_, refl, sym, ap, subst, _∙_}
 use mathlib.Core.Bool.{Bool, true, false}
@@ -17,8 +17,8 @@ use Rattle.byte_slices.specs.Stands.{Stands}
 use Rattle.byte_slices.proofs.Lines.{upto-le}
 use Rattle.field.specs.declared.ParsedField as code
 use Rattle.field.specs.Parsed.{parsedOf}
-use Rattle.accepted.proofs.Bools.{split}
-use Rattle.record_parser.proofs.Turn.{tailScan, prepend, upto-not}
+use Rattle.lists.proofs.Bools.{split}
+use Rattle.record_parser.proofs.FieldByField.{tailScan, prepend, upto-not}
 use Rattle.record_parser.proofs.Walked.{Turned, turned, refused-here}
 use Rattle.record_parser.proofs.Step.{clean-field, spelled-text}
 use Rattle.accepted_line.specs.Run.{Runs}
@@ -67,7 +67,7 @@ module _ (at : ℕ) (s : List ℕ) (g : code.ParsedField) (t : Turned Program at
   pub onward : tailScan Program at (9 ∷ s) ≡ prepend (t .field ∷ []) (tailScan Program (at + suc size) (drop size s))
   onward = let e : at + 1 + size ≡ at + suc size = omega arith in t .onward ∙ rw e refl
 
-  -- alone, it is a run of fields
+  -- by itself it is a run of fields
   pub one-run : Runs at (9 ∷ take size s) (t .field ∷ [])
   one-run =
       rw (spelled-text Program at s g t, ← append-nil (bytesOf (t .field)))
@@ -80,7 +80,7 @@ module _ (at : ℕ) (s : List ℕ) (g : code.ParsedField) (t : Turned Program at
       (ap (λ l. l ++ drop size s) (sym (spelled-text Program at s g t)) ∙ ap (λ l. 9 ∷ l) (take-append-drop size s))
       (runs-more at (t .field) (drop size s) fs (clean-field Program at s g t) place (rw field-size r))
 
-  -- its value stands in it
+  -- its value is in it
   pub own-stands : Stands (9 ∷ s) at (t .field .value)
   own-stands =
       let e : t .field .value .at - at ≡ 4 = omega (arith, place) in

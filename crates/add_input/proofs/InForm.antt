@@ -9,9 +9,9 @@ use Rattle.format.specs.Bytes.{any}
 use Rattle.format.specs.Fields.{isValue, tagged, Scan, repeats}
 use Rattle.format.specs.Adding.{misformed}
 use Rattle.add_input.specs.Given.{marred}
-use Rattle.accepted.proofs.Bools.{or-left, or-right}
+use Rattle.lists.proofs.Bools.{or-left, or-right}
 
--- the prefix is a value; the fields are read to their end, ID is not among them, and no tag stands twice
+-- the prefix is a value; the fields are read to their end, ID is not among them, and no tag is repeated
 pub record InForm (prefix : List ℕ) (s : Scan) : Type 0 where
   pub value : isValue prefix ≡ true
   pub stop : s .stop ≡ 0

@@ -1,4 +1,4 @@
--- Given fields judged one after another: what holds at a place, and one turn from there.
+-- Given fields judged one after another: what holds at a place, and one step from there.
 use Prim.Native.Nat.{ℕ, suc, _+_, _≤_, _<_}
 use mathlib.Core.Path.{_≡_, refl, sym, ap, subst, _∙_}
 use mathlib.Core.Bool.{Bool, true, false, not, _||_}
@@ -16,11 +16,11 @@ use Rattle.format.specs.declared.Kind.the-variants.{Program}
 use Rattle.byte_slices.proofs.Lines.{upto-le}
 use Rattle.field.specs.declared.ParsedField as code
 use Rattle.format.specs.Keys.{isKey}
-use Rattle.accepted.proofs.Bools.{any-append, any-snoc, or-true, or-left, or-right, or-split}
+use Rattle.lists.proofs.Bools.{any-append, any-snoc, or-true, or-left, or-right, or-split}
 use Rattle.accepted.proofs.Tags.{repeats-snoc, repeats-more}
 use Rattle.record_tags.specs.Occurs.{occurs}
 use Rattle.record_tags.proofs.Region.{occurs-fields}
-use Rattle.record_parser.proofs.Turn.{tailScan, prepend, prepend-prepend}
+use Rattle.record_parser.proofs.FieldByField.{tailScan, prepend, prepend-prepend}
 use Rattle.record_parser.proofs.Walked.{Turned}
 use Rattle.record_parser.proofs.Step.{turn-shown}
 use Rattle.accepted_line.specs.Run.{Runs}
@@ -61,7 +61,7 @@ marred-twice fs s h =
     ap (λ t. not (eqb (s .stop) 0) || any (tagged 73 68) (fs ++ s .fields) || t) (repeats-more fs (s .fields) h)
     ∙ or-true (not (eqb (s .stop) 0) || any (tagged 73 68) (fs ++ s .fields))
 
--- ---- a turn
+-- ---- a step
 
 module _ (src : List ℕ) (pos : ℕ) (w : Going src pos) where
   -- all is read
@@ -71,7 +71,7 @@ module _ (src : List ℕ) (pos : ℕ) (w : Going src pos) where
       ap marred (w .left ∙ ap (λ l. prepend (w .fields) (tailScan Program pos l)) (drop-of-length-le src h))
       ∙ rw (append-nil (w .fields), w .no-id, w .once) refl
 
-  -- a byte that is no tab stands where one is due
+  -- a byte that is not a tab is where one must be
   pub turn-other : pos < length src → (getD src pos 0 ≡ 9 → ⊥) → marred (given src) ≡ true
   unfolding tailScan
   turn-other h n =

@@ -1,4 +1,4 @@
--- The last PP of given fields in form, one field after another: what holds at a place, and one turn from there.
+-- The last PP of given fields in form, one field after another: what holds at a place, and one step from there.
 use Prim.Native.Nat.{ℕ, suc, _+_, _-_, _≤_, _<_}
 use mathlib.Core.Path.{_≡_, refl, sym, ap, subst, _∙_}
 use mathlib.Core.Bool.{true, false, _&&_}
@@ -15,7 +15,7 @@ use Rattle.format.specs.declared.Kind.the-variants.{Program}
 use Rattle.byte_slices.specs.Upto.{upto}
 use Rattle.byte_slices.proofs.Lines.{upto-le}
 use Rattle.field.specs.declared.ParsedField as code
-use Rattle.record_parser.proofs.Turn.{tailScan, prepend}
+use Rattle.record_parser.proofs.FieldByField.{tailScan, prepend}
 use Rattle.record_parser.proofs.Walked.{Turned}
 use Rattle.add_input.specs.declared.Given.{Given}
 use Rattle.add_input.specs.declared.Given.the-variants.{Nothing, At}

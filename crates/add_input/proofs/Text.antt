@@ -1,4 +1,4 @@
--- Given fields that are in form are written as they came, and their values stand in them.
+-- Given fields that are in form are written as they came, and their values are in them.
 use Prim.Native.Nat.{ℕ, suc, _+_, _-_, _≤_, _<_}
 use mathlib.Core.Path.{_≡_, refl, sym, ap, subst, _∙_}
 use mathlib.Core.List.{List, _∷_}
@@ -14,7 +14,7 @@ use Rattle.byte_slices.specs.Stands.{Stands, Each}
 use Rattle.byte_slices.proofs.Stands.{by-parts, each-map, stands-onward}
 use Rattle.byte_slices.proofs.Lines.{upto-le}
 use Rattle.accepted.proofs.Fields.{Of, lastOf-of}
-use Rattle.record_parser.proofs.Turn.{tailScan, prepend}
+use Rattle.record_parser.proofs.FieldByField.{tailScan, prepend}
 use Rattle.accepted_line.specs.Run.{Runs}
 use Rattle.accepted_line.proofs.fields.Runs.{runs-none}
 use Rattle.add_input.proofs.Front as fr
@@ -49,7 +49,7 @@ given-text s h =
 
 -- ---- the values
 
--- the value of each field that is read stands in the bytes
+-- the value of each field that is read is in the bytes
 abbrev Stand : ℕ → List ℕ → Type 0
 Stand at s = Each (λ f. Stands s at (f .value)) (tailScan Program at s .fields)
 
@@ -71,7 +71,7 @@ fields-stand = by-parts Stand (λ at s. go at s (front at s))
               (tailScan Program (at + suc n) (drop n r) .fields) (ih (suc n) p w),
         )
 
--- the given PP stands among the given fields
+-- the given PP is among the given fields
 pub previous-stands : (s : List ℕ) (p : Piece) → lastOf 80 80 (given s .fields) ≡ some p
     → (p .at + length (p .bytes) ≤ length s) × (p .bytes ≡ take (length (p .bytes)) (drop (p .at) s))
 previous-stands s p e =

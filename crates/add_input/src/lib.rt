@@ -1,5 +1,5 @@
-// What a caller gives to have programs added: an ID prefix, and fields as in the body of a PG line, each with its leading tab. The header's
-// rule for repeated tags is not asked: a tag that is given twice is refused under every header.
+// What a caller gives to add programs: a prefix for the IDs, and fields as in the body of a PG line, each with its leading tab. A tag that is given
+// twice is refused under every header, whatever the header's rule for repeated tags.
 use format::Kind;
 ghost use mathlib.Core.Path.{_≡_};
 ghost use mathlib.Core.Bool.{not, _||_};
@@ -9,13 +9,13 @@ ghost use Rattle.record_tags.specs.Occurs.{occurs};
 ghost use Rattle.format.specs.Keys.{isKey};
 ghost use Rattle.add_input.specs.Given.{marred, givenOf};
 
-// Where the value of the given PP stands among the given fields: its offset and its length.
+// Where the value of the given PP is in the given fields: its offset and its length.
 pub enum Given {
     Nothing,
     At(usize, usize),
 }
 
-// Whether all of `src` is a value: a tab ends one.
+// Whether all of `src` is one value. A tab ends a value.
 fn is_value(src: &[u8]) -> bool
     ensures { λ r. ⌜ r ≡ isValue (now (src .entry)) ⌝ }
 {
@@ -26,7 +26,7 @@ fn is_value(src: &[u8]) -> bool
     len == src.len()
 }
 
-// Whether the tag `a`, `b` may not follow the fields `src`: it is ID, or it stands among them.
+// Whether the tag `a`, `b` may not follow the fields `src`: it is ID, or these fields have it.
 fn is_barred(src: &[u8], a: u8, b: u8) -> bool
     ensures { λ r. ⌜ r ≡ isKey Kind.Program a b || occurs a b (now (src .entry)) ⌝ }
 {
@@ -36,7 +36,7 @@ fn is_barred(src: &[u8], a: u8, b: u8) -> bool
     record_tags::occurs(src, a, b)
 }
 
-// Whether something is wrong with the fields: not in form, ID among them, or a tag twice, which no header allows here.
+// Whether something is wrong with the fields: they are not in PG form, ID is among them, or a tag comes twice.
 fn is_marred(fields: &[u8]) -> bool
     ensures { λ r. ⌜ r ≡ marred (given (now (fields .entry))) ⌝ }
 {
@@ -57,14 +57,14 @@ fn is_marred(fields: &[u8]) -> bool
     false
 }
 
-// Whether the prefix is a value and the fields are in PG form, with no ID among them and no tag twice.
+// Whether the prefix is a value and the fields are in PG form, without an ID and without a repeated tag.
 pub fn is_in_form(prefix: &[u8], fields: &[u8]) -> bool
     ensures { λ r. ⌜ r ≡ not (misformed (now (prefix .entry)) (given (now (fields .entry)))) ⌝ }
 {
     is_value(prefix) && !is_marred(fields)
 }
 
-// Where the value of the given PP stands, the last if there are more.
+// Where the value of the given PP is.
 pub fn find_previous(fields: &[u8]) -> Given
     requires { ⌜ given (now fields) .stop ≡ 0 ⌝ }
     ensures { λ r. ⌜ r ≡ givenOf (lastOf 80 80 (given (now (fields .entry)) .fields)) ⌝ }

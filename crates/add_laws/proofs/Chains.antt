@@ -10,7 +10,7 @@ use lib.Dec.{eqb, leb, ltb}
 use borrow.Author.Tests.{eqb-true, eqb-false, ne-eqb, ltb-true, ltb-false, le-leb, lt-leb, lt-ltb, le-ltb}
 use Rattle.format.specs.Bytes.{any}
 use Rattle.format.specs.Programs.{Link, root, dangling, child, loopsFrom, depth, leaves, roots, rootsFrom, swapRemove}
-use Rattle.accepted.proofs.Bools.{split, or-assoc, or-false}
+use Rattle.lists.proofs.Bools.{split, or-assoc, or-false}
 use Rattle.program_chains.specs.Listed.{named}
 use Rattle.program_chains.specs.Parents.{indexIn}
 use Rattle.program_chains.proofs.Times.{hit, times, Once, hit-same, hit-other, times-none, swap-times}
@@ -135,7 +135,7 @@ module _ (ls : List Link) (acyclic : loopsFrom ls 0 ls ≡ false) (below : (k : 
   abbrev grown : List Link
   grown = ls ++ map child (leaves ls)
 
-  -- the old programs, and they alone, are parents now
+  -- the old programs, and only they, are parents now
   parents-now : (x : ℕ) → named x ls || any (eqb x) (leaves ls) ≡ ltb x (length ls)
   parents-now x = ap (λ b. named x ls || b) (leaves-exactly ls x) ∙ go (named x ls) refl (ltb x (length ls)) refl
     where

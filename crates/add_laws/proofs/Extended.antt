@@ -14,7 +14,7 @@ use Rattle.byte_slices.proofs.Stands.{each-map}
 use Rattle.accepted.specs.Sound.{Sound}
 use Rattle.accepted.specs.Admits.{Unbarred}
 use Rattle.accepted.specs.Read.{recordsOf}
-use Rattle.accepted.proofs.Bools.{never}
+use Rattle.lists.proofs.Bools.{never}
 use Rattle.tidy_laws.specs.Line.{Unbroken}
 use Rattle.tidy_laws.specs.Writable.{Writable}
 use Rattle.tidy_laws.proofs.Unbarred.{unbarred-append}
@@ -26,7 +26,7 @@ use Rattle.add_laws.proofs.Passed.{Answered, answered}
 use Rattle.add_laws.proofs.New.{New, all-new}
 use Rattle.add_laws.proofs.Unbarred.{new-unbarred}
 
--- names that can be written, and records without such a name behind them
+-- names that can be written, and records without such a name after them
 names-append : (l : ℕ) (rs qs : List Record) → unwritable l rs ≡ none → Each (λ r. isWritable r ≡ true) qs → unwritable l (rs ++ qs) ≡ none
 unfolding unwritable Each
 names-append l [] [] h w = refl

@@ -1,4 +1,4 @@
--- The links after adding: the old ones, and behind them each leaf's new program, whose parent is the leaf, or the program that a given PP names.
+-- The links after adding: the old ones, and after them each leaf's new program, whose parent is the leaf, or the program that a given PP names.
 use Prim.Native.Nat.{ℕ, zero, suc, _+_, _<_}
 use mathlib.Core.Path.{_≡_, refl, sym, ap, ap₂, _∙_}
 use mathlib.Core.Bool.{Bool, true, false, not, cond}
@@ -17,7 +17,7 @@ use Rattle.format.specs.Programs.{Program, Link, child, bytesOf, programOf, pro
 use Rattle.format.specs.Adding.{noProgram, unplaced, orElse, chained, afterLeaves}
 use Rattle.byte_slices.specs.Stands.{Each}
 use Rattle.byte_slices.proofs.Equal.{same-self}
-use Rattle.accepted.proofs.Bools.{never, or-left, or-right, and-left}
+use Rattle.lists.proofs.Bools.{never, or-left, or-right, and-left}
 use Rattle.accepted.proofs.OfKind.{ofKind-append}
 use Rattle.accepted.proofs.Tags.{lastOf-snoc}
 use Rattle.program_chains.specs.Listed.{named}
@@ -33,7 +33,7 @@ programs-append rs qs = ap (map programOf) (ofKind-append 4 rs qs) ∙ map-appen
 
 -- ---- ordinals
 
--- more programs behind those that hold the ID
+-- more programs after those that hold the ID
 ordinal-left : (k j : ℕ) (id : List ℕ) (ps qs : List Program) → ordinalFrom k id ps ≡ some j → ordinalFrom k id (ps ++ qs) ≡ some j
 unfolding ordinalFrom
 ordinal-left k j id [] qs h = absurd (never (cc))
@@ -54,7 +54,7 @@ ordinal-at b (suc r) id (p ∷ ps) l h f =
     let e : b + 1 + r ≡ b + suc r = omega arith in
     rw (f 0 (omega arith)) (ordinal-at (b + 1) r id ps (omega arith) h (λ q m. f (suc q) (omega arith)) ∙ ap some e)
 
--- ---- the programs `ps`, and `qs` behind them
+-- ---- the programs `ps`, and `qs` after them
 
 -- no two have one ID
 abbrev pub Apart : List Program → Type 0
@@ -102,7 +102,7 @@ module _ (ps : List Program) (apart : Apart ps) (qs : List Program) where
   new-links to fs h free prefix [] b = refl
   new-links to fs h free prefix (k ∷ ks) b = ap₂ (λ l r. l ∷ r) (h k (b .0)) (new-links to fs h false prefix ks (b .1))
 
--- with the new programs behind them
+-- with the new programs after them
 module _ (ps : List Program) (apart : Apart ps) (whole : any isDangling (links ps) ≡ false) (free : Bool) (prefix : List ℕ) (fs : List Field) (ks : List ℕ) (low : Each (λ k. k < length ps) ks) where
   abbrev qs : List Program
   qs = programs (afterLeaves free prefix fs ps ks)

@@ -16,12 +16,12 @@ use Rattle.format.specs.Tidy.{isWritable}
 use Rattle.format.specs.Adding.{given, unplaced, orElse, chained, noProgram, isKnown, afterLeaves, added}
 use Rattle.format.specs.declared.Kind.the-variants as kinds
 use Rattle.byte_slices.specs.Stands.{Each}
-use Rattle.accepted.specs.Pieces.{Pairs}
+use Rattle.lists.specs.Pairs.{Pairs}
 use Rattle.accepted.specs.Sound.{kind, FitsRecord, KeyIsValue, Other, Sound}
 use Rattle.format.specs.Keys.{isKey}
 use Rattle.accepted.specs.Spelled.{Good}
-use Rattle.accepted.proofs.Bools.{never, or-left, or-right, and-left, and-right}
-use Rattle.accepted.proofs.Pairs.{each-at}
+use Rattle.lists.proofs.Bools.{never, or-left, or-right, and-left, and-right}
+use Rattle.lists.proofs.Pairs.{each-at}
 use Rattle.accepted.proofs.Tags.{repeats-snoc}
 use Rattle.accepted.proofs.Spelled.{scan-good}
 use Rattle.accepted.proofs.Text.{text-sound}

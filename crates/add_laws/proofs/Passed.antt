@@ -17,7 +17,7 @@ use Rattle.format.specs.Tidy.{tidy, unwritable}
 use Rattle.format.specs.Adding.{given, misformed, added, used, unaddable}
 use Rattle.format.specs.Calls.{yes, fresh, untangled, adding}
 use Rattle.accepted.specs.Read.{kept, recordsOf}
-use Rattle.accepted.proofs.Bools.{or-right, split}
+use Rattle.lists.proofs.Bools.{or-right, split}
 use Rattle.tidy_laws.proofs.Answered.{then-yes, fresh-yes, untangled-yes, writing-yes}
 use Rattle.add_input.proofs.InForm.{InForm, in-form}
 
@@ -30,7 +30,7 @@ pub record Passed (rs : List Record) (prefix : List ℕ) (s : Scan) : Type 0 whe
   pub unused : used (programs rs) (programs (added prefix (s .fields) (programs rs))) ≡ false
   pub few : length (programs rs) + length (added prefix (s .fields) (programs rs)) ≤ 1024
 
--- of a refusal that is none
+-- a refusal that is not one
 clear : (t : Bool) (n m : ℕ) → cond t (suc n) m ≡ 0 → (t ≡ false) × (m ≡ 0)
 clear true n m e = absurd (omega arith)
 clear false n m e = (refl, e)

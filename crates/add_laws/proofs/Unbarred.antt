@@ -16,7 +16,7 @@ use Rattle.format.specs.Programs.{bytesOf, programOf, programs, ordinalFrom}
 use Rattle.format.specs.Adding.{isKnown, used}
 use Rattle.byte_slices.specs.Stands.{Each}
 use Rattle.accepted.specs.Admits.{Unbarred}
-use Rattle.accepted.proofs.Bools.{or-left, or-right}
+use Rattle.lists.proofs.Bools.{or-left, or-right}
 use Rattle.add_laws.proofs.Links.{programs-append}
 
 -- a program clashes exactly if its ID is known

@@ -1,4 +1,4 @@
--- What an accepted add writes: the tidy text of the old records with the new programs after them. Reading accepts it and finds them there.
+-- What an accepted add writes: the tidy text of the old records with the new programs after them. Reading accepts it and finds these records.
 use Prim.Native.Nat.{ℕ}
 use mathlib.Core.Path.{_≡_}
 use mathlib.Core.List.{List, _++_}
@@ -19,10 +19,10 @@ pub record Extended (text prefix fields out : List ℕ) : Type 0 where
   -- the text was accepted
   pub accepted : records text ≡ yes (recordsOf text)
   pub written : out ≡ tidy (extended text prefix fields)
-  -- it reads back as these records, and tidying it changes nothing
+  -- the new text reads back as these records, and tidying it changes nothing
   pub holds : Holds (extended text prefix fields)
 
--- of every add that is answered
+-- the law of every add that is answered
 unfoldable pub AllExtended : Type 0
 unfolding adding
 AllExtended = (text c prefix fields : List ℕ) (room : ℕ) (out : List ℕ) → adding text c prefix fields room ≡ yes out → Extended text prefix fields out

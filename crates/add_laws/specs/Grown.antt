@@ -1,4 +1,4 @@
--- What an accepted add does to the chains of a header that has a program (Req 11): where no PP is given, and where one is.
+-- How an accepted add changes the chains of a header that has a program (Req 11), without and with a given PP.
 use Prim.Native.Nat.{ℕ, _+_, _<_}
 use mathlib.Core.Path.{_≡_}
 use mathlib.Core.Bool.{true, not, _&&_, _||_, cond}
@@ -16,53 +16,53 @@ use Rattle.accepted.specs.Read.{recordsOf}
 
 -- ---- what is counted
 
--- the links of a text's programs; none where it is refused
+-- the links of a text's programs; none if the text is refused
 unfoldable pub linksIn : List ℕ → List Link
 unfolding recordsOf links programs
 linksIn text = links (programs (recordsOf text))
 
--- the parent links from the program `k` to its root
+-- the number of parent links from the program `k` to its root
 unfoldable pub depthAt : List Link → ℕ → ℕ
 unfolding depth
 depthAt ls k = depth ls (length ls) (getD ls k root)
 
--- how many have the parent `k`
+-- how many programs have the parent `k`
 unfoldable pub children : ℕ → List Link → ℕ
 children k [] = 0
 children k (root ∷ ls) = children k ls
 children k (dangling ∷ ls) = children k ls
 children k (child j ∷ ls) = cond (eqb k j) 1 0 + children k ls
 
--- ---- the programs `before`, and more of them `after`
+-- ---- the programs before, and those after, which are more
 
 -- what never changes
 pub record OldStay (before after : List Link) : Type 0 where
   pub sameRoots : roots after ≡ roots before
   pub sameDepths : (k : ℕ) → k < length before → depthAt after k ≡ depthAt before k
 
--- no PP is given
+-- the laws if no PP is given
 pub record Grown (before after : List Link) : Type 0 where
   -- the leaves are the new programs, each once
   pub new : (k : ℕ) → any (eqb k) (leaves after) ≡ (leb (length before) k && ltb k (length after))
   pub once : distinct (leaves after) ≡ true
-  -- as many as before
+  -- there are as many leaves as before
   pub many : length (leaves after) ≡ length (leaves before)
   pub stay : OldStay before after
   -- each old leaf is the parent of one new program
   pub follower : (k : ℕ) → any (eqb k) (leaves before) ≡ true → children k (drop (length before) after) ≡ 1
-  -- they come in the order of the leaves
+  -- the new programs come in the order of the leaves
   pub follow : drop (length before) after ≡ map child (leaves before)
 
--- a PP is given, and it names the program `j`
+-- the laws if a PP is given that names the program `j`
 pub record GrownUnder (j : ℕ) (before after : List Link) : Type 0 where
-  -- the leaves are the new programs, and the old leaves but `j`
+  -- the leaves are the new programs, and the old leaves except `j`
   pub leaf : (k : ℕ) → any (eqb k) (leaves after) ≡ ((leb (length before) k && ltb k (length after)) || (any (eqb k) (leaves before) && not (eqb k j)))
   pub once : distinct (leaves after) ≡ true
   pub stay : OldStay before after
-  -- each old leaf has a new program, and `j` is the parent of all of them
+  -- there is one new program per old leaf, and `j` is the parent of all of them
   pub follow : drop (length before) after ≡ map (λ k. child j) (leaves before)
 
--- ---- of every add that is answered
+-- ---- the laws of every add that is answered
 
 unfoldable pub AllGrown : Type 0
 unfolding adding linksIn lastOf given

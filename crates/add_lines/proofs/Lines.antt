@@ -1,5 +1,5 @@
 -- The parts of a new program's line: what they are, and how long.
-use Prim.Native.Nat.{ℕ, _+_, _-_, _≤_, _<_}
+use Prim.Native.Nat.{ℕ, _+_, _-_, _*_, _/_, _≤_, _<_}
 use mathlib.Core.Path.{_≡_, refl, sym, ap, _∙_}
 use mathlib.Core.Bool.{Bool, true, false}
 use mathlib.Core.List.{List, [], _∷_, _++_}
@@ -14,8 +14,8 @@ use Rattle.format.specs.declared.Kind.the-variants.{Program}
 use Rattle.byte_slices.proofs.Over.{over-none}
 use Rattle.tidy_parts.specs.Parts.{prefixText}
 use Rattle.tidy_parts.proofs.Wrote.{Wrote}
-use Rattle.accepted.proofs.Bools.{split}
-use Rattle.program_ids.specs.Places.{idsAt, PlacesInText}
+use Rattle.lists.proofs.Bools.{split}
+use Rattle.program_ids.specs.Ids.{idsAt, IdsInText}
 use Rattle.add_ids.specs.Taken.{idIn}
 use Rattle.add_ids.proofs.Search.{id-none, id-some}
 use Rattle.add_lines.specs.Lines.{newLines, addedText}
@@ -83,15 +83,14 @@ module _ (ids : List (List ℕ)) (linked : Bool) (prefix fields ks : List ℕ) w
   lines-done first i h = rw (drop-of-length-le ks h) refl
 
 -- an ID is no longer than the text
-pub id-most : (t ats lens : List ℕ) → PlacesInText t ats lens → (k : ℕ) → length (idIn (idsAt t ats lens) k) ≤ length t
-id-most t ats lens p k = split (ltb k (length ats)) (λ q. within (ltb-true k (length ats) q)) (λ q. omega (arith, ap length (id-none t ats lens p k (ltb-false k (length ats) q))))
+pub id-most : (t ids : List ℕ) → IdsInText t ids → (k : ℕ) → length (idIn (idsAt t ids) k) ≤ length t
+id-most t ids p k =
+    split (ltb k (length ids / 3)) (λ q. within (ltb-true k (length ids / 3) q)) (λ q. omega (arith, ap length (id-none t ids p k (ltb-false k (length ids / 3) q))))
   where
-    within : k < length ats → length (idIn (idsAt t ats lens) k) ≤ length t
+    within : k < length ids / 3 → length (idIn (idsAt t ids) k) ≤ length t
     within h =
-        let a = getD ats k 0 in
-        omega (arith, ap length (id-some t ats lens p k h), length-take (a + getD lens k 0 - a) (drop a t), length-drop a t)
-
--- ---- all of them
+        let a = getD ids (k * 3) 0 in
+        omega (arith, ap length (id-some t ids p k h), length-take (a + getD ids (k * 3 + 1) 0 - a) (drop a t), length-drop a t)
 
 module _ (ids : List (List ℕ)) (empty alone linked : Bool) (prefix fields ks : List ℕ) where
   pub added-one : empty ≡ true → addedText ids empty alone linked prefix fields ks ≡ newLine true false prefix fields []

@@ -1,4 +1,5 @@
--- The line of a new program: its ID is the prefix, alone or with `-` and a leaf's ID; then the fields as they are given; then PP with the leaf's ID, where none is given.
+-- The line of a new program. Its ID is the prefix, by itself or with `-` and the ID of a leaf; then come the fields as they are given; then a PP with
+-- the ID of the leaf, if none is given.
 use Prim.Native.Nat.{ℕ}
 use mathlib.Core.Bool.{Bool, cond}
 use mathlib.Core.List.{List, [], _∷_, _++_}

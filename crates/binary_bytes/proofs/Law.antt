@@ -20,7 +20,7 @@ use Rattle.format.specs.Calls.{yes, then, readAnswer, records, fitting, writing
 use Rattle.byte_slices.specs.Stands.{Each}
 use Rattle.byte_slices.proofs.Equal.{same-self}
 use Rattle.accepted.specs.Sound.{FitsRecord, Sound}
-use Rattle.accepted.proofs.Bools.{never}
+use Rattle.lists.proofs.Bools.{never}
 use Rattle.accepted.proofs.Text.{text-sound}
 use Rattle.tidy_laws.specs.Bare.{bare}
 use Rattle.tidy_laws.specs.Line.{recordLine}

@@ -1,5 +1,4 @@
 -- Words for contracts and laws, and nothing to believe.
--- The binary header (Req 09):
---   Binary       its bytes, these taken apart, and what the two calls answer
---   Undone       that in undoes out
+-- The binary header (Req 09), which `format` defines (`Binary`):
+--   Undone       that reading in undoes writing out
 pub mod Undone

@@ -1,1 +1,1 @@
-// The binary header of the SAM specification: what is written out, what is read in, and that one undoes the other. There is no code here.
+// The binary header of the SAM specification: what is written, what is read, and that reading undoes writing. This crate has no code.

@@ -16,7 +16,7 @@ use Rattle.format.specs.Programs.{lastOr, butLast}
 use Rattle.format.specs.References.{Reference}
 use Rattle.byte_slices.specs.Stands.{Each}
 use Rattle.format.specs.Little.{ofLittle}
-use Rattle.accepted.proofs.Bools.{never, and-left, and-right}
+use Rattle.lists.proofs.Bools.{never, and-left, and-right}
 use Rattle.format.specs.Binary.{magic, sized, referenceBytes, listBytes, binary, andThen, takeBytes, takeNumber, takeSized, closedName, takeReference, takeList, takeBoth, binaryParts}
 use Rattle.binary_bytes.proofs.Parts.{Small, AllSmall, parts-back}
 use Rattle.binary_laws.specs.Exact.{AllBytes, IsBinary, PartsAreBinary, BinaryIsTakenApart}
@@ -61,7 +61,7 @@ of-below (b ∷ s) h = omega (arith, h .0, pow-suc 256 (length s), of-below s (h
 
 -- ---- the front of some bytes
 
--- `s` starts with `front`, and `rest` is behind it
+-- `s` starts with `front`, and `rest` is after it
 record Front (s front rest : List ℕ) : Type 0 where
   whole : s ≡ front ++ rest
   behind : AllBytes rest

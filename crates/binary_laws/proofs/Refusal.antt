@@ -1,4 +1,4 @@
--- Binary in answers 28 exactly where the bytes are no binary header.
+-- Binary in answers 28 exactly if the bytes are no binary header.
 use Prim.Native.Nat.{ℕ, _<_}
 use mathlib.Core.Path.{_≡_, refl}
 use mathlib.Core.List.{List}

@@ -19,7 +19,7 @@ unfolding sameReferences sameReference
 same-list [] = refl
 same-list (r ∷ rs) = rw (same-self (r .name), eq-eqb (r .size) (r .size) refl, same-list rs) refl
 
--- behind the parts
+-- after the parts
 alike : (list : List Reference) (room : ℕ) (r : Reading) → ((rs : List Record) → r ≡ accept rs → sqList rs ≡ list)
     → then (readAnswer r) (λ rs. then (listedAlike list rs) (λ rs. writing room (unwritable 0 rs) (tidy rs))) ≡ then (readAnswer r) (λ rs. writing room (unwritable 0 rs) (tidy rs))
 unfolding then readAnswer listedAlike

@@ -1,4 +1,4 @@
--- Which bytes are a binary header, and what binary in answers of them.
+-- Which bytes are a binary header, and what `binary_in` answers for them.
 use Prim.Native.Nat.{ℕ, _^_, _<_}
 use mathlib.Core.Path.{_≡_}
 use mathlib.Core.List.{List}
@@ -24,32 +24,32 @@ pub record IsBinary (s t : List ℕ) (list : List Reference) : Type 0 where
   pub count : length list < 256 ^ 4
   pub names : AllSmall list
 
--- what is taken apart is the binary header of its parts
+-- bytes that can be taken apart are the binary header of their parts
 unfoldable pub PartsAreBinary : Type 0
 unfolding AllBytes binaryParts
 PartsAreBinary = (s t : List ℕ) (list : List Reference) → AllBytes s → binaryParts s ≡ some (t, list) → IsBinary s t list
 
--- and the other way round
+-- the binary header of a text and a list can be taken apart into these
 unfoldable pub BinaryIsTakenApart : Type 0
 unfolding binaryParts
 BinaryIsTakenApart = (s t : List ℕ) (list : List Reference) → IsBinary s t list → binaryParts s ≡ some (t, list)
 
--- binary in answers 28 where the bytes are no binary header
+-- `binary_in` answers 28 for bytes that are not a binary header
 unfoldable pub NoneIs28 : Type 0
 unfolding AllBytes binaryIn
 NoneIs28 = (s : List ℕ) (room : ℕ) → AllBytes s → ((t : List ℕ) (list : List Reference) → IsBinary s t list → ⊥) → binaryIn s room ≡ refused 28 0
 
--- and nowhere else
+-- it answers 28 for no other bytes
 unfoldable pub BinaryIsNot28 : Type 0
 unfolding binaryIn
 BinaryIsNot28 = (s t : List ℕ) (list : List Reference) (room l : ℕ) → IsBinary s t list → binaryIn s room ≡ refused 28 l → ⊥
 
--- where reading accepts the text without the zero bytes at its end, its SQ list is this
+-- where reading accepts the text without the zero bytes at its end, this is its SQ list
 unfoldable pub Agrees : List ℕ → List Reference → Type 0
 unfolding unpadded sqList
 Agrees t list = (rs : List Record) → readText (unpadded t) ≡ accept rs → sqList rs ≡ list
 
--- binary in tidies that text where the lists agree
+-- `binary_in` tidies that text if the lists agree
 unfoldable pub InIsTidying : Type 0
 unfolding Agrees unpadded binaryIn tidying
 InIsTidying = (s t : List ℕ) (list : List Reference) (room : ℕ) → IsBinary s t list → Agrees t list → binaryIn s room ≡ tidying (unpadded t) room

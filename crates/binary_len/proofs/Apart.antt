@@ -25,7 +25,7 @@ use Rattle.binary_len.specs.declared.BinaryLen.{BinaryLen}
 use Rattle.binary_len.specs.declared.BinaryLen.the-variants.{Whole, More, Refused}
 use Rattle.binary_len.specs.BinaryLen.{part, onward, numberAt, referenceAt, referencesAt, start, binaryLen}
 use Rattle.binary_len.specs.Laws.{some?, isBinary}
-use Rattle.binary_len.proofs.Turn.{part-there, part-cut, length-cut, name-none, name-cut, name-open, name-closed, start-cut, start-other, text-length-cut, text-cut, count-cut, list-at}
+use Rattle.binary_len.proofs.PartByPart.{part-there, part-cut, length-cut, name-none, name-cut, name-open, name-closed, start-cut, start-other, text-length-cut, text-cut, count-cut, list-at}
 use Rattle.binary_len.proofs.Grown.{Says, says-reference}
 
 -- two numbers in order
@@ -43,7 +43,7 @@ is-or-not m n = go (eqb m n) refl
     go true q = inl (eqb-true m n q)
     go false q = inr (eqb-false m n q)
 
--- ---- what is left behind what was taken
+-- ---- what is left after what was taken
 
 unfoldable rest : {A : Type 0} → Option (A × List ℕ) → Option (List ℕ)
 rest none = none

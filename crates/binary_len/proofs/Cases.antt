@@ -24,7 +24,7 @@ unfoldable pub announced : ℕ → List ℕ → List ℕ
 unfolding magic little
 announced n name = magic ++ little 4 0 ++ little 4 1 ++ little 4 n ++ name ++ little 4 8
 
--- the ends of each part, a byte short of them and behind them; the largest numbers; a name with no bytes and one that is not closed; bytes that
+-- the ends of each part, a byte short of them and after them; the largest numbers; a name with no bytes and one that is not closed; bytes that
 -- no header starts with, as soon as the first of them is there
 unfoldable pub corners : List (List ℕ × BinaryLen)
 unfolding ascii magic little bare one announced

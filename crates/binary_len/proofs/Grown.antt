@@ -1,4 +1,4 @@
--- More bytes behind those that are there: a length and a refusal stay, and a part that was cut ends no earlier.
+-- More bytes after those that are there: a length and a refusal stay, and a part that was cut ends no earlier.
 use Prim.Native.Nat.{ℕ, zero, suc, _+_, _-_, _≤_, _<_}
 use mathlib.Core.Path.{_≡_, refl, sym, ap, _∙_}
 use mathlib.Core.Bool.{Bool, true, false, _&&_, cond, false≢true}
@@ -10,13 +10,13 @@ use lib.Dec.{eqb, leb}
 use borrow.Author.Tests.{eqb-false, leb-true, leb-false}
 use Rattle.format.specs.Bytes.{starts}
 use Rattle.format.specs.Little.{ofLittle}
-use Rattle.accepted.proofs.Bools.{eqb-sym, and-left, and-right}
+use Rattle.lists.proofs.Bools.{eqb-sym, and-left, and-right}
 use Rattle.format.specs.Binary.{magic}
 use Rattle.binary_parts.proofs.Both.{start-long}
 use Rattle.binary_len.specs.declared.BinaryLen.{BinaryLen}
 use Rattle.binary_len.specs.declared.BinaryLen.the-variants.{Whole, More, Refused}
 use Rattle.binary_len.specs.BinaryLen.{part, onward, numberAt, closed, nameAt, referenceAt, referencesAt, start, binaryLen}
-use Rattle.binary_len.proofs.Turn.{part-there, part-cut, part-whole}
+use Rattle.binary_len.proofs.PartByPart.{part-there, part-cut, part-whole}
 
 -- ---- the start
 
@@ -66,7 +66,7 @@ start-none : (s : List ℕ) → starts magic s ≡ false → starts s magic ≡ 
 unfolding start
 start-none s e f = rw (e, f) refl
 
--- ---- the parts behind the count, behind the text's length and behind the start
+-- ---- the parts after the count, after the text's length and after the start
 
 counted : List ℕ → ℕ → BinaryLen
 counted s end = onward (part s (end + 4)) (λ list. referencesAt s list (numberAt s end))

@@ -8,7 +8,7 @@ use native.Mathlib.Omega.{arith}
 use lib.ListN.{length, take, drop, length-append, length-take, take-append-drop}
 use lib.Seq.{length-take-le, take-append-seam, take-all}
 use borrow.Author.Tests.{eq-eqb, eqb-true}
-use Rattle.accepted.proofs.Bools.{never}
+use Rattle.lists.proofs.Bools.{never}
 use Rattle.format.specs.Binary.{binary, binaryParts}
 use Rattle.binary_bytes.proofs.Parts.{parts-back}
 use Rattle.binary_laws.proofs.Refusal.{taken-apart}

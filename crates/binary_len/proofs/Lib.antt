@@ -1,4 +1,4 @@
-pub mod Turn
+pub mod PartByPart
 pub mod Grown
 pub mod Apart
 pub mod Resume

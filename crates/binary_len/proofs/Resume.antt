@@ -10,7 +10,7 @@ use Rattle.format.specs.Binary.{magic}
 use Rattle.binary_len.specs.declared.BinaryLen.{BinaryLen}
 use Rattle.binary_len.specs.declared.BinaryLen.the-variants as len
 use Rattle.binary_len.specs.BinaryLen.{onward, numberAt, referenceAt, referencesAt, binaryLen}
-use Rattle.binary_len.proofs.Turn.{part-there, part-cut, references-on, list-at}
+use Rattle.binary_len.proofs.PartByPart.{part-there, part-cut, references-on, list-at}
 use Rattle.binary_len.proofs.Grown.{Grown, starts-more, number-same, grown-reference, longer}
 use Rattle.binary_len.specs.declared.Cursor.{Cursor}
 use Rattle.binary_len.specs.declared.Step.{Step}
@@ -46,7 +46,7 @@ pub from-here : (at left : ℕ) (s rest : List ℕ) → at ≤ length s
     → lenFrom (record { begun = true; at = at; left = left }) (s ++ rest) ≡ referencesAt (s ++ rest) at left
 from-here at left s rest h = from-at (record { begun = true; at = at; left = left }) (s ++ rest) refl (omega (arith, longer s rest))
 
--- the references behind the count, in longer bytes
+-- the references after the count, in longer bytes
 pub list-longer : (s : List ℕ) (n : ℕ) → starts magic s ≡ true → n ≡ numberAt s 4 → 8 + n + 4 ≤ length s
     → (rest : List ℕ) → binaryLen (s ++ rest) ≡ referencesAt (s ++ rest) (8 + n + 4) (numberAt s (8 + n))
 list-longer s n t e h rest =

@@ -1,5 +1,5 @@
 -- How many bytes a binary header has:
---   BinaryLen    by the front of a stream
+--   BinaryLen    from the front of a stream
 --   Step         from a cursor on, for fronts that grow
 --   Laws         what holds of both
 pub mod BinaryLen

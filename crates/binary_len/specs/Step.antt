@@ -1,4 +1,4 @@
--- What a cursor stands for, and what an answer with a cursor says.
+-- What a cursor means, and what an answer with a cursor says.
 use Prim.Native.Nat.{ℕ}
 use mathlib.Core.Path.{_≡_}
 use mathlib.Core.Bool.{false, cond}
@@ -10,7 +10,7 @@ use Rattle.binary_len.specs.declared.Step.{Step}
 use Rattle.binary_len.specs.declared.Step.the-variants.{Whole, More, Refused}
 use Rattle.binary_len.specs.BinaryLen.{part, onward, referencesAt, binaryLen}
 
--- the cursor to begin with
+-- the cursor of the first call
 unfoldable pub atFirst : Cursor
 atFirst = record { begun = false; at = 0; left = 0 }
 
@@ -20,12 +20,12 @@ told (Whole n) = len.Whole n
 told (More n c) = len.More n
 told (Refused n) = len.Refused n
 
--- the bytes from a cursor on: all of them where nothing has begun
+-- the answer for the bytes from a cursor on: for all bytes if nothing has been passed
 unfoldable pub lenFrom : Cursor → List ℕ → BinaryLen
 unfolding part onward referencesAt binaryLen
 lenFrom c s = cond (c .begun) (onward (part s (c .at)) (λ at. referencesAt s at (c .left))) (binaryLen s)
 
--- with the cursor that is handed out any longer front is answered as `f` answers it
+-- with the cursor that is returned, any longer front gets the answer that `f` gives
 unfoldable pub Resumes : List ℕ → Step → (List ℕ → BinaryLen) → Type 0
 unfolding lenFrom
 Resumes s (Whole n) f = Unit

@@ -5,28 +5,28 @@ ghost use lib.ListN.{length};
 ghost use Rattle.binary_len.specs.BinaryLen.{referenceAt, referencesAt, binaryLen};
 ghost use Rattle.binary_len.specs.Step.{atFirst, told, lenFrom, Resumes};
 
-// How many bytes the binary header has; or that it goes on and how many bytes are needed to say more; or a refusal.
+// The length of the binary header in bytes; or that it goes on, and how many bytes are needed to say more; or a refusal.
 pub enum BinaryLen {
     Whole(usize),
     More(usize),
     Refused(u8),
 }
 
-// Where to go on. At first nothing has begun; then the references before `at` are passed, and `left` are to come.
+// Where to go on. At first nothing has been passed; later the references before `at` have been passed, and `left` are still to come.
 pub struct Cursor {
     pub begun: bool,
     pub at: usize,
     pub left: u32,
 }
 
-// The same answer; where the header goes on, with the cursor for a longer front.
+// The same answer, and if the header goes on, the cursor for a longer front.
 pub enum Step {
     Whole(usize),
     More(usize, Cursor),
     Refused(u8),
 }
 
-// The reference at `at`: where the bytes after it start, where the part that is cut ends, or a refusal.
+// Passes the reference at `at`: answers where the bytes after it start, where the part that is cut off ends, or a refusal.
 fn pass_reference(bytes: &[u8], at: usize) -> BinaryLen
     requires { ⌜ at ≤ length (now bytes) ⌝ }
     ensures { λ r. ⌜ r ≡ referenceAt (now (bytes .entry)) at ⌝ }
@@ -52,7 +52,7 @@ fn pass_reference(bytes: &[u8], at: usize) -> BinaryLen
     BinaryLen::Whole(end + 4)
 }
 
-// `count` references at `start`.
+// Passes `count` references from `start` on.
 fn pass_references(bytes: &[u8], start: usize, count: u32) -> Step
     requires { ⌜ start ≤ length (now bytes) ⌝ }
     ensures answer { λ r. ⌜ told r ≡ referencesAt (now (bytes .entry)) start count ⌝ }
@@ -84,8 +84,8 @@ fn pass_references(bytes: &[u8], start: usize, count: u32) -> Step
     Step::Whole(at)
 }
 
-// From where `from` says on: the bytes are those of the call that handed it out, and those that have come since. No call passes a reference
-// again that an earlier one passed.
+// Goes on at the cursor `from`. The bytes start with those of the call that returned the cursor, and more may have come since. No reference that an
+// earlier call passed is passed again.
 pub fn binary_len_from(bytes: &[u8], from: Cursor) -> Step
     ensures answer { λ r. ⌜ told r ≡ lenFrom from (now (bytes .entry)) ⌝ }
     ensures resumes { λ r. ⌜ Resumes (now (bytes .entry)) r (lenFrom from) ⌝ }
@@ -118,7 +118,7 @@ pub fn binary_len_from(bytes: &[u8], from: Cursor) -> Step
     pass_references(bytes, end + 4, count)
 }
 
-// The cursor to begin with.
+// The cursor of the first call.
 pub fn first_cursor() -> Cursor
     ensures { λ r. ⌜ r ≡ atFirst ⌝ }
 {
@@ -140,7 +140,7 @@ pub fn without_cursor(step: Step) -> BinaryLen
     }
 }
 
-// How many bytes at the front of `bytes` are a binary header. The text is passed, not read.
+// The length of the binary header at the front of `bytes`. The text in it is passed over and not read.
 pub fn binary_len(bytes: &[u8]) -> BinaryLen
     ensures { λ r. ⌜ r ≡ binaryLen (now (bytes .entry)) ⌝ }
 {

@@ -25,7 +25,7 @@ use Rattle.binary_out.specs.Written.{binaryOf, writingBinary}
 -- ---- the bytes
 
 module _ (text : List ℕ) (list : List Reference) where
-  -- magic and the text's length, the text, the count, the list: one behind the other
+  -- magic and the text's length, the text, the count, the list: one after another
   parts : ((((magic ++ little 4 (length text)) ++ text) ++ little 4 (length list)) ++ listBytes list) ≡ binary text list
   unfolding binary sized
   parts = ap (λ s. (s ++ little 4 (length list)) ++ listBytes list) (append-assoc magic (little 4 (length text)) text)
@@ -63,7 +63,7 @@ part-over out ys xs at n h e w =
     ∙ ap (λ k. take at out ++ (xs ++ drop (at + k) out)) e
     ∙ sym (append-assoc (take at out) xs (drop (at + length xs) out))
 
--- the parts written one behind the other
+-- the parts written one after another
 pub binary-over : (out text : List ℕ) (list : List Reference) (n count : ℕ) → n ≡ length text → count ≡ length list → length (binary text list) ≤ length out
     → over (over (over (over out 0 (magic ++ little 4 n)) 8 text) (8 + n) (little 4 count)) (12 + n) (listBytes list) ≡ over out 0 (binary text list)
 unfolding magic

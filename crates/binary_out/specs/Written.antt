@@ -1,4 +1,4 @@
--- The binary header of a text once it is accepted.
+-- The binary header of a text that is accepted.
 use Prim.Native.Nat.{ℕ}
 use mathlib.Core.List.{List}
 use Rattle.format.specs.Reading.{longest}
@@ -12,6 +12,6 @@ use Rattle.format.specs.Binary.{binary}
 abbrev pub binaryOf : List ℕ → List ℕ
 binaryOf t = binary (tidy (recordsOf t)) (sqList (recordsOf t))
 
--- these are written, or why not: 24, 1, 20
+-- these are written, or the refusal: 24, 1, 20
 abbrev pub writingBinary : List ℕ → ℕ → Answer (List ℕ)
 writingBinary t room = then (writing longest (unwritable 0 (recordsOf t)) (tidy (recordsOf t))) (λ x. fitting room (binary x (sqList (recordsOf t))))

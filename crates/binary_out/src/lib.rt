@@ -1,4 +1,4 @@
-// The binary header of the SAM specification, written from an accepted text: its tidy text and its SQ list.
+// Writes the binary header of the SAM specification from an accepted text: its tidy text and its SQ list.
 use format::LineNo;
 use read::CountAnswer;
 use read_judge::Judged;
@@ -10,7 +10,8 @@ ghost use mathlib.Core.List.{_++_};
 ghost use Prim.Native.Nat.{_≤_, _+_};
 ghost use lib.ListN.{length};
 ghost use Rattle.format.specs.Lines.{lines};
-ghost use Rattle.format.specs.Reading.{announced, isStrict, readText};
+ghost use Rattle.format.specs.Reading.{readText};
+ghost use Rattle.accepted_rule.specs.Rule.{ReadsBy};
 ghost use Rattle.format.specs.Catalogue.{little};
 ghost use Rattle.format.specs.Tidy.{tidy};
 ghost use Rattle.byte_slices.specs.Over.{over};
@@ -21,7 +22,7 @@ ghost use Rattle.read.specs.Answers.{answerOf, outputOf};
 ghost use Rattle.tidy_text.specs.Sizes.{sizesOf};
 ghost use Rattle.binary_out.specs.Written.{binaryOf, writingBinary};
 
-// Writes what stands before the text: the magic bytes, and that it has `n` bytes.
+// Writes what comes before the text: the magic bytes, and the length `n` of the text.
 fn put_front(out: &mut [u8], n: usize)
     requires { ⌜ n ≤ 16777216 ⌝ }
     requires { ⌜ 8 ≤ length (now out) ⌝ }
@@ -31,10 +32,10 @@ fn put_front(out: &mut [u8], n: usize)
     little_endian::put_u32(out, 4, n as u32);
 }
 
-// Writes the tidy text of an accepted text behind these. `sizes` are those that measuring gives, and `n` is its length.
+// Writes the tidy text of an accepted text after that. `sizes` are those that measuring gives, and `n` is the length of the tidy text.
 fn put_text(text: &[u8], strict: bool, sizes: PerKind, n: usize, out: &mut [u8])
     requires { ⌜ isAccepted (readText (now text)) ≡ true ⌝ }
-    requires { ⌜ strict ≡ isStrict (announced (lines (now text))) ⌝ }
+    requires { ⌜ ReadsBy strict (now text) ⌝ }
     requires { ⌜ sizes ≡ sizesOf (recordsOf (now text)) ⌝ }
     requires { ⌜ n ≡ length (tidy (recordsOf (now text))) ⌝ }
     requires { ⌜ 8 + n ≤ length (now out) ⌝ }
@@ -43,11 +44,11 @@ fn put_text(text: &[u8], strict: bool, sizes: PerKind, n: usize, out: &mut [u8])
     tidy_text::put_tidy(text, strict, sizes, &mut out[8..8 + n]);
 }
 
-// Writes the binary header of an accepted text. `sizes` are those that measuring gives, `n` is the length of its tidy text, and `count`
-// is how many SQ it has.
+// Writes the binary header of an accepted text. `sizes` are those that measuring gives, `n` is the length of the tidy text, and `count` is the number
+// of SQ lines.
 fn put_binary(text: &[u8], strict: bool, sizes: PerKind, n: usize, count: u32, out: &mut [u8])
     requires { ⌜ isAccepted (readText (now text)) ≡ true ⌝ }
-    requires { ⌜ strict ≡ isStrict (announced (lines (now text))) ⌝ }
+    requires { ⌜ ReadsBy strict (now text) ⌝ }
     requires { ⌜ sizes ≡ sizesOf (recordsOf (now text)) ⌝ }
     requires { ⌜ n ≡ length (tidy (recordsOf (now text))) ⌝ }
     requires { ⌜ count ≡ length (sqList (recordsOf (now text))) ⌝ }
@@ -61,10 +62,10 @@ fn put_binary(text: &[u8], strict: bool, sizes: PerKind, n: usize, count: u32, o
     binary_put::put_list(text, strict, out, 12 + n);
 }
 
-// Writes the binary header of an accepted text: 24, then 1, then 20.
+// Writes the binary header of an accepted text, or refuses with 24, then 1, then 20.
 fn write_accepted(text: &[u8], strict: bool, out: &mut [u8]) -> CountAnswer
     requires { ⌜ isAccepted (readText (now text)) ≡ true ⌝ }
-    requires { ⌜ strict ≡ isStrict (announced (lines (now text))) ⌝ }
+    requires { ⌜ ReadsBy strict (now text) ⌝ }
     ensures answer { λ r. ⌜ r ≡ answerOf (writingBinary (now (text .entry)) (length (now (out .entry)))) ⌝ }
     ensures wrote { λ _. ⌜ now (out .exit) ≡ outputOf (writingBinary (now (text .entry)) (length (now (out .entry)))) (now (out .entry)) ⌝ }
 {
@@ -86,13 +87,13 @@ fn write_accepted(text: &[u8], strict: bool, out: &mut [u8]) -> CountAnswer
     }
 }
 
-// Writes the binary header of `text` to the front of `out`, or answers the first refusal, which changes nothing.
+// Writes the binary header of `text` to the front of `out`, or answers the first refusal and changes nothing.
 pub fn binary_out(text: &[u8], out: &mut [u8]) -> CountAnswer
     ensures answer { λ r. ⌜ r ≡ answerOf (binaryOut (now (text .entry)) (length (now (out .entry)))) ⌝ }
     ensures wrote { λ _. ⌜ now (out .exit) ≡ outputOf (binaryOut (now (text .entry)) (length (now (out .entry)))) (now (out .entry)) ⌝ }
 {
     match read_judge::judge(text) {
         Judged::Refused(n, line) => CountAnswer::Refused(n, line),
-        Judged::Accepted(_) => write_accepted(text, read_repeat_rule::is_strict(text), out),
+        Judged::Accepted(_, once) => write_accepted(text, once, out),
     }
 }

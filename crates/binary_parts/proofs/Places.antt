@@ -1,4 +1,4 @@
--- What is answered is what stands there, step by step.
+-- What is answered is what is there, step by step.
 use Prim.Native.Nat.{ℕ, _+_, _-_, _≤_, _<_}
 use mathlib.Core.Path.{_≡_, refl, sym, ap, ap₂, _∙_}
 use mathlib.Core.Bool.{Bool, true, false, _&&_, cond, and-false}

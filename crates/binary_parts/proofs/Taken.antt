@@ -1,4 +1,4 @@
--- What is taken off the bytes from a place on: the places say what stands there.
+-- What is taken off the bytes from a place on: the places say what is there.
 use Prim.Native.Nat.{ℕ, _+_, _-_, _≤_, _<_}
 use mathlib.Core.Path.{_≡_, refl, _∙_}
 use mathlib.Core.Bool.{Bool, true, false, cond}

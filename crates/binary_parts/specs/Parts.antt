@@ -1,4 +1,4 @@
--- What the places stand for that the code answers when it takes a binary header apart.
+-- What the places mean that the code answers when it takes a binary header apart.
 use Prim.Native.Nat.{ℕ, _+_, _≤_}
 use mathlib.Core.Path.{_≡_}
 use mathlib.Core.Bool.{Bool, true, false, cond}
@@ -21,7 +21,7 @@ numberTaken s r = cond (r .ok) (some (r .value, drop (r .next) s)) none
 unfoldable pub runFrom : List ℕ → RunAt → Option (List ℕ × List ℕ)
 runFrom s r = cond (r .ok) (some (take (r .len) (drop (r .at) s), drop (r .at + r .len) s)) none
 
--- a reference: the bytes where its name stands, and its length
+-- a reference: the bytes of its name, and its length
 unfoldable pub referenceIn : List ℕ → ReferenceAt → Reference
 referenceIn s r = record { name = take (r .len) (drop (r .name) s); size = r .size }
 
@@ -30,13 +30,13 @@ unfoldable pub referenceFrom : List ℕ → ReferenceAt → Option (Reference ×
 unfolding referenceIn
 referenceFrom s r = cond (r .ok) (some (referenceIn s r, drop (r .next) s)) none
 
--- was a reference list taken, with nothing after it?
+-- was a whole reference list taken, with nothing after it?
 unfoldable pub isWhole : Option (List Reference × List ℕ) → Bool
 unfolding none?
 isWhole none = false
 isWhole (some p) = none? (p .1)
 
--- the references taken
+-- the references that were taken
 unfoldable pub listed : Option (List Reference × List ℕ) → List Reference
 listed none = []
 listed (some p) = p .0

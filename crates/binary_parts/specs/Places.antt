@@ -1,4 +1,4 @@
--- The places themselves that the code answers when it takes a binary header apart, also where nothing is found.
+-- The places that the code answers when it takes a binary header apart, also where it finds nothing.
 use Prim.Native.Nat.{ℕ, _+_, _-_}
 use mathlib.Core.Bool.{true, false, _&&_, cond}
 use mathlib.Core.List.{List}
@@ -21,7 +21,7 @@ numberAt s at =
     cond (ltb (length s - at) 4) (record { ok = false; value = 0; next = at })
     (record { ok = true; value = ofLittle (take 4 (drop at s)); next = at + 4 })
 
--- the run of bytes there, by its length
+-- the run of bytes there, given its length
 unfoldable pub runBy : List ℕ → ℕ → NumberAt → RunAt
 runBy s at n =
     cond (n .ok && leb (n .value) (length s - n .next)) (record { ok = true; at = n .next; len = n .value })
@@ -31,7 +31,7 @@ unfoldable pub runAt : List ℕ → ℕ → RunAt
 unfolding runBy numberAt
 runAt s at = runBy s at (numberAt s at)
 
--- the reference there, by its name with the closing byte and by its length
+-- the reference there, given its name with the closing byte and its length
 unfoldable pub referenceBy : List ℕ → ℕ → RunAt → NumberAt → ReferenceAt
 unfolding lastOr
 referenceBy s at r n =
@@ -47,7 +47,7 @@ referenceAt s at = let r : RunAt = runAt s at in referenceBy s at r (numberAt s 
 abbrev pub nowhere : PartsAt
 nowhere = record { ok = false; text = 0; len = 0; list = 0; count = 0 }
 
--- the parts there, by the text and by the number of references
+-- the parts there, given the text and the number of references
 unfoldable pub bothBy : List ℕ → RunAt → NumberAt → PartsAt
 unfolding isWhole takeList
 bothBy s t n =

@@ -1,4 +1,4 @@
-// A binary header taken apart: where its text and its reference list stand, or that it is none.
+// Takes a binary header apart: where its text and its reference list are, or that the bytes are not a binary header.
 ghost use mathlib.Core.Path.{_≡_};
 ghost use Prim.Native.Nat.{_+_, _≤_};
 ghost use lib.Dec.{eqb};
@@ -15,14 +15,14 @@ pub struct NumberAt {
     pub next: usize,
 }
 
-// A run of bytes: the bytes after it start at its end.
+// A run of bytes. The bytes after it start at its end.
 pub struct RunAt {
     pub ok: bool,
     pub at: usize,
     pub len: usize,
 }
 
-// A reference: where its name stands, its length, and where the bytes after it start.
+// A reference: where its name is, its length, and where the bytes after it start.
 pub struct ReferenceAt {
     pub ok: bool,
     pub name: usize,
@@ -31,7 +31,7 @@ pub struct ReferenceAt {
     pub next: usize,
 }
 
-// Where the text stands, and where the reference list starts and how many it has.
+// Where the text is, where the reference list starts, and how many references it has.
 pub struct PartsAt {
     pub ok: bool,
     pub text: usize,
@@ -40,7 +40,7 @@ pub struct PartsAt {
     pub count: u32,
 }
 
-// The number in the four bytes at `at`, if they are there.
+// The number in the four bytes at `at`, if there are four.
 fn take_number(bytes: &[u8], at: usize) -> NumberAt
     requires { ⌜ at ≤ length (now bytes) ⌝ }
     ensures taken { λ r. ⌜ takeNumber (drop at (now (bytes .entry))) ≡ numberTaken (now (bytes .entry)) r ⌝ }
@@ -62,7 +62,7 @@ fn take_number(bytes: &[u8], at: usize) -> NumberAt
     }
 }
 
-// The run of bytes at `at`, after its length.
+// The run of bytes at `at`, which comes after its length.
 fn take_sized(bytes: &[u8], at: usize) -> RunAt
     requires { ⌜ at ≤ length (now bytes) ⌝ }
     ensures taken { λ r. ⌜ takeSized (drop at (now (bytes .entry))) ≡ runFrom (now (bytes .entry)) r ⌝ }
@@ -88,13 +88,13 @@ fn take_sized(bytes: &[u8], at: usize) -> RunAt
     }
 }
 
-// Whether a zero byte closes the run: no bytes at all are not closed.
+// Whether a zero byte is at the end of the run. An empty run has none.
 fn is_closed(run: &[u8]) -> bool
     ensures { λ r. ⌜ r ≡ eqb (lastOr 1 (now (run .entry))) 0 ⌝ }
 {
     let n = run.len();
     if n == 0 {
-        return false; // nothing closes no bytes
+        return false; // an empty run has no last byte
     }
     run[n - 1] == 0
 }
@@ -131,7 +131,7 @@ pub fn take_reference(bytes: &[u8], at: usize) -> ReferenceAt
     }
 }
 
-// Whether `count` references stand at `start`, and nothing after them.
+// Whether `count` references start at `start` and nothing follows them.
 fn is_whole_list(bytes: &[u8], start: usize, count: u32) -> bool
     requires { ⌜ start ≤ length (now bytes) ⌝ }
     ensures { λ r. ⌜ r ≡ isWhole (takeList count (drop start (now (bytes .entry)))) ⌝ }
@@ -149,7 +149,7 @@ fn is_whole_list(bytes: &[u8], start: usize, count: u32) -> bool
     at == bytes.len()
 }
 
-// The text and the reference list at `at`, with nothing after them.
+// The text and the reference list at `at`, if nothing follows them.
 fn take_both(bytes: &[u8], at: usize) -> PartsAt
     requires { ⌜ at ≤ length (now bytes) ⌝ }
     ensures taken { λ r. ⌜ takeBoth (drop at (now (bytes .entry))) ≡ partsFrom (now (bytes .entry)) r ⌝ }
@@ -180,7 +180,7 @@ fn take_both(bytes: &[u8], at: usize) -> PartsAt
     }
 }
 
-// The parts of a binary header: `BAM` and 1 at the start, then the text and the reference list.
+// The parts of a binary header: `BAM` and the byte 1 at the start, then the text and the reference list.
 pub fn parts(bytes: &[u8]) -> PartsAt
     ensures taken { λ r. ⌜ binaryParts (now (bytes .entry)) ≡ partsFrom (now (bytes .entry)) r ⌝ }
     ensures stands { λ r. ⌜ PartsStand (now (bytes .entry)) r ⌝ }
@@ -198,7 +198,7 @@ pub fn parts(bytes: &[u8]) -> PartsAt
     }
 }
 
-// How many bytes are left without the zero bytes at the end.
+// The length of the run without the zero bytes at its end.
 pub fn unpadded_len(run: &[u8]) -> usize
     ensures { λ r. ⌜ r ≡ length (unpadded (now (run .entry))) ⌝ }
 {

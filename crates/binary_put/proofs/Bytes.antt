@@ -18,7 +18,7 @@ store : (out : List ℕ) (at b : ℕ) → at + 1 ≤ length out → set out at b
 unfolding over
 store out at b h = sets-eq (b ∷ []) out at h
 
--- what is written behind `xs`
+-- what is written after `xs`
 pub behind : (out : List ℕ) (at : ℕ) (xs ys : List ℕ) (place : ℕ) → place ≡ at + length xs → at + length xs + length ys ≤ length out → over (over out at xs) place ys ≡ over out at (xs ++ ys)
 behind out at xs ys place e h = ap (λ p. over (over out at xs) p ys) e ∙ over-over out at xs ys h
 

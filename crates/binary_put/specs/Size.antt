@@ -1,4 +1,4 @@
--- How many references a list has, and how many bytes these take.
+-- How many references a list has, and how many bytes they take.
 use mathlib.Core.List.{List}
 use lib.ListN.{length}
 use Rattle.format.specs.References.{Reference}

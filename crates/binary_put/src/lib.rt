@@ -1,4 +1,4 @@
-// The SQ list of a text, measured, and written as a reference list of the binary header.
+// Measures the SQ list of a text, and writes it as the reference list of a binary header.
 ghost use mathlib.Core.Path.{_≡_};
 ghost use Prim.Native.Nat.{_≤_, _+_, _*_};
 ghost use lib.ListN.{length};
@@ -7,14 +7,14 @@ ghost use Rattle.format.specs.Binary.{referenceBytes, listBytes};
 ghost use Rattle.binary_references.specs.Next.{sqFrom};
 ghost use Rattle.binary_put.specs.Size.{listSize};
 
-// How many references a list has, and how many bytes these take.
+// How many references a list has, and how many bytes they take.
 pub struct ListSize {
     pub count: u32,
     pub bytes: usize,
 }
 
-// The size of a text's SQ list; `strict` is what the text says of repeated tags. There are no more references than bytes of the text, and
-// no name is longer than it.
+// The size of a text's SQ list; `strict` is the rule for repeated tags that its lines are read by. There are no more references than bytes of
+// the text, and no name is longer than it.
 pub fn measure_list(text: &[u8], strict: bool) -> ListSize
     requires { ⌜ length (now text) ≤ 16777216 ⌝ }
     ensures size { λ r. ⌜ r ≡ listSize (sqFrom strict (now (text .entry)) 0) ⌝ }
@@ -34,7 +34,7 @@ pub fn measure_list(text: &[u8], strict: bool) -> ListSize
     }
 }
 
-// Writes a reference at `at`, and gives the place behind it: the name's length with its closing zero, the name, that zero, and the LN.
+// Writes a reference at `at` and returns the place after it: the length of the name with its closing zero, the name, that zero, and the LN.
 fn put_reference(out: &mut [u8], at: usize, name: &[u8], size: u32) -> usize
     requires { ⌜ length (now name) ≤ 16777216 ⌝ }
     requires { ⌜ at + length (now name) + 9 ≤ length (now out) ⌝ }

@@ -11,23 +11,24 @@ use borrow.Author.Tests.{eq-eqb, ltb-true, ltb-false}
 use Rattle.format.specs.Lines.{Piece, lines, linesFrom}
 use Rattle.format.specs.Records as records
 use Rattle.format.specs.Records.{Record, header, reference, group, program, comment, Line, refusedLine, read}
-use Rattle.format.specs.Reading.{accept, readText, announced, isStrict}
+use Rattle.format.specs.Reading.{accept, readText}
 use Rattle.byte_slices.specs.First.{firstLine}
 use Rattle.byte_slices.specs.Stands.{Stands, Each}
 use Rattle.byte_slices.specs.declared.Cut.{Cut}
 use Rattle.byte_slices.proofs.Lines.{lines-none}
 use Rattle.byte_slices.proofs.First.{lines-first, first-le, first-within, first-some}
 use Rattle.byte_slices.proofs.Stands.{stands-front, stands-onward}
-use Rattle.accepted.specs.Pieces.{Pairs, pieces}
-use Rattle.accepted.specs.Admits.{strictly}
+use Rattle.accepted.specs.Pieces.{pieces}
+use Rattle.lists.specs.Pairs.{Pairs}
 use Rattle.accepted.specs.Sound.{FitsRecord, kind}
 use Rattle.accepted.specs.Spelled as sp
 use Rattle.accepted.specs.Spelled.{AcceptedLine, kind₀}
-use Rattle.accepted.proofs.Bools.{never}
+use Rattle.lists.proofs.Bools.{never}
 use Rattle.accepted.proofs.Sound.{made-kind, line-sound}
 use Rattle.accepted.proofs.Spelled.{line-accepted}
 use Rattle.accepted.proofs.Stands.{stands-within, line-stand}
-use Rattle.accepted.proofs.Text.{text-lines}
+use Rattle.accepted_rule.specs.Rule.{ReadsBy}
+use Rattle.accepted_rule.proofs.Rule.{lines-by}
 use denote.Enum.Declared.{tagOf}
 use types.Run.{OneOf, miss}
 use Rattle.record.proofs.Head.{the-type}
@@ -57,16 +58,16 @@ pairs-list strict (p ∷ ps) [] h = absurd h
 pairs-list strict (p ∷ ps) (r ∷ rs) h = ap (λ l. withReference l (lineReferences strict ps)) (h .0) ∙ ap (λ l. sqList (r ∷ []) ++ l) (pairs-list strict ps rs (h .1)) ∙ sym (one-more r rs)
 
 -- from the first line on it is the SQ list
-pub sq-all : (strict : Bool) (t : List ℕ) (rs : List Record) → readText t ≡ accept rs → strict ≡ isStrict (announced (lines t)) → sqFrom strict t 0 ≡ sqList rs
-unfolding lines strictly
-sq-all strict t rs e s = rw s (pairs-list (strictly t) (lines t) rs (text-lines t rs e))
+pub sq-all : (strict : Bool) (t : List ℕ) (rs : List Record) → readText t ≡ accept rs → ReadsBy strict t → sqFrom strict t 0 ≡ sqList rs
+unfolding lines
+sq-all strict t rs e s = pairs-list strict (lines t) rs (lines-by strict t rs e s)
 
--- behind the last line there is none
+-- there is no line after the last
 pub sq-none : (strict : Bool) (t : List ℕ) (at : ℕ) → length t ≤ at → sqFrom strict t at ≡ []
 unfolding lineReferences
 sq-none strict t at h = ap (λ s. lineReferences strict (linesFrom at s)) (drop-of-length-le t h) ∙ ap (lineReferences strict) (lines-none at)
 
--- and none is told
+-- and none is answered
 pub next-none : (strict : Bool) (t : List ℕ) (at : ℕ) → at ≤ length t → length t ≤ at → nextFrom strict t at ≡ record { found = false; name = record { at = 0; len = 0 }; length = 0; next = at }
 unfolding nextIn
 next-none strict t at h k =
@@ -124,7 +125,7 @@ turn strict t at h c f =
 
 -- ---- by the line's head
 
--- an SQ: its name stands in the text, its LN is small, and its reference comes first
+-- an SQ: its name is in the text, its LN is small, and its reference comes first
 pub record IsSq (t : List ℕ) (q : Stretch) (n : ℕ) (l : Line) : Type 0 where
   pub inside : q .at + q .len ≤ length t
   pub small : n < 2147483648
@@ -211,10 +212,10 @@ sq-never strict p h = go (records.line strict p) refl
     go (refusedLine n) e = record { list = λ rest. refl; next = λ k rest. refl }
     go (read r) e = no-sq (p .bytes) r (second-byte strict (p .at) (p .bytes) r (line-accepted strict p r e)) h
 
--- ---- by what the next reference tells
+-- ---- by what the next reference is
 
 module _ (strict : Bool) (t : List ℕ) (r : NextReference) where
-  -- it is found: it comes before those behind it
+  -- it is found: it comes before those after it
   pub told-one : r .found ≡ true → toldList strict t r ≡ toldReference t r ∷ sqFrom strict t (r .next)
   unfolding toldList
   told-one e = ap (λ b. cond b (toldReference t r ∷ sqFrom strict t (r .next)) []) e

@@ -1,4 +1,4 @@
--- The SQ list of a text, line by line, and the part of it that the next reference tells.
+-- The SQ list of a text, line by line, and the part of it that starts with the next reference.
 use Prim.Native.Nat.{ℕ, _+_, _≤_, _<_}
 use mathlib.Core.Path.{_≡_}
 use mathlib.Core.Bool.{Bool, true, false, cond}
@@ -15,7 +15,7 @@ use Rattle.binary_references.specs.declared.NextReference.{NextReference
 unfoldable pub mayBeSq : List ℕ → Bool
 mayBeSq s = eqb (getD s 1 0) 83
 
--- the reference of a line, if it is an SQ, before those of the lines after it
+-- the reference of a line that is an SQ, before those of the lines after it
 unfoldable pub withReference : Line → List Reference → List Reference
 unfolding sqList
 withReference (refusedLine n) list = list
@@ -30,21 +30,21 @@ lineReferences strict (p ∷ ps) = withReference (line strict p) (lineReferences
 abbrev pub sqFrom : Bool → List ℕ → ℕ → List Reference
 sqFrom strict t at = lineReferences strict (linesFrom at (drop at t))
 
--- the reference that an answer tells: the bytes where its name stands, and its LN
+-- the reference in an answer: the bytes of its name, and its LN
 unfoldable pub toldReference : List ℕ → NextReference → Reference
 toldReference t r = record { name = take (r .name .len) (drop (r .name .at) t); size = r .length }
 
--- the list that an answer tells: its reference and those behind it, or that none is left
+-- the list in an answer: its reference and those after it, or the empty list
 unfoldable pub toldList : Bool → List ℕ → NextReference → List Reference
 unfolding toldReference
 toldList strict t r = cond (r .found) (toldReference t r ∷ sqFrom strict t (r .next)) []
 
--- where the first of some lines starts, or the end of the text where there is none
+-- where the first of some lines starts, or the end of the text if there are none
 unfoldable pub startOf : ℕ → List Piece → ℕ
 startOf end [] = end
 startOf end (p ∷ ps) = p .at
 
--- a line, and where the line after it starts: the reference of an SQ, and else what the lines after it tell
+-- a line, and where the line after it starts: the reference of an SQ, or else what the lines after it give
 unfoldable pub nextBy : Line → ℕ → NextReference → NextReference
 unfolding stretchOf
 nextBy (refusedLine n) next rest = rest
@@ -60,11 +60,11 @@ unfolding nextBy startOf line
 nextIn strict end [] = record { found = false; name = record { at = 0; len = 0 }; length = 0; next = end }
 nextIn strict end (p ∷ ps) = nextBy (line strict p) (startOf end ps) (nextIn strict end ps)
 
--- of the lines from the offset `at` of the text `t` on
+-- the first SQ of the lines from the offset `at` of the text `t` on
 abbrev pub nextFrom : Bool → List ℕ → ℕ → NextReference
 nextFrom strict t at = nextIn strict (length t) (linesFrom at (drop at t))
 
--- what is answered; that its name and its next line stand in the text, and that its LN is below 2 ^ 31
+-- the answer; its name and its next line are in the text, and its LN is below 2 ^ 31
 pub record NextInText (strict : Bool) (t : List ℕ) (start : ℕ) (r : NextReference) : Type 0 where
   pub is : r ≡ nextFrom strict t start
   pub name : r .name .at + r .name .len ≤ length t

@@ -1,4 +1,4 @@
-// The SQ list of a text by name and length, one reference at a time: where a name stands in the text, and the LN.
+// Walks over the SQ list of a text, one reference at a time: where the name is in the text, and the LN.
 use record::Head;
 use record::Stretch;
 ghost use mathlib.Core.Path.{_≡_};
@@ -6,7 +6,7 @@ ghost use Prim.Native.Nat.{_≤_};
 ghost use lib.ListN.{length};
 ghost use Rattle.binary_references.specs.Next.{mayBeSq, sqFrom, toldList, NextInText};
 
-// The next reference and the offset of the line after its own; `found` is false where no SQ is left.
+// The next reference, and the offset of the line after its own; `found` is false if no SQ is left.
 pub struct NextReference {
     pub found: bool,
     pub name: Stretch,
@@ -14,7 +14,7 @@ pub struct NextReference {
     pub next: usize,
 }
 
-// Whether a line may be an SQ: an accepted line's second byte tells its kind.
+// Whether a line may be an SQ. The second byte of an accepted line determines its kind.
 fn may_be_sq(line: &[u8]) -> bool
     ensures { λ r. ⌜ r ≡ mayBeSq (now (line .entry)) ⌝ }
 {
@@ -24,7 +24,8 @@ fn may_be_sq(line: &[u8]) -> bool
     line[1] == b'S'
 }
 
-// The first SQ of the lines from the offset `start` on, where a line starts; `strict` is what the text says of repeated tags.
+// The first SQ of the lines from the offset `start` on, where a line starts; `strict` is the rule for repeated tags that they are
+// read by.
 pub fn next_reference(text: &[u8], strict: bool, start: usize) -> NextReference
     requires { ⌜ length (now text) ≤ 16777216 ⌝ }
     requires { ⌜ start ≤ length (now text) ⌝ }

@@ -1,4 +1,4 @@
-// The reference list of a binary header compared with the SQ list of a text.
+// Compares the reference list of a binary header with the SQ list of a text.
 use binary_parts::ReferenceAt;
 use binary_references::NextReference;
 ghost use mathlib.Core.Path.{_≡_};
@@ -10,7 +10,7 @@ ghost use Rattle.format.specs.Binary.{takeList};
 ghost use Rattle.binary_parts.specs.Parts.{referenceIn, isWhole, listed};
 ghost use Rattle.binary_references.specs.Next.{sqFrom, toldReference};
 
-// Whether a reference of the binary header and one of the text have one name and one length.
+// Whether a reference of the binary header and one of the text have the same name and length.
 fn is_same(bytes: &[u8], reference: ReferenceAt, text: &[u8], next: NextReference) -> bool
     requires { ⌜ reference .name + reference .len ≤ length (now bytes) ⌝ }
     requires { ⌜ next .name .at + next .name .len ≤ length (now text) ⌝ }
@@ -26,7 +26,8 @@ fn is_same(bytes: &[u8], reference: ReferenceAt, text: &[u8], next: NextReferenc
     byte_slices::same(&bytes[start..end], &text[from..to])
 }
 
-// Whether the `count` references at `list` are the text's SQ list, in order; `strict` is what the text says of repeated tags.
+// Whether the `count` references at `list` are the text's SQ list, in order; `strict` is the rule for repeated tags that its
+// lines are read by.
 pub fn is_sq_list(bytes: &[u8], list: usize, count: u32, text: &[u8], strict: bool) -> bool
     requires { ⌜ list ≤ length (now bytes) ⌝ }
     requires { ⌜ isWhole (takeList count (drop list (now bytes))) ≡ true ⌝ }

@@ -1,4 +1,4 @@
--- The laws of `upto` and `before`: the piece in front of a byte does not hold it, and the byte stands behind it.
+-- The laws of `upto` and `before`: the piece in front of a byte does not hold it, and the byte comes after it.
 use Prim.Native.Nat.{ℕ, zero, suc, _-_, _≤_, _<_}
 use mathlib.Core.Path.{_≡_, refl, sym, ap, _∙_}
 use mathlib.Core.Bool.{Bool, true, false, cond}

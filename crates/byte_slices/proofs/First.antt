@@ -58,13 +58,13 @@ chomp-none (b ∷ c ∷ d ∷ s) h = ap (λ p. b ∷ p) (chomp-none (c ∷ d ∷
     go true k = absurd (omega arith)
     go false k = omega arith
 
--- a line of its LF alone
+-- a line that is only its LF
 pub chomp-one : (s : List ℕ) → 0 < length s → getD s 0 0 ≡ 10 → chomp (take 1 s) ≡ []
 unfolding chomp
 chomp-one [] h e = absurd (omega arith)
 chomp-one (b ∷ s) h e = rw (eq-eqb b 10 e) refl
 
--- an LF, and what stands before it
+-- an LF, and what comes before it
 chomp-more : (m : ℕ) (s : List ℕ) → suc m < length s → getD s (suc m) 0 ≡ 10
     → chomp (take (suc (suc m)) s) ≡ cond (eqb (getD s m 0) 13) (take m s) (take (suc m) s)
 unfolding chomp

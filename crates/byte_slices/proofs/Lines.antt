@@ -34,7 +34,7 @@ broken-more (b ∷ s) h = go (eqb b 10) refl (broken-more s) h
     go true e ih k = ap (λ x. (x ∷ []) ∷ broken s) (sym (eqb-true _ _ e))
     go false e ih k = ap (onto b) (ih (omega arith))
 
--- no LF: the rest is one line, whatever byte stands before it
+-- no LF: the rest is one line, whatever byte comes before it
 onto-last : (s : List ℕ) → upto 10 s ≡ length s → (b : ℕ) → onto b (broken s) ≡ (b ∷ s) ∷ []
 unfolding upto broken onto
 onto-last [] h b = refl

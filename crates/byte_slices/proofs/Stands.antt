@@ -1,4 +1,4 @@
--- Where lines and pieces stand in their text, and which byte they do not hold.
+-- Where lines and pieces are in their text, and which byte they do not hold.
 use Prim.Native.Nat.{ℕ, zero, suc, _+_, _-_, _≤_, _<_}
 use mathlib.Core.Path.{_≡_, refl, sym, _∙_}
 use mathlib.Core.Logic.{⊎-elim}
@@ -38,7 +38,7 @@ unfolding Each placed
 each-bytes P at [] h = tt
 each-bytes P at (p ∷ ps) h = (h .0, each-bytes P (at + length p + 1) ps (h .1))
 
--- ---- where a piece stands
+-- ---- where a piece is
 
 pub stands-front : (s : List ℕ) (at n : ℕ) → n ≤ length s → Stands s at (record { at = at; bytes = take n s })
 stands-front s at n h =
@@ -59,7 +59,7 @@ stands-onward s at n h p k =
 
 -- ---- each line, each piece
 
--- what holds of the first, and of the others once it holds in the part where they stand
+-- what holds of the first, and of the others once it holds in the part where they are
 module _ (Q : List ℕ → ℕ → Piece → Type 0) (onward : (s : List ℕ) (at n : ℕ) → n ≤ length s → (p : Piece) → Q (drop n s) (at + n) p → Q s at p) where
   pub each-line : ((s : List ℕ) (at : ℕ) → Q s at (record { at = at; bytes = take (firstLine s .len) s })) → (at : ℕ) (s : List ℕ) → Each (Q s at) (linesFrom at s)
   unfolding Each
@@ -92,7 +92,7 @@ module _ (Q : List ℕ → ℕ → Piece → Type 0) (onward : (s : List ℕ) (a
                 each-map (Q (drop n s) (at + n)) (Q s at) (onward s at n h) (placed (at + n) (cut d (drop n s))) (ih n p h),
               )
 
--- ---- where they stand
+-- ---- where they are
 
 pub lines-stand : (at : ℕ) (s : List ℕ) → Each (Stands s at) (linesFrom at s)
 lines-stand = each-line Stands stands-onward (λ s at. stands-front s at (firstLine s .len) (omega (arith, first-le s, first-within s)))
@@ -110,6 +110,6 @@ lines-free = each-line (λ s at p. Free 10 (p .bytes)) (λ s at n h p k. k) (λ 
 pub pieces-free : (d at : ℕ) (s : List ℕ) → Each (λ p. Free d (p .bytes)) (placed at (cut d s))
 pieces-free d = each-piece (λ s at p. Free d (p .bytes)) (λ s at n h p k. k) d (λ s at. before-free d s)
 
--- the same of the bytes alone
+-- the same for only the bytes
 pub cut-free : (d : ℕ) (s : List ℕ) → Each (Free d) (cut d s)
 cut-free d s = each-bytes (Free d) 0 (cut d s) (pieces-free d 0 s)

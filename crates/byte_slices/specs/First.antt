@@ -1,4 +1,4 @@
--- The first line of a text, by its two lengths.
+-- The first line of a text, given by its two lengths.
 use Prim.Native.Nat.{ℕ, suc}
 use mathlib.Core.List.{List}
 use lib.ListN.{length, take}
@@ -6,7 +6,7 @@ use Rattle.format.specs.Lines.{chomp}
 use Rattle.byte_slices.specs.Upto.{upto}
 use Rattle.byte_slices.specs.declared.Cut.{Cut}
 
--- without its ending, and with it; nothing where there is no text
+-- without its ending, and with it; both are 0 if there is no text
 unfoldable pub firstLine : List ℕ → Cut
 unfolding upto chomp
 firstLine s =

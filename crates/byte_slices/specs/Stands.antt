@@ -1,4 +1,4 @@
--- Where a piece stands in a text, and what holds of each of a list.
+-- Where a piece is in a text, and what holds of each element of a list.
 use Prim.Native.Nat.{ℕ, _+_, _-_, _≤_}
 use mathlib.Core.Path.{_≡_}
 use mathlib.Core.List.{List, [], _∷_}
@@ -6,7 +6,7 @@ use lib.ListN.{length, take, drop}
 use Rattle.format.specs.Lines.{Piece}
 use Rattle.byte_slices.specs.Upto.{upto}
 
--- `p` is bytes of `s`, where the first byte of `s` has the offset `at`
+-- the bytes of `p` are in `s` at its place, where the first byte of `s` has the offset `at`
 pub record Stands (s : List ℕ) (at : ℕ) (p : Piece) : Type 0 where
   pub from : at ≤ p .at
   pub within : p .at - at + length (p .bytes) ≤ length s
@@ -16,6 +16,6 @@ unfoldable pub Each : {A : Type 0} → (A → Type 0) → List A → Type 0
 Each P [] = Unit
 Each P (x ∷ xs) = P x × Each P xs
 
--- `d` is no byte of `s`
+-- no byte of `s` is `d`
 abbrev pub Free : ℕ → List ℕ → Type 0
 Free d s = upto d s ≡ length s

@@ -5,7 +5,7 @@ use mathlib.Core.List.{List, [], _∷_}
 use lib.ListN.{take}
 use lib.Dec.{eqb}
 
--- how many bytes of `s` stand before the first `d`: all where there is none
+-- how many bytes of `s` come before the first `d`: all if there is none
 unfoldable pub upto : ℕ → List ℕ → ℕ
 upto d [] = 0
 upto d (b ∷ s) = cond (eqb b d) 0 (suc (upto d s))

@@ -1,4 +1,4 @@
-// Bytes of a lent slice: where one stands first, whether two slices are equal, the first line, and bytes copied.
+// Bytes of a lent slice: finds the first place of a byte, compares slices, cuts off the first line, and copies bytes.
 ghost use mathlib.Core.Path.{_≡_};
 ghost use Prim.Native.Nat.{_≤_, _+_, _*_, _/_};
 ghost use lib.Dec.{leb};
@@ -8,7 +8,7 @@ ghost use Rattle.byte_slices.specs.Upto.{upto, leads};
 ghost use Rattle.byte_slices.specs.First.{firstLine};
 ghost use Rattle.byte_slices.specs.Over.{over};
 
-// Whether none of the 16 bytes of `s` from `at` on is `d`: all are looked at, with no way out, so that a processor can take them at once.
+// Whether none of the 16 bytes of `s` from `at` on is `d`. All 16 are always looked at, so that the processor can compare them at once.
 fn is_free_block(s: &[u8], at: usize, d: u8) -> bool
     requires { ⌜ at + 16 ≤ length (now s) ⌝ }
     ensures { λ r. ⌜ r ≡ leb 16 (upto d (drop at (now (s .entry)))) ⌝ }
@@ -24,7 +24,7 @@ fn is_free_block(s: &[u8], at: usize, d: u8) -> bool
     free
 }
 
-// How many bytes of `s` stand in whole blocks of 16 before the first `d`.
+// How many bytes are in the blocks of 16 at the front of `s` that come before the one with the first `d`.
 fn pass_blocks(s: &[u8], d: u8) -> usize
     ensures { λ r. ⌜ r ≡ upto d (now (s .entry)) / 16 * 16 ⌝ }
 {
@@ -38,7 +38,7 @@ fn pass_blocks(s: &[u8], d: u8) -> usize
     at
 }
 
-// How many bytes of `s` stand before the first `d`: all where there is none. Whole blocks first, then byte by byte.
+// How many bytes of `s` come before the first `d`: all if there is none. Goes block by block, and then byte by byte.
 pub fn upto(s: &[u8], d: u8) -> usize
     ensures { λ r. ⌜ r ≡ upto d (now (s .entry)) ⌝ }
 {
@@ -102,7 +102,7 @@ pub struct Cut {
     pub next: usize,
 }
 
-// The first line of `s`: it ends at LF, and one CR just before that LF belongs to the ending.
+// The first line of `s`. It ends at LF, and one CR just before that LF belongs to the ending.
 pub fn first_line(s: &[u8]) -> Cut
     ensures { λ r. ⌜ r ≡ firstLine (now (s .entry)) ⌝ }
 {
@@ -125,7 +125,7 @@ pub fn first_line(s: &[u8]) -> Cut
     }
 }
 
-// Copies all of `from` into `out` at `at`.
+// Copies all of `from` into `out`, starting at `at`.
 pub fn put_bytes(out: &mut [u8], at: usize, from: &[u8])
     requires { ⌜ at + length (now from) ≤ length (now out) ⌝ }
     ensures { λ _. ⌜ now (out .exit) ≡ over (now (out .entry)) at (now (from .entry)) ⌝ }

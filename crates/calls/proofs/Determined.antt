@@ -7,7 +7,7 @@ use Rattle.format.proofs.Determined.{one-result}
 use Rattle.calls.specs.Answers.{partStanding}
 
 module _ (text kept stand : List ℕ) (kind ordinal a b : ℕ) (from aside : ℕ × ℕ) where
-  -- what the contract of `field` says of a part: its bytes, and where it stands
+  -- what the contract of `field` says of a part: its bytes, and where it is
   pub record Part (bytes : List ℕ) (place : ℕ × ℕ) : Type 0 where
     pub value : bytes ≡ looking text kept kind ordinal a b stand
     pub stands : place ≡ partStanding (valuing text kept kind ordinal a b) from aside

@@ -1,3 +1,3 @@
-pub mod Told
+pub mod OwnCatalogue
 pub mod Located
 pub mod Determined

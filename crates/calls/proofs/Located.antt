@@ -1,4 +1,4 @@
--- The line that is answered is the one on which the record stands: what is cut out of the text there reads as this record.
+-- The line in the answer is the line of the record: that line of the text reads as this record.
 use Prim.Native.Nat.{ℕ, zero, suc, _+_}
 use mathlib.Core.Path.{_≡_, refl, sym, ap, _∙_}
 use mathlib.Core.Bool.{Bool, true, false, cond}
@@ -12,12 +12,12 @@ use Rattle.format.specs.Records.{Record, code, read, line}
 use Rattle.format.specs.Reading.{accept, readText, isStrict, announced, ofKind}
 use Rattle.format.specs.Calls.{yes, there, linesOf, locating}
 use Rattle.accepted.specs.Admits.{strictly}
-use Rattle.accepted.specs.Pieces.{Pairs}
+use Rattle.lists.specs.Pairs.{Pairs}
 use Rattle.accepted.specs.Read.{recordsOf}
-use Rattle.accepted.proofs.Bools.{never}
+use Rattle.lists.proofs.Bools.{never}
 use Rattle.accepted.proofs.Text.{text-lines}
 use Rattle.read.proofs.Fresh.{passed}
-use Rattle.calls.proofs.Told.{there-some, located}
+use Rattle.calls.proofs.OwnCatalogue.{there-some, located}
 
 -- the line `l` reads as the record of kind `k` with `i` of that kind before it
 pub record On (t : List ℕ) (k i l : ℕ) : Type 0 where
@@ -40,7 +40,7 @@ record From (strict : Bool) (ps : List Piece) (qs : List Record) (i l m : ℕ) :
   pub stands : getElem? ps ahead ≡ some cut
   pub reads : line strict cut ≡ read here
 
--- one line more in front
+-- one more line in front
 further : (strict : Bool) (p : Piece) (ps : List Piece) (qs rs : List Record) (i j l m : ℕ) → getElem? rs i ≡ getElem? qs j → From strict ps qs j (l + 1) m → From strict (p ∷ ps) rs i l m
 further strict p ps qs rs i j l m q x = record {
   ahead = suc (x .ahead);

@@ -19,7 +19,7 @@ unfoldable pub countOf : Answer ℕ → parser.CountAnswer
 countOf (refused n l) = Refused n (record { 0 = l })
 countOf (yes n) = Count n
 
--- a refusal and its line, or where the key stands and how long it is
+-- a refusal and its line, or where the key is and how long it is
 unfoldable pub keyAnswerOf : Answer Piece → KeyAnswer
 keyAnswerOf (refused n l) = key.Refused n (record { 0 = l })
 keyAnswerOf (yes p) = key.At (p .at) (length (p .bytes))
@@ -34,12 +34,12 @@ unfoldable pub lineAnswerOf : Answer ℕ → LineAnswer
 lineAnswerOf (refused n l) = line.Refused n (record { 0 = l })
 lineAnswerOf (yes l) = line.Is (record { 0 = l })
 
--- where the value of a field stands and how long it is, or that the stand-in takes its place
+-- where the value of a field is and how long it is, or that the stand-in is used
 unfoldable pub valuePlaceOf : Answer Piece → ValuePlace
 valuePlaceOf (refused n l) = place.StandIn
 valuePlaceOf (yes p) = place.At (p .at) (length (p .bytes))
 
--- where a lookup's answer stands: in the text, from the value's offset on, or where the stand-in stands
+-- where the answer of a lookup is: in the text at the value's offset, or where the stand-in is
 unfoldable pub partStanding : Answer Piece → ℕ × ℕ → ℕ × ℕ → ℕ × ℕ
 partStanding (refused n l) text stand = stand
 partStanding (yes p) text stand = (text .0, p .at + text .1)

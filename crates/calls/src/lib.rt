@@ -1,4 +1,4 @@
-// The calls that look up a record over a text and its catalogue: counts, keys, lengths, lines and fields. Each judges the text and the catalogue first.
+// The calls that look up a record in a text and its catalogue: counts, keys, lengths, lines and fields. Each first judges the text and the catalogue.
 use catalogue_lookup::Found;
 use catalogue_lookup::Located;
 use catalogue_lookup::Sized;
@@ -27,7 +27,7 @@ pub enum LineAnswer {
     Is(LineNo),
 }
 
-// The stand-in takes the value's place, or the value's offset and length.
+// The value's offset and length, or that the stand-in is used.
 pub enum ValuePlace {
     StandIn,
     At(u32, u32),
@@ -51,7 +51,7 @@ pub fn count(text: &[u8], catalogue: &[u8], kind: u8) -> CountAnswer
     }
 }
 
-// Where the key of a record stands: SQ, RG and PG have one.
+// Where the key of a record is. SQ, RG and PG have one.
 pub fn key(text: &[u8], catalogue: &[u8], kind: u8, ordinal: u32) -> KeyAnswer
     ensures { λ r. ⌜ r ≡ keyAnswerOf (keying (now (text .entry)) (now (catalogue .entry)) kind ordinal) ⌝ }
 {
@@ -77,7 +77,7 @@ pub fn length(text: &[u8], catalogue: &[u8], ordinal: u32) -> LengthAnswer
     }
 }
 
-// The line of the record of a kind, 1 to 5, with an ordinal among its kind.
+// The line of the record with an ordinal among those of a kind, 1 to 5.
 pub fn line(text: &[u8], catalogue: &[u8], kind: u8, ordinal: u32) -> LineAnswer
     ensures { λ r. ⌜ r ≡ lineAnswerOf (locating (now (text .entry)) (now (catalogue .entry)) kind ordinal) ⌝ }
 {
@@ -90,7 +90,7 @@ pub fn line(text: &[u8], catalogue: &[u8], kind: u8, ordinal: u32) -> LineAnswer
     }
 }
 
-// Where the value of a field stands in the text: nowhere if anything is amiss or there is no such field.
+// Where the value of a field is in the text, or that the stand-in is used, because of a refusal or because there is no such field.
 pub fn place(text: &[u8], catalogue: &[u8], kind: u8, ordinal: u32, a: u8, b: u8) -> ValuePlace
     ensures { λ r. ⌜ r ≡ valuePlaceOf (valuing (now (text .entry)) (now (catalogue .entry)) kind ordinal a b) ⌝ }
 {
@@ -103,7 +103,7 @@ pub fn place(text: &[u8], catalogue: &[u8], kind: u8, ordinal: u32, a: u8, b: u8
     }
 }
 
-// The value of a field as a part of the text, or the whole stand-in where anything is amiss or there is no such field.
+// The value of a field as a part of the text, or the whole stand-in if the call is refused or there is no such field.
 pub fn field<'a>(
     text: &'a [u8],
     catalogue: &[u8],

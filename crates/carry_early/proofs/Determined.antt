@@ -1,4 +1,4 @@
--- The first line that is kept stands at one place.
+-- There is one place of the first kept line.
 use mathlib.Core.Path.{_≡_, refl, sym, _∙_}
 use mathlib.Core.Bool.{Bool}
 use mathlib.Core.List.{List}

@@ -24,7 +24,7 @@ use Rattle.read_admission.proofs.Admission.{barring-is, refusal-none, refusal-s
 use Rattle.read_repeat_rule.specs.Rule.{strictAfter}
 use Rattle.carry_early.specs.Early.{withLine, earlyFrom}
 
--- no key is used where nothing stands before
+-- no key is used if no line comes before
 untaken : (t : List ℕ) (x : Head) → isTaken [] t x ≡ false
 unfolding isTaken isUsed any
 untaken t (head.Refused n) = refl

@@ -1,4 +1,4 @@
--- Where the first line that is kept stands.
+-- Where the first kept line is.
 use Prim.Native.Nat.{ℕ, _≤_}
 use mathlib.Core.Path.{_≡_}
 use mathlib.Core.List.{List, [], _∷_}
@@ -7,12 +7,12 @@ use Rattle.format.specs.Lines.{Piece, linesFrom}
 use Rattle.carry_early.specs.Early.{earlyOf}
 use Rattle.carry_early.specs.declared.Begin.{Begin}
 
--- where the first of some lines starts, or the end of the text where there is none
+-- where the first of some lines starts, or the end of the text if there are none
 unfoldable pub startOf : ℕ → List Piece → ℕ
 startOf end [] = end
 startOf end (p ∷ ps) = p .at
 
--- the first line of `t` that is kept stands at `b`, or `b` is the end of the text
+-- the first kept line of `t` starts at `b`, or `b` is the end of the text and no line is kept
 pub record First (t : List ℕ) (b : Begin) : Type 0 where
   pub place : b .at ≡ startOf (length t) (earlyOf t .rest)
   pub inside : b .at ≤ length t

@@ -1,5 +1,5 @@
-// Carrying on, the lines before the first that is kept: all are skipped, and each that announces a version sets the rule for repeated
-// tags.
+// Carrying on, the part before the first line that is kept. All of these lines are skipped, and each one that announces a version sets the rule for
+// repeated tags.
 ghost use mathlib.Core.Path.{_≡_};
 ghost use mathlib.Core.List.{_∷_, []};
 ghost use Prim.Native.Nat.{_≤_, _<_, _+_, _*_};
@@ -13,22 +13,22 @@ ghost use Rattle.read_admission.specs.Admission.{lineRefusal};
 ghost use Rattle.carry_early.specs.Early.{earlyOf, rowsFrom};
 ghost use Rattle.carry_early.specs.First.{First};
 
-// Where the first line that is kept starts, its number, and whether a tag is refused that comes twice from there on.
+// Where the first kept line starts, its number, and whether repeated tags are refused from there on.
 pub struct Begin {
     pub at: usize,
     pub line: u32,
     pub strict: bool,
 }
 
-// A line judged before which none is kept: whether a tag is refused that comes twice in it, 0 or why it is skipped, and where the next line
-// starts.
+// The verdict on a line before which no line is kept: whether its repeated tags are refused, 0 or the reason why it is skipped, and where the next
+// line starts.
 struct EarlyLine {
     strict: bool,
     refusal: u8,
     next: usize,
 }
 
-// The line at the offset `at`, before which none is kept; `strict` is what the lines before it say of repeated tags.
+// Judges the line at the offset `at`, before which no line is kept. `strict` is the rule for repeated tags that the lines before it set.
 fn judge_early(text: &[u8], at: usize, strict: bool) -> EarlyLine
     requires { ⌜ length (now text) ≤ 16777216 ⌝ }
     requires { ⌜ at < length (now text) ⌝ }
@@ -47,7 +47,7 @@ fn judge_early(text: &[u8], at: usize, strict: bool) -> EarlyLine
     }
 }
 
-// The first line that is kept, or the end of the text.
+// Finds the first line that is kept, or the end of the text.
 pub fn find_first(text: &[u8]) -> Begin
     requires { ⌜ length (now text) ≤ 16777216 ⌝ }
     ensures { λ r. ⌜ First (now (text .entry)) r ⌝ }
@@ -67,7 +67,7 @@ pub fn find_first(text: &[u8]) -> Begin
     Begin { at, line, strict }
 }
 
-// Writes a row of the table: a skipped line's number, and why it was refused.
+// Writes a row of the table: the number of a skipped line, and why it was refused.
 pub fn put_row(table: &mut [u32], row: usize, line: u32, n: u8)
     requires { ⌜ row * 2 + 2 ≤ length (now table) ⌝ }
     ensures { λ _. ⌜ now (table .exit) ≡ over (now (table .entry)) (row * 2) (line ∷ n ∷ []) ⌝ }
@@ -76,7 +76,7 @@ pub fn put_row(table: &mut [u32], row: usize, line: u32, n: u8)
     table[row * 2 + 1] = n as u32;
 }
 
-// Writes the rows of the lines before the first that is kept, of which there are `count`.
+// Writes the rows of the `count` lines before the first line that is kept.
 pub fn put_early(text: &[u8], count: u32, table: &mut [u32])
     requires { ⌜ length (now text) ≤ 16777216 ⌝ }
     requires { ⌜ count ≡ length (earlyOf (now text) .refusals) ⌝ }

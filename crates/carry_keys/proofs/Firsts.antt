@@ -1,4 +1,4 @@
--- What the slots that are filled for a block tell: a line of the block has its key for the first time exactly if the slot that tells the
+-- What the slots that are filled for a block say: a line of the block has its key for the first time exactly if the slot that holds the
 -- key has this line's offset.
 use Prim.Native.Nat.{ℕ, zero, suc, _+_, _-_, _*_, _/_, _%_, _≤_, _<_}
 use mathlib.Core.Path.{_≡_, refl, sym, ap, ap₂, subst, _∙_}
@@ -22,8 +22,8 @@ use Rattle.accepted.proofs.Ahead.{ahead-none, ahead-one}
 use Rattle.record.specs.Head.{headOf, recordHead, stretchOf}
 use Rattle.read_admission.proofs.Admission.{taken-clash}
 use Rattle.key_at.specs.Word.{word}
-use Rattle.key_index.specs.Told.{value, pointed, isOwn, soughtOf, offsetOf, afterPointing, isFirstKey}
-use Rattle.key_look.specs.Sought.{mark, tellsKey, sought}
+use Rattle.key_index.specs.KeySlots.{value, pointed, isOwn, soughtOf, offsetOf, afterPointing, isFirstKey}
+use Rattle.key_look.specs.Sought.{fingerprint, tellsKey, sought}
 use Rattle.key_index.specs.HeldKeys.{valuesOf, keyValuesOf}
 use Rattle.accepted.specs.Ended.{Ended}
 use Rattle.key_index.proofs.Held.{value-place}
@@ -33,6 +33,7 @@ use Rattle.carry_keys.specs.Blocks.{headKeys, keyedFront, keyedBehind, e
 use Rattle.carry_keys.proofs.Walk.{front-none, front-behind}
 use Rattle.carry_keys.proofs.Lines.{each-left, each-right, Sits, lines-sit, sits-stand, sits-ended, reads-ended, lines-before, earlier-all, Low, lines-low}
 use Rattle.carry_keys.proofs.Entering.{pick-split, entered-length, entered-told}
+use Rattle.key_look.specs.declared.Seed.{Seed}
 
 -- ---- after the earlier lines
 
@@ -42,32 +43,12 @@ latest-append hit w [] ws = refl
 latest-append hit w (zero ∷ vs) ws = latest-append hit w vs ws
 latest-append hit w (suc j ∷ vs) ws = latest-append hit (cond (hit (suc j) && ltb 0 w) (suc j) w) vs ws
 
-keys-append : (rs qs : List Record) → keyValuesOf (rs ++ qs) ≡ keyValuesOf rs ++ keyValuesOf qs
-unfolding keyValuesOf
-keys-append [] qs = refl
-keys-append (r ∷ rs) qs = ap (λ l. valuesOf r ++ l) (keys-append rs qs) ∙ sym (append-assoc (valuesOf r) (keyValuesOf rs) (keyValuesOf qs))
-
 pub read-append : (strict : Bool) (ps qs : List Piece) → readIn strict (ps ++ qs) ≡ readIn strict ps ++ readIn strict qs
 unfolding readIn
 read-append strict [] qs = refl
 read-append strict (p ∷ ps) qs = ap (λ l. recordIfRead (line strict p) ++ l) (read-append strict ps qs) ∙ sym (append-assoc (recordIfRead (line strict p)) (readIn strict ps) (readIn strict qs))
 
-pointed-told : (strict : Bool) (t : List ℕ) → length t ≤ 16777216 → (slots : List ℕ) → 0 < length slots → (ps : List Piece) → Each (Sits t) ps → (k : ℕ) (id : List ℕ)
-    → toldBy t (pointedBack strict t slots ps) k id ≡ latest (tellsKey t k id) (toldBy t slots k id) (keyValuesOf (readIn strict ps))
-unfolding pointedBack readIn recordIfRead keyValuesOf latest Each headOf afterPointing soughtOf pointed
-pointed-told strict t small slots h [] s k id = refl
-pointed-told strict t small slots h (p ∷ ps) s k id = go (line strict p) refl (λ l n. pointed-told strict t small l n ps (s .1) k id)
-  where
-    go : (l : Line) → line strict p ≡ l
-        → ((slots : List ℕ) → 0 < length slots → toldBy t (pointedBack strict t slots ps) k id ≡ latest (tellsKey t k id) (toldBy t slots k id) (keyValuesOf (readIn strict ps)))
-        → toldBy t (pointedBack strict t (afterPointing t slots (headOf l)) ps) k id ≡ latest (tellsKey t k id) (toldBy t slots k id) (keyValuesOf (recordIfRead l ++ readIn strict ps))
-    go (refusedLine n) e ih = ih slots h
-    go (read r) e ih =
-        ih (afterPointing t slots (recordHead r)) (omega (arith, h, pointing-length t slots (recordHead r)))
-        ∙ ap (λ w. latest (tellsKey t k id) w (keyValuesOf (readIn strict ps))) (pointing-told t slots h k id r (sits-ended strict t small p (s .0) r e) (sits-stand strict t small p (s .0) r e))
-        ∙ latest-append (tellsKey t k id) (toldBy t slots k id) (valuesOf r) (keyValuesOf (readIn strict ps))
-
--- ---- the value that tells a key, among earlier ones
+-- ---- the value that holds a key, among earlier ones
 
 low-pick : (hit : ℕ → Bool) (n : ℕ) (vs : List ℕ) → Each (Low n) vs → 0 < pick hit vs → Low n (pick hit vs)
 unfolding pick Each
@@ -121,7 +102,7 @@ latest-low hit n w (suc j ∷ vs) e h l = go (hit (suc j)) l (latest-low hit n w
     go true l ih = latest-kept hit n (cond (ltb 0 w) (suc j) w) vs (e .1) (subst (λ b. Low n (cond b (suc j) w)) (sym (lt-ltb 0 w h)) (e .0))
     go false l ih = ih l
 
--- the value `v`, which is accepted, after values `xs` of its block, and others `es` of earlier lines: all of these stand before it
+-- the value `v`, which is accepted, after values `xs` of its block, and others `es` of earlier lines: all of these come before it
 module _ (hit : ℕ → Bool) (n at : ℕ) (es xs ys : List ℕ) (v : ℕ) (told : hit v ≡ true) (some : v ≡ 0 → ⊥) (place : v % 16777216 ≡ at) (far : n ≤ at)
     (e : Each (Low n) es) (x : Each (Low n) xs) where
   own : pick hit (v ∷ ys) ≡ v
@@ -168,35 +149,6 @@ module _ (hit : ℕ → Bool) (n at : ℕ) (es xs ys : List ℕ) (v : ℕ) (told
           ap (λ w. eqb (w % 16777216) at) (latest-none hit (pick hit (xs ++ (v ∷ ys))) es (none (ltb-false 0 (pick hit es) q)) ∙ block ∙ ap (λ b. cond b (pick hit xs) v) f)
           ∙ eq-eqb (v % 16777216) at place
 
--- ---- the block
-
--- a record has as many keys as its head
-record-keys : (r : Record) → length (valuesOf r) ≡ headKeys (recordHead r)
-unfolding valuesOf headKeys recordHead
-record-keys (header v fs) = refl
-record-keys (reference p n fs) = refl
-record-keys (group p fs) = refl
-record-keys (program p fs) = refl
-record-keys (comment p) = refl
-
--- no more than `m` keys enter
-front-keys : (strict : Bool) (m : ℕ) (ps : List Piece) → length (keyValuesOf (readIn strict (keyedFront strict m ps))) ≤ m
-unfolding keyedFront readIn recordIfRead keyValuesOf headOf headKeys
-front-keys strict m [] = omega arith
-front-keys strict m (p ∷ ps) = go (ltb 0 m) refl (λ k. front-keys strict k ps)
-  where
-    one : (l : Line) → 0 < m → ((k : ℕ) → length (keyValuesOf (readIn strict (keyedFront strict k ps))) ≤ k) → length (keyValuesOf (recordIfRead l ++ readIn strict (keyedFront strict (m - headKeys (headOf l)) ps))) ≤ m
-    one (refusedLine n) h ih = omega (arith, ih (m - 0))
-    one (read r) h ih =
-        let k : ℕ = m - headKeys (recordHead r) in
-        let n = length-append (valuesOf r) (keyValuesOf (readIn strict (keyedFront strict k ps))) in
-        omega (arith, n, ih k, record-keys r, values-few r, h)
-
-    go : (b : Bool) → ltb 0 m ≡ b → ((k : ℕ) → length (keyValuesOf (readIn strict (keyedFront strict k ps))) ≤ k)
-        → length (keyValuesOf (readIn strict (cond b (p ∷ keyedFront strict (m - headKeys (headOf (line strict p))) ps) []))) ≤ m
-    go true e ih = one (line strict p) (ltb-true 0 m e) ih
-    go false e ih = omega arith
-
 -- and some line is among them only where one may
 front-more : (strict : Bool) (m : ℕ) (ps : List Piece) → 0 < length (keyedFront strict m ps) → 0 < m
 front-more strict m ps h = go (ltb 0 m) refl
@@ -205,136 +157,186 @@ front-more strict m ps h = go (ltb 0 m) refl
     go true e = ltb-true 0 m e
     go false e = absurd (omega (arith, h, ap length (front-none strict m (omega (arith, ltb-false 0 m e)) ps)))
 
-pointed-length : (strict : Bool) (t slots : List ℕ) (ps : List Piece) → length (pointedBack strict t slots ps) ≡ length slots
-unfolding pointedBack
-pointed-length strict t slots [] = refl
-pointed-length strict t slots (p ∷ ps) = pointed-length strict t (afterPointing t slots (headOf (line strict p))) ps ∙ pointing-length t slots (headOf (line strict p))
+module _ (seed : Seed) where
+  keys-append : (rs qs : List Record) → keyValuesOf seed (rs ++ qs) ≡ keyValuesOf seed rs ++ keyValuesOf seed qs
+  unfolding keyValuesOf
+  keys-append [] qs = refl
+  keys-append (r ∷ rs) qs = ap (λ l. valuesOf seed r ++ l) (keys-append rs qs) ∙ sym (append-assoc (valuesOf seed r) (keyValuesOf seed rs) (keyValuesOf seed qs))
 
--- the lines from `from` on are `es`, which start before `at`, and then `xs`, `p` and `rest`; the block from `at` on is `xs`, `p` and `ys`
-module _ (strict : Bool) (t : List ℕ) (small : length t ≤ 16777216) (n from at : ℕ) (es xs ys rest : List Piece) (p : Piece)
-    (front : earlier at (linesFrom from (drop from t)) ≡ es)
-    (whole : linesFrom from (drop from t) ≡ (es ++ xs) ++ (p ∷ rest))
-    (block : keyedFront strict (n / 4 * 3) (linesFrom at (drop at t)) ≡ xs ++ (p ∷ ys)) where
-  sits : Each (Sits t) ((es ++ xs) ++ (p ∷ rest))
-  sits = subst (Each (Sits t)) whole (lines-sit t from)
-
-  -- it has fewer keys than there are slots
-  room : length (keyValuesOf (readIn strict (xs ++ (p ∷ ys)))) < n
-  room =
-      let few = front-keys strict (n / 4 * 3) (linesFrom at (drop at t)) in
-      let more = front-more strict (n / 4 * 3) (linesFrom at (drop at t)) in
-      omega (arith, more (omega (arith, length-append xs (p ∷ ys), ap length block)), few, ap (λ l. length (keyValuesOf (readIn strict l))) block)
-
-  slots : List ℕ
-  slots = filledFor strict t n from at
-
-  slots-are : slots ≡ pointedBack strict t (entered strict t (replicate n 0) (xs ++ (p ∷ ys))) es
-  unfolding slots filledFor
-  slots-are = ap₂ (λ b e. pointedBack strict t (entered strict t (replicate n 0) b) e) block front
-
-  entered-some : 0 < length (entered strict t (replicate n 0) (xs ++ (p ∷ ys)))
-  entered-some = omega (arith, room, entered-length strict t (replicate n 0) (xs ++ (p ∷ ys)), length-replicate {A = ℕ} n 0)
-
-  slots-some : 0 < length slots
-  slots-some = omega (arith, ap length slots-are, pointed-length strict t (entered strict t (replicate n 0) (xs ++ (p ∷ ys))) es, entered-some)
-
-  -- what tells a key
-  told-by : (k : ℕ) (id : List ℕ) → toldBy t slots k id ≡ latest (tellsKey t k id) (pick (tellsKey t k id) (keyValuesOf (readIn strict (xs ++ (p ∷ ys))))) (keyValuesOf (readIn strict es))
-  told-by k id =
-      let b : Each (Sits t) (xs ++ (p ∷ ys)) =
-      subst (Each (Sits t)) block
-      (each-left (Sits t) (keyedFront strict (n / 4 * 3) (linesFrom at (drop at t))) (keyedBehind strict (n / 4 * 3) (linesFrom at (drop at t))) (subst (Each (Sits t)) (front-behind strict (n / 4 * 3) (linesFrom at (drop at t))) (lines-sit t at))) in
-      ap (λ s. toldBy t s k id) slots-are
-      ∙ pointed-told strict t small (entered strict t (replicate n 0) (xs ++ (p ∷ ys))) entered-some es (each-left (Sits t) es xs (each-left (Sits t) (es ++ xs) (p ∷ rest) sits)) k id
-      ∙ ap (λ w. latest (tellsKey t k id) w (keyValuesOf (readIn strict es))) (entered-told strict t small n (xs ++ (p ∷ ys)) b room k id)
-
-  sit : Sits t p
-  unfolding Each
-  sit = each-right (Sits t) (es ++ xs) (p ∷ rest) sits .0
-
-  before : Each (Sits t) (es ++ xs)
-  before = each-left (Sits t) (es ++ xs) (p ∷ rest) sits
-
-  -- the keys of the lines before `p` stand before it
-  low : Each (Low (p .at)) (keyValuesOf (readIn strict es) ++ keyValuesOf (readIn strict xs))
-  low =
-      subst (Each (Low (p .at))) (ap keyValuesOf (read-append strict es xs) ∙ keys-append (readIn strict es) (readIn strict xs))
-      (lines-low strict t small (p .at) (es ++ xs) (lines-before t from (es ++ xs) p rest whole) before)
-
-  module _ (r : Record) (is : line strict p ≡ read r) where
-    keys-are : keyValuesOf (readIn strict (xs ++ (p ∷ ys))) ≡ keyValuesOf (readIn strict xs) ++ (valuesOf r ++ keyValuesOf (readIn strict ys))
-    unfolding readIn recordIfRead keyValuesOf
-    keys-are =
-        ap keyValuesOf (read-append strict xs (p ∷ ys) ∙ ap (λ l. readIn strict xs ++ (recordIfRead l ++ readIn strict ys)) is) ∙ keys-append (readIn strict xs) (r ∷ readIn strict ys)
-
-    -- its key, in its kind
-    one-first : (j : ℕ) → 0 < j → (q : Piece) → (q .at < 16777216) × (word (drop (q .at) t) ≡ q .bytes) → Stands t 0 q → p .at ≤ q .at → valuesOf r ≡ value (mark j (q .bytes)) (q .at) ∷ []
-        → let id : List ℕ = take (length (q .bytes)) (drop (q .at) t) in
-        isOwn (q .at) slots (sought t slots j id) ≡ not (ltb 0 (pick (tellsKey t j id) (keyValuesOf (readIn strict (es ++ xs)))))
-    one-first j h q e s far vs =
-        let id : List ℕ = take (length (q .bytes)) (drop (q .at) t) in
-        let hit = tellsKey t j id in
-        let v : ℕ = value (mark j (q .bytes)) (q .at) in
-        let i : q .bytes ≡ id = s .bytes ∙ ap (λ m. take (length (q .bytes)) (drop m t)) (let z : q .at - 0 ≡ q .at = omega arith in z) in
-        let evs : List ℕ = keyValuesOf (readIn strict es) in
-        let xvs : List ℕ = keyValuesOf (readIn strict xs) in
-        let yvs : List ℕ = keyValuesOf (readIn strict ys) in
-        let told : hit v ≡ true = subst (λ b. tellsKey t j b (value (mark j (q .bytes)) (q .at)) ≡ true) i (tells-own t j (q .bytes) (q .at) (e .0) (e .1)) in
-        let some : v ≡ 0 → ⊥ = value-some j (q .bytes) (q .at) h in
-        let place : v % 16777216 ≡ q .at = value-place (mark j (q .bytes)) (q .at) (e .0) in
-        let le = each-left (Low (p .at)) evs xvs low in
-        let lx = each-right (Low (p .at)) evs xvs low in
-        let w : toldBy t slots j id ≡ latest hit (pick hit (xvs ++ (v ∷ yvs))) evs = told-by j id ∙ ap (λ l. latest hit (pick hit l) evs) (keys-are ∙ ap (λ l. xvs ++ (l ++ yvs)) vs) in
-        own-told t slots j id (q .at) slots-some (omega (arith, w, told-some hit (p .at) (q .at) evs xvs yvs v told some place far le lx))
-        ∙ ap (λ x. eqb (x % 16777216) (q .at)) w
-        ∙ told-first hit (p .at) (q .at) evs xvs yvs v told some place far le lx
-        ∙ ap not (sym (pick-append hit evs xvs) ∙ ap (λ l. ltb 0 (pick hit l)) (sym (ap keyValuesOf (read-append strict es xs) ∙ keys-append (readIn strict es) (readIn strict xs))))
-
-  first-told : (r : Record) → line strict p ≡ read r → isFirstKey t slots (recordHead r) ≡ not (toldIn t (keyValuesOf (readIn strict (es ++ xs))) (recordHead r))
-  unfolding isFirstKey isOwn soughtOf offsetOf recordHead stretchOf toldIn valuesOf Ended pieces Each
-  first-told r is = go r is (sits-ended strict t small p sit r is) (sits-stand strict t small p sit r is) (line-stand strict p r is)
+  pointed-told : (strict : Bool) (t : List ℕ) → length t ≤ 16777216 → (slots : List ℕ) → 0 < length slots → (ps : List Piece) → Each (Sits t) ps → (k : ℕ) (id : List ℕ)
+      → toldBy seed t (pointedBack seed strict t slots ps) k id ≡ latest (tellsKey seed t k id) (toldBy seed t slots k id) (keyValuesOf seed (readIn strict ps))
+  unfolding pointedBack readIn recordIfRead keyValuesOf latest Each headOf afterPointing soughtOf pointed
+  pointed-told strict t small slots h [] s k id = refl
+  pointed-told strict t small slots h (p ∷ ps) s k id = go (line strict p) refl (λ l n. pointed-told strict t small l n ps (s .1) k id)
     where
-      go : (r : Record) → line strict p ≡ read r → Ended t r → Each (Stands t 0) (pieces r) → Each (Stands (p .bytes) (p .at)) (pieces r)
-          → isFirstKey t slots (recordHead r) ≡ not (toldIn t (keyValuesOf (readIn strict (es ++ xs))) (recordHead r))
-      go (header v fs) is e s a = refl
-      go (reference q l fs) is e s a = one-first (reference q l fs) is 2 (omega arith) q e (s .0) (a .0 .from) refl
-      go (group q fs) is e s a = one-first (group q fs) is 3 (omega arith) q e (s .0) (a .0 .from) refl
-      go (program q fs) is e s a = one-first (program q fs) is 4 (omega arith) q e (s .0) (a .0 .from) refl
-      go (comment q) is e s a = refl
+      go : (l : Line) → line strict p ≡ l
+          → ((slots : List ℕ) → 0 < length slots → toldBy seed t (pointedBack seed strict t slots ps) k id ≡ latest (tellsKey seed t k id) (toldBy seed t slots k id) (keyValuesOf seed (readIn strict ps)))
+          → toldBy seed t (pointedBack seed strict t (afterPointing seed t slots (headOf l)) ps) k id ≡ latest (tellsKey seed t k id) (toldBy seed t slots k id) (keyValuesOf seed (recordIfRead l ++ readIn strict ps))
+      go (refusedLine n) e ih = ih slots h
+      go (read r) e ih =
+          ih (afterPointing seed t slots (recordHead r)) (omega (arith, h, pointing-length seed t slots (recordHead r)))
+          ∙ ap (λ w. latest (tellsKey seed t k id) w (keyValuesOf seed (readIn strict ps))) (pointing-told seed t slots h k id r (sits-ended strict t small p (s .0) r e) (sits-stand strict t small p (s .0) r e))
+          ∙ latest-append (tellsKey seed t k id) (toldBy seed t slots k id) (valuesOf seed r) (keyValuesOf seed (readIn strict ps))
 
-  pub firsts-among : (r : Record) → line strict p ≡ read r → isFirstKey t (filledFor strict t n from at) (recordHead r) ≡ not (any (clash r) (readIn strict (es ++ xs)))
-  unfolding slots
-  firsts-among r is =
-      first-told r is
-      ∙ ap not (told-taken t (readIn strict (es ++ xs)) (reads-ended strict t small (es ++ xs) before) (recordHead r) ∙ taken-clash t (readIn strict (es ++ xs)) r (sits-stand strict t small p sit r is))
+  -- ---- the block
 
--- a line of the block from `at` on is the first with its key exactly where no line before it, from `from` on, clashes with it
-module _ (strict : Bool) (t : List ℕ) (n from at : ℕ) (es xs ys : List Piece) (p : Piece)
-    (split : linesFrom from (drop from t) ≡ es ++ linesFrom at (drop at t))
-    (block : keyedFront strict (n / 4 * 3) (linesFrom at (drop at t)) ≡ xs ++ (p ∷ ys)) where
-  behind : List Piece
-  behind = keyedBehind strict (n / 4 * 3) (linesFrom at (drop at t))
+  -- a record has as many keys as its head
+  record-keys : (r : Record) → length (valuesOf seed r) ≡ headKeys (recordHead r)
+  unfolding valuesOf headKeys recordHead
+  record-keys (header v fs) = refl
+  record-keys (reference p n fs) = refl
+  record-keys (group p fs) = refl
+  record-keys (program p fs) = refl
+  record-keys (comment p) = refl
 
-  whole : linesFrom from (drop from t) ≡ (es ++ xs) ++ (p ∷ (ys ++ behind))
-  unfolding behind
-  whole =
-      split
-      ∙ ap (λ l. es ++ l) (front-behind strict (n / 4 * 3) (linesFrom at (drop at t)) ∙ ap (λ l. l ++ behind) block ∙ append-assoc xs (p ∷ ys) behind)
-      ∙ sym (append-assoc es xs (p ∷ (ys ++ behind)))
-
-  here : at < length t
-  unfolding keyedFront
-  here = go (ltb at (length t)) refl
+  -- no more than `m` keys enter
+  front-keys : (strict : Bool) (m : ℕ) (ps : List Piece) → length (keyValuesOf seed (readIn strict (keyedFront strict m ps))) ≤ m
+  unfolding keyedFront readIn recordIfRead keyValuesOf headOf headKeys
+  front-keys strict m [] = omega arith
+  front-keys strict m (p ∷ ps) = go (ltb 0 m) refl (λ k. front-keys strict k ps)
     where
-      go : (b : Bool) → ltb at (length t) ≡ b → at < length t
-      go true e = ltb-true at (length t) e
-      go false e = absurd (omega (arith, length-append xs (p ∷ ys), ap length (sym (ap (keyedFront strict (n / 4 * 3)) (ahead-none t at (ltb-false at (length t) e))) ∙ block)))
+      one : (l : Line) → 0 < m → ((k : ℕ) → length (keyValuesOf seed (readIn strict (keyedFront strict k ps))) ≤ k) → length (keyValuesOf seed (recordIfRead l ++ readIn strict (keyedFront strict (m - headKeys (headOf l)) ps))) ≤ m
+      one (refusedLine n) h ih = omega (arith, ih (m - 0))
+      one (read r) h ih =
+          let k : ℕ = m - headKeys (recordHead r) in
+          let n = length-append (valuesOf seed r) (keyValuesOf seed (readIn strict (keyedFront strict k ps))) in
+          omega (arith, n, ih k, record-keys r, values-few seed r, h)
 
-  front : earlier at (linesFrom from (drop from t)) ≡ es
-  front =
-      let next : ℕ = at + firstLine (drop at t) .next in
-      let e : linesFrom from (drop from t) ≡ es ++ (firstAt at t ∷ linesFrom next (drop next t)) = split ∙ ap (λ l. es ++ l) (ahead-one t at here) in
-      ap (earlier at) e ∙ earlier-all at es (firstAt at t) (linesFrom next (drop next t)) (lines-before t from es (firstAt at t) (linesFrom next (drop next t)) e) (omega arith)
+      go : (b : Bool) → ltb 0 m ≡ b → ((k : ℕ) → length (keyValuesOf seed (readIn strict (keyedFront strict k ps))) ≤ k)
+          → length (keyValuesOf seed (readIn strict (cond b (p ∷ keyedFront strict (m - headKeys (headOf (line strict p))) ps) []))) ≤ m
+      go true e ih = one (line strict p) (ltb-true 0 m e) ih
+      go false e ih = omega arith
 
-  pub firsts : length t ≤ 16777216 → (r : Record) → line strict p ≡ read r → isFirstKey t (filledFor strict t n from at) (recordHead r) ≡ not (any (clash r) (readIn strict (es ++ xs)))
-  firsts small = firsts-among strict t small n from at es xs ys (ys ++ behind) p front whole block
+  pointed-length : (strict : Bool) (t slots : List ℕ) (ps : List Piece) → length (pointedBack seed strict t slots ps) ≡ length slots
+  unfolding pointedBack
+  pointed-length strict t slots [] = refl
+  pointed-length strict t slots (p ∷ ps) = pointed-length strict t (afterPointing seed t slots (headOf (line strict p))) ps ∙ pointing-length seed t slots (headOf (line strict p))
+
+  -- the lines from `from` on are `es`, which start before `at`, and then `xs`, `p` and `rest`; the block from `at` on is `xs`, `p` and `ys`
+  module _ (strict : Bool) (t : List ℕ) (small : length t ≤ 16777216) (n from at : ℕ) (es xs ys rest : List Piece) (p : Piece)
+      (front : earlier at (linesFrom from (drop from t)) ≡ es)
+      (whole : linesFrom from (drop from t) ≡ (es ++ xs) ++ (p ∷ rest))
+      (block : keyedFront strict (n / 4 * 3) (linesFrom at (drop at t)) ≡ xs ++ (p ∷ ys)) where
+    sits : Each (Sits t) ((es ++ xs) ++ (p ∷ rest))
+    sits = subst (Each (Sits t)) whole (lines-sit t from)
+
+    -- it has fewer keys than there are slots
+    room : length (keyValuesOf seed (readIn strict (xs ++ (p ∷ ys)))) < n
+    room =
+        let few = front-keys strict (n / 4 * 3) (linesFrom at (drop at t)) in
+        let more = front-more strict (n / 4 * 3) (linesFrom at (drop at t)) in
+        omega (arith, more (omega (arith, length-append xs (p ∷ ys), ap length block)), few, ap (λ l. length (keyValuesOf seed (readIn strict l))) block)
+
+    slots : List ℕ
+    slots = filledFor seed strict t n from at
+
+    slots-are : slots ≡ pointedBack seed strict t (entered seed strict t (replicate n 0) (xs ++ (p ∷ ys))) es
+    unfolding slots filledFor
+    slots-are = ap₂ (λ b e. pointedBack seed strict t (entered seed strict t (replicate n 0) b) e) block front
+
+    entered-some : 0 < length (entered seed strict t (replicate n 0) (xs ++ (p ∷ ys)))
+    entered-some = omega (arith, room, entered-length seed strict t (replicate n 0) (xs ++ (p ∷ ys)), length-replicate {A = ℕ} n 0)
+
+    slots-some : 0 < length slots
+    slots-some = omega (arith, ap length slots-are, pointed-length strict t (entered seed strict t (replicate n 0) (xs ++ (p ∷ ys))) es, entered-some)
+
+    -- the value that holds a key
+    told-by : (k : ℕ) (id : List ℕ) → toldBy seed t slots k id ≡ latest (tellsKey seed t k id) (pick (tellsKey seed t k id) (keyValuesOf seed (readIn strict (xs ++ (p ∷ ys))))) (keyValuesOf seed (readIn strict es))
+    told-by k id =
+        let b : Each (Sits t) (xs ++ (p ∷ ys)) =
+        subst (Each (Sits t)) block
+        (each-left (Sits t) (keyedFront strict (n / 4 * 3) (linesFrom at (drop at t))) (keyedBehind strict (n / 4 * 3) (linesFrom at (drop at t))) (subst (Each (Sits t)) (front-behind strict (n / 4 * 3) (linesFrom at (drop at t))) (lines-sit t at))) in
+        ap (λ s. toldBy seed t s k id) slots-are
+        ∙ pointed-told strict t small (entered seed strict t (replicate n 0) (xs ++ (p ∷ ys))) entered-some es (each-left (Sits t) es xs (each-left (Sits t) (es ++ xs) (p ∷ rest) sits)) k id
+        ∙ ap (λ w. latest (tellsKey seed t k id) w (keyValuesOf seed (readIn strict es))) (entered-told seed strict t small n (xs ++ (p ∷ ys)) b room k id)
+
+    sit : Sits t p
+    unfolding Each
+    sit = each-right (Sits t) (es ++ xs) (p ∷ rest) sits .0
+
+    before : Each (Sits t) (es ++ xs)
+    before = each-left (Sits t) (es ++ xs) (p ∷ rest) sits
+
+    -- the keys of the lines before `p` come before it
+    low : Each (Low (p .at)) (keyValuesOf seed (readIn strict es) ++ keyValuesOf seed (readIn strict xs))
+    low =
+        subst (Each (Low (p .at))) (ap (keyValuesOf seed) (read-append strict es xs) ∙ keys-append (readIn strict es) (readIn strict xs))
+        (lines-low seed strict t small (p .at) (es ++ xs) (lines-before t from (es ++ xs) p rest whole) before)
+
+    module _ (r : Record) (is : line strict p ≡ read r) where
+      keys-are : keyValuesOf seed (readIn strict (xs ++ (p ∷ ys))) ≡ keyValuesOf seed (readIn strict xs) ++ (valuesOf seed r ++ keyValuesOf seed (readIn strict ys))
+      unfolding readIn recordIfRead keyValuesOf
+      keys-are =
+          ap (keyValuesOf seed) (read-append strict xs (p ∷ ys) ∙ ap (λ l. readIn strict xs ++ (recordIfRead l ++ readIn strict ys)) is) ∙ keys-append (readIn strict xs) (r ∷ readIn strict ys)
+
+      -- its key, in its kind
+      one-first : (j : ℕ) → 0 < j → (q : Piece) → (q .at < 16777216) × (word (drop (q .at) t) ≡ q .bytes) → Stands t 0 q → p .at ≤ q .at → valuesOf seed r ≡ value (fingerprint seed j (q .bytes)) (q .at) ∷ []
+          → let id : List ℕ = take (length (q .bytes)) (drop (q .at) t) in
+          isOwn (q .at) slots (sought seed t slots j id) ≡ not (ltb 0 (pick (tellsKey seed t j id) (keyValuesOf seed (readIn strict (es ++ xs)))))
+      one-first j h q e s far vs =
+          let id : List ℕ = take (length (q .bytes)) (drop (q .at) t) in
+          let hit = tellsKey seed t j id in
+          let v : ℕ = value (fingerprint seed j (q .bytes)) (q .at) in
+          let i : q .bytes ≡ id = s .bytes ∙ ap (λ m. take (length (q .bytes)) (drop m t)) (let z : q .at - 0 ≡ q .at = omega arith in z) in
+          let evs : List ℕ = keyValuesOf seed (readIn strict es) in
+          let xvs : List ℕ = keyValuesOf seed (readIn strict xs) in
+          let yvs : List ℕ = keyValuesOf seed (readIn strict ys) in
+          let told : hit v ≡ true = subst (λ b. tellsKey seed t j b (value (fingerprint seed j (q .bytes)) (q .at)) ≡ true) i (tells-own seed t j (q .bytes) (q .at) (e .0) (e .1)) in
+          let some : v ≡ 0 → ⊥ = value-some seed j (q .bytes) (q .at) h in
+          let place : v % 16777216 ≡ q .at = value-place (fingerprint seed j (q .bytes)) (q .at) (e .0) in
+          let le = each-left (Low (p .at)) evs xvs low in
+          let lx = each-right (Low (p .at)) evs xvs low in
+          let w : toldBy seed t slots j id ≡ latest hit (pick hit (xvs ++ (v ∷ yvs))) evs = told-by j id ∙ ap (λ l. latest hit (pick hit l) evs) (keys-are ∙ ap (λ l. xvs ++ (l ++ yvs)) vs) in
+          own-told seed t slots j id (q .at) slots-some (omega (arith, w, told-some hit (p .at) (q .at) evs xvs yvs v told some place far le lx))
+          ∙ ap (λ x. eqb (x % 16777216) (q .at)) w
+          ∙ told-first hit (p .at) (q .at) evs xvs yvs v told some place far le lx
+          ∙ ap not (sym (pick-append hit evs xvs) ∙ ap (λ l. ltb 0 (pick hit l)) (sym (ap (keyValuesOf seed) (read-append strict es xs) ∙ keys-append (readIn strict es) (readIn strict xs))))
+
+    first-told : (r : Record) → line strict p ≡ read r → isFirstKey seed t slots (recordHead r) ≡ not (toldIn seed t (keyValuesOf seed (readIn strict (es ++ xs))) (recordHead r))
+    unfolding isFirstKey isOwn soughtOf offsetOf recordHead stretchOf toldIn valuesOf Ended pieces Each
+    first-told r is = go r is (sits-ended strict t small p sit r is) (sits-stand strict t small p sit r is) (line-stand strict p r is)
+      where
+        go : (r : Record) → line strict p ≡ read r → Ended t r → Each (Stands t 0) (pieces r) → Each (Stands (p .bytes) (p .at)) (pieces r)
+            → isFirstKey seed t slots (recordHead r) ≡ not (toldIn seed t (keyValuesOf seed (readIn strict (es ++ xs))) (recordHead r))
+        go (header v fs) is e s a = refl
+        go (reference q l fs) is e s a = one-first (reference q l fs) is 2 (omega arith) q e (s .0) (a .0 .from) refl
+        go (group q fs) is e s a = one-first (group q fs) is 3 (omega arith) q e (s .0) (a .0 .from) refl
+        go (program q fs) is e s a = one-first (program q fs) is 4 (omega arith) q e (s .0) (a .0 .from) refl
+        go (comment q) is e s a = refl
+
+    pub firsts-among : (r : Record) → line strict p ≡ read r → isFirstKey seed t (filledFor seed strict t n from at) (recordHead r) ≡ not (any (clash r) (readIn strict (es ++ xs)))
+    unfolding slots
+    firsts-among r is =
+        first-told r is
+        ∙ ap not (told-taken seed t (readIn strict (es ++ xs)) (reads-ended strict t small (es ++ xs) before) (recordHead r) ∙ taken-clash t (readIn strict (es ++ xs)) r (sits-stand strict t small p sit r is))
+
+  -- a line of the block from `at` on is the first with its key exactly if no line before it, from `from` on, clashes with it
+  module _ (strict : Bool) (t : List ℕ) (n from at : ℕ) (es xs ys : List Piece) (p : Piece)
+      (split : linesFrom from (drop from t) ≡ es ++ linesFrom at (drop at t))
+      (block : keyedFront strict (n / 4 * 3) (linesFrom at (drop at t)) ≡ xs ++ (p ∷ ys)) where
+    behind : List Piece
+    behind = keyedBehind strict (n / 4 * 3) (linesFrom at (drop at t))
+
+    whole : linesFrom from (drop from t) ≡ (es ++ xs) ++ (p ∷ (ys ++ behind))
+    unfolding behind
+    whole =
+        split
+        ∙ ap (λ l. es ++ l) (front-behind strict (n / 4 * 3) (linesFrom at (drop at t)) ∙ ap (λ l. l ++ behind) block ∙ append-assoc xs (p ∷ ys) behind)
+        ∙ sym (append-assoc es xs (p ∷ (ys ++ behind)))
+
+    here : at < length t
+    unfolding keyedFront
+    here = go (ltb at (length t)) refl
+      where
+        go : (b : Bool) → ltb at (length t) ≡ b → at < length t
+        go true e = ltb-true at (length t) e
+        go false e = absurd (omega (arith, length-append xs (p ∷ ys), ap length (sym (ap (keyedFront strict (n / 4 * 3)) (ahead-none t at (ltb-false at (length t) e))) ∙ block)))
+
+    front : earlier at (linesFrom from (drop from t)) ≡ es
+    front =
+        let next : ℕ = at + firstLine (drop at t) .next in
+        let e : linesFrom from (drop from t) ≡ es ++ (firstAt at t ∷ linesFrom next (drop next t)) = split ∙ ap (λ l. es ++ l) (ahead-one t at here) in
+        ap (earlier at) e ∙ earlier-all at es (firstAt at t) (linesFrom next (drop next t)) (lines-before t from es (firstAt at t) (linesFrom next (drop next t)) e) (omega arith)
+
+    pub firsts : length t ≤ 16777216 → (r : Record) → line strict p ≡ read r → isFirstKey seed t (filledFor seed strict t n from at) (recordHead r) ≡ not (any (clash r) (readIn strict (es ++ xs)))
+    firsts small = firsts-among strict t small n from at es xs ys (ys ++ behind) p front whole block

@@ -1,4 +1,4 @@
--- Where the lines of a text and their keys stand: the key of a line stands before every later line.
+-- Where the lines of a text and their keys are: the key of a line comes before every later line.
 use Prim.Native.Nat.{ℕ, zero, suc, _+_, _%_, _≤_, _<_}
 use mathlib.Core.Path.{_≡_, refl, sym, ap, subst, _∙_}
 use mathlib.Core.Bool.{Bool, true, false, cond, false≢true}
@@ -22,13 +22,14 @@ use Rattle.accepted.proofs.Stands.{line-stand}
 use Rattle.accepted.specs.First.{firstAt}
 use Rattle.accepted.proofs.Ahead.{ahead-none, ahead-one, next-more, ahead-stands}
 use Rattle.read_admission.proofs.Admission.{stood}
-use Rattle.key_index.specs.Told.{value}
-use Rattle.key_look.specs.Sought.{mark}
+use Rattle.key_index.specs.KeySlots.{value}
+use Rattle.key_look.specs.Sought.{fingerprint}
 use Rattle.key_index.specs.HeldKeys.{valuesOf, keyValuesOf}
 use Rattle.accepted.specs.Ended.{Ended}
 use Rattle.key_index.proofs.Held.{value-place}
 use Rattle.accepted.proofs.LineKeys.{line-ended}
 use Rattle.carry_keys.specs.Blocks.{earlier, recordIfRead, readIn}
+use Rattle.key_look.specs.declared.Seed.{Seed}
 
 -- ---- each of a list
 
@@ -91,7 +92,7 @@ reads-ended strict t small (q ∷ qs) s = go (line strict q) refl (reads-ended s
 unfoldable pub Before : ℕ → Piece → Type 0
 Before n q = (q .at < n) × (q .at + length (q .bytes) ≤ n)
 
--- a line that others stand before
+-- a line that others come before
 pub lines-before : (t : List ℕ) (from : ℕ) (qs : List Piece) (p : Piece) (ps : List Piece) → linesFrom from (drop from t) ≡ qs ++ (p ∷ ps) → Each (Before (p .at)) qs
 unfolding Each Before
 lines-before t from [] p ps e = tt
@@ -129,29 +130,30 @@ unfolding isValue none?
 value-long [] e = absurd (false≢true e)
 value-long (c ∷ b) e = omega arith
 
-module _ (strict : Bool) (t : List ℕ) (small : length t ≤ 16777216) (n : ℕ) where
-  one-low : (j : ℕ) (q p : Piece) → Before n q → Stands (q .bytes) (q .at) p → isValue (p .bytes) ≡ true → p .at < 16777216 → Each (Low n) (value (mark j (p .bytes)) (p .at) ∷ [])
-  unfolding Each Low Before
-  one-low j q p b s v l =
-      let h : p .at < n = omega (arith, b .1, s .from, s .within, value-long (p .bytes) v) in
-      (omega (arith, value-place (mark j (p .bytes)) (p .at) l, h), tt)
+module _ (seed : Seed) where
+  module _ (strict : Bool) (t : List ℕ) (small : length t ≤ 16777216) (n : ℕ) where
+    one-low : (j : ℕ) (q p : Piece) → Before n q → Stands (q .bytes) (q .at) p → isValue (p .bytes) ≡ true → p .at < 16777216 → Each (Low n) (value (fingerprint seed j (p .bytes)) (p .at) ∷ [])
+    unfolding Each Low Before
+    one-low j q p b s v l =
+        let h : p .at < n = omega (arith, b .1, s .from, s .within, value-long (p .bytes) v) in
+        (omega (arith, value-place (fingerprint seed j (p .bytes)) (p .at) l, h), tt)
 
-  line-low : (q : Piece) → Before n q → Sits t q → (r : Record) → line strict q ≡ read r → Each (Low n) (valuesOf r)
-  unfolding Each valuesOf pieces KeyIsValue key Ended
-  line-low q b s r is = go r (line-stand strict q r is) (line-sound strict q r is .named) (sits-ended strict t small q s r is)
-    where
-      go : (r : Record) → Each (Stands (q .bytes) (q .at)) (pieces r) → KeyIsValue (key r) → Ended t r → Each (Low n) (valuesOf r)
-      go (header v fs) a m e = tt
-      go (reference p l fs) a m e = one-low 2 q p b (a .0) m (e .0)
-      go (group p fs) a m e = one-low 3 q p b (a .0) m (e .0)
-      go (program p fs) a m e = one-low 4 q p b (a .0) m (e .0)
-      go (comment p) a m e = tt
+    line-low : (q : Piece) → Before n q → Sits t q → (r : Record) → line strict q ≡ read r → Each (Low n) (valuesOf seed r)
+    unfolding Each valuesOf pieces KeyIsValue key Ended
+    line-low q b s r is = go r (line-stand strict q r is) (line-sound strict q r is .named) (sits-ended strict t small q s r is)
+      where
+        go : (r : Record) → Each (Stands (q .bytes) (q .at)) (pieces r) → KeyIsValue (key r) → Ended t r → Each (Low n) (valuesOf seed r)
+        go (header v fs) a m e = tt
+        go (reference p l fs) a m e = one-low 2 q p b (a .0) m (e .0)
+        go (group p fs) a m e = one-low 3 q p b (a .0) m (e .0)
+        go (program p fs) a m e = one-low 4 q p b (a .0) m (e .0)
+        go (comment p) a m e = tt
 
-  pub lines-low : (qs : List Piece) → Each (Before n) qs → Each (Sits t) qs → Each (Low n) (keyValuesOf (readIn strict qs))
-  unfolding Each keyValuesOf readIn recordIfRead
-  lines-low [] b s = tt
-  lines-low (q ∷ qs) b s = go (line strict q) refl (lines-low qs (b .1) (s .1))
-    where
-      go : (l : Line) → line strict q ≡ l → Each (Low n) (keyValuesOf (readIn strict qs)) → Each (Low n) (keyValuesOf (recordIfRead l ++ readIn strict qs))
-      go (refusedLine m) e ih = ih
-      go (read r) e ih = each-append (Low n) (valuesOf r) (keyValuesOf (readIn strict qs)) (line-low q (b .0) (s .0) r e) ih
+    pub lines-low : (qs : List Piece) → Each (Before n) qs → Each (Sits t) qs → Each (Low n) (keyValuesOf seed (readIn strict qs))
+    unfolding Each keyValuesOf readIn recordIfRead
+    lines-low [] b s = tt
+    lines-low (q ∷ qs) b s = go (line strict q) refl (lines-low qs (b .1) (s .1))
+      where
+        go : (l : Line) → line strict q ≡ l → Each (Low n) (keyValuesOf seed (readIn strict qs)) → Each (Low n) (keyValuesOf seed (recordIfRead l ++ readIn strict qs))
+        go (refusedLine m) e ih = ih
+        go (read r) e ih = each-append (Low n) (valuesOf seed r) (keyValuesOf seed (readIn strict qs)) (line-low q (b .0) (s .0) r e) ih

@@ -1,5 +1,6 @@
-// Where the keys of a block of lines stood first: each key of the block is told by the offset of its first line there, or by one before
-// the block, where a line before it has the key too.
+// Finds where each key of a block of lines occurs first. The slots hold one offset for each key of the block: that of its first line in the block, or
+// of an earlier line if the key occurs before the block.
+use key_look::Seed;
 use record::Head;
 ghost use mathlib.Core.Path.{_≡_};
 ghost use Prim.Native.Nat.{_≤_, _<_, _+_, _*_, _/_};
@@ -10,13 +11,19 @@ ghost use Rattle.accepted.specs.First.{firstAt};
 ghost use Rattle.record.specs.Head.{headOf};
 ghost use Rattle.carry_keys.specs.Blocks.{headKeys, afterKeyed, enteredFrom, pointedFrom, filledFor};
 
-// A line's head, and the offset of the line after it.
+// Where a block of lines ends, and how the keys are numbered that the area is filled with.
+pub struct Filled {
+    pub end: usize,
+    pub seed: Seed,
+}
+
+// The head of a line, and the offset of the line after it.
 struct Parsed {
     head: Head,
     next: usize,
 }
 
-// The line at the offset `at`, parsed.
+// Parses the line at the offset `at`.
 fn parse_at(text: &[u8], strict: bool, at: usize) -> Parsed
     requires { ⌜ length (now text) ≤ 16777216 ⌝ }
     requires { ⌜ at < length (now text) ⌝ }
@@ -32,7 +39,7 @@ fn parse_at(text: &[u8], strict: bool, at: usize) -> Parsed
     }
 }
 
-// How many keys a head has that may enter: one, or none.
+// How many keys a head puts into the index: one or none.
 fn keys_in(head: Head) -> usize
     ensures { λ r. ⌜ r ≡ headKeys head ⌝ }
 {
@@ -46,14 +53,14 @@ fn keys_in(head: Head) -> usize
     }
 }
 
-// The keys of the lines from the offset `at` on, up to the one with the `many`-th key, enter the area, of equal ones the first; the offset
-// after these lines.
-fn enter(text: &[u8], strict: bool, area: &mut [u32], at: usize, many: usize) -> usize
+// Puts the keys of the lines from the offset `at` on into the area, up to the line with the `many`-th key. Of equal keys only the first is put in.
+// Returns the offset after these lines.
+fn enter(text: &[u8], seed: Seed, strict: bool, area: &mut [u32], at: usize, many: usize) -> usize
     requires { ⌜ length (now text) ≤ 16777216 ⌝ }
     requires { ⌜ 0 < length (now area) ⌝ }
     requires { ⌜ at ≤ length (now text) ⌝ }
     ensures end { λ r. ⌜ r ≡ afterKeyed strict many at (now (text .entry)) ⌝ }
-    ensures wrote { λ _. ⌜ now (area .exit) ≡ enteredFrom strict (now (text .entry)) (now (area .entry)) at many ⌝ }
+    ensures wrote { λ _. ⌜ now (area .exit) ≡ enteredFrom seed strict (now (text .entry)) (now (area .entry)) at many ⌝ }
 {
     let mut end = at;
     let mut n: usize = 0;
@@ -63,41 +70,59 @@ fn enter(text: &[u8], strict: bool, area: &mut [u32], at: usize, many: usize) ->
         }
         let parsed = parse_at(text, strict, end);
         let head = parsed.head;
-        key_index::meet(text, area, head, true);
+        key_index::find_or_enter(text, area, seed, head, true);
         end = parsed.next;
         n += keys_in(head);
     }
     end
 }
 
-// The lines that start from the offset `from` on and before `to`: a slot that tells the key of one tells it by that line's offset from now on.
-fn point_back(text: &[u8], strict: bool, area: &mut [u32], from: usize, to: usize)
+// Goes through the lines that start at `from` or later and before `to`. A slot that holds the key of such a line gets the offset of that line.
+fn point_back(text: &[u8], seed: Seed, strict: bool, area: &mut [u32], from: usize, to: usize)
     requires { ⌜ length (now text) ≤ 16777216 ⌝ }
     requires { ⌜ 0 < length (now area) ⌝ }
     requires { ⌜ to ≤ length (now text) ⌝ }
-    ensures { λ _. ⌜ now (area .exit) ≡ pointedFrom strict (now (text .entry)) (now (area .entry)) from to ⌝ }
+    ensures { λ _. ⌜ now (area .exit) ≡ pointedFrom seed strict (now (text .entry)) (now (area .entry)) from to ⌝ }
 {
     let mut at = from;
     while at < to {
         let parsed = parse_at(text, strict, at);
         let head = parsed.head;
-        key_index::point(text, area, head);
+        key_index::point_to_head(text, area, seed, head);
         at = parsed.next;
     }
 }
 
 // Fills the area for the block of lines from the offset `at` on, three with a key for each four slots, after the lines from `from` on:
-// whether a line of the block has its key for the first time is told by `key_index::is_first` from now on. The offset after the block.
-pub fn fill(text: &[u8], strict: bool, area: &mut [u32], from: usize, at: usize) -> usize
+// whether a line of the block has its key for the first time is then answered by `key_index::is_first_with_key`.
+fn fill_by(
+    text: &[u8],
+    seed: Seed,
+    strict: bool,
+    area: &mut [u32],
+    from: usize,
+    at: usize,
+) -> Filled
     requires { ⌜ length (now text) ≤ 16777216 ⌝ }
     requires { ⌜ 0 < length (now area) ⌝ }
     requires { ⌜ at ≤ length (now text) ⌝ }
-    ensures end { λ r. ⌜ r ≡ afterKeyed strict (length (now (area .entry)) / 4 * 3) at (now (text .entry)) ⌝ }
-    ensures wrote { λ _. ⌜ now (area .exit) ≡ filledFor strict (now (text .entry)) (length (now (area .entry))) from at ⌝ }
+    ensures end { λ r. ⌜ r .end ≡ afterKeyed strict (length (now (area .entry)) / 4 * 3) at (now (text .entry)) ⌝ }
+    ensures wrote { λ r. ⌜ now (area .exit) ≡ filledFor (r .seed) strict (now (text .entry)) (length (now (area .entry))) from at ⌝ }
 {
     key_index::clear(area);
     let many = area.len() / 4 * 3;
-    let end = enter(text, strict, area, at, many);
-    point_back(text, strict, area, from, at);
-    end
+    let end = enter(text, seed, strict, area, at, many);
+    point_back(text, seed, strict, area, from, at);
+    Filled { end, seed }
+}
+
+// The same, with the numbers that suit the text.
+pub fn fill(text: &[u8], strict: bool, area: &mut [u32], from: usize, at: usize) -> Filled
+    requires { ⌜ length (now text) ≤ 16777216 ⌝ }
+    requires { ⌜ 0 < length (now area) ⌝ }
+    requires { ⌜ at ≤ length (now text) ⌝ }
+    ensures end { λ r. ⌜ r .end ≡ afterKeyed strict (length (now (area .entry)) / 4 * 3) at (now (text .entry)) ⌝ }
+    ensures wrote { λ r. ⌜ now (area .exit) ≡ filledFor (r .seed) strict (now (text .entry)) (length (now (area .entry))) from at ⌝ }
+{
+    fill_by(text, key_look::plain(), strict, area, from, at)
 }

@@ -11,7 +11,7 @@ use borrow.Author.Tests.{ltb-false}
 use Rattle.format.specs.Reading.{longest}
 use Rattle.format.specs.Tidy.{tidy}
 use Rattle.format.specs.Calls.{Answer, refused, yes, then, fitting, writing}
-use Rattle.accepted.proofs.Bools.{never}
+use Rattle.lists.proofs.Bools.{never}
 use Rattle.format.specs.Carrying.{keptOf, carriedLines, skips, rows, unwritableLine, carrying}
 use Rattle.carry_laws.proofs.Count.{rows-few}
 

@@ -34,7 +34,7 @@ skips-kept l [] = refl
 skips-kept l (refusedLine n ∷ ls) = omega (arith, skips-kept (l + 1) ls)
 skips-kept l (read r ∷ ls) = omega (arith, skips-kept (l + 1) ls)
 
--- two numbers for each line that is skipped
+-- two numbers per skipped line
 pub rows-length : (ss : List Skip) → length (rows ss) ≡ length ss + length ss
 unfolding rows
 rows-length [] = refl

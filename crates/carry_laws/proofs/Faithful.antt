@@ -1,4 +1,4 @@
--- Carrying on is what is demanded of it.
+-- Carrying on satisfies its laws.
 use Prim.Native.Nat.{ℕ, _≤_}
 use mathlib.Core.Path.{_≡_, refl, sym, ap, _∙_}
 use mathlib.Core.Bool.{Bool, true, false}
@@ -9,10 +9,13 @@ use lib.ListN.{length}
 use lib.Dec.{ltb}
 use borrow.Author.Tests.{le-ltb, ltb-false}
 use Rattle.format.specs.Records.{Record, Line}
-use Rattle.format.specs.Reading.{longest, readText}
+use Rattle.format.specs.Reading.{accept, longest, readText}
 use Rattle.format.specs.Tidy.{tidy}
 use Rattle.format.specs.Calls.{yes, then, readAnswer, records, fitting, writing, tidying}
-use Rattle.accepted.proofs.Bools.{never}
+use Rattle.accepted.specs.Read.{isAccepted, recordsOf}
+use Rattle.lists.proofs.Bools.{never}
+use Rattle.accepted.proofs.Read.{accepted-reads}
+use Rattle.accepted.proofs.Text.{text-fits}
 use Rattle.tidy_laws.specs.Bare.{Equal}
 use Rattle.tidy_laws.specs.Writable.{Writable}
 use Rattle.tidy_laws.specs.Gathered.{Gathered}
@@ -53,6 +56,19 @@ read-unskipped : (ss : List Skip) (rs qs : List Record) → unlessSkipped ss rs 
 unfolding unlessSkipped
 read-unskipped [] rs qs e = refl
 read-unskipped (s ∷ ss) rs qs e = absurd (never (cc))
+
+-- the records of a text that reading accepts
+accepted-records : (t : List ℕ) → readText t ≡ accept (recordsOf t) → records t ≡ yes (recordsOf t)
+unfolding records readAnswer
+accepted-records t e = rw e refl
+
+-- carrying on over such a text is tidying
+pub accepted-tidies : (t : List ℕ) (room table : ℕ) → isAccepted (readText t) ≡ true → carrying t room table ≡ then (tidying t room) (λ out. yes (out, []))
+accepted-tidies t room table a =
+    let read = accepted-reads t a in
+    tidies t room table
+    (read-unskipped (skips 0 (carriedLines t)) (keptOf (carriedLines t)) (recordsOf t)
+    (sym (reads t (text-fits t (recordsOf t) read)) ∙ accepted-records t read))
 
 -- ---- one text
 

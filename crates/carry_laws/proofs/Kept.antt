@@ -10,7 +10,7 @@ use Rattle.format.specs.Reading.{isStrict, admitted}
 use Rattle.format.specs.Tidy.{isWritable, unwritable}
 use Rattle.format.specs.declared.Version.{Version}
 use Rattle.accepted.specs.Admits.{Unbarred}
-use Rattle.accepted.proofs.Bools.{never}
+use Rattle.lists.proofs.Bools.{never}
 use Rattle.accepted.proofs.Admits.{admitted-read}
 use Rattle.tidy_laws.specs.Gathered as ga
 use Rattle.tidy_laws.specs.Gathered.{From, Gathered}
@@ -50,7 +50,7 @@ carried-gathered t = record { from = carried-from none [] (lines t); unbarred = 
 
 -- ---- reference names
 
--- where all that is kept can be written, so can the records alone
+-- if all that is kept can be written, so can the records by themselves
 pub kept-names : (l m : ℕ) (ls : List Line) → unwritableLine l ls ≡ none → unwritable m (keptOf ls) ≡ none
 unfolding unwritableLine unwritable keptOf
 kept-names l m [] h = refl

@@ -13,7 +13,7 @@ use Rattle.format.specs.Lines.{Piece}
 use Rattle.format.specs.Records.{Record, code, key, Line, refusedLine, read, line}
 use Rattle.format.specs.Reading.{sameKeys, clash, barred, unless, following, admitted}
 use Rattle.byte_slices.proofs.Equal.{same-equal}
-use Rattle.accepted.proofs.Bools.{never, or-assoc, or-false, and-left, and-right, any-append}
+use Rattle.lists.proofs.Bools.{never, or-assoc, or-false, and-left, and-right, any-append}
 use Rattle.format.specs.Carrying.{keptOf}
 use Rattle.carry_laws.specs.Judged.{judgedFrom}
 use Rattle.carry_laws.proofs.Judged.{kept-append, kept-more}

@@ -1,7 +1,7 @@
--- What is demanded of carrying on. For texts of at most 16,777,215 bytes whose kept reference names are allowed: the tidy text of the
--- records kept is accepted and holds them; tidying it, or carrying on over it, changes nothing and skips nothing; two texts have equal
--- tidy texts exactly when what is kept of them is equal. For every text that is not too long, reading is carrying on up to the first
--- skip; and for every text of which nothing is skipped, carrying on is tidying.
+-- What carrying on must satisfy. For texts of at most 16,777,215 bytes whose kept reference names are allowed: the tidy text of the kept records is
+-- accepted and holds exactly these; tidying it, or carrying on over it, changes nothing and skips nothing; two texts have equal tidy texts exactly
+-- when the same records are kept of them. For every text that is not too long, reading is carrying on up to the first skip. For every text of which
+-- nothing is skipped, carrying on is tidying.
 use Prim.Native.Nat.{ℕ, _+_, _≤_}
 use mathlib.Core.Path.{_≡_}
 use mathlib.Core.Logic.{_↔_}
@@ -15,15 +15,15 @@ use Rattle.tidy_laws.specs.Bare.{Equal}
 use Rattle.tidy_laws.specs.Faithful.{Holds}
 use Rattle.format.specs.Carrying.{keptOf, carriedLines, Skip, skips, rows, unwritableLine, carrying}
 
--- such a text, whose lines are judged as `ls`
+-- a text as above, whose lines are judged as `ls`
 pub record AllowedLines (t : List ℕ) (ls : List Line) : Type 0 where
   pub judged : carriedLines t ≡ ls
   pub small : length t ≤ 16777215
   pub names : unwritableLine 0 ls ≡ none
 
--- of one text
+-- the laws of one text
 pub record Carried (t : List ℕ) (ls : List Line) : Type 0 where
-  -- the call refuses for nothing but an output or a table that is too short
+  -- the call refuses only for an output or a table that is too short
   pub answers : (room table : ℕ)
       → carrying t room table ≡ then (fitting room (tidy (keptOf ls))) (λ out. then (fitting table (rows (skips 0 ls))) (λ ss. yes (out, ss)))
   -- the tidy text is at most one byte longer than the text
@@ -33,7 +33,7 @@ pub record Carried (t : List ℕ) (ls : List Line) : Type 0 where
   pub still : (room table : ℕ)
       → carrying (tidy (keptOf ls)) room table ≡ then (fitting room (tidy (keptOf ls))) (λ out. yes (out, []))
 
--- what reading answers, by the skips and the records kept
+-- the answer of reading, from the skips and the kept records
 unfoldable pub unlessSkipped : List Skip → List Record → Answer (List Record)
 unlessSkipped [] rs = yes rs
 unlessSkipped (s ∷ ss) rs = refused (s .refusal) (s .line)

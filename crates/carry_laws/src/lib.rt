@@ -1,1 +1,1 @@
-// Carrying on after refused lines: what is kept and what is skipped, and laws of it. There is no code here.
+// Carrying on after refused lines: which lines are kept and which are skipped, and laws about this. This crate has no code.

@@ -1,4 +1,4 @@
--- Where judging stands after a line, and at the beginning of a block: by what is tested.
+-- The cursor after a line and at the beginning of a block, for each outcome of the tests.
 use Prim.Native.Nat.{ℕ, zero, suc, _+_, _*_, _/_}
 use mathlib.Core.Path.{_≡_, refl, ap, _∙_}
 use mathlib.Core.Bool.{Bool, true, cond}
@@ -11,28 +11,29 @@ use Rattle.format.specs.Records.{line}
 use Rattle.record.specs.Head.{headOf}
 use Rattle.record.specs.declared.Head.{Head}
 use Rattle.read_admission.specs.Admission.{programsOf}
-use Rattle.key_index.specs.Told.{afterMeeting, afterPointing}
-use Rattle.key_index.proofs.HeldKeys.{meeting-length, pointing-length}
+use Rattle.key_index.specs.KeySlots.{afterEntering, afterPointing}
+use Rattle.key_index.proofs.HeldKeys.{entering-length, pointing-length}
 use Rattle.carry_keys.specs.Blocks.{keyedFront, afterKeyed, earlier, entered, pointedBack, filledFor}
 use Rattle.carry_lines.specs.Kept.{untilAt, filledAt, advanced}
+use Rattle.key_look.specs.declared.Seed.{Seed}
 use Rattle.carry_lines.specs.declared.Cursor.{Cursor}
 
-module _ (c : Cursor) (next until : ℕ) (x : Head) where
-  pub advanced-kept : (n : ℕ) → n ≡ 0 → advanced c next until x n ≡ record { at = next; line = c .line + 1; until = until; kept = c .kept + 1; programs = c .programs + programsOf x }
+module _ (c : Cursor) (next until : ℕ) (seed : Seed) (x : Head) where
+  pub advanced-kept : (n : ℕ) → n ≡ 0 → advanced c next until seed x n ≡ record { at = next; line = c .line + 1; until = until; seed = seed; kept = c .kept + 1; programs = c .programs + programsOf x }
   unfolding advanced
   advanced-kept zero e = refl
   advanced-kept (suc n) e = absurd (omega arith)
 
-  pub advanced-skipped : (n : ℕ) → (n ≡ 0 → ⊥) → advanced c next until x n ≡ record { at = next; line = c .line + 1; until = until; kept = c .kept; programs = c .programs }
+  pub advanced-skipped : (n : ℕ) → (n ≡ 0 → ⊥) → advanced c next until seed x n ≡ record { at = next; line = c .line + 1; until = until; seed = seed; kept = c .kept; programs = c .programs }
   unfolding advanced
   advanced-skipped zero h = absurd (h refl)
   advanced-skipped (suc n) h = refl
 
   -- kept or skipped
-  pub advanced-to : (n : ℕ) → (advanced c next until x n .at ≡ next) × (advanced c next until x n .line ≡ c .line + 1)
+  pub advanced-to : (n : ℕ) → (advanced c next until seed x n .at ≡ next) × (advanced c next until seed x n .line ≡ c .line + 1) × (advanced c next until seed x n .seed ≡ seed)
   unfolding advanced
-  advanced-to zero = (refl, refl)
-  advanced-to (suc n) = (refl, refl)
+  advanced-to zero = (refl, refl, refl)
+  advanced-to (suc n) = (refl, refl, refl)
 
 module _ (strict : Bool) (t : List ℕ) (at until : ℕ) where
   pub until-same : (n : ℕ) → (at ≡ until → ⊥) → untilAt strict t n at until ≡ until
@@ -43,34 +44,35 @@ module _ (strict : Bool) (t : List ℕ) (at until : ℕ) where
   unfolding untilAt
   until-next n e = ap (λ b. cond b (afterKeyed strict (n / 4 * 3) at t) until) (eq-eqb at until e)
 
-  pub filled-same : (from : ℕ) (area : List ℕ) → (at ≡ until → ⊥) → filledAt strict t from area at until ≡ area
+module _ (seed : Seed) (strict : Bool) (t : List ℕ) (at until : ℕ) where
+  pub filled-same : (from : ℕ) (area : List ℕ) → (at ≡ until → ⊥) → filledAt seed strict t from area at until ≡ area
   unfolding filledAt
-  filled-same from area h = ap (λ b. cond b (filledFor strict t (length area) from at) area) (ne-eqb at until h)
+  filled-same from area h = ap (λ b. cond b (filledFor seed strict t (length area) from at) area) (ne-eqb at until h)
 
-  pub filled-next : (from : ℕ) (area : List ℕ) → at ≡ until → filledAt strict t from area at until ≡ filledFor strict t (length area) from at
+  pub filled-next : (from : ℕ) (area : List ℕ) → at ≡ until → filledAt seed strict t from area at until ≡ filledFor seed strict t (length area) from at
   unfolding filledAt
-  filled-next from area e = ap (λ b. cond b (filledFor strict t (length area) from at) area) (eq-eqb at until e)
+  filled-next from area e = ap (λ b. cond b (filledFor seed strict t (length area) from at) area) (eq-eqb at until e)
 
 -- filling an area leaves its length
-module _ (strict : Bool) (t : List ℕ) where
-  entered-length : (slots : List ℕ) (ps : List Piece) → length (entered strict t slots ps) ≡ length slots
+module _ (seed : Seed) (strict : Bool) (t : List ℕ) where
+  entered-length : (slots : List ℕ) (ps : List Piece) → length (entered seed strict t slots ps) ≡ length slots
   unfolding entered
   entered-length slots [] = refl
   entered-length slots (p ∷ ps) =
       let x = headOf (line strict p) in
-      entered-length (afterMeeting true t slots x) ps ∙ meeting-length true t slots x
+      entered-length (afterEntering seed true t slots x) ps ∙ entering-length seed true t slots x
 
-  pointed-length : (slots : List ℕ) (ps : List Piece) → length (pointedBack strict t slots ps) ≡ length slots
+  pointed-length : (slots : List ℕ) (ps : List Piece) → length (pointedBack seed strict t slots ps) ≡ length slots
   unfolding pointedBack
   pointed-length slots [] = refl
   pointed-length slots (p ∷ ps) =
       let x = headOf (line strict p) in
-      pointed-length (afterPointing t slots x) ps ∙ pointing-length t slots x
+      pointed-length (afterPointing seed t slots x) ps ∙ pointing-length seed t slots x
 
-  pub filled-length : (n from at : ℕ) → length (filledFor strict t n from at) ≡ n
+  pub filled-length : (n from at : ℕ) → length (filledFor seed strict t n from at) ≡ n
   unfolding filledFor
   filled-length n from at =
       let block = keyedFront strict (n / 4 * 3) (linesFrom at (drop at t)) in
-      pointed-length (entered strict t (replicate n 0) block) (earlier at (linesFrom from (drop from t)))
+      pointed-length (entered seed strict t (replicate n 0) block) (earlier at (linesFrom from (drop from t)))
       ∙ entered-length (replicate n 0) block
       ∙ length-replicate n 0

@@ -1,6 +1,6 @@
 pub mod MeasuredSteps
 pub mod MeasuredSizes
-pub mod Turn
+pub mod NextLine
 pub mod Split
 pub mod Begun
 pub mod Steps

@@ -7,7 +7,7 @@ use Rattle.format.specs.declared.LineNo.{LineNo}
 use Rattle.format.specs.Calls.{Answer, refused, yes, writing}
 use Rattle.carry_early.specs.declared.Begin.{Begin}
 use Rattle.carry_passes.specs.From.{unwritableFrom}
-use Rattle.accepted.proofs.Bools.{never}
+use Rattle.lists.proofs.Bools.{never}
 use Rattle.tidy_sizes.specs.declared.PerKind.{PerKind}
 use Rattle.carry_passes.specs.Measured.{keptMeasured, measuredFrom, keptAnswer, KeptTold}
 use Rattle.carry_passes.specs.declared.KeptSizes.{KeptSizes}

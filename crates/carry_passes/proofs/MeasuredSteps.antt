@@ -1,4 +1,4 @@
--- What a turn of measuring adds: the names and the sizes, a line further.
+-- What a step of measuring adds: the names and the sizes, one line further.
 use Prim.Native.Nat.{ℕ, zero, suc, _+_, _≤_}
 use mathlib.Core.Path.{_≡_, refl, sym, ap, _∙_}
 use mathlib.Core.Bool.{Bool, true, false, cond}
@@ -9,7 +9,7 @@ use lib.ListN.{length}
 use Rattle.format.specs.Records.{Record, Line, refusedLine, read}
 use Rattle.format.specs.Tidy.{tidy}
 use Rattle.format.specs.declared.Kind.{Kind}
-use Rattle.accepted.proofs.Bools.{never}
+use Rattle.lists.proofs.Bools.{never}
 use Rattle.tidy_line.specs.Line.{lineText, lineWritable}
 use Rattle.tidy_sizes.specs.Numbers.{get}
 use Rattle.tidy_sizes.specs.declared.PerKind.{PerKind}
@@ -20,7 +20,7 @@ use Rattle.tidy_text.proofs.Sizes.{size-turn, own-size, size-le}
 use Rattle.tidy_text.proofs.Names.{cond-is, grew-bad, grew-is}
 use Rattle.format.specs.Carrying.{keptOf, unwritableLine}
 use Rattle.carry_lines.specs.declared.Cursor.{Cursor}
-use Rattle.carry_passes.specs.Turn.{Turn}
+use Rattle.carry_passes.specs.NextLine.{Turn}
 use Rattle.carry_passes.proofs.Steps as at
 use Rattle.carry_passes.proofs.Steps.{goes, left-kept, left-skipped, records-kept, records-skipped}
 use Rattle.carry_passes.specs.Measured.{grownAt}
@@ -40,7 +40,7 @@ module _ (n : ℕ) (j : Kind) (l : Line) where
       go zero h = absurd (h refl)
       go (suc n) h = refl
 
--- ---- a turn
+-- ---- a step
 
 line-names : (k : ℕ) (l : Line) (ls : List Line) → unwritableLine k (l ∷ ls) ≡ cond (lineWritable l) (unwritableLine (k + 1) ls) (some k)
 unfolding unwritableLine lineWritable

@@ -25,7 +25,7 @@ use Rattle.carry_early.specs.declared.Begin.{Begin}
 use Rattle.carry_lines.specs.Going.{judgedLines}
 use Rattle.carry_passes.specs.From.{linesKeptFrom, keptFrom, skippedFrom, rowsOf, unwritableFrom}
 
--- the rule by the version, a line further
+-- the rule by the version, one line further
 rule-later : (v a : Option Version) → strictAfter (isStrict v) a ≡ isStrict (later v a)
 unfolding strictAfter later
 rule-later v none = refl
@@ -75,7 +75,7 @@ unfolding rowsFrom
 rows-early l [] = refl
 rows-early l (n ∷ ns) = omega (arith, rows-early (l + 1) ns)
 
--- ---- by where the first line that is kept stands
+-- ---- by where the first line that is kept is
 
 module _ (t : List ℕ) (b : Begin) (f : First t b) where
   pub lined : carriedLines t ≡ map refusedLine (earlyOf t .refusals) ++ linesKeptFrom t b
@@ -103,11 +103,11 @@ module _ (t : List ℕ) (b : Begin) (f : First t b) where
   pub early-rows : length (rowsFrom 0 (earlyOf t .refusals)) ≡ b .line + b .line
   early-rows = omega (arith, rows-early 0 (earlyOf t .refusals), f .line)
 
-  -- a byte longer than the text at most
+  -- one byte longer than the text at most
   pub first-small : length (tidy (keptFrom t b)) ≤ length t + 1
   first-small = rw (← first-kept) (gathered-length t (keptOf (carriedLines t)) (carried-gathered t))
 
-  -- two numbers for each line that is skipped
+  -- two numbers per skipped line
   pub first-count : length (rows (skips 0 (carriedLines t))) ≡ (b .line + length (skippedFrom t b)) * 2
   unfolding rowsOf
   first-count =

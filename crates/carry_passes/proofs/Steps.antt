@@ -1,4 +1,4 @@
--- What a turn says of the records kept: a line that is kept is read, and its record stands before those of the lines after it.
+-- What a step says of the records kept: a line that is kept is read, and its record comes before those of the lines after it.
 use Prim.Native.Nat.{ℕ, _+_, _<_}
 use mathlib.Core.Path.{_≡_, refl, sym, ap, _∙_}
 use mathlib.Core.Bool.{Bool, true}
@@ -14,7 +14,7 @@ use Rattle.tidy_text.proofs.OfKind.{only, line-kind}
 use Rattle.format.specs.Carrying.{keptOf}
 use Rattle.carry_lines.specs.Going.{judgedLines}
 use Rattle.carry_lines.specs.declared.Cursor.{Cursor}
-use Rattle.carry_passes.specs.Turn.{lentTo, Turn}
+use Rattle.carry_passes.specs.NextLine.{lentTo, Turn}
 
 kept-onto : (l : Line) (ls : List Line) → keptOf (l ∷ ls) ≡ withRecord l (keptOf ls)
 unfolding keptOf withRecord
@@ -22,7 +22,7 @@ kept-onto (refusedLine n) ls = refl
 kept-onto (read r) ls = refl
 
 module _ (strict : Bool) (t : List ℕ) (from : ℕ) (c : Cursor) (end : ℕ) where
-  -- the line of the turn
+  -- the line of the step
   abbrev pub lineAt : Line
   lineAt = line strict (record { at = c .at; bytes = lentTo t (c .at) end })
 

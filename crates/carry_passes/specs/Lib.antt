@@ -1,5 +1,5 @@
 -- Words for contracts and laws, and nothing to believe.
 pub mod Measured
 pub mod From
-pub mod Turn
+pub mod NextLine
 pub mod Steps

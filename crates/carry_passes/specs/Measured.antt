@@ -1,4 +1,4 @@
--- What measuring the lines from the first kept on answers.
+-- The answer of measuring the lines from the first kept line on.
 use Prim.Native.Nat.{ℕ, zero, suc}
 use mathlib.Core.Path.{_≡_}
 use mathlib.Core.Option.{Option, none, some}
@@ -16,26 +16,26 @@ use Rattle.carry_passes.specs.From.{keptFrom, skippedFrom, unwritableFro
 use Rattle.carry_passes.specs.declared.KeptSizes.{KeptSizes}
 use Rattle.carry_passes.specs.declared.KeptSizes.the-variants as measured
 
--- what one line of a kind adds to the sizes, if its record can be written: `n` is 0 where it is kept, and else it adds nothing
+-- what a line of a kind adds to the sizes, if its record can be written: `n` is 0 if the line is kept, and otherwise it adds nothing
 unfoldable pub grownAt : ℕ → Kind → Line → PerKind → Grown
 unfolding grownBy
 grownAt zero j l s = grownBy j l s
 grownAt (suc n) j l s = grown.Is s
 
--- the sizes of the tidy text and how many lines are skipped, or the line of the first SQ kept whose name can't be written
+-- the sizes of the tidy text and the number of skipped lines, or the line of the first kept SQ whose name can't be written
 unfoldable pub keptMeasured : Option ℕ → PerKind → ℕ → KeptSizes
 keptMeasured none s n = measured.Is s n
 keptMeasured (some l) s n = measured.Unwritable (record { 0 = l })
 
--- of a text, where the first line kept stands at `b`
+-- the same for a text whose first kept line starts at `b`
 abbrev pub measuredFrom : List ℕ → Begin → KeptSizes
 measuredFrom t b = keptMeasured (unwritableFrom t b) (sizesOf (keptFrom t b)) (length (skippedFrom t b))
 
--- what each is: 24 on the line of that SQ, or the sizes and the count
+-- what each answer says: 24 on the line of that SQ, or the sizes and the count
 unfoldable pub keptAnswer : KeptSizes → Answer (PerKind × ℕ)
 keptAnswer (measured.Unwritable l) = refused 24 (l .0)
 keptAnswer (measured.Is s n) = yes (s, n)
 
--- where `r` answers for a text as a refusal, writing what is kept of it is refused with the same number and line
+-- if `r` is a refusal for a text, then writing what is kept of the text is refused with the same number and line
 abbrev pub KeptTold : List ℕ → Begin → KeptSizes → Type 0
 KeptTold t b r = (room n l : ℕ) (text : List ℕ) → keptAnswer r ≡ refused n l → writing room (unwritableFrom t b) text ≡ refused n l

@@ -13,9 +13,9 @@ use Rattle.tidy_text.specs.Kinds.{lineKind}
 use Rattle.carry_early.specs.declared.Begin.{Begin}
 use Rattle.carry_lines.specs.declared.Cursor.{Cursor}
 use Rattle.carry_lines.specs.declared.Step.{Step}
-use Rattle.carry_passes.specs.Turn.{lentTo}
+use Rattle.carry_passes.specs.NextLine.{lentTo}
 
--- ---- by the line and its kind: `n` is 0 where it is kept, and else why it is skipped
+-- ---- given the line and its kind: `n` is 0 if the line is kept, and otherwise the reason why it is skipped
 
 -- to the places
 unfoldable pub placesAt : ℕ → Kind → Line → PerKind → PerKind
@@ -35,7 +35,7 @@ unfolding over
 tableAt zero row number table = table
 tableAt (suc n) row number table = over table (row * 2) (number ∷ suc n ∷ [])
 
--- ---- by the step that judged the line at the cursor `c`
+-- ---- given the step that judged the line at the cursor `c`
 
 -- its kind, and the line itself
 abbrev pub stepKind : List ℕ → Cursor → Step → Kind
@@ -44,11 +44,11 @@ stepKind t c s = lineKind (lentTo t (c .at) (s .end))
 abbrev pub stepLine : List ℕ → Begin → Cursor → Step → Line
 stepLine t b c s = line (b .strict) (record { at = c .at; bytes = lentTo t (c .at) (s .end) })
 
--- how many rows stand before its own
+-- how many rows come before its own
 abbrev pub rowsBefore : Begin → Cursor → ℕ
 rowsBefore b c = b .line + (c .line - c .kept)
 
--- there is room for its record, or for its row
+-- there is room for its record or for its row
 pub record RoomFor (t : List ℕ) (b : Begin) (c : Cursor) (s : Step) (places : PerKind) (out table : List ℕ) : Type 0 where
   pub text : s .refusal ≡ 0 → get (stepKind t c s) places + length (lineText (stepLine t b c s)) ≤ length out
   pub row : 0 < s .refusal → rowsBefore b c * 2 + 2 ≤ length table

@@ -1,4 +1,4 @@
-// Carrying on, the pass that measures: how long the tidy text is of the lines that are kept, and how many lines are skipped.
+// Carrying on, the pass that measures: the length of the tidy text of the kept lines, and the number of skipped lines.
 pub mod writing;
 
 use carry_early::Begin;
@@ -19,14 +19,14 @@ ghost use Rattle.carry_early.specs.First.{First};
 ghost use Rattle.carry_passes.specs.From.{Fresh};
 ghost use Rattle.carry_passes.specs.Measured.{grownAt, measuredFrom, KeptTold};
 
-// How many bytes the records kept have in the tidy text, of each kind, and how many lines are skipped among those from the first that is
-// kept on; or the line of the first SQ kept whose name can't be written.
+// How many bytes of the tidy text the kept records of each kind take, and how many lines are skipped from the first kept line on; or the line of the
+// first kept SQ whose name can't be written.
 pub enum KeptSizes {
     Unwritable(LineNo),
     Is(PerKind, usize),
 }
 
-// The sizes with one line more; `n` is 0 where it is kept.
+// The sizes with one more line; `n` is 0 if the line is kept.
 fn with_step(sizes: PerKind, src: &[u8], at: usize, strict: bool, n: u8) -> Grown
     requires { ⌜ (n ≡ 0 → isRead (line strict (record { at = at; bytes = now src })) ≡ true) ⌝ }
     requires { ⌜ at + length (now src) ≤ 16777216 ⌝ }
@@ -39,7 +39,7 @@ fn with_step(sizes: PerKind, src: &[u8], at: usize, strict: bool, n: u8) -> Grow
     tidy_text::with_line(sizes, src, at, strict)
 }
 
-// The lines from the first that is kept on, measured in one pass; `ids` are empty before.
+// Measures the lines from the first kept line on, in one pass. `ids` is empty at the start.
 fn measure_lines(text: &[u8], b: Begin, area: &mut [u32], ids: &mut [u32]) -> KeptSizes
     requires { ⌜ length (now text) ≤ 16777216 ⌝ }
     requires { ⌜ First (now text) b ⌝ }
@@ -47,11 +47,13 @@ fn measure_lines(text: &[u8], b: Begin, area: &mut [u32], ids: &mut [u32]) -> Ke
     ensures measured { λ r. ⌜ r ≡ measuredFrom (now (text .entry)) b ⌝ }
     ensures room { λ _. ⌜ length (now (area .exit)) ≡ length (now (area .entry)) ⌝ }
 {
+    let seed = key_look::plain();
     let mut sizes = PerKind::new();
     let mut c = Cursor {
         at: b.at,
         line: 0,
         until: b.at,
+        seed,
         kept: 0,
         programs: 0,
     };
@@ -69,7 +71,7 @@ fn measure_lines(text: &[u8], b: Begin, area: &mut [u32], ids: &mut [u32]) -> Ke
     KeptSizes::Is(sizes, c.line - c.kept)
 }
 
-// The same with slots of its own for the programs kept. The area is all zeros afterwards.
+// The same, with slots of its own for the IDs of the kept programs. The area is all zeros afterwards.
 pub fn measure(text: &[u8], b: Begin, area: &mut [u32]) -> KeptSizes
     requires { ⌜ length (now text) ≤ 16777216 ⌝ }
     requires { ⌜ First (now text) b ⌝ }

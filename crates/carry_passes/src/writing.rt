@@ -1,4 +1,4 @@
-// Carrying on, the pass that writes: the tidy text of the lines that are kept, and the table of those that are skipped.
+// Carrying on, the pass that writes: the tidy text of the kept lines, and the table of the skipped lines.
 use carry_early::Begin;
 use carry_lines::Cursor;
 use carry_lines::Step;
@@ -15,10 +15,11 @@ ghost use Rattle.tidy_text.specs.Placed.{withParts, parts, Apart};
 ghost use Rattle.format.specs.Carrying.{keptOf, carriedLines, skips, rows};
 ghost use Rattle.carry_early.specs.First.{First};
 ghost use Rattle.carry_passes.specs.From.{Fresh, keptFrom, rowsOf};
-ghost use Rattle.carry_passes.specs.Turn.{Turn};
+ghost use Rattle.carry_passes.specs.NextLine.{Turn};
 ghost use Rattle.carry_passes.specs.Steps.{RoomFor, placesAfter, outAfter, tableAfter};
 
-// Writes the record of the line at the cursor `c` at its kind's place where it is kept, or its row where it is skipped. The places after it.
+// Writes the record of the line at the cursor `c` at the place of its kind if the line is kept, and its row if it is skipped. Returns the places
+// after it.
 fn put_step(
     text: &[u8],
     b: Begin,
@@ -44,10 +45,10 @@ fn put_step(
     }
     let at = c.at;
     let end = step.end;
-    tidy_text::put_line(out, places, &text[at..end], at, b.strict)
+    tidy_text::put_at_kind(out, places, &text[at..end], at, b.strict)
 }
 
-// Writes what is kept, each kind from its place on, and the rows of what is skipped, in one pass from the first line that is kept on.
+// Writes the kept records, each kind from its place on, and the rows of the skipped lines, in one pass from the first kept line on.
 fn put_lines(
     text: &[u8],
     b: Begin,
@@ -65,11 +66,13 @@ fn put_lines(
     ensures wrote { λ _. ⌜ now (out .exit) ≡ withParts (now (out .entry)) (parts places (keptFrom (now (text .entry)) b)) ⌝ }
     ensures listed { λ _. ⌜ now (table .exit) ≡ over (now (table .entry)) (b .line * 2) (rowsOf (now (text .entry)) b) ⌝ }
 {
+    let seed = key_look::plain();
     let mut next = places;
     let mut c = Cursor {
         at: b.at,
         line: 0,
         until: b.at,
+        seed,
         kept: 0,
         programs: 0,
     };
@@ -80,8 +83,8 @@ fn put_lines(
     }
 }
 
-// Writes the tidy text of what is kept and the whole table. The area is all zeros afterwards.
-pub fn put_all(
+// Writes the tidy text of the kept lines and the whole table. The area is all zeros afterwards.
+pub fn put_kept_and_table(
     text: &[u8],
     b: Begin,
     area: &mut [u32],

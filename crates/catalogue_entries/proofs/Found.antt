@@ -13,7 +13,7 @@ use Rattle.byte_slices.specs.Stands.{Each}
 use Rattle.catalogue_entries.proofs.Walk.{entries-back}
 use Rattle.catalogue_entries.proofs.Records.{catalogue-entries}
 
--- the records from that of kind `k` on that has `i` of that kind before it; none where there is none
+-- the records from that of kind `k` on that has `i` of that kind before it; none if there is none
 unfoldable pub recordsFrom : ℕ → ℕ → List Record → List Record
 unfolding code
 recordsFrom k i [] = []

@@ -1,4 +1,4 @@
--- The laws of a walk: what stands at the front is the first entry, and the walk goes on behind it.
+-- The laws of a walk: what is at the front is the first entry, and the walk goes on after it.
 use Prim.Native.Nat.{ℕ, zero, suc, _+_, _≤_, _<_}
 use mathlib.Core.Path.{_≡_, refl, sym, ap, _∙_}
 use mathlib.Core.Bool.{Bool, true, false, cond}
@@ -64,7 +64,7 @@ size-within (k ∷ s) = go (leb (kindSize k) (length (k ∷ s))) refl
     go true q = omega (arith, body-size k s, leb-true (kindSize k) (length (k ∷ s)) q)
     go false q = omega arith
 
--- what stands behind the first entry
+-- what comes after the first entry
 abbrev behind : List ℕ → List ℕ
 behind s = drop (entrySize (entryOf s)) s
 
@@ -117,7 +117,7 @@ entries-more (b ∷ t) h =
     within-more s (length t) h
     ∙ ap (λ es. entryOf s ∷ es) (within-enough (length t) (length (behind s)) (behind s) (omega arith) (omega arith))
 
--- a turn of a walk that is at `at` and found `e` there, `len` bytes long
+-- a step of a walk that is at `at` and found `e` there, `len` bytes long
 module _ (c : List ℕ) (at len : ℕ) (e : Entry) (found : e ≡ entryOf (drop at c)) (long : len ≡ entrySize e) where
   size-found : entrySize (entryOf (drop at c)) ≡ len
   size-found = sym (long ∙ ap entrySize found)

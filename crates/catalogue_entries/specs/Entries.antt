@@ -1,4 +1,4 @@
--- The entries of a catalogue: what stands at its front, the bytes that an entry is, and the entries that records have.
+-- The entries of a catalogue: the entry at its front, the bytes of an entry, and the entries of records.
 use Prim.Native.Nat.{ℕ, zero, suc, _+_, _^_, _<_}
 use mathlib.Core.Bool.{cond}
 use mathlib.Core.List.{List, [], _∷_, _++_, map}
@@ -16,7 +16,7 @@ use Rattle.catalogue_entries.specs.declared.Entry.the-variants.{End, Hea
 
 -- ---- kinds and sizes
 
--- the byte of kind; 0 for what is no entry
+-- the kind byte; 0 for `End`
 unfoldable pub kindByte : Entry → ℕ
 kindByte End = 0
 kindByte (Header v l) = 1
@@ -26,7 +26,7 @@ kindByte (Program p l) = 4
 kindByte (Comment p l) = 5
 kindByte (Field a b p) = 6
 
--- how long an entry of a kind is, its byte of kind and its body; 0 where there is no such kind
+-- how long an entry of a kind is, with its kind byte and its body; 0 if there is no such kind
 unfoldable pub kindSize : ℕ → ℕ
 kindSize k =
     cond (eqb k 1) 13
@@ -68,7 +68,7 @@ entryWith k s =
     (cond (eqb k 5) (Comment (placeFrom s) (lineFrom (drop 8 s)))
     (cond (eqb k 6) (Field (getD s 0 0) (getD s 1 0) (placeFrom (drop 2 s))) End)))))
 
--- what stands at the front of `s`: no entry where nothing is left, where the kind is unknown, or where the body is short
+-- the entry at the front of `s`: `End` if nothing is left, the kind is unknown, or the body is too short
 unfoldable pub entryOf : List ℕ → Entry
 unfolding kindSize entryWith
 entryOf [] = End
@@ -96,12 +96,12 @@ unfolding entryBytes
 entriesBytes [] = []
 entriesBytes (e ∷ es) = entryBytes e ++ entriesBytes es
 
--- ---- what the bytes can hold
+-- ---- which numbers fit into the bytes
 
 abbrev pub FitsPlace : Place → Type 0
 FitsPlace p = (p .at < 2 ^ 32) × (p .len < 2 ^ 32)
 
--- each number is below what its bytes hold
+-- each number is small enough for its bytes
 unfoldable pub FitsEntry : Entry → Type 0
 FitsEntry End = ⊥
 FitsEntry (Header v l) = (v .major < 2 ^ 32) × (v .minor < 2 ^ 32) × (l < 2 ^ 32)
@@ -113,7 +113,7 @@ FitsEntry (Field a b p) = (a < 256) × (b < 256) × FitsPlace p
 
 -- ---- from records
 
--- where a piece stands
+-- where a piece is
 unfoldable pub pieceAt : Piece → Place
 pieceAt p = record { at = p .at; len = length (p .bytes) }
 
@@ -126,12 +126,12 @@ headEntry l (group p fs) = ReadGroup (pieceAt p) l
 headEntry l (program p fs) = Program (pieceAt p) l
 headEntry l (comment p) = Comment (pieceAt p) l
 
--- the entry of a field besides the keys
+-- the entry of a field that is not a key
 unfoldable pub fieldEntry : fields.Field → Entry
 unfolding pieceAt
 fieldEntry f = Field (f .tag₀) (f .tag₁) (pieceAt (f .value))
 
--- records from the line `l` on; a field entry belongs to the record before it
+-- the entries of records from the line `l` on; a field entry belongs to the record before it
 unfoldable pub entriesOn : ℕ → List Record → List Entry
 unfolding headEntry fieldEntry others
 entriesOn l [] = []
@@ -143,7 +143,7 @@ entriesOf rs = entriesOn 0 rs
 
 -- ---- a walk
 
--- the entries from the front of `s` on, `f` at most, up to what is no entry
+-- the entries from the front of `s` on, at most `f`, up to what is not an entry
 unfoldable pub entriesWithin : ℕ → List ℕ → List Entry
 unfolding entryOf entrySize
 entriesWithin zero s = []
@@ -151,7 +151,7 @@ entriesWithin (suc f) s =
     let e : Entry = entryOf s in
     cond (eqb (entrySize e) 0) [] (e ∷ entriesWithin f (drop (entrySize e) s))
 
--- the entries of a catalogue: no more than it has bytes
+-- the entries of a catalogue; there are no more than bytes
 unfoldable pub entriesIn : List ℕ → List Entry
 unfolding entriesWithin
 entriesIn c = entriesWithin (length c) c
@@ -162,7 +162,7 @@ unfolding kindByte
 counted k [] = 0
 counted k (e ∷ es) = cond (eqb (kindByte e) k) (suc (counted k es)) (counted k es)
 
--- those before the one of kind `k` with `i` of that kind before it; all where there is none
+-- the entries before the one of kind `k` that has `i` of that kind before it; all if there is none
 unfoldable pub entriesBefore : ℕ → ℕ → List Entry → List Entry
 unfolding kindByte
 entriesBefore k i [] = []

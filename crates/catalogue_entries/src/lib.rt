@@ -5,13 +5,13 @@ ghost use Prim.Native.Nat.{_≤_, _+_};
 ghost use lib.ListN.{length, drop};
 ghost use Rattle.catalogue_entries.specs.Entries.{kindByte, kindSize, entrySize, versionFrom, placeFrom, entryWith, entryOf};
 
-// Where a piece of the text stands.
+// Where a piece of the text is. The numbers have 32 bits because a catalogue stores them so; everywhere else such a place is a `record::Stretch`.
 pub struct Place {
     pub at: u32,
     pub len: u32,
 }
 
-// What stands at a place of a catalogue: an entry of a record ends with the record's line. `End` is also what is no entry.
+// What is at a place of a catalogue. An entry of a record ends with the record's line. `End` also stands for anything that is not an entry.
 pub enum Entry {
     End,
     Header(Version, u32),
@@ -22,7 +22,7 @@ pub enum Entry {
     Field(u8, u8, Place),
 }
 
-// The byte of kind of an entry: 0 for what is none.
+// The kind byte of an entry; 0 for `End`.
 pub fn kind_of(e: Entry) -> u8
     ensures { λ r. ⌜ r ≡ kindByte e ⌝ }
 {
@@ -37,7 +37,7 @@ pub fn kind_of(e: Entry) -> u8
     }
 }
 
-// How long an entry of a kind is, with its byte of kind: 0 where there is no such kind.
+// How long an entry of a kind is, including its kind byte; 0 if there is no such kind.
 fn kind_size(kind: u8) -> usize
     ensures { λ r. ⌜ r ≡ kindSize kind ⌝ }
 {
@@ -79,7 +79,7 @@ fn place_at(s: &[u8], at: usize) -> Place
     Place { at: offset, len }
 }
 
-// The entry of a kind at `at`: its body is behind the byte of kind.
+// The entry of a kind at `at`. Its body comes after the kind byte.
 fn body_at(s: &[u8], at: usize, kind: u8) -> Entry
     requires { ⌜ at + kindSize kind ≤ length (now s) ⌝ }
     ensures { λ r. ⌜ r ≡ entryWith kind (drop (at + 1) (now (s .entry))) ⌝ }
@@ -102,7 +102,7 @@ fn body_at(s: &[u8], at: usize, kind: u8) -> Entry
     }
 }
 
-// What stands at `at`: `End` where nothing is left, the kind is unknown or the body is short.
+// The entry at `at`: `End` if nothing is left, the kind is unknown, or the body is too short.
 pub fn entry_at(catalogue: &[u8], at: usize) -> Entry
     ensures { λ r. ⌜ r ≡ entryOf (drop at (now (catalogue .entry))) ⌝ }
 {

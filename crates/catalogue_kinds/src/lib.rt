@@ -1,15 +1,15 @@
-// The entries of the records of one kind: how many a catalogue has, and where one stands by its ordinal.
+// The entries of the records of one kind: how many a catalogue has, and where the one with an ordinal is.
 ghost use mathlib.Core.Path.{_≡_};
 ghost use Rattle.catalogue_entries.specs.Entries.{entriesIn, counted, entriesBefore, sizes};
 ghost use Rattle.catalogue_kinds.specs.Passing.{passing};
 
-// How far a walk over entries goes, and how many of a kind it passes.
+// How far a walk over entries went, and how many entries of a kind it passed.
 struct Passed {
     at: usize,
     count: usize,
 }
 
-// Passes the entries before the record entry of a kind with an ordinal among its kind: all where there is none.
+// Passes the entries before the record entry with an ordinal among those of a kind; all entries if there is none.
 fn pass_before(catalogue: &[u8], kind: u8, ordinal: usize) -> Passed
     ensures { λ r. ⌜ r ≡ passing kind (entriesBefore kind ordinal (entriesIn (now (catalogue .entry)))) ⌝ }
 {
@@ -31,7 +31,7 @@ fn pass_before(catalogue: &[u8], kind: u8, ordinal: usize) -> Passed
     }
 }
 
-// How many entries of a kind a catalogue has: no ordinal among them is so high.
+// How many entries of a kind a catalogue has. Every ordinal among them is below this number.
 pub fn count_kind(catalogue: &[u8], kind: u8) -> usize
     ensures { λ r. ⌜ r ≡ counted kind (entriesIn (now (catalogue .entry))) ⌝ }
 {
@@ -39,7 +39,7 @@ pub fn count_kind(catalogue: &[u8], kind: u8) -> usize
     all.count
 }
 
-// Where the record entry of a kind with an ordinal among its kind stands: behind the last entry where there is none.
+// Where the record entry with an ordinal among those of a kind is; the place after the last entry if there is none.
 pub fn find_record(catalogue: &[u8], kind: u8, ordinal: usize) -> usize
     ensures { λ r. ⌜ r ≡ sizes (entriesBefore kind ordinal (entriesIn (now (catalogue .entry)))) ⌝ }
 {

@@ -16,13 +16,13 @@ use Rattle.byte_slices.proofs.Stands.{each-map}
 use Rattle.accepted.specs.Pieces.{values, pieces}
 use Rattle.accepted.specs.Sound as sound
 use Rattle.accepted.specs.Sound.{kind, Other}
-use Rattle.accepted.proofs.Bools.{and-left, and-right, or-split}
-use Rattle.accepted.proofs.Pairs.{each-both}
+use Rattle.lists.proofs.Bools.{and-left, and-right, or-split}
+use Rattle.lists.proofs.Pairs.{each-both}
 use Rattle.accepted.proofs.Stands.{line-stand}
 use Rattle.accepted.proofs.Sound.{line-sound}
 use Rattle.catalogue_entries.specs.Entries.{FitsPlace, FitsEntry, pieceAt, headEntry, fieldEntry}
 
--- ---- where a piece stands
+-- ---- where a piece is
 
 piece-fits : (s : List ℕ) (at : ℕ) → at + length s ≤ 16777216 → (p : Piece) → Stands s at p → FitsPlace (pieceAt p)
 unfolding pieceAt

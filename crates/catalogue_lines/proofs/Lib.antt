@@ -3,6 +3,6 @@ pub mod Starts
 pub mod Reached
 pub mod Fitting
 pub mod Entries
-pub mod Told
-pub mod Turned
+pub mod LineEntries
+pub mod NextField
 pub mod Length

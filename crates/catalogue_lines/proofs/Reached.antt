@@ -45,7 +45,7 @@ module _ (c : List ℕ) (rs : List Record) (o : ℕ) (h : Reached c rs o) where
       ∙ same-append (catalogue (rs ++ (r ∷ []))) (catalogueFrom (length (rs ++ (r ∷ []))) qs) c
       ∙ ap (λ t. t && same (drop (length (catalogue (rs ++ (r ∷ [])))) c) (catalogueFrom (length (rs ++ (r ∷ []))) qs)) f
 
-  -- after the last record: the catalogue is theirs exactly where it ends here
+  -- after the last record: the catalogue is theirs exactly if it ends here
   pub reached-end : same c (catalogue rs) ≡ eqb o (length c)
   reached-end =
       ap (same c) (sym (append-nil (catalogue rs)))

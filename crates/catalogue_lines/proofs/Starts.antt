@@ -10,7 +10,7 @@ use lib.Seq.{drop-drop}
 use lib.Dec.{eqb}
 use borrow.Author.Tests.{eq-eqb, ne-eqb}
 use Rattle.format.specs.Bytes.{same, starts}
-use Rattle.accepted.proofs.Bools.{never, and-right, eqb-sym}
+use Rattle.lists.proofs.Bools.{never, and-right, eqb-sym}
 use Rattle.catalogue_same.proofs.Starts.{starts-within, starts-append}
 use Rattle.catalogue_lines.specs.Matched.{matched}
 use Rattle.catalogue_lines.specs.declared.Matched.the-variants.{Differs, Upto}

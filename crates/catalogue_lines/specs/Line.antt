@@ -5,12 +5,12 @@ use mathlib.Core.List.{List, [], _++_}
 use Rattle.format.specs.Records.{Line, refusedLine, read, others, line}
 use Rattle.format.specs.Catalogue.{little, head, tails}
 
--- a record's own entry, with the line `l` that it stands on, and those of its other fields; nothing for a refusal
+-- the own entry of a record on the line `l`, and those of its other fields; nothing for a refusal
 unfoldable pub recordBytes : ℕ → Line → List ℕ
 unfolding head little tails others
 recordBytes l (refusedLine n) = []
 recordBytes l (read r) = head r ++ little 4 l ++ tails (others r)
 
--- those of the line with the bytes `s`, the number `l` and the offset `at`
+-- the bytes for the line `s` with the number `l` and the offset `at`
 abbrev pub lineBytes : Bool → ℕ → ℕ → List ℕ → List ℕ
 lineBytes strict l at s = recordBytes l (line strict (record { at = at; bytes = s }))

@@ -1,4 +1,4 @@
--- What comparing a catalogue with expected bytes answers.
+-- The answers of comparing a catalogue with expected bytes.
 use Prim.Native.Nat.{ℕ, _+_}
 use mathlib.Core.Path.{_≡_}
 use mathlib.Core.Bool.{Bool, true, false, cond}
@@ -18,12 +18,12 @@ use Rattle.catalogue_lines.specs.declared.Compared.the-variants.{Same}
 use Rattle.catalogue_lines.specs.declared.Matched.{Matched}
 use Rattle.catalogue_lines.specs.declared.Matched.the-variants.{Differs, Upto}
 
--- `c` is the catalogue from the place `o` on: where it starts with `xs`, the place after them
+-- `c` is the catalogue from the place `o` on: if it starts with `xs`, the place after them
 unfoldable pub matched : ℕ → List ℕ → List ℕ → Matched
 unfolding starts
 matched o c xs = cond (starts xs c) (Upto (o + length xs)) Differs
 
--- what a walk over the other fields of a line meets, whose entries start at the place `o`
+-- what a walk over the other fields of a line finds, if their entries start at the place `o`
 unfoldable pub metIn : Kind → ℕ → List ℕ → ℕ → Met
 unfolding fieldBytes keysIn fieldsOf
 metIn k at line o = record { next = o + length (fieldBytes k at line 3); keys = keysIn k (fieldsFrom at line 3) }

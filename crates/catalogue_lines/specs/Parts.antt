@@ -1,4 +1,4 @@
--- The entries of a line, from what reading it answers: the record's own, from its head, and one for each other field that a walk gives.
+-- The entries of a line, from the answer of reading it: the own entry from its head, and one entry per other field that a walk gives.
 use Prim.Native.Nat.{ℕ, _+_, _*_}
 use mathlib.Core.List.{List}
 use Rattle.format.specs.Catalogue.{tails}
@@ -36,7 +36,7 @@ othersOf (ReadGroup p n) = n
 othersOf (Program p n) = n
 othersOf (Comment p) = 0
 
--- how many bytes the entries of a record have, on any line: its own, and those of its other fields, which are of kind 6
+-- how many bytes the entries of a record take, on any line: its own, and those of its other fields, which are of kind 6
 unfoldable pub sizeOfHead : Head → ℕ
 unfolding entrySize ownEntry othersOf kindSize
 sizeOfHead h = entrySize (ownEntry 0 h) + othersOf h * kindSize 6

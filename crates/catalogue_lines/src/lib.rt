@@ -1,4 +1,4 @@
-// One line of a text in its catalogue: how many bytes its entries have, the entries written, and the entries compared.
+// One line of a text in its catalogue: measures, writes and compares its entries.
 use accepted_line::Form;
 use accepted_line::KeyValues;
 use catalogue_entries::Entry;
@@ -25,19 +25,25 @@ ghost use Rattle.catalogue_lines.specs.Line.{lineBytes};
 ghost use Rattle.catalogue_lines.specs.Parts.{ownEntry, othersOf, sizeOfHead, ownSize, fieldBytes};
 ghost use Rattle.catalogue_lines.specs.Matched.{metIn, comparedOf, matched};
 
-// Whether a catalogue has the expected bytes at a place, and then the place after them.
+// Whether a catalogue has the expected bytes at a place, and if so, the place after them.
 pub enum Matched {
     Differs,
     Upto(usize),
 }
 
-// Where a walk over a line met its keys, and the place after the entries of its other fields.
+// Where a line is: its offset in the text, and its number.
+struct LinePlace {
+    at: usize,
+    number: u32,
+}
+
+// Where a walk over a line found its keys, and the place after the entries of its other fields.
 struct Met {
     next: usize,
     keys: KeyValues,
 }
 
-// Whether a catalogue has those entries, and then what the walk met.
+// Whether a catalogue has those entries, and if so, what the walk found.
 enum Compared {
     Differs,
     Same(Met),
@@ -57,7 +63,7 @@ fn others_of(head: Head) -> usize
     }
 }
 
-// An entry of the kind of a record's own, with no place and no line in it: as long as the record's own.
+// An entry of the same kind as a record's own entry, with no place and no line in it. It has the same length.
 fn blank_entry(head: Head) -> Entry
     ensures { λ r. ⌜ entrySize r ≡ entrySize (ownEntry 0 head) ⌝ }
 {
@@ -72,8 +78,8 @@ fn blank_entry(head: Head) -> Entry
     }
 }
 
-// How many bytes the entries of a record have: its own, and one of a field for each of its other fields.
-pub fn record_size(head: Head) -> usize
+// How many bytes the entries of a record take: its own entry, and one entry per other field.
+pub fn entries_size(head: Head) -> usize
     requires { ⌜ othersOf head < 2 ^ 32 ⌝ }
     ensures { λ r. ⌜ r ≡ sizeOfHead head ⌝ }
 {
@@ -123,7 +129,7 @@ fn own_size(kind: Kind) -> usize
     }
 }
 
-// The own entry of an accepted line, by its keys; its number is `number`.
+// The own entry of an accepted line, from its keys; `number` is the number of the line.
 fn line_entry(kind: Kind, src: &[u8], at: usize, number: u32, keys: KeyValues) -> Entry
     requires { ⌜ LineOf kind at (now src) ⌝ }
     requires { ⌜ keys ≡ keysIn kind (fieldsFrom at (now src) 3) ⌝ }
@@ -140,17 +146,9 @@ fn comment_entry(src: &[u8], at: usize, number: u32) -> Entry
     line_entry(Kind::Comment, src, at, number, KeyValues::new())
 }
 
-// Writes the entries of an accepted line's other fields from `o` on. The same walk meets the keys.
-fn put_fields(
-    out: &mut [u8],
-    o: usize,
-    kind: Kind,
-    src: &[u8],
-    at: usize,
-    once: bool,
-    tables: &[u32],
-) -> Met
-    requires { ⌜ Walkable once at (now src) (now tables) ⌝ }
+// Writes the entries of an accepted line's other fields from `o` on. The same walk finds the keys.
+fn put_fields(out: &mut [u8], o: usize, kind: Kind, src: &[u8], at: usize, tables: &[u32]) -> Met
+    requires { ⌜ Walkable at (now src) (now tables) ⌝ }
     requires { ⌜ at + length (now src) ≤ 16777216 ⌝ }
     requires { ⌜ o + length (fieldBytes kind at (now src) 3) ≤ length (now out) ⌝ }
     ensures met { λ r. ⌜ r ≡ metIn kind at (now (src .entry)) o ⌝ }
@@ -165,8 +163,8 @@ fn put_fields(
         let b = src[i + 2];
         if record_tags::is_key(kind, a, b) {
             keys = keys.with(a, accepted_line::fields::value_at(at, i, end));
-        } else if accepted_line::fields::is_first(src, at, i, once, tables) {
-            let v = accepted_line::fields::kept_value(src, at, i, end, once, tables);
+        } else if accepted_line::fields::is_first_of_tag(src, at, i, tables) {
+            let v = accepted_line::fields::kept_value(src, at, i, end, tables);
             catalogue_put::put_field(out, next, a, b, narrow(v.at, v.len));
             next += 11;
         }
@@ -175,30 +173,34 @@ fn put_fields(
     Met { next, keys }
 }
 
-// Writes the entries of an accepted line of fields from `o` on, and gives the place after them: the own entry last, when its keys are met.
-fn put_line(
+// Writes the entries of an accepted line of fields from `o` on, and returns the place after them. The own entry is written last, once its keys are
+// found.
+fn put_line_entries(
     out: &mut [u8],
     o: usize,
     kind: Kind,
     src: &[u8],
-    at: usize,
-    number: u32,
-    once: bool,
+    place: LinePlace,
     tables: &[u32],
 ) -> usize
-    requires { ⌜ LineOf kind at (now src) ⌝ }
+    requires { ⌜ LineOf kind (place .at) (now src) ⌝ }
     requires { ⌜ isComment kind ≡ false ⌝ }
-    requires { ⌜ Walkable once at (now src) (now tables) ⌝ }
-    requires { ⌜ o + length (lineBytes false number at (now src)) ≤ length (now out) ⌝ }
-    ensures next { λ r. ⌜ r ≡ o + length (lineBytes false number at (now (src .entry))) ⌝ }
-    ensures wrote { λ _. ⌜ now (out .exit) ≡ over (now (out .entry)) o (lineBytes false number at (now (src .entry))) ⌝ }
+    requires { ⌜ Walkable (place .at) (now src) (now tables) ⌝ }
+    requires { ⌜ o + length (lineBytes false (place .number) (place .at) (now src)) ≤ length (now out) ⌝ }
+    ensures next { λ r. ⌜ r ≡ o + length (lineBytes false (place .number) (place .at) (now (src .entry))) ⌝ }
+    ensures wrote { λ _. ⌜ now (out .exit) ≡ over (now (out .entry)) o (lineBytes false (place .number) (place .at) (now (src .entry))) ⌝ }
 {
-    let met = put_fields(out, o + own_size(kind), kind, src, at, once, tables);
-    catalogue_put::put_entry(out, o, line_entry(kind, src, at, number, met.keys));
+    let met = put_fields(out, o + own_size(kind), kind, src, place.at, tables);
+    catalogue_put::put_entry(
+        out,
+        o,
+        line_entry(kind, src, place.at, place.number, met.keys),
+    );
     met.next
 }
 
-// Writes the entries of the accepted line `src`, the line `number`, which starts at the offset `at`, from `o` on, and gives the place after them.
+// Writes the entries of the accepted line `src` from `o` on, and returns the place after them. The line has the number `number` and starts at the
+// offset `at`.
 pub fn put_record(
     out: &mut [u8],
     o: usize,
@@ -215,26 +217,25 @@ pub fn put_record(
 {
     match accepted_line::form_of(src, at, strict) {
         Form::Comment => catalogue_put::put_entry(out, o, comment_entry(src, at, number)),
-        Form::Once(kind) => put_line(out, o, kind, src, at, number, true, &[]),
+        Form::Once(kind) => put_line_entries(out, o, kind, src, LinePlace { at, number }, &[]),
         Form::Repeating(kind) => {
             let mut tables = [0u32; 6448];
             accepted_line::fields::note_tags(src, at, &mut tables);
-            put_line(out, o, kind, src, at, number, false, &tables)
+            put_line_entries(out, o, kind, src, LinePlace { at, number }, &tables)
         }
     }
 }
 
-// Whether the catalogue has the entries of an accepted line's other fields at `o`. The same walk meets the keys.
+// Whether the catalogue has the entries of an accepted line's other fields at `o`. The same walk finds the keys.
 fn same_fields(
     catalogue: &[u8],
     o: usize,
     kind: Kind,
     src: &[u8],
     at: usize,
-    once: bool,
     tables: &[u32],
 ) -> Compared
-    requires { ⌜ Walkable once at (now src) (now tables) ⌝ }
+    requires { ⌜ Walkable at (now src) (now tables) ⌝ }
     requires { ⌜ at + length (now src) ≤ 16777216 ⌝ }
     requires { ⌜ o ≤ length (now catalogue) ⌝ }
     ensures { λ r. ⌜ r ≡ comparedOf (starts (fieldBytes kind at (now (src .entry)) 3) (drop o (now (catalogue .entry))))
@@ -249,8 +250,8 @@ fn same_fields(
         let b = src[i + 2];
         if record_tags::is_key(kind, a, b) {
             keys = keys.with(a, accepted_line::fields::value_at(at, i, end));
-        } else if accepted_line::fields::is_first(src, at, i, once, tables) {
-            let v = accepted_line::fields::kept_value(src, at, i, end, once, tables);
+        } else if accepted_line::fields::is_first_of_tag(src, at, i, tables) {
+            let v = accepted_line::fields::kept_value(src, at, i, end, tables);
             if !catalogue_same::same_field(catalogue, next, a, b, narrow(v.at, v.len)) {
                 return Compared::Differs;
             }
@@ -261,38 +262,42 @@ fn same_fields(
     Compared::Same(Met { next, keys })
 }
 
-// Whether the catalogue has the entries of an accepted line of fields at `o`, and then the place after them: the own entry last, when its keys are met.
+// Whether the catalogue has the entries of an accepted line of fields at `o`, and if so, the place after them. The own entry is compared last, once
+// its keys are found.
 fn same_line(
     catalogue: &[u8],
     o: usize,
     kind: Kind,
     src: &[u8],
-    at: usize,
-    number: u32,
-    once: bool,
+    place: LinePlace,
     tables: &[u32],
 ) -> Matched
-    requires { ⌜ LineOf kind at (now src) ⌝ }
+    requires { ⌜ LineOf kind (place .at) (now src) ⌝ }
     requires { ⌜ isComment kind ≡ false ⌝ }
-    requires { ⌜ Walkable once at (now src) (now tables) ⌝ }
+    requires { ⌜ Walkable (place .at) (now src) (now tables) ⌝ }
     requires { ⌜ o ≤ length (now catalogue) ⌝ }
-    ensures { λ r. ⌜ r ≡ matched o (drop o (now (catalogue .entry))) (lineBytes false number at (now (src .entry))) ⌝ }
+    ensures { λ r. ⌜ r ≡ matched o (drop o (now (catalogue .entry))) (lineBytes false (place .number) (place .at) (now (src .entry))) ⌝ }
 {
     let n = own_size(kind);
     if catalogue.len() - o < n {
         return Matched::Differs;
     }
-    let compared = same_fields(catalogue, o + n, kind, src, at, once, tables);
+    let compared = same_fields(catalogue, o + n, kind, src, place.at, tables);
     let Compared::Same(met) = compared else {
         return Matched::Differs;
     };
-    if catalogue_same::same_entry(catalogue, o, line_entry(kind, src, at, number, met.keys)) {
+    if catalogue_same::same_entry(
+        catalogue,
+        o,
+        line_entry(kind, src, place.at, place.number, met.keys),
+    ) {
         return Matched::Upto(met.next);
     }
     Matched::Differs
 }
 
-// Whether the catalogue has the entries of the accepted line `src`, the line `number`, which starts at the offset `at`, at `o`, and then the place after them.
+// Whether the catalogue has the entries of the accepted line `src` at `o`, and if so, the place after them. The line has the number `number` and
+// starts at the offset `at`.
 pub fn same_record(
     catalogue: &[u8],
     o: usize,
@@ -313,11 +318,11 @@ pub fn same_record(
             }
             Matched::Differs
         }
-        Form::Once(kind) => same_line(catalogue, o, kind, src, at, number, true, &[]),
+        Form::Once(kind) => same_line(catalogue, o, kind, src, LinePlace { at, number }, &[]),
         Form::Repeating(kind) => {
             let mut tables = [0u32; 6448];
             accepted_line::fields::note_tags(src, at, &mut tables);
-            same_line(catalogue, o, kind, src, at, number, false, &tables)
+            same_line(catalogue, o, kind, src, LinePlace { at, number }, &tables)
         }
     }
 }

@@ -17,8 +17,8 @@ use Rattle.format.specs.Catalogue.{catalogue}
 use Rattle.format.specs.Calls.{keyIfThere, lengthIfThere, linesOf, valueIfThere}
 use Rattle.byte_slices.specs.Stands.{Each}
 use Rattle.accepted.specs.Sound.{Sound}
-use Rattle.accepted.proofs.Bools.{or-left, or-right, and-left, and-right, split}
-use Rattle.accepted.proofs.Pairs.{each-all}
+use Rattle.lists.proofs.Bools.{or-left, or-right, and-left, and-right, split}
+use Rattle.lists.proofs.Pairs.{each-all}
 use Rattle.accepted.proofs.OfKind.{ofKind-none}
 use Rattle.accepted.proofs.Text.{text-sound}
 use Rattle.catalogue_entries.specs.declared.Entry.{Entry}
@@ -241,7 +241,7 @@ tag-same a b f q = (
   eqb-true (f .tag₁) b (and-right (eqb (f .tag₀) a) (eqb (f .tag₁) b) q),
 )
 
--- no tag stands twice, so the first value is the last
+-- no tag is repeated, so the first value is the last
 pub value-fields : (a b : ℕ) (fs : List Field) (l : ℕ) (rs : List Record) → repeats fs ≡ false → valueIn a b (map fieldEntry fs ++ entriesOn l rs) ≡ foundOf (lastOf a b fs)
 unfolding valueIn fieldEntry lastOf later repeats foundOf
 value-fields a b [] l rs h = no-value a b l rs

@@ -1,4 +1,4 @@
--- What holds of the entries of an accepted text: their numbers fit, and no more than 1,024 are programs. Keys and values stand in the text.
+-- What holds of the entries of an accepted text: their numbers fit, and no more than 1,024 are programs. Keys and values are in the text.
 use Prim.Native.Nat.{ℕ, zero, suc, _+_, _^_, _≤_, _<_}
 use mathlib.Core.Path.{_≡_, refl, subst}
 use mathlib.Core.List.{List, [], _∷_, _++_, map}
@@ -16,7 +16,7 @@ use Rattle.byte_slices.specs.Stands.{Each, Stands}
 use Rattle.accepted.specs.Pieces.{values, pieces}
 use Rattle.accepted.specs.Sound as sound
 use Rattle.accepted.specs.Sound.{Sound, Other}
-use Rattle.accepted.proofs.Bools.{never}
+use Rattle.lists.proofs.Bools.{never}
 use Rattle.accepted.proofs.OfKind.{each-ofKind}
 use Rattle.accepted.proofs.Fields.{Of, lastOf-of}
 use Rattle.accepted.proofs.Clean.{tag-bounds}

@@ -1,4 +1,4 @@
 pub mod Walks
 pub mod Kept
 pub mod Answers
-pub mod Told
+pub mod CallAnswers

@@ -1,4 +1,4 @@
--- The laws of what is found in the entries of any bytes: what stands at a place is the first of the entries from there on.
+-- The laws of what is found in the entries of any bytes: what is at a place is the first of the entries from there on.
 use Prim.Native.Nat.{ℕ, zero, suc, _+_, _≤_}
 use mathlib.Core.Path.{_≡_, refl, sym, ap, _∙_}
 use mathlib.Core.Logic.{_⊎_, inl, inr}
@@ -16,7 +16,7 @@ use Rattle.catalogue_entries.proofs.Walk.{size-end, size-within, entries-none, 
 use Rattle.catalogue_entries.proofs.Written.{end-size}
 use Rattle.catalogue_lookup.specs.Lookup.{entriesFrom, firstEntry}
 
--- the bytes end there, or an entry stands there
+-- the bytes end there, or an entry is there
 pub walk-cases : {C : Type 0} (s : List ℕ) → (entryOf s ≡ End → entriesIn s ≡ [] → C) → ((entrySize (entryOf s) ≡ 0 → ⊥) → entriesIn s ≡ entryOf s ∷ entriesIn (drop (entrySize (entryOf s)) s) → C) → C
 walk-cases {C} s f g = go (eqb (entrySize (entryOf s)) 0) refl
   where
@@ -45,7 +45,7 @@ module _ (k : ℕ) (s : List ℕ) where
   abbrev behind : List ℕ
   behind = drop (entrySize (entryOf s)) s
 
-  -- one entry is passed, and the law holds behind it
+  -- one entry is passed, and the law holds after it
   turn : (i : ℕ) → entriesIn s ≡ entryOf s ∷ entriesIn behind → ((j : ℕ) → From k j behind) → From k i s
   unfolding entriesBefore sizes entriesFrom
   turn i m ih = ap (λ es. entriesIn (drop (sizes (entriesBefore k i es)) s)) m ∙ go i (eqb (kindByte (entryOf s)) k) refl ∙ ap (entriesFrom k i) (sym m)
@@ -71,7 +71,7 @@ from-fuel (suc n) k i s h =
 pub from-entries : (k i : ℕ) (s : List ℕ) → From k i s
 from-entries k i s = from-fuel (length s) k i s (omega arith)
 
--- what stands where a record's entry is found, and what stands behind it
+-- the entry at the place that is found, and what comes after it
 module _ (k i : ℕ) (s : List ℕ) (at : ℕ) (found : at ≡ sizes (entriesBefore k i (entriesIn s))) where
   found-entries : entriesIn (drop at s) ≡ entriesFrom k i (entriesIn s)
   found-entries = ap (λ n. entriesIn (drop n s)) found ∙ from-entries k i s

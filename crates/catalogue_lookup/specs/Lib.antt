@@ -1,3 +1,3 @@
 -- Words for contracts and laws, and nothing to believe.
 pub mod Lookup
-pub mod Told
+pub mod CallAnswers

@@ -1,4 +1,4 @@
--- What is found in the entries of a catalogue: a record's key, the LN of an SQ, a record's line, the value of a field.
+-- What is found in the entries of a catalogue: the key of a record, the LN of an SQ, the line of a record, the value of a field.
 use Prim.Native.Nat.{ℕ, zero, suc}
 use mathlib.Core.Bool.{_&&_, cond}
 use mathlib.Core.List.{List, [], _∷_}
@@ -18,7 +18,7 @@ use Rattle.catalogue_lookup.specs.declared.Located.the-variants as locat
 
 -- ---- answers
 
--- where a piece stands, if there is one
+-- where a piece is, if there is one
 unfoldable pub foundOf : Option Piece → Found
 unfolding pieceAt
 foundOf none = Nothing
@@ -36,7 +36,7 @@ locatedOf (some l) = located.On (record { 0 = l })
 
 -- ---- entries
 
--- the entries from that of kind `k` on that has `i` of that kind before it; none where there is none
+-- the entries from the one of kind `k` on that has `i` of that kind before it; none if there is no such entry
 unfoldable pub entriesFrom : ℕ → ℕ → List Entry → List Entry
 unfolding kindByte
 entriesFrom k i [] = []
@@ -48,7 +48,7 @@ unfoldable pub firstEntry : List Entry → Entry
 firstEntry [] = End
 firstEntry (e ∷ es) = e
 
--- the key that an entry says: SN of SQ, ID of RG and PG
+-- the key in an entry: SN of SQ, ID of RG and PG
 unfoldable pub entryKey : Entry → Found
 entryKey End = Nothing
 entryKey (Header v l) = Nothing
@@ -58,7 +58,7 @@ entryKey (Program p l) = At p
 entryKey (Comment p l) = Nothing
 entryKey (Field a b p) = Nothing
 
--- the LN that an entry says
+-- the LN in an entry
 unfoldable pub entryLength : Entry → Sized
 entryLength End = sized.Nothing
 entryLength (Header v l) = sized.Nothing
@@ -68,7 +68,7 @@ entryLength (Program p l) = sized.Nothing
 entryLength (Comment p l) = sized.Nothing
 entryLength (Field a b p) = sized.Nothing
 
--- the line that an entry of a record says: a field has none
+-- the line in an entry of a record; a field has none
 unfoldable pub entryLine : Entry → Located
 entryLine End = located.Nothing
 entryLine (Header v l) = located.On (record { 0 = l })
@@ -78,7 +78,7 @@ entryLine (Program p l) = located.On (record { 0 = l })
 entryLine (Comment p l) = located.On (record { 0 = l })
 entryLine (Field a b p) = located.Nothing
 
--- the value of the field entry with the tag `a`, `b`, before the next record's entry
+-- the value in the field entry with the tag `a`, `b`, before the next record's entry
 unfoldable pub valueIn : ℕ → ℕ → List Entry → Found
 valueIn a b [] = Nothing
 valueIn a b (End ∷ es) = Nothing
@@ -103,7 +103,7 @@ unfoldable pub lineIn : ℕ → ℕ → List Entry → Located
 unfolding entryLine firstEntry entriesFrom
 lineIn k i es = entryLine (firstEntry (entriesFrom k i es))
 
--- a field entry belongs to the record before it; a field is no record
+-- a field entry belongs to the record before it, and is not itself a record
 unfoldable pub fieldIn : ℕ → ℕ → ℕ → ℕ → List Entry → Found
 unfolding valueIn entriesFrom
 fieldIn k i a b es = cond (ltb 5 k) Nothing (valueIn a b (drop 1 (entriesFrom k i es)))

@@ -1,4 +1,4 @@
-// What is found by a catalogue: keys, lengths, lines and fields. No line of the text is parsed again.
+// Finds keys, lengths, lines and fields with a catalogue. No line of the text is parsed again.
 use catalogue_entries::Entry;
 use catalogue_entries::Place;
 use format::LineNo;
@@ -6,7 +6,7 @@ ghost use mathlib.Core.Path.{_≡_};
 ghost use lib.ListN.{drop};
 ghost use Rattle.catalogue_entries.specs.Entries.{entriesIn};
 ghost use Rattle.catalogue_lookup.specs.Lookup.{entryKey, entryLength, entryLine, valueIn, keyIn, lengthIn, lineIn, fieldIn};
-ghost use Rattle.catalogue_lookup.specs.Told.{KeyTold, LengthTold, LineTold, FieldTold};
+ghost use Rattle.catalogue_lookup.specs.CallAnswers.{KeyTold, LengthTold, LineTold, FieldTold};
 
 // A place of the text, if there is one.
 pub enum Found {
@@ -26,7 +26,7 @@ pub enum Located {
     On(LineNo),
 }
 
-// The key that an entry says: SN of SQ, ID of RG and PG.
+// The key in an entry: SN of SQ, ID of RG and PG.
 fn key_of(e: Entry) -> Found
     ensures { λ r. ⌜ r ≡ entryKey e ⌝ }
 {
@@ -38,7 +38,7 @@ fn key_of(e: Entry) -> Found
     }
 }
 
-// The LN that an entry says.
+// The LN in an entry.
 fn length_of(e: Entry) -> Sized
     ensures { λ r. ⌜ r ≡ entryLength e ⌝ }
 {
@@ -48,7 +48,7 @@ fn length_of(e: Entry) -> Sized
     }
 }
 
-// The line that an entry of a record says: a field has none.
+// The line in an entry of a record. A field has none.
 fn line_of(e: Entry) -> Located
     ensures { λ r. ⌜ r ≡ entryLine e ⌝ }
 {
@@ -62,7 +62,7 @@ fn line_of(e: Entry) -> Located
     }
 }
 
-// The key of the record of a kind with an ordinal among its kind: SQ, RG and PG have one.
+// The key of the record with an ordinal among those of a kind. SQ, RG and PG have one.
 pub fn find_key(catalogue: &[u8], kind: u8, ordinal: u32) -> Found
     ensures is { λ r. ⌜ r ≡ keyIn kind ordinal (entriesIn (now (catalogue .entry))) ⌝ }
     ensures answer { λ r. ⌜ KeyTold (now (catalogue .entry)) kind ordinal r ⌝ }
@@ -80,7 +80,7 @@ pub fn find_length(catalogue: &[u8], ordinal: u32) -> Sized
     length_of(catalogue_entries::entry_at(catalogue, at))
 }
 
-// The line of the record of a kind, 1 to 5, with an ordinal among its kind.
+// The line of the record with an ordinal among those of a kind, 1 to 5.
 pub fn find_line(catalogue: &[u8], kind: u8, ordinal: u32) -> Located
     ensures is { λ r. ⌜ r ≡ lineIn kind ordinal (entriesIn (now (catalogue .entry))) ⌝ }
     ensures answer { λ r. ⌜ LineTold (now (catalogue .entry)) kind ordinal r ⌝ }
@@ -89,7 +89,7 @@ pub fn find_line(catalogue: &[u8], kind: u8, ordinal: u32) -> Located
     line_of(catalogue_entries::entry_at(catalogue, at))
 }
 
-// The value of the field entry with a tag among those from `from` on, up to the next record's entry.
+// The value in the field entry with a tag, among the entries from `from` on up to the next record's entry.
 pub fn field_from(catalogue: &[u8], from: usize, a: u8, b: u8) -> Found
     ensures { λ r. ⌜ r ≡ valueIn a b (entriesIn (drop from (now (catalogue .entry)))) ⌝ }
 {
@@ -107,7 +107,7 @@ pub fn field_from(catalogue: &[u8], from: usize, a: u8, b: u8) -> Found
     }
 }
 
-// The value of a field of the record of a kind, 1 to 5, with an ordinal among its kind.
+// The value of a field of the record with an ordinal among those of a kind, 1 to 5.
 pub fn find_field(catalogue: &[u8], kind: u8, ordinal: u32, a: u8, b: u8) -> Found
     ensures is { λ r. ⌜ r ≡ fieldIn kind ordinal a b (entriesIn (now (catalogue .entry))) ⌝ }
     ensures answer { λ r. ⌜ FieldTold (now (catalogue .entry)) kind ordinal a b r ⌝ }

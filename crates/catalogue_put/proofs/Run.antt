@@ -1,4 +1,4 @@
--- Entries written one behind the other are one run.
+-- Entries written one after another are one run.
 use Prim.Native.Nat.{ℕ, _+_, _≤_}
 use mathlib.Core.Path.{_≡_, sym, ap, _∙_}
 use mathlib.Core.List.{List, [], _∷_, _++_, append-nil}
@@ -15,7 +15,7 @@ single : (e : Entry) → entriesBytes (e ∷ []) ≡ entryBytes e
 unfolding entriesBytes
 single e = append-nil (entryBytes e)
 
--- one more entry behind those that were written
+-- one more entry after those that were written
 pub over-next : (out : List ℕ) (at : ℕ) (es : List Entry) (e : Entry) → at + sizes es + entrySize e ≤ length out
     → over (over out at (entriesBytes es)) (at + sizes es) (entryBytes e) ≡ over out at (entriesBytes (es ++ e ∷ []))
 over-next out at es e h =

@@ -1,4 +1,4 @@
--- Bytes stored one by one, and a run written behind them, are one run.
+-- Bytes stored one by one, and a run written after them, are one run.
 use Prim.Native.Nat.{ℕ, _+_, _≤_}
 use mathlib.Core.Path.{_≡_, ap, _∙_}
 use mathlib.Core.List.{List, [], _∷_, _++_}

@@ -1,4 +1,4 @@
-// Entries of a catalogue, written into a lent slice.
+// Writes entries of a catalogue into a lent slice.
 use catalogue_entries::Entry;
 use catalogue_entries::Place;
 ghost use mathlib.Core.Path.{_≡_};
@@ -18,7 +18,7 @@ fn put_numbers(out: &mut [u8], at: usize, a: u32, b: u32)
     little_endian::put_u32(out, at + 4, b);
 }
 
-// Writes a byte of kind, and two numbers behind it.
+// Writes a kind byte and two numbers after it.
 fn put_kind(out: &mut [u8], at: usize, kind: u8, a: u32, b: u32)
     requires { ⌜ at + 9 ≤ length (now out) ⌝ }
     ensures { λ _. ⌜ now (out .exit) ≡ over (now (out .entry)) at (kind ∷ little 4 a ++ little 4 b) ⌝ }
@@ -27,7 +27,7 @@ fn put_kind(out: &mut [u8], at: usize, kind: u8, a: u32, b: u32)
     put_numbers(out, at + 1, a, b);
 }
 
-// Writes the entry of a record of another kind than SQ: its kind, two numbers and its line.
+// Writes the entry of a record that is not an SQ: its kind, two numbers and its line.
 fn put_lined(out: &mut [u8], at: usize, kind: u8, a: u32, b: u32, line: u32)
     requires { ⌜ at + 13 ≤ length (now out) ⌝ }
     ensures { λ _. ⌜ now (out .exit) ≡ over (now (out .entry)) at (kind ∷ little 4 a ++ little 4 b ++ little 4 line) ⌝ }
@@ -36,7 +36,7 @@ fn put_lined(out: &mut [u8], at: usize, kind: u8, a: u32, b: u32, line: u32)
     little_endian::put_u32(out, at + 9, line);
 }
 
-// Writes the entry of an SQ: where its name stands, its LN and its line.
+// Writes the entry of an SQ: where its name is, its LN and its line.
 fn put_sequence(out: &mut [u8], at: usize, name: Place, n: u64, line: u32)
     requires { ⌜ at + 21 ≤ length (now out) ⌝ }
     ensures { λ _. ⌜ now (out .exit) ≡ over (now (out .entry)) at (entryBytes (Entry.ReferenceSequence name n line)) ⌝ }
@@ -48,7 +48,7 @@ fn put_sequence(out: &mut [u8], at: usize, name: Place, n: u64, line: u32)
     little_endian::put_u32(out, at + 17, line);
 }
 
-// Writes the entry of a field: its tag, and where its value stands.
+// Writes the entry of a field: its tag, and where its value is.
 pub fn put_field(out: &mut [u8], at: usize, a: u8, b: u8, value: Place)
     requires { ⌜ at + 11 ≤ length (now out) ⌝ }
     ensures { λ _. ⌜ now (out .exit) ≡ over (now (out .entry)) at (entryBytes (Entry.Field a b value)) ⌝ }
@@ -61,7 +61,7 @@ pub fn put_field(out: &mut [u8], at: usize, a: u8, b: u8, value: Place)
     put_numbers(out, at + 3, offset, len);
 }
 
-// Writes an entry at `at`, and gives the place behind it. `End` is no byte.
+// Writes an entry at `at` and returns the place after it. `End` has no bytes.
 pub fn put_entry(out: &mut [u8], at: usize, e: Entry) -> usize
     requires { ⌜ at + entrySize e ≤ length (now out) ⌝ }
     ensures next { λ r. ⌜ r ≡ at + entrySize e ⌝ }

@@ -1,4 +1,4 @@
--- Whether bytes start with a byte, with a number in bytes, and with one run and another behind it.
+-- Whether bytes start with a byte, with a number in bytes, and with one run and another after it.
 use Prim.Native.Nat.{ℕ, zero, suc, _+_, _*_, _/_, _%_, _^_, _≤_, _<_}
 use mathlib.Core.Path.{_≡_, refl, sym, ap, ap₂, _∙_}
 use mathlib.Core.Bool.{Bool, true, false, _&&_}
@@ -14,7 +14,7 @@ use Rattle.format.specs.Bytes.{starts}
 use Rattle.format.specs.Catalogue.{little}
 use Rattle.format.specs.Little.{ofLittle}
 use Rattle.little_endian.proofs.Little.{little-length}
-use Rattle.accepted.proofs.Bools.{never, and-right, split}
+use Rattle.lists.proofs.Bools.{never, and-right, split}
 
 and-assoc : (a b c : Bool) → a && (b && c) ≡ (a && b) && c
 and-assoc true b c = refl

@@ -1,4 +1,4 @@
-// Entries of a catalogue, compared with what they should be: a length test, then byte by byte and number by number.
+// Compares entries of a catalogue with what they should be: first the length, then byte by byte and number by number.
 use catalogue_entries::Entry;
 use catalogue_entries::Place;
 ghost use mathlib.Core.Path.{_≡_};
@@ -9,7 +9,7 @@ ghost use Rattle.format.specs.Bytes.{starts};
 ghost use Rattle.format.specs.Catalogue.{little};
 ghost use Rattle.catalogue_entries.specs.Entries.{entrySize, entryBytes};
 
-// Whether two numbers stand at `at`, in four bytes each.
+// Whether two numbers are at `at`, in four bytes each.
 fn has_numbers(s: &[u8], at: usize, a: u32, b: u32) -> bool
     requires { ⌜ at + 8 ≤ length (now s) ⌝ }
     ensures { λ r. ⌜ r ≡ starts (little 4 a ++ little 4 b) (drop at (now (s .entry))) ⌝ }
@@ -20,7 +20,7 @@ fn has_numbers(s: &[u8], at: usize, a: u32, b: u32) -> bool
     little_endian::get_u32(s, at + 4) == b
 }
 
-// Whether a byte of kind stands at `at`, and two numbers behind it.
+// Whether a kind byte is at `at`, and two numbers after it.
 fn has_kind(s: &[u8], at: usize, kind: u8, a: u32, b: u32) -> bool
     requires { ⌜ at + 9 ≤ length (now s) ⌝ }
     ensures { λ r. ⌜ r ≡ starts (kind ∷ little 4 a ++ little 4 b) (drop at (now (s .entry))) ⌝ }
@@ -31,7 +31,7 @@ fn has_kind(s: &[u8], at: usize, kind: u8, a: u32, b: u32) -> bool
     has_numbers(s, at + 1, a, b)
 }
 
-// Whether the entry of a record of another kind than SQ stands at `at`: its kind, two numbers and its line.
+// Whether the entry of a record that is not an SQ is at `at`: its kind, two numbers and its line.
 fn has_lined(s: &[u8], at: usize, kind: u8, a: u32, b: u32, line: u32) -> bool
     requires { ⌜ at + 13 ≤ length (now s) ⌝ }
     ensures { λ r. ⌜ r ≡ starts (kind ∷ little 4 a ++ little 4 b ++ little 4 line) (drop at (now (s .entry))) ⌝ }
@@ -42,7 +42,7 @@ fn has_lined(s: &[u8], at: usize, kind: u8, a: u32, b: u32, line: u32) -> bool
     little_endian::get_u32(s, at + 9) == line
 }
 
-// Whether the entry of an SQ stands at `at`: where its name stands, its LN and its line.
+// Whether the entry of an SQ is at `at`: where its name is, its LN and its line.
 fn has_sequence(s: &[u8], at: usize, name: Place, n: u64, line: u32) -> bool
     requires { ⌜ at + 21 ≤ length (now s) ⌝ }
     ensures { λ r. ⌜ r ≡ starts (entryBytes (Entry.ReferenceSequence name n line)) (drop at (now (s .entry))) ⌝ }
@@ -58,7 +58,7 @@ fn has_sequence(s: &[u8], at: usize, name: Place, n: u64, line: u32) -> bool
     little_endian::get_u32(s, at + 17) == line
 }
 
-// Whether the entry of a field stands at `at`: its tag, and where its value stands.
+// Whether the entry of a field is at `at`: its tag, and where its value is.
 fn has_field(s: &[u8], at: usize, a: u8, b: u8, value: Place) -> bool
     requires { ⌜ at + 11 ≤ length (now s) ⌝ }
     ensures { λ r. ⌜ r ≡ starts (entryBytes (Entry.Field a b value)) (drop at (now (s .entry))) ⌝ }
@@ -88,7 +88,7 @@ pub fn same_field(catalogue: &[u8], at: usize, a: u8, b: u8, value: Place) -> bo
     has_field(catalogue, at, a, b, value)
 }
 
-// Whether an entry stands at `at`, which is long enough for it. `End` is no byte.
+// Whether an entry is at `at`, where there are enough bytes for it. `End` has no bytes.
 fn has_entry(s: &[u8], at: usize, e: Entry) -> bool
     requires { ⌜ at + entrySize e ≤ length (now s) ⌝ }
     ensures { λ r. ⌜ r ≡ starts (entryBytes e) (drop at (now (s .entry))) ⌝ }

@@ -104,7 +104,7 @@ module _ (limit n i : ℕ) where
       let w : n ≤ worthFrom n (span s .0) = worth-grows n (span s .0) in
       done-large limit (worthFrom n (span s .0)) (i + length (span s .0)) (omega arith) (omega arith)
 
--- ---- one turn, at the place `i` of `s`
+-- ---- one step, at the place `i` of `s`
 
 module _ (limit : ℕ) (s : List ℕ) (n i : ℕ) where
   pub turn-end : length s ≤ i → frontFrom limit n i (drop i s) ≡ done limit n i

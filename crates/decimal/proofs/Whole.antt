@@ -88,7 +88,7 @@ whole-all limit (b ∷ ds) = go (ltb (worth (b ∷ ds)) limit)
     go true = rw (eq-eqb (suc (length ds)) (suc (length ds)) refl)
     go false = refl
 
--- a run of digits with more behind it
+-- a run of digits with more after it
 whole-short : (limit k : ℕ) (ds : List ℕ) → length ds < k → whole k (digitsNumber limit ds) ≡ none
 unfolding digitsNumber whole none?
 whole-short limit k [] h = refl

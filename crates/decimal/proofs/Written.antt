@@ -45,7 +45,7 @@ module _ (f n : ℕ) (rest : List ℕ) where
   unfolding writtenF
   large h = rw (le-ltb n 10 h)
 
--- what follows stays behind
+-- what follows stays after it
 pub written-rest : (f n : ℕ) (rest : List ℕ) → writtenF f n rest ≡ writtenF f n [] ++ rest
 unfolding writtenF
 written-rest zero n rest = refl
@@ -68,9 +68,9 @@ last f n h = large f n [] h ∙ written-rest f (n / 10) ((48 + n % 10) ∷ [])
 length-last : (f n : ℕ) → 10 ≤ n → length (writtenF (suc f) n []) ≡ suc (length (writtenF f (n / 10) []))
 length-last f n h = ap length (last f n h) ∙ length-snoc (writtenF f (n / 10) []) (48 + n % 10)
 
--- ---- how many turns are asked for
+-- ---- how many steps are asked for
 
--- as many turns as there are digits are enough
+-- as many steps as there are digits are enough
 pub written-turns : (f n : ℕ) → writtenF (length (writtenF f n [])) n [] ≡ writtenF f n []
 unfolding writtenF
 written-turns zero n = refl
@@ -83,7 +83,7 @@ written-turns (suc f) n =
     ∙ sym (last f n h))
     (one-digit n)
 
--- a turn that writes the last digit
+-- a step that writes the last digit
 pub written-turn : (i n : ℕ) → length (writtenF (suc i) n []) ≡ suc i → writtenF (suc i) n [] ≡ writtenF i (n / 10) [] ++ ((48 + n % 10) ∷ [])
 written-turn i n e = ⊎-elim one (last i n) (one-digit n)
   where
@@ -93,7 +93,7 @@ written-turn i n e = ⊎-elim one (last i n) (one-digit n)
         let m : n % 10 ≡ n = omega arith in
         small i n [] h ∙ rw (m, z, none (n / 10) [])
 
--- more turns than digits change nothing
+-- more steps than digits change nothing
 fuel : (f n : ℕ) (rest : List ℕ) → n < 10 ^ f → 0 < f → writtenF (suc f) n rest ≡ writtenF f n rest
 fuel zero n rest h p = absurd (omega arith)
 fuel (suc f) n rest h p =
@@ -115,7 +115,7 @@ written-step n h k = last 19 n k ∙ ap (λ l. l ++ ((48 + n % 10) ∷ [])) (sym
 pub length-step : (n : ℕ) → n < 10 ^ 20 → 10 ≤ n → length (written n) ≡ suc (length (written (n / 10)))
 length-step n h k = ap length (written-step n h k) ∙ length-snoc (written (n / 10)) (48 + n % 10)
 
--- no longer than the turns asked for, nor than the digits that the number fits in
+-- no longer than the steps asked for, nor than the digits that the number fits in
 length-turns : (f n : ℕ) → length (writtenF f n []) ≤ f
 length-turns zero n = omega (arith, ap length (none n []))
 length-turns (suc f) n =

@@ -1,4 +1,4 @@
-// Decimal numbers: read from the front of a slice, and written into one.
+// Decimal numbers: reads one at the front of a slice, and writes one into a slice.
 ghost use mathlib.Core.Path.{_≡_};
 ghost use Prim.Native.Nat.{suc, _≤_, _+_, _^_};
 ghost use lib.ListN.{length};
@@ -6,14 +6,14 @@ ghost use Rattle.format.specs.Decimal.{written};
 ghost use Rattle.byte_slices.specs.Over.{over};
 ghost use Rattle.decimal.specs.Number.{numberAtFront, NumberTold};
 
-// What stands at the front of a slice: its worth and how many digits it has.
+// What is at the front of a slice: the value of the number and how many digits it has.
 pub enum Number {
     NoDigit,
     TooLarge,
     Is(u64, usize),
 }
 
-// The digits at the front of `s` as a number of at most `max`: leading zeros count for nothing, a sign is no digit.
+// Reads the digits at the front of `s` as a number of at most `max`. Leading zeros are allowed; a sign is not a digit.
 pub fn read_up_to(s: &[u8], max: u64) -> Number
     ensures { λ r. ⌜ r ≡ numberAtFront (suc max) (now (s .entry)) ⌝ }
 {

@@ -17,7 +17,7 @@ use Rattle.format.specs.Programs.{links, programs, leaves, hops, tangled}
 use Rattle.format.specs.Tidy.{tidy, unwritable}
 use Rattle.format.specs.Calls.{Answer, refused, yes, then, records, reading, fitting, writing, tidying, current, fresh, untangled, leafing}
 use Rattle.byte_slices.proofs.Equal.{same-self}
-use Rattle.accepted.proofs.Bools.{never}
+use Rattle.lists.proofs.Bools.{never}
 use Rattle.tidy_laws.proofs.Total.{gathered-length}
 use Rattle.program_parents.proofs.Numbers.{links-count}
 use Rattle.format.specs.Carrying.{keptOf, carriedLines, Skip, skips}
@@ -75,7 +75,7 @@ module _ (t : List ℕ) (small : length t ≤ 16777215) where
   unskipped [] qs e = (refl, cc)
   unskipped (s ∷ ss) qs e = absurd (never cc)
 
-  -- an answer that is no refusal comes from one
+  -- an answer that is not a refusal comes from one
   then-yes : {A B : Type 0} (x : Answer A) (f : A → Answer B) (b : B) → then x f ≡ yes b → ({C : Type 0} → ((a : A) → x ≡ yes a → f a ≡ yes b → C) → C)
   unfolding then
   then-yes (refused n l) f b e g = absurd (never cc)

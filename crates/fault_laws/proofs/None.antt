@@ -12,7 +12,7 @@ use Rattle.format.specs.Records.{Record, header, reference, group, program, com
 use Rattle.format.specs.Reading.{ofKind}
 use Rattle.format.specs.Programs.{Link, root, isDangling, reaches, loopsFrom, tangled, links, programs}
 use Rattle.format.specs.Tidy.{isWritable, unwritable}
-use Rattle.accepted.proofs.Bools.{never}
+use Rattle.lists.proofs.Bools.{never}
 use Rattle.program_chains.proofs.Paths.{loops-at}
 use Rattle.merge_laws.proofs.Links.{linked-at, untangled-is}
 use Rattle.format.specs.Carrying.{keptOf, Skip, skips}

@@ -1,5 +1,5 @@
--- What is demanded of the first fault: of the faults that reading could give, the first one is the refusal that reading gives, with its
--- line; and where there is none, reading accepts the records that are kept.
+-- What the first fault must satisfy: of the faults that reading could give, the first is the refusal that reading gives, with its line; and if there
+-- is none, reading accepts the records that are kept.
 use Prim.Native.Nat.{ℕ, _≤_}
 use mathlib.Core.Path.{_≡_}
 use mathlib.Core.Bool.{Bool, _||_, cond}

@@ -1,1 +1,1 @@
-// Laws of the faults of a text (crate `faulty`). There is no code here.
+// Laws of the faults of a text (see the crate `faults`). This crate has no code.

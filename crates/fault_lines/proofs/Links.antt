@@ -10,7 +10,7 @@ use lib.Dec.{eqb, ltb}
 use borrow.Author.Tests.{eq-eqb, ne-eqb, lt-ltb, le-ltb}
 use Rattle.format.specs.Programs.{Program, Link, root, dangling, child, isDangling, reaches, links, programs}
 use Rattle.byte_slices.specs.Stands.{Each}
-use Rattle.accepted.proofs.Pairs.{each-at}
+use Rattle.lists.proofs.Pairs.{each-at}
 use Rattle.program_chains.proofs.Walks.{map-at, reaches-root, reaches-none}
 use Rattle.program_chains.proofs.Paths.{Below}
 use Rattle.program_parents.specs.Parents.{linkNumber}

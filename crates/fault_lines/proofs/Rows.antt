@@ -1,4 +1,4 @@
--- The faults of a turn's line, and how many there are.
+-- The faults of the line of a step, and how many there are.
 use Prim.Native.Nat.{ℕ, zero, suc, _+_, _*_, _≤_, _<_}
 use mathlib.Core.Path.{_≡_, refl, sym, ap, ap₂, _∙_}
 use mathlib.Core.Bool.{Bool, true, false, cond}
@@ -13,7 +13,7 @@ use Rattle.format.specs.Reading.{ofKind}
 use Rattle.format.specs.Programs.{Link, programs}
 use Rattle.format.specs.Tidy.{isWritable}
 use Rattle.accepted.specs.Read.{isRead}
-use Rattle.accepted.proofs.Bools.{never}
+use Rattle.lists.proofs.Bools.{never}
 use Rattle.byte_slices.specs.Over.{over}
 use Rattle.byte_slices.proofs.Over.{over-over}
 use Rattle.tidy_line.specs.Line.{lineWritable}
@@ -21,9 +21,9 @@ use Rattle.format.specs.Carrying.{keptOf, Skip, rows}
 use Rattle.carry_laws.proofs.Count.{rows-length}
 use Rattle.carry_lines.specs.Going.{Going, judgedLines}
 use Rattle.carry_lines.specs.declared.Cursor.{Cursor}
-use Rattle.carry_passes.specs.Turn.{lentTo, Turn}
+use Rattle.carry_passes.specs.NextLine.{lentTo, Turn}
 use Rattle.fault_programs.specs.Plain.{plainAt, oneIf, plainCount}
-use Rattle.fault_programs.proofs.Turns.{programsIn, programs-append, programs-done}
+use Rattle.fault_programs.proofs.KeptPrograms.{programsIn, programs-append, programs-done}
 use Rattle.format.specs.Faults.{linkFault, recordFault, nextProgram, ifFaulty, faultsFrom}
 use Rattle.fault_lines.specs.Links.{linkCount, stepFault}
 
@@ -65,7 +65,7 @@ line-faults ks l i j (read r) ls zero at kept skipped e =
     ∙ ap (λ x. ifFaulty l (stepFault ks i j (cond (lineWritable x) 0 24)) (faultsFrom ks (l + 1) j ls)) (kept refl .0)
 line-faults ks l i j (read r) ls (suc n) at kept skipped e = let z : read r ≡ refusedLine (suc n) = skipped (omega arith) in absurd (never cc)
 
--- ---- of a turn
+-- ---- of a step
 
 module _ (strict : Bool) (t : List ℕ) (from : ℕ) (area ids : List ℕ) (c : Cursor) (g : Going strict t from area ids c)
     (a i : List ℕ) (d : Cursor) (h : Going strict t from a i d) (on : d .line ≡ c .line + 1) (end n : ℕ) (u : Turn strict t from c end n) (ks : List Link) where
@@ -115,7 +115,7 @@ programs-within strict t from area ids c g =
 -- ---- rows
 
 module _ (l : ℕ) (ss : List Skip) (row : ℕ) (table : List ℕ) where
-  -- no row, and the rows to come stand where they stood
+  -- no row, and the rows to come are where they were
   pub row-none : (n : ℕ) → n ≡ 0 → rows (ifFaulty l n ss) ≡ rows ss
   unfolding ifFaulty
   row-none n z = ap (λ k. rows (ifFaulty l k ss)) z
@@ -126,7 +126,7 @@ module _ (l : ℕ) (ss : List Skip) (row : ℕ) (table : List ℕ) where
   row-one zero h = absurd (h refl)
   row-one (suc n) h = refl
 
-  -- and those to come behind it
+  -- and those to come after it
   pub row-over : (n : ℕ) → (n ≡ 0 → ⊥) → row * 2 + length (rows (ifFaulty l n ss)) ≤ length table
       → over (over table (row * 2) (l ∷ n ∷ [])) ((row + 1) * 2) (rows ss) ≡ over table (row * 2) (rows (ifFaulty l n ss))
   row-over n h room =

@@ -1,4 +1,4 @@
--- The links that numbers of parents say, and the faults along them.
+-- The links that the numbers of parents mean, and the faults found from them.
 use Prim.Native.Nat.{ℕ, zero, suc, _+_, _<_}
 use mathlib.Core.Bool.{cond}
 use mathlib.Core.List.{List, map}
@@ -8,7 +8,7 @@ use Rattle.format.specs.Programs.{Link, root, dangling, child}
 use Rattle.fault_programs.specs.Plain.{oneIf}
 use Rattle.format.specs.Faults.{linkFault}
 
--- 4,294,967,294 is a stranger, and above it is nobody
+-- 4,294,967,294 is a stranger, and the number above it is nobody
 unfoldable pub linkIn : ℕ → Link
 linkIn p = cond (ltb p 4294967294) (child p) (cond (eqb p 4294967294) dangling root)
 
@@ -25,7 +25,7 @@ unfolding oneIf linkFault
 linkCount ks i zero = 0
 linkCount ks i (suc m) = oneIf (linkFault ks i) + linkCount ks (i + 1) m
 
--- 0, or why a line is faulty: `n` is why whatever the links are, and `j` programs are kept with it where `i` are before it
+-- 0, or why a line is faulty: `n` is its fault that does not depend on links, `i` programs are kept before it, and `j` including it
 unfoldable pub stepFault : List Link → ℕ → ℕ → ℕ → ℕ
 unfolding linkFault
 stepFault ks i j zero = cond (eqb j i) 0 (linkFault ks i)

@@ -1,4 +1,4 @@
-// The faulty lines of a text from the first that is kept on: how many programs are faulty by their parents, and the rows of all in one pass.
+// The faulty lines of a text from the first kept line on: counts the programs with a faulty parent, and writes the rows of all faults in one pass.
 use carry_early::Begin;
 use carry_lines::Cursor;
 ghost use mathlib.Core.Path.{_≡_};
@@ -12,7 +12,7 @@ ghost use Rattle.carry_passes.specs.From.{Fresh, linesKeptFrom, keptFrom};
 ghost use Rattle.format.specs.Faults.{linkFault, faultsFrom};
 ghost use Rattle.fault_lines.specs.Links.{linksIn, Within, linkCount, stepFault};
 
-// 0, or why the program `i` is faulty: 22 where its parent is a stranger, 23 where it comes back to itself after 1 to n parent steps.
+// 0, or why the program `i` is faulty: 22 if its PP names no program, 23 if it comes back to itself after 1 to n parent steps.
 fn link_fault(parents: &[u32], i: usize) -> u8
     requires { ⌜ Within (now parents) ⌝ }
     requires { ⌜ i < length (now parents) ⌝ }
@@ -52,7 +52,8 @@ pub fn count_links(parents: &[u32]) -> usize
     n
 }
 
-// 0, or why a line is faulty before which `i` programs are kept, and `next` with it; `n` is why it is whatever the parents are.
+// 0, or why a line is faulty. `i` programs are kept before the line, and `next` including it. `n` is its fault that does not depend on parents, if it
+// has one.
 fn step_fault(parents: &[u32], i: usize, next: usize, n: u8) -> u8
     requires { ⌜ Within (now parents) ⌝ }
     requires { ⌜ ((next ≡ i → ⊥) → i < length (now parents)) ⌝ }
@@ -67,7 +68,7 @@ fn step_fault(parents: &[u32], i: usize, next: usize, n: u8) -> u8
     link_fault(parents, i)
 }
 
-// Writes the rows of the faulty lines from the first that is kept on, behind those of the lines before it; `ids` are empty before.
+// Writes the rows of the faulty lines from the first kept line on, after those of the lines before it. `ids` is empty at the start.
 pub fn put_lines(
     text: &[u8],
     b: Begin,
@@ -85,11 +86,13 @@ pub fn put_lines(
     ensures { λ _. ⌜ now (table .exit) ≡ over (now (table .entry)) (b .line * 2)
         (rows (faultsFrom (linksIn (now (parents .entry))) (b .line) 0 (linesKeptFrom (now (text .entry)) b))) ⌝ }
 {
+    let seed = key_look::plain();
     let mut row: usize = b.line as usize;
     let mut c = Cursor {
         at: b.at,
         line: 0,
         until: b.at,
+        seed,
         kept: 0,
         programs: 0,
     };

@@ -1,3 +1,2 @@
 -- Words for contracts and laws, and nothing to believe.
 pub mod Plain
-pub mod Placed

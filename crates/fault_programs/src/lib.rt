@@ -1,7 +1,6 @@
-// The programs among the lines that carrying on keeps: their parents, in one pass; and how many lines are faulty whatever the parents are.
+// The programs among the kept lines: finds their parents in one pass, and counts the faults that do not depend on parents.
 use carry_early::Begin;
 use carry_lines::Cursor;
-use catalogue_entries::Place;
 use program_places::Places;
 use program_places::Programs;
 use tidy_line::Size;
@@ -18,9 +17,9 @@ ghost use Rattle.carry_early.specs.First.{First};
 ghost use Rattle.carry_passes.specs.From.{Fresh, linesKeptFrom, keptFrom};
 ghost use Rattle.program_parents.specs.Parents.{linkNumber};
 ghost use Rattle.fault_programs.specs.Plain.{plainAt, oneIf, plainCount};
-ghost use Rattle.fault_programs.specs.Placed.{PlacesOf};
+ghost use Rattle.program_parents.specs.Placed.{PlacesOf};
 
-// 0, or why a line is faulty whatever the parents of programs are; `n` is its refusal where it is skipped, and 0 where it is kept.
+// 0, or why a line is faulty for a reason that does not depend on parents. `n` is its refusal if it is skipped, and 0 if it is kept.
 pub fn plain_fault(src: &[u8], at: usize, strict: bool, n: u8) -> u8
     requires { ⌜ (n ≡ 0 → isRead (line strict (record { at = at; bytes = now src })) ≡ true) ⌝ }
     requires { ⌜ at + length (now src) ≤ 16777216 ⌝ }
@@ -29,13 +28,13 @@ pub fn plain_fault(src: &[u8], at: usize, strict: bool, n: u8) -> u8
     if n != 0 {
         return n;
     }
-    match tidy_line::record_size(src, at, strict) {
+    match tidy_line::line_size(src, at, strict) {
         Size::Unwritable => 24,
         Size::Is(_) => 0,
     }
 }
 
-// A fault counts.
+// 1 for a fault, and 0 for none.
 pub fn one_if(n: u8) -> usize
     ensures { λ r. ⌜ r ≡ oneIf n ⌝ }
 {
@@ -45,13 +44,13 @@ pub fn one_if(n: u8) -> usize
     1
 }
 
-// Where the ID and the PP of each program stand that is kept, and how many lines are faulty whatever the parents are.
+// Where the ID and the PP of each kept program are, and how many faults do not depend on parents.
 struct Gathered {
     programs: Programs,
     plain: usize,
 }
 
-// The lines from the first that is kept on, in one pass; `ids` are empty before.
+// Goes through the lines from the first kept line on, in one pass. `ids` is empty at the start.
 fn gather(text: &[u8], b: Begin, area: &mut [u32], ids: &mut [u32]) -> Gathered
     requires { ⌜ length (now text) ≤ 16777216 ⌝ }
     requires { ⌜ First (now text) b ⌝ }
@@ -60,6 +59,7 @@ fn gather(text: &[u8], b: Begin, area: &mut [u32], ids: &mut [u32]) -> Gathered
     ensures plain { λ r. ⌜ r .plain ≡ plainCount (linesKeptFrom (now (text .entry)) b) ⌝ }
     ensures room { λ _. ⌜ length (now (area .exit)) ≡ length (now (area .entry)) ⌝ }
 {
+    let seed = key_look::plain();
     let mut ats: [u32; 1024] = [0; 1024];
     let mut lens: [u32; 1024] = [0; 1024];
     let mut from: [u32; 1024] = [0; 1024];
@@ -69,6 +69,7 @@ fn gather(text: &[u8], b: Begin, area: &mut [u32], ids: &mut [u32]) -> Gathered
         at: b.at,
         line: 0,
         until: b.at,
+        seed,
         kept: 0,
         programs: 0,
     };
@@ -101,14 +102,14 @@ fn gather(text: &[u8], b: Begin, area: &mut [u32], ids: &mut [u32]) -> Gathered
     Gathered { programs, plain }
 }
 
-// The parent of each program that is kept, in order, how many there are, and how many lines are faulty whatever the parents are.
+// The parent of each kept program, in order, how many there are, and how many faults do not depend on parents.
 pub struct KeptLinks {
     pub parents: [u32; 1024],
     pub count: usize,
     pub plain: usize,
 }
 
-// The lines from the first that is kept on: one search among the IDs for each PP.
+// Goes through the lines from the first kept line on, and searches the IDs once per PP.
 pub fn link_kept(text: &[u8], b: Begin, area: &mut [u32]) -> KeptLinks
     requires { ⌜ length (now text) ≤ 16777216 ⌝ }
     requires { ⌜ First (now text) b ⌝ }
@@ -120,27 +121,12 @@ pub fn link_kept(text: &[u8], b: Begin, area: &mut [u32]) -> KeptLinks
 {
     let mut ids = [0u32; 2048];
     let gathered = gather(text, b, area, &mut ids);
-    let p = gathered.programs;
-    let id = p.id;
-    let ats = id.at;
-    let lens = id.len;
-    let previous = p.previous;
-    let from = previous.at;
-    let widths = previous.len;
-    let count = p.count;
-    let mut parents: [u32; 1024] = [0; 1024];
-    let mut i: usize = 0;
-    while i < count {
-        let place = Place {
-            at: from[i],
-            len: widths[i],
-        };
-        parents[i] = program_parents::find_parent(text, &ats[..count], &lens[..count], place);
-        i += 1;
-    }
+    let programs = gathered.programs;
+    let found = program_parents::parents_in(text, programs);
+    let parents = found.list;
     KeptLinks {
         parents,
-        count,
+        count: found.count,
         plain: gathered.plain,
     }
 }

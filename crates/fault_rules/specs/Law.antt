@@ -1,5 +1,5 @@
--- What is demanded of the faults: there is none exactly if reading, tidying and the leaves all accept, where there is room, the leaves over
--- the catalogue that reading gives. The longest text of all is left out: its tidy text may be too long by its last LF.
+-- What the faults must satisfy: there is none exactly if reading, tidying and the leaves over the catalogue that reading gives all accept, given
+-- enough room. Texts of the greatest length are left out: with its last LF the tidy text may be too long.
 use Prim.Native.Nat.{ℕ, _≤_}
 use mathlib.Core.Path.{_≡_}
 use mathlib.Core.Logic.{_↔_}
@@ -9,7 +9,7 @@ use Rattle.format.specs.Calls.{yes, reading, tidying, leafing}
 use Rattle.format.specs.Carrying.{carriedLines}
 use Rattle.format.specs.Faults.{faultsIn}
 
--- the three calls accept in as much room as they want
+-- the three calls accept if they have as much room as they need
 pub record AllAccept (t : List ℕ) : Type 0 where
   pub room : ℕ
   pub kept : List ℕ

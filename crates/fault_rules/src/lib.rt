@@ -1,1 +1,1 @@
-// The faults of a text, line by line: what they are, and laws of them. There is no code here.
+// The faults of a text, line by line: their definition and laws. This crate has no code.

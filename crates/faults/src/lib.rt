@@ -1,4 +1,4 @@
-// The faults of a text: for each faulty line its number and why, in a table.
+// The faults of a text: a table with the number of each faulty line and its fault.
 use carry_early::Begin;
 use fault_programs::KeptLinks;
 use format::LineNo;
@@ -12,7 +12,7 @@ ghost use Rattle.carry_early.specs.First.{First};
 ghost use Rattle.format.specs.Faults.{faulting};
 ghost use Rattle.faults.specs.Answers.{IsLinks, faultyLines};
 
-// Once the programs are linked: 20 for a short table, or the rows are written.
+// Once the programs are linked: refuses with 20 if the table is too short, or writes the rows.
 fn write_faults(
     text: &[u8],
     b: Begin,
@@ -39,7 +39,7 @@ fn write_faults(
     CountAnswer::Count(lines)
 }
 
-// The faults of a text that is not too long, with slots lent for the keys of a block of lines.
+// The faults of a text that is not too long, with lent slots for the keys of a block of lines.
 fn faults_indexed(text: &[u8], area: &mut [u32], table: &mut [u32]) -> CountAnswer
     requires { ⌜ length (now text) ≤ 16777216 ⌝ }
     requires { ⌜ 4 ≤ length (now area) ⌝ }
@@ -51,17 +51,17 @@ fn faults_indexed(text: &[u8], area: &mut [u32], table: &mut [u32]) -> CountAnsw
     write_faults(text, b, area, links, table)
 }
 
-// A short text, in blocks of 384 lines with a key: little is cleared for it.
+// A short text, in blocks of 384 lines with a key. Its area is small, so little has to be cleared.
 fn faults_short(text: &[u8], table: &mut [u32]) -> CountAnswer
     requires { ⌜ length (now text) ≤ 16777216 ⌝ }
     ensures answer { λ r. ⌜ r ≡ faultyLines (faulting (now (text .entry)) (length (now (table .entry)))) ⌝ }
     ensures listed { λ _. ⌜ now (table .exit) ≡ outputOf (faulting (now (text .entry)) (length (now (table .entry)))) (now (table .entry)) ⌝ }
 {
-    let mut area = [0u32; 512];
+    let mut area = [0u32; read_judge::SHORT_SLOTS];
     faults_indexed(text, &mut area, table)
 }
 
-// A text of some thousand lines, in blocks of 4,608.
+// A text of some thousands of lines, in blocks of 4,608.
 fn faults_middle(text: &[u8], table: &mut [u32]) -> CountAnswer
     requires { ⌜ length (now text) ≤ 16777216 ⌝ }
     ensures answer { λ r. ⌜ r ≡ faultyLines (faulting (now (text .entry)) (length (now (table .entry)))) ⌝ }
@@ -71,15 +71,16 @@ fn faults_middle(text: &[u8], table: &mut [u32]) -> CountAnswer
     faults_indexed(text, &mut area, table)
 }
 
-// Any text, in blocks of 147,456 lines; its programs are linked `more` times again before the rows are written. Nobody asks for more than once: a
-// function that calls itself is compiled by itself, so that its 768 KiB are on the stack only while it runs (see `carry_on::carry_long`).
+// Any text, in blocks of 147,456 lines; its programs are linked `more` times again before the rows are written. Nobody asks for more than once. The
+// function calls itself so that it is compiled as a function of its own, and its 768 KiB are on the stack only while it runs (see
+// `carry_on::carry_long`).
 fn faults_long(text: &[u8], b: Begin, table: &mut [u32], more: usize) -> CountAnswer
     requires { ⌜ length (now text) ≤ 16777216 ⌝ }
     requires { ⌜ First (now text) b ⌝ }
     ensures answer { λ r. ⌜ r ≡ faultyLines (faulting (now (text .entry)) (length (now (table .entry)))) ⌝ }
     ensures listed { λ _. ⌜ now (table .exit) ≡ outputOf (faulting (now (text .entry)) (length (now (table .entry)))) (now (table .entry)) ⌝ }
 {
-    let mut area = [0u32; 196608];
+    let mut area = [0u32; read_judge::LONG_SLOTS];
     let links = fault_programs::link_kept(text, b, &mut area);
     if 0 < more {
         return match faults_long(text, b, table, more - 1) {
@@ -90,7 +91,7 @@ fn faults_long(text: &[u8], b: Begin, table: &mut [u32], more: usize) -> CountAn
     write_faults(text, b, &mut area, links, table)
 }
 
-// A text that is not too long, by its length. No text has as many lines as are needed for one time more, which the compiler can't know.
+// Picks the area by the length of a text that is not too long. No text is long enough to be linked twice, but the compiler can't know that.
 fn faults_by_length(text: &[u8], table: &mut [u32]) -> CountAnswer
     requires { ⌜ length (now text) ≤ 16777216 ⌝ }
     ensures answer { λ r. ⌜ r ≡ faultyLines (faulting (now (text .entry)) (length (now (table .entry)))) ⌝ }
@@ -106,8 +107,8 @@ fn faults_by_length(text: &[u8], table: &mut [u32]) -> CountAnswer
     faults_long(text, b, table, b.line as usize / (format::LONGEST + 1))
 }
 
-// Writes for each faulty line of `text`, in order, its number and why to the front of `table`; the answer is how many there are. 1 for a text
-// that is too long, then 20 for a short table; a refusal changes nothing.
+// Writes the number and the fault of each faulty line of `text`, in order, to the front of `table`, and answers how many there are. Refuses with 1 if
+// the text is too long, then with 20 if the table is too short. A refusal changes nothing.
 pub fn faults(text: &[u8], table: &mut [u32]) -> CountAnswer
     ensures answer { λ r. ⌜ r ≡ faultyLines (faulting (now (text .entry)) (length (now (table .entry)))) ⌝ }
     ensures listed { λ _. ⌜ now (table .exit) ≡ outputOf (faulting (now (text .entry)) (length (now (table .entry)))) (now (table .entry)) ⌝ }

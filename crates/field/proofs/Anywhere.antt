@@ -1,4 +1,4 @@
--- What a field answers does not depend on where its line stands.
+-- What a field answers does not depend on where its line is.
 use Prim.Native.Nat.{ℕ, _+_}
 use mathlib.Core.Path.{_≡_, refl, sym, _∙_}
 use mathlib.Core.Bool.{Bool, true, false, cond}

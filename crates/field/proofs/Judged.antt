@@ -27,7 +27,7 @@ header-value k a b v e = ap (λ l. allows l a b v) (sym e)
 
 -- ---- LN of SQ
 
--- wherever its value stands
+-- wherever its value is
 pub length-anywhere : (at : ℕ) (ds more : List ℕ) → parsedOf ReferenceSequence (lengthField at (ds, more)) ≡ lengthFieldBy (parsedLengthOf (lengthField 0 (ds, more)))
 unfolding parsedOf parsedLengthOf lengthField lengthFieldBy
 length-anywhere at ds more =

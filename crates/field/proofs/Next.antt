@@ -114,7 +114,7 @@ Onward at s (refusedPiece n) = Unit
 Onward at s (good f) = Kept (getD s 0 0) (getD s 1 0) (at + 3) (drop 3 s) f × (3 + length (f .value .bytes) ≡ upto 9 s)
 Onward at s (goodThen f n) = Kept (getD s 0 0) (getD s 1 0) (at + 3) (drop 3 s) f × (n ≡ 6) × (3 + length (f .value .bytes) < upto 9 s)
 
--- the value's bytes, which stand before the next tab, are bytes of the line
+-- the value's bytes, which come before the next tab, are bytes of the line
 longer : (a b at : ℕ) (v : List ℕ) (f : Field) → Kept a b at (before 9 v) f → length (f .value .bytes) ≤ upto 9 v → Kept a b at v f
 unfolding before
 longer a b at v f h l =

@@ -33,7 +33,7 @@ tab-second : (a b : ℕ) → eqb b 9 ≡ true → isTag a b ≡ false
 unfolding isTag
 tab-second a b e = rw (eqb-true b 9 e) (and-false (letter a))
 
--- so no tab stands before the value
+-- so no tab comes before the value
 pub upto-value : (a b c : ℕ) (v : List ℕ) → isTag a b ≡ true → eqb c 58 ≡ true → upto 9 (a ∷ b ∷ c ∷ v) ≡ 3 + upto 9 v
 unfolding upto
 upto-value a b c v t e = go (eqb a 9) refl (eqb b 9) refl (eqb c 9) refl

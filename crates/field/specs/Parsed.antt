@@ -1,4 +1,4 @@
--- What reading one field answers, by the definitions of `format`: plain numbers alone.
+-- The answer of reading one field, in terms of the definitions of `format`, as plain numbers.
 use Prim.Native.Nat.{ℕ}
 use mathlib.Core.Bool.{cond}
 use mathlib.Core.Option.{Option, none, some}
@@ -19,7 +19,7 @@ use Rattle.field.specs.declared.ParsedField.{ParsedField}
 abbrev pub refusedBy : ℕ → ParsedField
 refusedBy n = record { stop = n; tag_0 = 0; tag_1 = 0; len = 0; major = 0; minor = 0; length = 0 }
 
--- a value of `n` bytes that is kept as it stands
+-- a value of `n` bytes that is kept as it is
 abbrev pub keptBy : ℕ → ℕ → ℕ → ParsedField
 keptBy a b n = record { stop = 0; tag_0 = a; tag_1 = b; len = n; major = 0; minor = 0; length = 0 }
 
@@ -32,7 +32,7 @@ versionedBy n (some v) = record { stop = 0; tag_0 = 86; tag_1 = 78; len = n; maj
 abbrev pub sizedBy : ℕ → ℕ → ParsedField
 sizedBy n l = record { stop = 0; tag_0 = 76; tag_1 = 78; len = n; major = 0; minor = 0; length = l }
 
--- LN of SQ, by what reading its number answered
+-- LN of SQ, from the answer of reading its number
 unfoldable pub lengthFieldBy : ParsedLength → ParsedField
 unfolding lengthRefusal
 lengthFieldBy Invalid = refusedBy (lengthRefusal Invalid)
@@ -40,7 +40,7 @@ lengthFieldBy Zero = refusedBy (lengthRefusal Zero)
 lengthFieldBy Long = refusedBy (lengthRefusal Long)
 lengthFieldBy (Is l n) = sizedBy n l
 
--- a field of a record of kind `k`: VN of HD carries its version, LN of SQ its number
+-- a field of a record of kind `k`: VN of HD has its version, LN of SQ its number
 unfoldable pub fieldNumbers : Kind → fields.Field → ParsedField
 unfolding versionedBy isVersion isLength version worth
 fieldNumbers k f =
@@ -48,7 +48,7 @@ fieldNumbers k f =
     (cond (isVersion k (f .tag₀) (f .tag₁)) (versionedBy (length (f .value .bytes)) (version (f .value .bytes)))
     (keptBy (f .tag₀) (f .tag₁) (length (f .value .bytes))))
 
--- the refusal, or the field; what may follow its value is the next field's affair
+-- the refusal, or the field; what may follow its value is judged with the next field
 unfoldable pub parsedOf : Kind → JudgedPiece → ParsedField
 unfolding fieldNumbers
 parsedOf k (refusedPiece n) = refusedBy n

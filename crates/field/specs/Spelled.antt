@@ -1,4 +1,4 @@
--- What the readers of a version answer, by the definitions of `format`.
+-- The answers of the readers of a version, in terms of the definitions of `format`.
 use Prim.Native.Nat.{ℕ, suc}
 use mathlib.Core.Path.{_≡_}
 use mathlib.Core.Bool.{true}
@@ -16,16 +16,16 @@ unfoldable pub versionSideOf : Option ℕ → VersionSide
 versionSideOf none = part.Invalid
 versionSideOf (some n) = part.Is n
 
--- a version, if one is spelled
+-- a version, if there is one
 unfoldable pub parsedVersionOf : Option Version → ParsedVersion
 parsedVersionOf none = spelled.Invalid
 parsedVersionOf (some v) = spelled.Is v
 
--- the refusal that each is where it is read as VN of HD, and 0 for a version
+-- the refusal of each answer for VN of HD, and 0 for a version
 unfoldable pub versionRefusal : ParsedVersion → ℕ
 versionRefusal spelled.Invalid = 11
 versionRefusal (spelled.Is v) = 0
 
--- VN of HD with the value `v`, whose version is answered by `r`: where that is a refusal, the field is refused with its number
+-- VN of HD with the value `v`, for whose version `r` is the answer: if that is a refusal, the field is refused with its number
 abbrev pub VersionTold : List ℕ → ParsedVersion → Type 0
 VersionTold v r = (at n : ℕ) → isValue v ≡ true → versionRefusal r ≡ suc n → versionField at v ≡ refusedPiece (suc n)

@@ -1,9 +1,9 @@
--- What taking a value answers, by the definitions of `format`.
+-- The answer of taking a value, in terms of the definitions of `format`.
 use Prim.Native.Nat.{ℕ}
 use mathlib.Core.Bool.{Bool, cond}
 use mathlib.Core.List.{List}
 use lib.ListN.{length}
 
--- how many of the bytes before the next tab are taken as a value: all, or none where `allowed` says that they are no value
+-- how many of the bytes before the next tab are taken as a value: all, or none if `allowed` says that they are not a value
 unfoldable pub takenOf : (List ℕ → Bool) → List ℕ → ℕ
 takenOf allowed v = cond (allowed v) (length v) 0

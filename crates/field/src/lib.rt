@@ -1,4 +1,4 @@
-// One field of a header line: tag, colon and value, and the numbers that VN of HD and LN of SQ spell.
+// One field of a header line: tag, colon and value, and the numbers in VN of HD and LN of SQ.
 pub mod value;
 pub mod version;
 
@@ -14,7 +14,8 @@ ghost use Rattle.byte_slices.specs.Upto.{before};
 ghost use Rattle.field_length.specs.Parsed.{parsedLengthOf};
 ghost use Rattle.field.specs.Parsed.{refusedBy, keptBy, versionedBy, lengthFieldBy, parsedOf};
 
-// A field of a line, or the refusal of one, in plain numbers: `stop` is 0 or the refusal, VN of HD says `major` and `minor`, LN of SQ says `length`.
+// A field of a line or its refusal, in plain numbers: `stop` is 0 or the refusal, `major` and `minor` are those of VN of HD, `length` is that of LN
+// of SQ.
 pub struct ParsedField {
     pub stop: u8,
     pub tag_0: u8,
@@ -40,7 +41,7 @@ impl ParsedField {
         }
     }
 
-    // A value of `len` bytes that is kept as it stands.
+    // A value of `len` bytes that is kept as it is.
     fn kept(a: u8, b: u8, len: usize) -> Self
         ensures { λ r. ⌜ r ≡ keptBy a b len ⌝ }
     {
@@ -74,7 +75,7 @@ fn parse_version_value(src: &[u8]) -> ParsedField
     }
 }
 
-// LN of SQ, whose number stands at the front of `src`.
+// LN of SQ, whose number is at the front of `src`.
 fn parse_length_value(src: &[u8]) -> ParsedField
     ensures { λ r. ⌜ r ≡ lengthFieldBy (parsedLengthOf (lengthField 0 (span (before 9 (now (src .entry)))))) ⌝ }
 {
@@ -94,7 +95,7 @@ fn parse_length_value(src: &[u8]) -> ParsedField
     }
 }
 
-// What follows the colon of the tag `a`, `b`.
+// Reads what follows the colon of the tag `a`, `b`.
 fn parse_field_value(kind: Kind, a: u8, b: u8, src: &[u8]) -> ParsedField
     ensures { λ r. ⌜ r ≡ parsedOf kind (valueField kind a b 3 (before 9 (now (src .entry)))) ⌝ }
 {
@@ -111,7 +112,7 @@ fn parse_field_value(kind: Kind, a: u8, b: u8, src: &[u8]) -> ParsedField
     ParsedField::kept(a, b, len)
 }
 
-// The field at the front of `src`, which starts after its tab and goes up to the next tab or the end.
+// The field at the front of `src`, which starts after a tab. The field goes up to the next tab or the end.
 pub fn parse_field(kind: Kind, src: &[u8]) -> ParsedField
     ensures { λ r. ⌜ r ≡ parsedOf kind (field kind 0 (before 9 (now (src .entry)))) ⌝ }
 {

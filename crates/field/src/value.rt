@@ -1,4 +1,4 @@
-// A field's value: how many bytes up to the next tab are one, of space to tilde or in UTF-8.
+// The value of a field: how many bytes up to the next tab are one. Its bytes are space to tilde, or characters in UTF-8.
 use format::Kind;
 ghost use mathlib.Core.Path.{_≡_};
 ghost use lib.Dec.{leb};
@@ -10,14 +10,14 @@ ghost use Rattle.byte_slices.specs.Upto.{before};
 ghost use Rattle.byte_slices.specs.Run.{run};
 ghost use Rattle.field.specs.Taken.{takenOf};
 
-// What may stand in a value: space to tilde.
+// A byte that may be in a value: space to tilde.
 fn is_printable(b: u8) -> bool
     ensures { λ r. ⌜ r ≡ printable b ⌝ }
 {
     field_tag::is_between(b' ', b'~', b)
 }
 
-// Whether all 8 bytes of `s` from `at` on may stand in a value: all are looked at, with no way out, so that a processor can take them at once.
+// Whether all 8 bytes of `s` from `at` on may be in a value. All 8 are always looked at, so that the processor can compare them at once.
 fn is_printable_block(s: &[u8], at: usize) -> bool
     requires { ⌜ at + 8 ≤ length (now s) ⌝ }
     ensures { λ r. ⌜ r ≡ leb 8 (run printable (drop at (now (s .entry)))) ⌝ }
@@ -33,7 +33,7 @@ fn is_printable_block(s: &[u8], at: usize) -> bool
     fine
 }
 
-// How many bytes of `s` stand in whole blocks of 8 before the first that may not stand in a value.
+// How many bytes are in the blocks of 8 at the front of `s` that come before the one with the first byte that may not be in a value.
 fn pass_printable(s: &[u8]) -> usize
     ensures { λ r. ⌜ r ≡ run printable (now (s .entry)) / 8 * 8 ⌝ }
 {
@@ -47,7 +47,7 @@ fn pass_printable(s: &[u8]) -> usize
     at
 }
 
-// How many bytes the value at the front of `src` has, up to the next tab or the end: 0 for one that is none.
+// How many bytes the value at the front of `src` has, up to the next tab or the end; 0 if that is not a value.
 pub fn value_len(src: &[u8]) -> usize
     ensures { λ r. ⌜ r ≡ takenOf isValue (before 9 (now (src .entry))) ⌝ }
 {
@@ -65,7 +65,7 @@ pub fn value_len(src: &[u8]) -> usize
     i
 }
 
-// The same for a value in UTF-8: whole blocks of 8 bytes that may stand in any value, then the characters behind them.
+// The same for a value in UTF-8: goes over blocks of 8 bytes that may be in any value, and then over the characters after them.
 fn wide_value_len(src: &[u8]) -> usize
     ensures { λ r. ⌜ r ≡ takenOf isWideValue (before 9 (now (src .entry))) ⌝ }
 {
@@ -77,7 +77,7 @@ fn wide_value_len(src: &[u8]) -> usize
     0
 }
 
-// How many bytes the value of a field with the tag `a`, `b` has: 0 for one that is none.
+// How many bytes the value of a field with the tag `a`, `b` has; 0 if it is not a value.
 pub fn allowed_len(kind: Kind, a: u8, b: u8, src: &[u8]) -> usize
     ensures { λ r. ⌜ r ≡ takenOf (allows kind a b) (before 9 (now (src .entry))) ⌝ }
 {

@@ -1,4 +1,4 @@
-// The version that the value of VN spells: two numbers with a dot between them.
+// The version in the value of VN: two numbers with a dot between them.
 use decimal::Number;
 use format::Version;
 ghost use mathlib.Core.Path.{_≡_};
@@ -7,7 +7,7 @@ ghost use Rattle.format.specs.Version.{version};
 ghost use Prim.Native.Nat.{_^_};
 ghost use Rattle.field.specs.Spelled.{versionSideOf, parsedVersionOf, VersionTold};
 
-// The version that a value spells.
+// The version in a value.
 pub enum ParsedVersion {
     Is(Version),
     Invalid,
@@ -19,7 +19,7 @@ enum VersionSide {
     Invalid,
 }
 
-// The number below 2 ^ 32 that all of `src` spells.
+// The number below 2 ^ 32 that all of `src` is.
 fn parse_part(src: &[u8]) -> VersionSide
     ensures { λ r. ⌜ r ≡ versionSideOf (number (2 ^ 32) (now (src .entry))) ⌝ }
 {
@@ -36,7 +36,7 @@ fn parse_part(src: &[u8]) -> VersionSide
     }
 }
 
-// The version that all of `src` spells, split at its first dot.
+// The version that all of `src` is, split at its first dot.
 pub fn parse_version(src: &[u8]) -> ParsedVersion
     ensures is { λ r. ⌜ r ≡ parsedVersionOf (version (now (src .entry))) ⌝ }
     ensures refusal { λ r. ⌜ VersionTold (now (src .entry)) r ⌝ }

@@ -1,4 +1,4 @@
--- LN of SQ is judged by the digits at the front of its value, wherever the value stands.
+-- LN of SQ is judged by the digits at the front of its value, wherever the value is.
 use Prim.Native.Nat.{ℕ, _^_}
 use mathlib.Core.Path.{_≡_, refl, sym, ap, _∙_}
 use mathlib.Core.Bool.{Bool, true, false, not, _||_, cond}
@@ -21,7 +21,7 @@ use Rattle.field_length.specs.Parsed.{parsedLengthOf, pieceRefusal, leng
 use Rattle.field_length.specs.declared.ParsedLength.{ParsedLength}
 use Rattle.field_length.specs.declared.ParsedLength.the-variants.{Invalid, Zero, Long, Is}
 
--- what stands at the front as a number
+-- what is at the front as a number
 unfoldable pub lengthBy : Number → ParsedLength
 lengthBy number.NoDigit = Invalid
 lengthBy number.TooLarge = Invalid

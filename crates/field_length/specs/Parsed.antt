@@ -1,4 +1,4 @@
--- What reading LN of SQ answers, by the definitions of `format`.
+-- The answer of reading LN of SQ, in terms of the definitions of `format`.
 use Prim.Native.Nat.{ℕ}
 use mathlib.Core.Bool.{cond}
 use lib.ListN.{length}
@@ -8,14 +8,14 @@ use Rattle.format.specs.Fields.{JudgedPiece, refusedPiece, good, goodThen}
 use Rattle.field_length.specs.declared.ParsedLength.{ParsedLength}
 use Rattle.field_length.specs.declared.ParsedLength.the-variants.{Invalid, Zero, Long, Is}
 
--- the refusal that each is, and 0 for a length
+-- the refusal of each answer, and 0 for a length
 unfoldable pub lengthRefusal : ParsedLength → ℕ
 lengthRefusal Invalid = 12
 lengthRefusal Zero = 13
 lengthRefusal Long = 27
 lengthRefusal (Is n k) = 0
 
--- the refusal of a piece, and 0 for a field; what may follow its value is the next field's affair
+-- the refusal of a piece, and 0 for a field; what may follow its value is judged with the next field
 unfoldable pub pieceRefusal : JudgedPiece → ℕ
 pieceRefusal (refusedPiece n) = n
 pieceRefusal (good f) = 0

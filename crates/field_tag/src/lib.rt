@@ -1,4 +1,4 @@
-// A field's tag: what is one, and for which kinds and tags values have a rule of their own.
+// The tag of a field: which bytes are a tag, and which kinds and tags have a rule of their own for their values.
 use format::Kind;
 ghost use mathlib.Core.Path.{_≡_};
 ghost use mathlib.Core.Bool.{_&&_};
@@ -7,7 +7,7 @@ ghost use Rattle.format.specs.Bytes.{between, letter, digit};
 ghost use Rattle.format.specs.Fields.{isTag, isWide};
 ghost use Rattle.field_tag.specs.Numbers.{isVersion, isLength};
 
-// Whether `b` is from `lo` to `hi`.
+// Whether `b` lies between `lo` and `hi`, both included.
 pub fn is_between(lo: u8, hi: u8, b: u8) -> bool
     ensures { λ r. ⌜ r ≡ between lo hi b ⌝ }
 {
@@ -26,7 +26,7 @@ fn is_digit(b: u8) -> bool
     is_between(b'0', b'9', b)
 }
 
-// A tag: one letter, then a letter or digit.
+// Whether `a`, `b` is a tag: one letter, then a letter or digit.
 pub fn is_tag(a: u8, b: u8) -> bool
     ensures { λ r. ⌜ r ≡ isTag a b ⌝ }
 {
@@ -40,7 +40,7 @@ pub fn is_same_tag(a: u8, b: u8, x: u8, y: u8) -> bool
     a == x && b == y
 }
 
-// Where values are in UTF-8: DS of SQ, RG and PG, and CL of PG.
+// Whether the values of the tag are in UTF-8: DS of SQ, RG and PG, and CL of PG.
 pub fn is_wide(kind: Kind, a: u8, b: u8) -> bool
     ensures { λ r. ⌜ r ≡ isWide kind a b ⌝ }
 {

@@ -17,16 +17,16 @@ use Rattle.byte_slices.specs.Stands.{Each}
 use Rattle.byte_slices.proofs.Equal.{same-self}
 use Rattle.accepted.specs.Admits.{KeysDiffer}
 use Rattle.accepted.specs.Read.{recordsOf}
-use Rattle.accepted.proofs.Bools.{never, or-left, or-right}
+use Rattle.lists.proofs.Bools.{never, or-left, or-right}
 use Rattle.accepted.proofs.Apart.{same-sym}
 use Rattle.accepted.proofs.OfKind.{ofKind-code, apart-ofKind}
 use Rattle.accepted.proofs.Text.{text-apart}
 use Rattle.read.proofs.Fresh.{passed, goes-on}
-use Rattle.calls.proofs.Told.{there-some}
+use Rattle.calls.proofs.OwnCatalogue.{there-some}
 use Rattle.format.specs.Finding.{equalsKey, keyOrdinalFrom, finding}
-use Rattle.find.proofs.Told.{finds}
+use Rattle.find.proofs.OwnCatalogue.{finds}
 
--- ---- a key stands once among the records of its kind
+-- ---- a key occurs once among the records of its kind
 
 -- no later record of the kind has this one's key
 other-key : (r : Record) (qs : List Record) (i : ℕ) (p : Piece) (k : ℕ) → eqb (code r) k ≡ true → Each (λ q. eqb (code q) k ≡ true) qs

@@ -1,4 +1,5 @@
-pub mod Turns
-pub mod Told
+pub mod Front
+pub mod SearchSteps
+pub mod OwnCatalogue
 pub mod Laws
 pub mod Names

@@ -1,4 +1,4 @@
--- Where `names` answers, it answers for each name of the list what `find` answers, and 4,294,967,295 exactly where that is 25.
+-- Where `names` answers, it answers for each name of the list what `find` answers, and 4,294,967,295 exactly if that is 25.
 use Prim.Native.Nat.{ℕ, suc, _+_, _<_}
 use mathlib.Core.Path.{_≡_, refl, sym, ap, _∙_}
 use mathlib.Core.Bool.{Bool, true, false, cond}
@@ -13,7 +13,7 @@ use Rattle.format.specs.Reading.{ofKind, longest}
 use Rattle.format.specs.Programs.{bytesOf}
 use Rattle.format.specs.Calls.{refused, yes, then, fitting, there}
 use Rattle.accepted.specs.Read.{recordsOf}
-use Rattle.accepted.proofs.Bools.{never}
+use Rattle.lists.proofs.Bools.{never}
 use Rattle.accepted.proofs.Text.{text-count, text-fits}
 use Rattle.read.proofs.Fresh.{Current, refused-is-no-answer, passed, goes-on}
 use Rattle.format.specs.Asked.{asked}
@@ -22,7 +22,7 @@ use Rattle.format.specs.Summed.{summed}
 use Rattle.format.specs.Batch.{references, batched, batching}
 use Rattle.format.specs.Finding.{equalsKey, keyOrdinalFrom, finding}
 use Rattle.find.specs.Laws.{orAbsent}
-use Rattle.find.proofs.Told.{kind-few, finds}
+use Rattle.find.proofs.OwnCatalogue.{kind-few, finds}
 
 -- ---- over records
 
@@ -61,7 +61,7 @@ module _ (t c : List ℕ) (own : Current t c) (x : List ℕ) where
   unfolding nameOrdinal references
   plain-finds = plain 0 x (recordsOf t) ∙ ap orAbsent (sym (finds t c own 2 x))
 
-  -- and nothing exactly where that is 25
+  -- and nothing exactly if that is 25
   pub absent-is-25 : nameOrdinal (references (recordsOf t)) x ≡ absent → finding t c 2 x ≡ refused 25 0
   unfolding orAbsent absent there
   absent-is-25 e = go (keyOrdinalFrom 0 x sq) refl

@@ -1,4 +1,4 @@
--- The keys that the entries of a catalogue say.
+-- The keys in the entries of a catalogue.
 use Prim.Native.Nat.{ℕ, _≤_}
 use mathlib.Core.Bool.{cond}
 use mathlib.Core.List.{List, [], _∷_}
@@ -14,7 +14,7 @@ use Rattle.program_ids.specs.Places.{InsideText, bytesAt}
 use Rattle.find.specs.declared.Found.{Found}
 use Rattle.find.specs.declared.Found.the-variants.{Nothing, At}
 
--- where the key that an entry says stands
+-- where the key in an entry is
 unfoldable pub keyPlace : Entry → Place
 keyPlace End = record { at = 0; len = 0 }
 keyPlace (Header v l) = record { at = 0; len = 0 }
@@ -24,13 +24,13 @@ keyPlace (Program p l) = p
 keyPlace (Comment p l) = record { at = 0; len = 0 }
 keyPlace (Field a b p) = record { at = 0; len = 0 }
 
--- the keys that the entries of kind `k` say, in order
+-- the keys in the entries of kind `k`, in order
 unfoldable pub keysIn : List ℕ → ℕ → List Entry → List (List ℕ)
 unfolding kindByte keyPlace bytesAt
 keysIn t k [] = []
 keysIn t k (e ∷ es) = cond (eqb (kindByte e) k) (bytesAt t (keyPlace e) ∷ keysIn t k es) (keysIn t k es)
 
--- each key is within the text, and no more are of kind `k` than a text can have
+-- each key is within the text, and there are no more entries of kind `k` than a text can have
 pub record KeysInText (t : List ℕ) (k : ℕ) (es : List Entry) : Type 0 where
   pub inside : Each (λ e. InsideText (length t) (keyPlace e)) es
   pub few : counted k es ≤ 16777216

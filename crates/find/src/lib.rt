@@ -1,4 +1,4 @@
-// The search for a record by its key, over a text and its catalogue: the inverse of `calls::key`.
+// Finds a record by its key, in a text and its catalogue: the inverse of `calls::key`.
 use catalogue_entries::Entry;
 use catalogue_entries::Place;
 use format::LineNo;
@@ -22,7 +22,7 @@ enum Found {
     At(u32),
 }
 
-// Where the key that an entry says stands: SN of SQ, ID of RG and PG.
+// Where the key in an entry is: SN of SQ, ID of RG and PG.
 fn key_place(e: Entry) -> Place
     ensures { λ r. ⌜ r ≡ keyPlace e ⌝ }
 {
@@ -34,8 +34,7 @@ fn key_place(e: Entry) -> Place
     }
 }
 
-// The ordinal of the record of a kind whose key is `key`: the search stops at the first. Bytes are compared from the last one on, as long keys
-// often begin alike.
+// The ordinal of the first record of a kind whose key is `key`. Bytes are compared from the last to the first, because long keys often begin alike.
 fn search(text: &[u8], catalogue: &[u8], kind: u8, key: &[u8]) -> Found
     requires { ⌜ KeysInText (now text) kind (entriesIn (now catalogue)) ⌝ }
     ensures { λ r. ⌜ r ≡ foundOf (idOrdinalFrom (now (key .entry)) 0 (keysIn (now (text .entry)) kind (entriesIn (now (catalogue .entry))))) ⌝ }
@@ -70,7 +69,8 @@ fn search(text: &[u8], catalogue: &[u8], kind: u8, key: &[u8]) -> Found
     found
 }
 
-// The ordinal of the record of a kind whose key is `key`: SQ by its SN, RG and PG by their ID. 25 where there is none, and for any other kind.
+// The ordinal of the record of a kind whose key is `key`: SQ by its SN, RG and PG by their ID. Refuses with 25 if there is none, and for any other
+// kind.
 pub fn find(text: &[u8], catalogue: &[u8], kind: u8, key: &[u8]) -> FindAnswer
     ensures { λ r. ⌜ r ≡ findAnswerOf (finding (now (text .entry)) (now (catalogue .entry)) kind (now (key .entry))) ⌝ }
 {

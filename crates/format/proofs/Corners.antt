@@ -1,5 +1,5 @@
 -- Document 01's cases that are marked (P), with document 02's lengths and headers without a readable version, as one table and one statement:
--- every call in it gives the answer beside it. Behind them stand cases that tell other likely mistakes from the rules.
+-- every call in it gives the answer next to it. After them come cases that other likely mistakes would get wrong.
 use Prim.Native.Nat.{ℕ}
 use Prim.Native.String.{String}
 use mathlib.Core.Path.{_≡_, refl}

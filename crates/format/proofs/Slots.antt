@@ -1,4 +1,4 @@
--- Values enter slots, and looking along the slots finds what a plain search of the values finds. Assumes nothing.
+-- Values enter slots, and a search along the slots finds what a plain search of the values finds. Assumes nothing.
 use Prim.Native.Nat.{ℕ, zero, suc, _+_, _-_, _%_, _≤_, _<_}
 use mathlib.Core.Path.{_≡_, refl, sym, ap, ap₂, subst, _∙_}
 use mathlib.Core.Bool.{Bool, true, false, cond, false≢true}
@@ -49,7 +49,7 @@ full-lt [] h = h
 full-lt (zero ∷ ss) h = omega arith
 full-lt (suc k ∷ ss) h = let r = full-lt ss (omega (arith, h)) in omega (arith, r)
 
--- ---- slots in the order of looking
+-- ---- slots in the order of a search
 
 pub around-length : (at : ℕ) (slots : List ℕ) → at ≤ length slots → length (around at slots) ≡ length slots
 unfolding around
@@ -159,7 +159,7 @@ unfolding Clear
 clear-none hit zero = tt
 clear-none hit (suc n) = clear-none hit n
 
--- ---- what looking finds
+-- ---- what a search finds
 
 seek-clear : (hit : ℕ → Bool) (ss : List ℕ) → Clear hit ss → seek hit ss ≡ 0
 unfolding seek Clear
@@ -202,7 +202,7 @@ seek-replaced hit slots at i v l z y e f =
     let g : getD (around at slots) (pos (length slots) at i) 0 ≡ getD slots i 0 = around-get slots at i l in
     ap (seek hit) (around-set slots at i v l) ∙ seek-other hit (around at slots) (pos (length slots) at i) v (λ q. z (sym g ∙ q)) y (ap hit g ∙ e) f
 
--- one value more
+-- one more value
 pick-old : (hit : ℕ → Bool) (vs ws : List ℕ) (k : ℕ) → pick hit vs ≡ suc k → pick hit (vs ++ ws) ≡ suc k
 unfolding pick
 pick-old hit [] ws k e = absurd (omega (arith, e))

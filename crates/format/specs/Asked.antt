@@ -5,7 +5,7 @@ use mathlib.Core.List.{List, [], _∷_}
 use lib.Dec.{eqb}
 use Rattle.format.specs.Lines.{onto}
 
--- the names of a list: each LF ends one, which may be empty, and bytes after the last LF are one name more
+-- the names of a list: each LF ends a name, which may be empty, and bytes after the last LF are one more name
 unfoldable pub asked : List ℕ → List (List ℕ)
 unfolding onto
 asked [] = []

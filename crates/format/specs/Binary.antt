@@ -1,5 +1,5 @@
--- The binary header of the SAM specification, uncompressed (Req 09): written from a text, and read back to a tidy text. Numbers have four
--- bytes, the lowest first; every LN that reading accepts fits in them (Req 08).
+-- The binary header of the SAM specification, uncompressed (Req 09): written from a text, and read back as a tidy text. Numbers have four bytes, the
+-- lowest first; every LN that reading accepts fits into them (Req 08).
 use Prim.Native.Nat.{ℕ, zero, suc}
 use mathlib.Core.Path.{_≡_}
 use mathlib.Core.Bool.{cond}
@@ -28,7 +28,7 @@ unfoldable pub sized : List ℕ → List ℕ
 unfolding little
 sized s = little 4 (length s) ++ s
 
--- the name with its closing zero byte, after their length, and the LN
+-- the name with its closing zero byte, after the length of both, and the LN
 unfoldable pub referenceBytes : Reference → List ℕ
 unfolding sized little
 referenceBytes r = sized (r .name ++ (0 ∷ [])) ++ little 4 (r .size)
@@ -43,7 +43,7 @@ unfoldable pub binary : List ℕ → List Reference → List ℕ
 unfolding magic sized little listBytes
 binary text list = magic ++ sized text ++ little 4 (length list) ++ listBytes list
 
--- ---- the bytes taken apart: each takes what it is named for off the front, and hands on the bytes after it
+-- ---- the bytes taken apart: each takes its part off the front and returns the bytes after it
 
 unfoldable pub andThen : {A B : Type 0} → Option A → (A → Option B) → Option B
 andThen none f = none
@@ -63,7 +63,7 @@ unfoldable pub takeSized : List ℕ → Option (List ℕ × List ℕ)
 unfolding andThen takeNumber takeBytes
 takeSized s = andThen (takeNumber s) (λ n. takeBytes (n .0) (n .1))
 
--- the name that a zero byte closes: no bytes at all are not closed
+-- the name before its closing zero byte; an empty run has no closing byte
 unfoldable pub closedName : List ℕ → Option (List ℕ)
 unfolding lastOr butLast
 closedName s = cond (eqb (lastOr 1 s) 0) (some (butLast s)) none
@@ -93,7 +93,7 @@ takeBoth s =
     andThen (takeList (n .0) (n .1)) (λ list.
     cond (none? (list .1)) (some (text .0, list .0)) none)))
 
--- after `BAM` and 1
+-- what follows `BAM` and 1
 unfoldable pub binaryParts : List ℕ → Option (List ℕ × List Reference)
 unfolding starts magic takeBoth
 binaryParts s = cond (starts magic s) (takeBoth (drop 4 s)) none
@@ -106,7 +106,7 @@ unpadded (b ∷ s) = cond (all (eqb 0) (b ∷ s)) [] (b ∷ unpadded s)
 
 -- ---- the calls
 
--- out: the tidy text and the SQ list. Refused as tidying is; 1 looks at the tidy text, 20 at the whole
+-- out: the tidy text and the SQ list. Refused as tidying is; 1 is about the tidy text, 20 about the whole
 unfoldable pub binaryOut : List ℕ → ℕ → Answer (List ℕ)
 unfolding then records writing longest unwritable tidy fitting binary sqList
 binaryOut text room =
@@ -114,12 +114,12 @@ binaryOut text room =
     then (writing longest (unwritable 0 rs) (tidy rs)) (λ t.
     fitting room (binary t (sqList rs))))
 
--- 28: wrong start, short, trailing bytes, a name length of 0, or a name without its closing zero
+-- 28: a wrong start, too few bytes, bytes after the end, a name length of 0, or a name without its closing zero
 unfoldable pub wellFormed : {A : Type 0} → Option A → Answer A
 wellFormed none = refused 28 0
 wellFormed (some a) = yes a
 
--- 29 exactly unless the reference list is the SQ list, in order
+-- 29 exactly if the reference list is not the SQ list, in order
 unfoldable pub listedAlike : List Reference → List Record → Answer (List Record)
 unfolding sameReferences sqList
 listedAlike list rs = cond (sameReferences list (sqList rs)) (yes rs) (refused 29 0)

@@ -1,5 +1,5 @@
--- Carrying on after refused lines: these are skipped, the others are kept. A line is judged as in reading, after the records kept before
--- it; but while nothing is kept, each line may set the rule for repeated tags, and HD may still come.
+-- Carrying on after refused lines: these are skipped, and the others are kept. A line is judged as in reading, after the records kept before it; but
+-- as long as nothing is kept, each line may set the rule for repeated tags, and HD may still come.
 use Prim.Native.Nat.{ℕ, _+_}
 use mathlib.Core.Bool.{cond}
 use mathlib.Core.List.{List, [], _∷_, _++_}
@@ -22,14 +22,14 @@ keptOf [] = []
 keptOf (refusedLine n ∷ ls) = keptOf ls
 keptOf (read r ∷ ls) = r ∷ keptOf ls
 
--- the version that rules a line and those after it: while nothing is kept, each line that announces one sets it, and it stays set even
--- if that line is then refused
+-- the version that applies to a line and those after it: as long as nothing is kept, each line that announces one sets it, and it stays set even if
+-- that line is then refused
 unfoldable pub ruling : Option Version → List Record → Piece → Option Version
 unfolding later announced
 ruling v [] p = later v (announced (p ∷ []))
 ruling v (r ∷ rs) p = v
 
--- each line judged, after the records `before` and under the version `v`
+-- the verdict on each line, after the records `before` and under the version `v`
 unfoldable pub carriedFrom : Option Version → List Record → List Piece → List Line
 unfolding ruling admitted isStrict keptOf
 carriedFrom v before [] = []
@@ -38,7 +38,7 @@ carriedFrom v before (p ∷ ps) =
     let l : Line = admitted (isStrict w) before p in
     l ∷ carriedFrom w (before ++ keptOf (l ∷ [])) ps
 
--- each line of a text: its place here is its number
+-- the verdict on each line of a text; its place in the list is the line's number
 unfoldable pub carriedLines : List ℕ → List Line
 unfolding carriedFrom lines
 carriedLines text = carriedFrom none [] (lines text)
@@ -50,7 +50,7 @@ pub record Skip : Type 0 where
   pub line : ℕ
   pub refusal : ℕ
 
--- the skipped lines, counted from `l`, in order
+-- the skipped lines in order; lines are counted from `l`
 unfoldable pub skips : ℕ → List Line → List Skip
 skips l [] = []
 skips l (refusedLine n ∷ ls) = record { line = l; refusal = n } ∷ skips (l + 1) ls
@@ -61,7 +61,7 @@ unfoldable pub rows : List Skip → List ℕ
 rows [] = []
 rows (s ∷ ss) = s .line ∷ s .refusal ∷ rows ss
 
--- the line, counted from `l`, of the first SQ that is kept and can't be written
+-- the line, counted from `l`, of the first kept SQ that can't be written
 unfoldable pub unwritableLine : ℕ → List Line → Option ℕ
 unfolding isWritable
 unwritableLine l [] = none
@@ -70,8 +70,8 @@ unwritableLine l (read r ∷ ls) = cond (isWritable r) (unwritableLine (l + 1) l
 
 -- ---- the call
 
--- the tidy text of the records kept, and the table of the skipped lines; `room` is how many bytes the output takes, `table` how many
--- numbers the table does
+-- the tidy text of the kept records, and the table of the skipped lines; `room` is how many bytes the output takes, and `table` how many numbers the
+-- table takes
 unfoldable pub carrying : List ℕ → ℕ → ℕ → Answer (List ℕ × List ℕ)
 unfolding then longest carriedLines writing unwritableLine tidy keptOf fitting rows skips
 carrying text room table =

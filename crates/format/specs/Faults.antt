@@ -1,6 +1,6 @@
--- The faults of a text: for each faulty line, at most once, its number and why. A line is judged as in carrying on, and its refusal is its
--- fault where it is skipped. Of the lines that are kept, an SQ whose name can't be written has 24; a program whose PP equals the ID of no
--- program kept has 22; and one that comes back to itself by its parents has 23, but not one that only leads there.
+-- The faults of a text: the number and the fault of each faulty line, which has one fault. A line is judged as in carrying on, and if it is skipped,
+-- its refusal is its fault. Of the kept lines, an SQ whose name can't be written has 24; a program whose PP equals the ID of no kept program has 22;
+-- and a program that comes back to itself through its parents has 23, but not one that only leads there.
 use Prim.Native.Nat.{ℕ, zero, suc, _+_}
 use mathlib.Core.Bool.{cond}
 use mathlib.Core.List.{List, [], _∷_}
@@ -13,7 +13,7 @@ use Rattle.format.specs.Tidy.{isWritable}
 use Rattle.format.specs.Calls.{Answer, refused, fitting}
 use Rattle.format.specs.Carrying.{keptOf, carriedLines, Skip, rows}
 
--- ---- one line that is kept
+-- ---- one kept line
 
 -- 0, or why the program with the ordinal `i` is faulty
 unfoldable pub linkFault : List Link → ℕ → ℕ
@@ -44,7 +44,7 @@ faultsFrom ks l i [] = []
 faultsFrom ks l i (refusedLine n ∷ ls) = record { line = l; refusal = n } ∷ faultsFrom ks (l + 1) i ls
 faultsFrom ks l i (read r ∷ ls) = ifFaulty l (recordFault ks i r) (faultsFrom ks (l + 1) (nextProgram i r) ls)
 
--- of lines that are judged: the programs are those that are kept
+-- the faults of lines that are judged: the programs are the kept ones
 unfoldable pub faultsIn : List Line → List Skip
 unfolding faultsFrom links programs keptOf
 faultsIn ls = faultsFrom (links (programs (keptOf ls))) 0 0 ls

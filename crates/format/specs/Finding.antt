@@ -9,7 +9,7 @@ use Rattle.format.specs.Records.{Record, key}
 use Rattle.format.specs.Reading.{ofKind}
 use Rattle.format.specs.Calls.{Answer, then, fresh, there}
 
--- is it a key, and `x`? HD and CO have none
+-- is there a key, and is it `x`? HD and CO have none
 unfoldable pub equalsKey : List ℕ → Option Piece → Bool
 unfolding same
 equalsKey x none = false
@@ -21,7 +21,7 @@ unfolding equalsKey key
 keyOrdinalFrom i x [] = none
 keyOrdinalFrom i x (r ∷ rs) = cond (equalsKey x (key r)) (some i) (keyOrdinalFrom (i + 1) x rs)
 
--- among the records of a kind: 25 where there is none, and so for a kind without keys
+-- among the records of a kind: 25 if there is none, and for a kind without keys
 unfoldable pub finding : List ℕ → List ℕ → ℕ → List ℕ → Answer ℕ
 unfolding then fresh there keyOrdinalFrom ofKind
 finding text c k x = then (fresh text c) (λ rs. there (keyOrdinalFrom 0 x (ofKind k rs)))

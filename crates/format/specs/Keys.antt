@@ -1,4 +1,4 @@
--- Which fields are a record's keys. In any other kind these tags are plain fields.
+-- Which fields are the keys of a record. In any other kind these tags are plain fields.
 use Prim.Native.Nat.{ℕ}
 use mathlib.Core.Bool.{Bool, false, _&&_, _||_}
 use lib.Dec.{eqb}

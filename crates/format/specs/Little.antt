@@ -1,4 +1,4 @@
--- What little-endian bytes are worth.
+-- The value of little-endian bytes.
 use Prim.Native.Nat.{ℕ, _+_, _*_}
 use mathlib.Core.List.{List, [], _∷_}
 

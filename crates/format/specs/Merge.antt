@@ -1,5 +1,5 @@
--- Judging a merge that was made elsewhere (Req 12): the headers A and B, the merged header, and two lists, which say for each
--- program of A and for each of B its ordinal in the merged header, its image. How IDs are chosen, HD, RG and CO are not judged.
+-- Judging a merge that another tool made (Req 12): the headers A and B, the merged header, and two lists, which give the ordinal in the merged header
+-- of each program of A and of B: its image. How IDs are chosen, HD, RG and CO are not judged.
 use Prim.Native.Nat.{ℕ, zero, suc}
 use mathlib.Core.Bool.{Bool, true, false, not, _&&_, _||_, cond}
 use mathlib.Core.List.{List, [], _∷_, _++_, map}
@@ -13,7 +13,7 @@ use Rattle.format.specs.Programs.{Program, programs, Link, root, danglin
 use Rattle.format.specs.Calls.{Answer, refused, yes, records, untangled}
 use Rattle.format.specs.References.{Reference, sqList, sameReferences}
 
--- are two lists alike, one by one?
+-- are two lists alike, element by element?
 unfoldable pub alike : {A B : Type 0} → (A → B → Bool) → List A → List B → Bool
 alike p [] [] = true
 alike p [] (b ∷ bs) = false
@@ -26,7 +26,7 @@ unfoldable pub sameName : Reference → Reference → Bool
 unfolding same
 sameName r q = same (r .name) (q .name)
 
--- one name, two lengths
+-- the same name with two lengths
 unfoldable pub differ : Reference → Reference → Bool
 unfolding sameName
 differ r q = sameName r q && not (eqb (r .size) (q .size))
@@ -49,12 +49,12 @@ isJoined a b m = agreeing a b && sameReferences m (a ++ lacking a b)
 
 -- ---- 31: the lists
 
--- one valid ordinal for each of `n` programs, and none twice, where the merged header has `m` programs
+-- one valid ordinal per program, of `n` programs, and none twice, where the merged header has `m` programs
 unfoldable pub assigns : ℕ → ℕ → List ℕ → Bool
 unfolding all distinct
 assigns n m list = eqb (length list) n && all (λ i. ltb i m) list && distinct list
 
--- every merged program is hit by at least one list
+-- at least one list hits each merged program
 unfoldable pub covers : ℕ → List ℕ → List ℕ → Bool
 unfolding all any numbersFrom
 covers m listA listB = all (λ i. any (eqb i) listA || any (eqb i) listB) (numbersFrom 0 m)
@@ -80,7 +80,7 @@ unfoldable pub shapes : List Record → List ProgramShape
 unfolding shapeOf programs ofKind
 shapes rs = map (shapeOf (programs rs)) (ofKind 4 rs)
 
--- equal, wherever they stand
+-- equal, wherever they are in their texts
 unfoldable pub sameField : Field → Field → Bool
 unfolding tagged same
 sameField f g = tagged (f .tag₀) (f .tag₁) g && same (f .value .bytes) (g .value .bytes)
@@ -111,7 +111,7 @@ unfoldable pub isImage : List ℕ → ProgramShape → ProgramShape → Bool
 unfolding keepsFields keepsParent
 isImage list n m = keepsFields (n .fields) (m .fields) && keepsParent list (n .parent) (m .parent)
 
--- what no valid ordinal finds
+-- a placeholder, which a valid ordinal never finds
 unfoldable pub noShape : ProgramShape
 noShape = record { fields = []; parent = root }
 
@@ -126,7 +126,7 @@ images list ns ms = alike (isImage list) ns (map (λ i. getD ms i noShape) list)
 pub data Which : Type 0 where
   textA textB textMerged : Which
 
--- accepted; refused for one of the texts, with a number and a line; or refused for how they go together, with a number
+-- accepted; refused because of one of the texts, with a number and a line; or refused because the texts do not fit together, with a number
 pub data Verdict : Type 0 where
   merged : Verdict
   unfit : Which → ℕ → ℕ → Verdict
@@ -145,12 +145,12 @@ unfoldable pub about : Which → Answer (List Record) → (List Record → Verdi
 about w (refused n l) f = unfit w n l
 about w (yes rs) f = f rs
 
--- nothing dangling and no cycle
+-- no PP dangles and there is no cycle
 unfoldable pub untangledRecords : List Record → Answer (List Record)
 unfolding untangled tangled links programs
 untangledRecords rs = untangled rs (tangled (links (programs rs)))
 
--- reading's for A, B and merged; then 22 and 23 for each in that order; then 30, 31, 32
+-- the refusals of reading A, B and the merged text; then 22 and 23 for each in that order; then 30, 31, 32
 unfoldable pub judgingMerge : List ℕ → List ℕ → List ℕ → List ℕ → List ℕ → Verdict
 unfolding about records untangledRecords judgedMerge
 judgingMerge a b m listA listB =

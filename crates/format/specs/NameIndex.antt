@@ -10,11 +10,11 @@ use Rattle.format.specs.Slots.{around, seat}
 
 -- ---- the plain search
 
--- what is answered for a name that is not in the list
+-- the answer for a name that is not in the list
 unfoldable pub absent : ℕ
 absent = 4294967295
 
--- the ordinal of the first of the names that is `x`: the first of them all has the ordinal `k`
+-- the ordinal of the first of the names that is `x`; the first name has the ordinal `k`
 unfoldable pub nameOrdinalFrom : ℕ → List (List ℕ) → List ℕ → ℕ
 unfolding absent same
 nameOrdinalFrom k [] x = absent
@@ -26,29 +26,29 @@ nameOrdinal xs x = nameOrdinalFrom 0 xs x
 
 -- ---- how many slots
 
--- of `s`, twice `s`, .. the first that is not below `n`: at most `f` doublings
+-- the first of `s`, twice `s`, .. that is not below `n`, after at most `f` doublings
 unfoldable pub doubled : ℕ → ℕ → ℕ → ℕ
 doubled zero n s = s
 doubled (suc f) n s = let on : ℕ = doubled f n (2 * s) in cond (ltb s n) on s
 
--- for `m` names the smallest power of two that is not below twice `m`, at least 2
+-- for `m` names: the smallest power of two that is at least twice `m`, and at least 2
 unfoldable pub slotCount : ℕ → ℕ
 unfolding doubled
 slotCount m = doubled m (2 * m) 2
 
 -- ---- where a name goes
 
--- a name's number, after `h`: each byte makes it 33 times itself plus the byte, wrapping at 2 ^ 32
+-- the hash of a name, after `h`: for each byte 33 times the hash plus the byte, modulo 2 ^ 32
 unfoldable pub hashFrom : ℕ → List ℕ → ℕ
 hashFrom h [] = h
 hashFrom h (b ∷ s) = hashFrom ((33 * h + b) % 2 ^ 32) s
 
--- a name's first slot, of `n`: its number starts at 0, and is taken modulo the slot count
+-- a name's first slot, of `n`: its hash, which starts at 0, modulo the number of slots
 unfoldable pub first : ℕ → List ℕ → ℕ
 unfolding hashFrom
 first n x = hashFrom 0 x % n
 
--- the slots in the order in which a name goes along them: its first, then the next one, round the end
+-- the slots in the order in which a name tries them: its first, then the next ones, round the end
 unfoldable pub path : List ℕ → List ℕ → List ℕ
 unfolding first around
 path x slots = around (first (length slots) x) slots
@@ -58,20 +58,20 @@ unfoldable pub enter : ℕ → List ℕ → List ℕ → List ℕ
 unfolding first seat
 enter v x slots = set slots (seat (first (length slots) x) slots) v
 
--- names enter in order, each with its ordinal plus one: the first of them has the ordinal `k`
+-- names enter in order, each with its ordinal plus one; the first of them has the ordinal `k`
 unfoldable pub enterFrom : ℕ → List (List ℕ) → List ℕ → List ℕ
 unfolding enter
 enterFrom k [] slots = slots
 enterFrom k (x ∷ xs) slots = enterFrom (k + 1) xs (enter (suc k) x slots)
 
--- the index: all names, into slots that are empty at first
+-- the index: all names, entered into empty slots
 unfoldable pub index : List (List ℕ) → List ℕ
 unfolding enterFrom slotCount
 index xs = enterFrom 0 xs (replicate (slotCount (length xs)) 0)
 
--- ---- what a slot tells
+-- ---- what a slot holds
 
--- the ordinal: an empty slot has none
+-- the ordinal: none for an empty slot
 unfoldable pub ordinalOf : ℕ → ℕ
 unfolding absent
 ordinalOf zero = absent
@@ -87,7 +87,7 @@ unfoldable pub tellsName : List (List ℕ) → List ℕ → ℕ → Bool
 unfolding same nameOf
 tellsName xs x v = same x (nameOf xs v)
 
--- ---- how much is looked at
+-- ---- how many slots are looked at
 
 -- the slots up to and including the first with a value that is accepted, or the first empty one
 unfoldable pub looked : (ℕ → Bool) → List ℕ → ℕ

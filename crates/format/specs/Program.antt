@@ -27,7 +27,7 @@ unfolding refusal
 said (refused n l) = refusal n l
 said (yes t) = t
 
--- at most 65,535 bytes are taken; what is written has no limit of its own
+-- at most 65,535 bytes are taken; the output has no limit of its own
 unfoldable pub program : List ℕ → List ℕ
 unfolding refusal said tidying longest
 program text = cond (ltb 65535 (length text)) (refusal 1 0) (said (tidying text longest))

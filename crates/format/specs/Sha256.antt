@@ -95,7 +95,7 @@ unfoldable pub next : List ℕ → ℕ
 unfolding sum32 σ0 σ1 back
 next w = sum32 (sum32 (sum32 (σ1 (back 2 w)) (back 7 w)) (σ0 (back 15 w))) (back 16 w)
 
--- `n` words more
+-- `n` more words
 unfoldable pub extend : ℕ → List ℕ → List ℕ
 unfolding next
 extend zero w = w
@@ -135,7 +135,7 @@ sum s t =
       h = sum32 (s .h) (t .h);
     }
 
--- the hash value after one block more
+-- the hash value after one more block
 unfoldable pub compress : HashValue → List ℕ → HashValue
 unfolding sum rounds K schedule
 compress s block = sum (rounds K (schedule block) s) s
@@ -147,11 +147,11 @@ unfoldable pub big : ℕ → ℕ → List ℕ
 big zero v = []
 big (suc n) v = v / 256 ^ n % 256 ∷ big n v
 
--- how many zero bytes follow the byte 0x80: the fewest with which eight bytes more end a block
+-- how many zero bytes follow the byte 0x80: the fewest with which eight more bytes end a block
 unfoldable pub zeros : ℕ → ℕ
 zeros n = (119 - n % 64) % 64
 
--- what follows a message of `n` bytes: a bit 1 and bits 0, and the number of its bits in 64 bits
+-- what follows a message of `n` bytes: a bit 1, bits 0, and the number of its bits in 64 bits
 unfoldable pub padding : ℕ → List ℕ
 unfolding zeros big
 padding n = 0x80 ∷ (replicate (zeros n) 0 ++ big 8 (8 * n))
@@ -165,7 +165,7 @@ unfoldable pub parse : ℕ → List ℕ → List (List ℕ)
 parse zero s = []
 parse (suc n) s = take 64 s ∷ parse n (drop 64 s)
 
--- the hash value after each of them
+-- the hash value after all of them
 unfoldable pub hashed : HashValue → List (List ℕ) → HashValue
 unfolding compress
 hashed s [] = s

@@ -1,5 +1,5 @@
--- Slots that are looked along from a place on, round the end: each is 0, which is empty, or a value. What a value tells is left open:
--- `start` is the slot at which looking for what it tells starts, and a search goes by which values it accepts.
+-- Slots that are searched from a place on, round the end: each is 0, which means empty, or a value. What a value means is left open: `start` gives
+-- the slot at which the search for it starts, and a search is given by the values that it accepts.
 use Prim.Native.Nat.{ℕ, zero, suc, _+_, _%_, _≤_, _<_}
 use mathlib.Core.Path.{_≡_}
 use mathlib.Core.Bool.{Bool, true, false, cond}
@@ -10,7 +10,7 @@ use lib.ListN.{length, take, drop}
 unfoldable pub around : ℕ → List ℕ → List ℕ
 around at slots = drop at slots ++ take at slots
 
--- how many slots stand before the first empty one
+-- how many slots come before the first empty one
 unfoldable pub full : List ℕ → ℕ
 full [] = 0
 full (zero ∷ ss) = 0
@@ -27,13 +27,13 @@ filled [] = 0
 filled (zero ∷ ss) = filled ss
 filled (suc k ∷ ss) = suc (filled ss)
 
--- looking along slots: the first value that is accepted; an empty slot ends it, with 0
+-- a search along slots: the first value that is accepted; an empty slot ends it, with 0
 unfoldable pub seek : (ℕ → Bool) → List ℕ → ℕ
 seek hit [] = 0
 seek hit (zero ∷ ss) = 0
 seek hit (suc k ∷ ss) = cond (hit (suc k)) (suc k) (seek hit ss)
 
--- the first of the values that entered, in the order of entering, that is accepted, or 0, which is no value
+-- the first accepted value, in the order of entering, or 0, which is not a value
 unfoldable pub pick : (ℕ → Bool) → List ℕ → ℕ
 pick hit [] = 0
 pick hit (zero ∷ vs) = pick hit vs
@@ -49,5 +49,5 @@ Clear hit (suc k ∷ ss) = (hit (suc k) ≡ false) × Clear hit ss
 pub record Held (start : ℕ → ℕ) (slots vs : List ℕ) : Type 0 where
   pub few : filled slots ≤ length vs
   pub only : (hit : ℕ → Bool) → pick hit vs ≡ 0 → Clear hit slots
-  -- looking finds what a plain search of the values finds, if all that is accepted starts at one slot
+  -- a search finds what a plain search of the values finds, if all values that it accepts start at one slot
   pub finds : (hit : ℕ → Bool) (at : ℕ) → at < length slots → ((v : ℕ) → hit v ≡ true → start v ≡ at) → seek hit (around at slots) ≡ pick hit vs

@@ -1,8 +1,8 @@
--- What looking for names takes.
+-- How many slots the searches for names look at.
 use Prim.Native.Nat.{ℕ, _+_}
 use mathlib.Core.List.{List, [], _∷_}
 
--- a number for each name, summed
+-- the sum of a number for each name
 unfoldable pub summed : (List ℕ → ℕ) → List (List ℕ) → ℕ
 summed f [] = 0
 summed f (x ∷ xs) = f x + summed f xs

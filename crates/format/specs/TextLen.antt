@@ -1,4 +1,4 @@
--- How many bytes at the front of a SAM file belong to its header: all lines from the first on that start with `@`, their endings included.
+-- How many bytes at the front of a SAM file belong to its header: all lines from the first on that start with `@`, including their endings.
 use Prim.Native.Nat.{ℕ}
 use mathlib.Core.Bool.{Bool, false, cond}
 use mathlib.Core.List.{List, [], _∷_}
@@ -11,7 +11,7 @@ unfoldable pub headed : List ℕ → Bool
 headed [] = false
 headed (b ∷ s) = eqb b 64
 
--- where the first of some lines starts that does not start with `@`: `end` where there is none
+-- where the first of some lines starts that does not start with `@`: `end` if there is none
 unfoldable pub otherLine : ℕ → List Piece → ℕ
 unfolding headed
 otherLine end [] = end

@@ -1,4 +1,4 @@
--- Calls with a lent work area (Req 13): what it is used for can't be seen in the answer, and afterwards it is all zeros, on every answer.
+-- Calls with a lent work area (Req 13): its use can't be seen in the answer, and afterwards it is all zeros, whatever the answer is.
 use Prim.Native.Nat.{ℕ}
 use mathlib.Core.List.{List}
 use lib.ListN.{length, replicate}
@@ -8,7 +8,7 @@ use Rattle.format.specs.Calls.{Answer, reading}
 unfoldable pub allZeros : List ℕ → List ℕ
 allZeros work = replicate (length work) 0
 
--- reading's own answer, and the area
+-- the answer of reading, and the area
 unfoldable pub readingWith : List ℕ → ℕ → List ℕ → Answer (List ℕ) × List ℕ
 unfolding reading allZeros
 readingWith text room work = (reading text room, allZeros work)

@@ -1,4 +1,4 @@
--- A key, and the one that stands at a place of a text.
+-- A key, and the key at a place of a text.
 use Prim.Native.Nat.{ℕ, suc, _+_, _≤_, _<_}
 use mathlib.Core.Path.{_≡_, refl, sym, ap, _∙_}
 use mathlib.Core.Bool.{Bool, true, false, _&&_, cond, false≢true}
@@ -18,7 +18,7 @@ and-right false b e = absurd (false≢true e)
 
 -- ---- where they are equal
 
--- the text has so many bytes, and behind them no key goes on
+-- the text has so many bytes, and after them no key goes on
 equal-ends : (x t : List ℕ) → same x (word t) ≡ true → (length x ≤ length t) × (none? (word (drop (length x) t)) ≡ true)
 unfolding same word none?
 equal-ends [] [] e = (omega arith, refl)
@@ -74,7 +74,7 @@ module _ (x t : List ℕ) (i at : ℕ) (l : i < length x) (m : at < length t) wh
       go true e = low-differs (ltb-true (getD t at 0) 32 e)
       go false e = other (ltb-false (getD t at 0) 32 e) q
 
-  -- a byte of both, and what is behind it
+  -- a byte of both, and what is after it
   pub byte-decides : same (drop i x) (word (drop at t)) ≡ (cond (ltb (getD t at 0) 32) false (eqb (getD x i 0) (getD t at 0)) && same (drop (i + 1) x) (word (drop (at + 1) t)))
   byte-decides = go (ltb (getD t at 0) 32) refl
     where

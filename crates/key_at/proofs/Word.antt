@@ -33,14 +33,14 @@ ends-within t at e = go (ltb at (length t)) refl
     go true q = ltb-true at (length t) q
     go false q = absurd (false≢true (sym e ∙ ends-none t at (ltb-false at (length t) q)))
 
--- no key goes on: the other has a byte more
+-- no key goes on: the other has one more byte
 pub same-ended : (id w : List ℕ) → 0 < length id → none? w ≡ true → same id w ≡ false
 unfolding same none?
 same-ended [] w h e = absurd (omega (arith, h))
 same-ended (b ∷ id) [] h e = refl
 same-ended (b ∷ id) (c ∷ w) h e = absurd (false≢true e)
 
--- both have a byte more
+-- both have one more byte
 pub same-on : (id t : List ℕ) (i at : ℕ) → i < length id → none? (word (drop at t)) ≡ false
     → same (drop i id) (word (drop at t)) ≡ (eqb (getD id i 0) (getD t at 0) && same (drop (i + 1) id) (word (drop (at + 1) t)))
 unfolding same word none?

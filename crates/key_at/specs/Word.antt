@@ -11,6 +11,6 @@ unfoldable pub word : List ℕ → List ℕ
 word [] = []
 word (b ∷ s) = cond (ltb b 32) [] (b ∷ word s)
 
--- is `x`, from its byte `i` on, what starts at `at` in the text?
+-- is `x`, from its byte `i` on, the word that starts at the offset `at` of the text?
 abbrev pub sameFrom : List ℕ → ℕ → List ℕ → ℕ → Bool
 sameFrom x i t at = same (drop i x) (word (drop at t))

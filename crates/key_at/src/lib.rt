@@ -1,4 +1,4 @@
-// A key or a name by the offset where it stands in the text: it ends at the first byte below 32, or with the text.
+// A key or a name, given by its offset in the text. It ends before the first byte below 32, or at the end of the text.
 ghost use mathlib.Core.Path.{_≡_};
 ghost use mathlib.Core.Bool.{false, cond, _&&_};
 ghost use Prim.Native.Nat.{_≤_, _+_};
@@ -7,10 +7,10 @@ ghost use lib.ListN.{length, drop};
 ghost use Rattle.format.specs.Bytes.{same, none?};
 ghost use Rattle.key_at.specs.Word.{word, sameFrom};
 
-// Offsets of a text are below this.
+// Every offset in a text is below this.
 pub const OFFSETS: u32 = 16777216;
 
-// Whether no key goes on at `at`: a byte below 32, or the end of the text.
+// Whether a key ends at `at`: there is a byte below 32, or the end of the text.
 fn ends(text: &[u8], at: usize) -> bool
     ensures { λ r. ⌜ r ≡ none? (word (drop at (now (text .entry)))) ⌝ }
 {
@@ -20,7 +20,7 @@ fn ends(text: &[u8], at: usize) -> bool
     text[at] < 32
 }
 
-// Whether a key goes on with the byte `b` where the text has `a`: no key goes on with a byte below 32.
+// Whether a key goes on with the byte `b` where the text has `a`. No key goes on with a byte below 32.
 fn goes_on(a: u8, b: u8) -> bool
     ensures { λ r. ⌜ r ≡ cond (ltb a 32) false (eqb b a) ⌝ }
 {
@@ -30,8 +30,8 @@ fn goes_on(a: u8, b: u8) -> bool
     b == a
 }
 
-// Whether the eight bytes at `i` of a key are those at `at` of the text, and none of them ends a key there: all are looked at, with no way
-// out, so that a processor can take them at once.
+// Whether the eight bytes of a key from `i` on are the eight bytes of the text from `at` on, and none of these ends a key. All eight are always
+// looked at, so that the processor can compare them at once.
 fn is_same_block(text: &[u8], at: usize, key: &[u8], i: usize) -> bool
     requires { ⌜ at + 8 ≤ length (now text) ⌝ }
     requires { ⌜ i + 8 ≤ length (now key) ⌝ }
@@ -48,7 +48,7 @@ fn is_same_block(text: &[u8], at: usize, key: &[u8], i: usize) -> bool
     all
 }
 
-// How many bytes of a key stand in whole blocks of eight that are equal, from the front: what is behind them decides.
+// How many bytes of a key are in the equal blocks of eight at its front. The bytes after them decide.
 fn pass_same(text: &[u8], at: usize, key: &[u8]) -> usize
     requires { ⌜ at + length (now key) ≤ length (now text) ⌝ }
     ensures within { λ r. ⌜ r ≤ length (now (key .entry)) ⌝ }
@@ -64,14 +64,14 @@ fn pass_same(text: &[u8], at: usize, key: &[u8]) -> usize
     i
 }
 
-// Whether the key at `at` is `key`: first whether it ends there, then block by block, and then byte by byte.
+// Whether the key at the offset `at` is `key`: looks first at where it ends, then compares block by block, and then byte by byte.
 pub fn is_at(text: &[u8], at: usize, key: &[u8]) -> bool
     requires { ⌜ at + length (now key) ≤ 67108864 ⌝ }
     ensures { λ r. ⌜ r ≡ same (now (key .entry)) (word (drop at (now (text .entry)))) ⌝ }
 {
     let end = at + key.len();
     if text.len() < end {
-        return key.len() == 0; // behind the text there is but the empty key
+        return key.len() == 0; // after the text there is only the empty key
     }
     if !ends(text, end) {
         return false; // a key that goes on
@@ -83,7 +83,7 @@ pub fn is_at(text: &[u8], at: usize, key: &[u8]) -> bool
             return false;
         }
         if b < 32 {
-            return false; // a key that ended before
+            return false; // the key in the text ended before
         }
         i += 1;
     }

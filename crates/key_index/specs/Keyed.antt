@@ -1,9 +1,9 @@
--- Heads whose key stands in the text.
+-- Heads whose key is in the text.
 use Prim.Native.Nat.{ℕ, _+_, _≤_, _<_}
 use Rattle.record.specs.declared.Head.{Head}
 use Rattle.record.specs.declared.Head.the-variants as head
 
--- a head's key stands in a text of this size, below the offset 2 ^ 24
+-- the key of a head lies within a text of this size, below the offset 2 ^ 24
 unfoldable pub KeyInText : ℕ → Head → Type 0
 KeyInText size (head.Refused n) = Unit
 KeyInText size (head.Header v n) = Unit

@@ -1,4 +1,4 @@
 -- Words for contracts and laws, and nothing to believe.
-pub mod Told
+pub mod KeySlots
 pub mod Keyed
 pub mod HeldKeys

@@ -1,9 +1,9 @@
-// The number of a key, by which looking for it in an index starts.
+// The hash of a key, which says at which slot of an index the search starts.
 ghost use mathlib.Core.Path.{_≡_};
 ghost use Prim.Native.Nat.{_<_};
 ghost use Rattle.key_look.specs.Hash.{mixed, wordsFrom, keyHash};
 
-// A number with one more mixed in.
+// A hash with one more number mixed in.
 fn mix(h: usize, w: usize) -> usize
     requires { ⌜ (h < 4294967296) × (w < 4294967296) ⌝ }
     ensures { λ r. ⌜ r ≡ mixed h w ⌝ }
@@ -12,7 +12,7 @@ fn mix(h: usize, w: usize) -> usize
     (p % 4294967296 + p / 4294967296) % 4294967296
 }
 
-// The number of a key's whole words of four bytes.
+// The hash of the whole four-byte words of a key.
 fn hash_words(kind: u8, id: &[u8]) -> usize
     ensures { λ r. ⌜ r ≡ wordsFrom kind (now (id .entry)) ⌝ }
 {
@@ -25,7 +25,7 @@ fn hash_words(kind: u8, id: &[u8]) -> usize
     h
 }
 
-// The number of a key of this kind: words, and then the bytes that are left.
+// The hash of a key of this kind: of its words, and then of the bytes that are left.
 pub fn hash(kind: u8, id: &[u8]) -> usize
     ensures { λ r. ⌜ r ≡ keyHash kind (now (id .entry)) ⌝ }
 {

@@ -1,4 +1,4 @@
-// Numbers in a lent slice, written and read in four or eight bytes, the lowest first.
+// Numbers of four or eight bytes, lowest byte first: writes them into a lent slice and reads them from one.
 ghost use mathlib.Core.Path.{_≡_};
 ghost use Prim.Native.Nat.{_≤_, _+_};
 ghost use lib.ListN.{length, take, drop};

@@ -10,7 +10,7 @@ use lib.Dec.{eqb, ltb}
 use borrow.Author.Tests.{eqb-true, eqb-false, ltb-true, ltb-false}
 use Rattle.format.specs.Bytes.{same}
 use Rattle.format.specs.Merge.{sameName}
-use Rattle.accepted.proofs.Bools.{split, and-left, and-right}
+use Rattle.lists.proofs.Bools.{split, and-left, and-right}
 use Rattle.format.specs.References.{Reference, sameReference}
 use Rattle.binary_references.specs.Next.{sqFrom}
 use Rattle.merge_references.specs.Joining.{metIn, Apart, From}

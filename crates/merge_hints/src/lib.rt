@@ -1,6 +1,6 @@
-// Slots for some references of B by their names, and marks at those that A has with the same length. A slot is 0, or tells a reference of B by the offset
-// from which it is the next, plus one, with six bits of its name's number above, by which most other names are told apart; a marked slot has its highest bit
-// set. Nothing but the marks is believed: no answer rests on which slots are filled, and with what.
+// Slots that hold some references of B, found by their names, and marks at those that A has with the same length. A slot is 0, or holds the offset
+// from which a reference of B is the next one, plus one, with six bits of the hash of its name above it, which tell most other names apart. A marked
+// slot has its highest bit set. Only the marks are trusted: no answer depends on which slots are filled, or with what.
 use binary_references::NextReference;
 ghost use mathlib.Core.Path.{_≡_};
 ghost use mathlib.Core.Bool.{Bool, true};
@@ -13,13 +13,13 @@ ghost use Rattle.key_look.specs.Hash.{keyHash};
 ghost use Rattle.merge_references.specs.Joining.{Apart};
 ghost use Rattle.merge_hints.specs.Hints.{Agreed, Known, Placed, Marked};
 
-// How many offsets a slot can tell: the bits of the name's number are above them.
+// How many offsets a slot can hold. The bits of the hash are above them.
 const OFFSETS: u32 = 33554432;
 
-// What a marked slot has more.
+// What is added to a marked slot.
 const MARK: u32 = 2147483648;
 
-// The number of a reference's name, by which its first slot is found.
+// The hash of the name of a reference, which says at which slot the search starts.
 fn number(text: &[u8], r: NextReference) -> usize
     requires { ⌜ r .name .at + r .name .len ≤ length (now text) ⌝ }
     ensures { λ n. ⌜ n ≡ keyHash 2 (toldReference (now (text .entry)) r .name) ⌝ }
@@ -29,14 +29,14 @@ fn number(text: &[u8], r: NextReference) -> usize
     key_look::hash::hash(2, &text[from..to])
 }
 
-// The bits of a name's number that a slot keeps, at their place.
+// The bits of a name's hash that a slot keeps, at their place.
 fn tag(number: usize) -> u32
     ensures { λ r. ⌜ ((t : ℕ) × (r ≡ t * 33554432) × (t < 64)) ⌝ }
 {
     (number / 67108864 % 64) as u32 * OFFSETS
 }
 
-// Enters the references of B from the offset `start` on, as many as three for each four slots.
+// Enters the references of B from the offset `start` on, three for every four slots.
 pub fn enter_block(b: &[u8], strict: bool, start: usize, area: &mut [u32])
     requires { ⌜ length (now b) ≤ 16777216 ⌝ }
     requires { ⌜ start ≤ length (now b) ⌝ }
@@ -60,7 +60,7 @@ pub fn enter_block(b: &[u8], strict: bool, start: usize, area: &mut [u32])
     }
 }
 
-// The slot after `at` of `n`, round the end.
+// The slot after `at` of `n` slots; the first slot comes after the last.
 fn after(at: usize, n: usize) -> usize
     requires { ⌜ at < n ⌝ }
     ensures { λ r. ⌜ r < n ⌝ }
@@ -126,7 +126,7 @@ pub fn mark_all(a: &[u8], strict_a: bool, b: &[u8], strict_b: bool, area: &mut [
     }
 }
 
-// Whether the slot of a reference of B is marked, which is the next from the offset `at` on.
+// Whether the slot of the next reference of B from the offset `at` on is marked.
 pub fn is_marked(area: &[u32], b: &[u8], at: usize, q: NextReference) -> bool
     requires { ⌜ 0 < length (now area) ⌝ }
     requires { ⌜ at ≤ 16777216 ⌝ }

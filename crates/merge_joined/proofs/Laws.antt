@@ -1,4 +1,4 @@
--- The laws of passing the merged list: a name that is next there is none of A's.
+-- The laws of passing the merged list: a name that is next there is not one of A's.
 use Prim.Native.Nat.{ℕ, _+_, _-_, _≤_, _<_}
 use mathlib.Core.Path.{_≡_, refl, sym, ap, ap₂, subst, _∙_}
 use mathlib.Core.Bool.{Bool, true, false, _&&_, _||_, cond}
@@ -11,7 +11,7 @@ use borrow.Author.Tests.{eqb-true, eq-eqb}
 use Rattle.format.specs.Bytes.{same, any}
 use Rattle.byte_slices.proofs.Equal.{same-equal, same-self}
 use Rattle.accepted.proofs.Apart.{same-sym}
-use Rattle.accepted.proofs.Bools.{never, split, and-left, and-right}
+use Rattle.lists.proofs.Bools.{never, split, and-left, and-right}
 use Rattle.format.specs.References.{Reference, sameReference, sameReferences}
 use Rattle.binary_references.specs.Next.{sqFrom, toldList}
 use Rattle.binary_references.specs.declared.NextReference.{NextReference}
@@ -73,7 +73,7 @@ module _ (rs : List Reference) (strict : Bool) (t : List ℕ) (n y : NextReferen
       (past-front q f (xs ++ h .more) (r ∷ toldList strict t y) (ap (any (sameName f)) (append-assoc xs (h .more) (r ∷ toldList strict t y)) ∙ p .0) (ap (λ u. u || any (sameName q) (toldList strict t y)) s))
       (before q xs (p .1) s)
 
-  -- its name is none of A's
+  -- its name is not one of A's
   pub behind-new : Apart (sqFrom strict t 0) → (q : Reference) → sameName q r ≡ true → (l : List Reference) → leftOf rs (q ∷ l) (toldList strict t n) ≡ eqb (r .size) (q .size) && leftOf rs l (toldList strict t y)
   unfolding sameReference sameName
   behind-new p q s l =
@@ -93,7 +93,7 @@ gone-other ms ms′ k q n e s = one-turn ms k q n ms′ e ∙ ap (λ t. t && eqb
 pub gone-none : (ms k : List Reference) (q : Reference) → ms ≡ [] → sameReferences ms (q ∷ k) ≡ false
 gone-none ms k q e = one-short ms k q e
 
--- ---- what a turn leaves
+-- ---- what a step leaves
 
 module _ (rs : List Reference) (strict-b : Bool) (b : List ℕ) (strict-m : Bool) (m : List ℕ) where
   -- nothing is passed yet
@@ -106,7 +106,7 @@ module _ (rs : List Reference) (strict-b : Bool) (b : List ℕ) (strict-m : Bool
     onward = omega arith;
   }
 
-  -- one turn after another
+  -- one step after another
   pub passed-then : (from y x : Left) → Passed rs strict-b b strict-m m from y → y .more ≡ true → Passed rs strict-b b strict-m m y x → Passed rs strict-b b strict-m m from x
   passed-then from y x p h q = record {
     leaves = p .leaves ∙ ap (λ t. t && leftOf rs (sqFrom strict-b b (y .at)) (toldList strict-m m (y .ahead))) (p .well h) ∙ q .leaves;
@@ -173,7 +173,7 @@ module _ (rs : List Reference) (strict-b : Bool) (b : List ℕ) (strict-m : Bool
         pub passed-lost : ((k : List Reference) → sameReferences ms (q ∷ k) ≡ false) → metIn q rs ≡ Nothing → Passed rs strict-b b strict-m m from (record { good = false; more = false; at = after; ahead = from .ahead })
         passed-lost g h = let n = met-nothing q rs apart h in refuted (left-new rs rest ms q (n .0) (n .1) false ms g)
 
--- a turn that passes nothing is the last
+-- a step that passes nothing is the last
 pub turn-less : (n : ℕ) (left x : Left) → left .more ≡ true → left .at ≤ x .at → (x .more ≡ true → left .at < x .at) → x .at ≤ n → cond (x .more) 1 0 + (n - x .at) < cond (left .more) 1 0 + (n - left .at)
 turn-less n left x h o a w =
     subst (λ t. cond (x .more) 1 0 + (n - x .at) < cond t 1 0 + (n - left .at)) (sym h)

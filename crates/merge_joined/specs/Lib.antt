@@ -1,4 +1,4 @@
 -- Words for contracts and laws, and nothing to believe.
--- How far B and the merged list are passed:
---   Passing   what a turn leaves
+-- How far B and the merged list have been passed:
+--   Passing   what a step leaves
 pub mod Passing

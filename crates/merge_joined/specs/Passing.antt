@@ -1,4 +1,4 @@
--- How far B and the merged list are passed, and what a turn leaves.
+-- How far B and the merged list have been passed, and what one step leaves.
 use Prim.Native.Nat.{ℕ, _+_, _≤_, _<_}
 use mathlib.Core.Path.{_≡_}
 use mathlib.Core.Bool.{Bool, true, false, _&&_}
@@ -12,7 +12,7 @@ use Rattle.merge_joined.specs.declared.Rules.{Rules}
 use Rattle.merge_joined.specs.declared.Left.{Left}
 use Rattle.merge_joined.specs.declared.Turn.{Turn}
 
--- what is known of the three texts: they are not too long, and no name stands twice among A's nor among the merged ones
+-- what is known of the three texts: they are not too long, and no name occurs twice in A's list or in the merged list
 pub record Readable (of : Rules) (a b m : List ℕ) : Type 0 where
   pub small-a : length a ≤ 16777216
   pub small-b : length b ≤ 16777216
@@ -20,7 +20,7 @@ pub record Readable (of : Rules) (a b m : List ℕ) : Type 0 where
   pub apart-a : Apart (sqFrom (of .a) a 0)
   pub apart-m : Apart (sqFrom (of .merged) m 0)
 
--- where the next reference of the merged text and those behind it are
+-- where the next reference of the merged text and those after it are
 pub record Ahead (t : List ℕ) (n : NextReference) : Type 0 where
   pub name : n .name .at + n .name .len ≤ length t
   pub within : n .next ≤ length t
@@ -36,7 +36,7 @@ pub record Reached (rs : List Reference) (b : List ℕ) (strict : Bool) (m : Lis
   pub merged : Ahead m (left .ahead)
   pub behind : Behind rs strict m (left .ahead)
 
--- from `from` on all is well exactly if it is up to `x` and from there on
+-- all agrees from `from` on exactly if it agrees up to `x` and from there on
 pub record Passed (rs : List Reference) (strict-b : Bool) (b : List ℕ) (strict-m : Bool) (m : List ℕ) (from x : Left) : Type 0 where
   pub leaves : leftOf rs (sqFrom strict-b b (from .at)) (toldList strict-m m (from .ahead))
       ≡ x .good && leftOf rs (sqFrom strict-b b (x .at)) (toldList strict-m m (x .ahead))
@@ -45,7 +45,7 @@ pub record Passed (rs : List Reference) (strict-b : Bool) (b : List ℕ) (strict
   pub spent : x .more ≡ false → x .good ≡ true → sqFrom strict-b b (x .at) ≡ []
   pub onward : from .at ≤ x .at
 
--- the next reference of B is settled; or it comes first, and is not the next of the merged list
+-- the next reference of B is settled; or it comes first and is not the next of the merged list
 pub record IsNext (strict-b : Bool) (b : List ℕ) (strict-m : Bool) (m : List ℕ) (from : Left) (x : Turn) : Type 0 where
   pub name : x .q .name .at + x .q .name .len ≤ length b
   pub within : x .q .next ≤ length b

@@ -1,6 +1,6 @@
-// The SQ lists of a merge compared: A's is the front of the merged list, and each reference of B is the next of the merged list or one of A's. Merging
-// tools keep the order, so that a reference of B that A has is looked for behind the one that was found before it. From the first that is not found there
-// on, B goes in blocks: the references of a block are in slots, and a walk over A marks those that A has.
+// Compares the SQ lists of a merge. A's list must be the front of the merged list, and each reference of B must be the next of the merged list or one
+// of A's. Merging tools keep the order, so a reference of B that A has is looked for after the one found before it. Once one is not found there, B is
+// taken in blocks: the references of a block are put into slots, and a walk over A marks those that A has.
 use binary_references::NextReference;
 use merge_references::Met;
 ghost use mathlib.Core.Path.{_≡_};
@@ -13,17 +13,17 @@ ghost use Rattle.merge_references.specs.Joining.{Apart, From};
 ghost use Rattle.merge_hints.specs.Hints.{Placed, Marked};
 ghost use Rattle.merge_joined.specs.Passing.{Readable, Ahead, Reached, Passed, IsNext};
 
-// A and B of at most so many bytes together are compared with a small area of slots.
+// If A and B together have at most so many bytes, they are compared with a small area of slots.
 const SHORT: usize = 524288;
 
-// What each of the three texts says of repeated tags.
+// The rule for repeated tags that the lines of each of the three texts are read by.
 pub struct Rules {
     pub a: bool,
     pub b: bool,
     pub merged: bool,
 }
 
-// Where B goes on and what the merged list has next, whether all is well so far, and whether B has more.
+// Where B and the merged list go on, whether everything agrees so far, and whether B has more references.
 struct Left {
     good: bool,
     more: bool,
@@ -31,7 +31,8 @@ struct Left {
     ahead: NextReference,
 }
 
-// What is left after the next reference of B, where that is settled: B has none, or it is the next of the merged list too. Else the reference.
+// What is left after the next reference of B, if that one is settled: B has none, or it is the next of the merged list too. Otherwise the reference
+// itself.
 struct Turn {
     settled: bool,
     left: Left,
@@ -97,7 +98,7 @@ fn pass_known(left: Left, q: NextReference) -> Left
     }
 }
 
-// What is left after one that is neither in the merged list, where it belongs, nor among A's with that length.
+// What is left after a reference that is neither the next of the merged list nor one of A's with the same length.
 fn pass_bad(left: Left, q: NextReference) -> Left
     ensures { λ x. ⌜ x ≡ record { good = false; more = false; at = q .next; ahead = left .ahead } ⌝ }
 {
@@ -110,7 +111,8 @@ fn pass_bad(left: Left, q: NextReference) -> Left
     }
 }
 
-// What is left after the next reference of B, and where A goes on behind the one that it is; `near` is false where A has it not from the cursor on.
+// What is left after the next reference of B, and where A goes on after the reference found; `near` is false if A does not have it from the cursor
+// on.
 struct Near {
     near: bool,
     left: Left,
@@ -160,7 +162,7 @@ fn pass_near(a: &[u8], b: &[u8], m: &[u8], of: Rules, left: Left, cursor: usize)
     }
 }
 
-// Passes the references of B, as long as each is the next of the merged list or comes in A behind those that were found before.
+// Passes the references of B as long as each is the next of the merged list or comes in A after those found before.
 fn pass_ordered(a: &[u8], b: &[u8], m: &[u8], of: Rules, from: Left) -> Left
     requires { ⌜ Readable of (now a) (now b) (now m) ⌝ }
     requires { ⌜ Reached (sqFrom (of .a) (now a) 0) (now b) (of .merged) (now m) from ⌝ }
@@ -181,7 +183,7 @@ fn pass_ordered(a: &[u8], b: &[u8], m: &[u8], of: Rules, from: Left) -> Left
     left
 }
 
-// Passes the next reference of B if it is the next of the merged list, or one of A's: a mark tells, or a look at all of A.
+// Passes the next reference of B if it is the next of the merged list or one of A's. A mark shows the latter, or else a search through all of A.
 fn pass_marked(a: &[u8], b: &[u8], m: &[u8], of: Rules, left: Left, area: &[u32]) -> Left
     requires { ⌜ Readable of (now a) (now b) (now m) ⌝ }
     requires { ⌜ Reached (sqFrom (of .a) (now a) 0) (now b) (of .merged) (now m) left ⌝ }
@@ -207,7 +209,7 @@ fn pass_marked(a: &[u8], b: &[u8], m: &[u8], of: Rules, left: Left, area: &[u32]
     }
 }
 
-// Passes as many references of B as the slots were filled with, three for each four.
+// Passes as many references of B as the slots were filled with, three for every four slots.
 fn pass_slots(a: &[u8], b: &[u8], m: &[u8], of: Rules, from: Left, area: &[u32]) -> Left
     requires { ⌜ Readable of (now a) (now b) (now m) ⌝ }
     requires { ⌜ Reached (sqFrom (of .a) (now a) 0) (now b) (of .merged) (now m) from ⌝ }
@@ -228,7 +230,7 @@ fn pass_slots(a: &[u8], b: &[u8], m: &[u8], of: Rules, from: Left, area: &[u32])
     left
 }
 
-// Passes a block of B's references by slots in which nothing stands yet.
+// Passes a block of B's references with slots that are still empty.
 fn pass_by(a: &[u8], b: &[u8], m: &[u8], of: Rules, from: Left, area: &mut [u32]) -> Left
     requires { ⌜ Readable of (now a) (now b) (now m) ⌝ }
     requires { ⌜ Reached (sqFrom (of .a) (now a) 0) (now b) (of .merged) (now m) from ⌝ }
@@ -243,8 +245,9 @@ fn pass_by(a: &[u8], b: &[u8], m: &[u8], of: Rules, from: Left, area: &mut [u32]
     pass_slots(a, b, m, of, from, area)
 }
 
-// A block of 18,432 references, and `more` times again. Nobody asks for more than once: a function that calls itself is compiled by itself, so that its
-// slots, of 96 KiB here, are on the stack only while it runs, and not in the frames of its callers (`read_judge::judge_long`).
+// A block of 18,432 references, passed `more` times again. Nobody asks for more than once. The function calls itself so that it is compiled as a
+// function of its own: its slots, of 96 KiB here, are on the stack only while it runs, and not in the frames of its callers (see
+// `read_judge::judge_long`).
 fn pass_few(a: &[u8], b: &[u8], m: &[u8], of: Rules, from: Left, more: usize) -> Left
     requires { ⌜ Readable of (now a) (now b) (now m) ⌝ }
     requires { ⌜ Reached (sqFrom (of .a) (now a) 0) (now b) (of .merged) (now m) from ⌝ }
@@ -276,7 +279,7 @@ fn pass_many(a: &[u8], b: &[u8], m: &[u8], of: Rules, from: Left, more: usize) -
     left
 }
 
-// Passes a block of B's references: of few where A and B are short together, since A is walked over once for each block.
+// Passes a block of B's references. The block is small if A and B together are short, because every block costs a walk over A.
 fn pass_block(a: &[u8], b: &[u8], m: &[u8], of: Rules, from: Left) -> Left
     requires { ⌜ Readable of (now a) (now b) (now m) ⌝ }
     requires { ⌜ Reached (sqFrom (of .a) (now a) 0) (now b) (of .merged) (now m) from ⌝ }
@@ -290,8 +293,8 @@ fn pass_block(a: &[u8], b: &[u8], m: &[u8], of: Rules, from: Left) -> Left
     pass_many(a, b, m, of, from, m.len() / 4294967296)
 }
 
-// Whether the merged SQ list is A's, followed by those of B whose name A lacks, and shared names have equal lengths. No name stands twice
-// among A's, and none among the merged ones.
+// Whether the merged SQ list is A's followed by those of B whose name A lacks, and shared names have equal lengths. No name occurs twice in A's list
+// or in the merged list.
 pub fn is_joined(a: &[u8], b: &[u8], m: &[u8], of: Rules) -> bool
     requires { ⌜ Readable of (now a) (now b) (now m) ⌝ }
     ensures { λ x. ⌜ x ≡ isJoined (sqFrom (of .a) (now (a .entry)) 0) (sqFrom (of .b) (now (b .entry)) 0) (sqFrom (of .merged) (now (m .entry)) 0) ⌝ }

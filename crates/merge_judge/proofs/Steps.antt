@@ -12,7 +12,7 @@ use Rattle.format.specs.Reading.{readText, refusedText, accept}
 use Rattle.format.specs.Programs.{programs, links, tangled}
 use Rattle.format.specs.Calls.{Answer, refused, yes, readAnswer, records, untangled}
 use Rattle.accepted.specs.Read.{isAccepted, recordsOf}
-use Rattle.accepted.proofs.Bools.{and-left, and-right}
+use Rattle.lists.proofs.Bools.{and-left, and-right}
 use Rattle.accepted.proofs.Read.{accepted-reads}
 use Rattle.format.specs.References.{sqList}
 use Rattle.format.specs.Merge.{Which, Verdict, merged, unfit, unmerged, about, isJoined, assigns, covers, assigned, images, shapes, judgedMerge, untangledRecords}

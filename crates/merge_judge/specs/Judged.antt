@@ -1,4 +1,4 @@
--- The answer as the code gives it, and the definition's steps.
+-- The answer as the code gives it, and the steps of the definition.
 use Prim.Native.Nat.{ℕ}
 use mathlib.Core.List.{List}
 use Rattle.format.specs.Records.{Record}
@@ -22,7 +22,7 @@ verdictOf merge.merged = Accepted
 verdictOf (merge.unfit w n l) = Unfit (whichOf w) n (record { 0 = l })
 verdictOf (merge.unmerged n) = Unmerged n
 
--- ---- the definition's steps
+-- ---- the steps of the definition
 
 -- 22 and 23 for each
 unfoldable pub untangling : List Record → List Record → List Record → List ℕ → List ℕ → merge.Verdict
@@ -35,7 +35,7 @@ unfoldable pub afterSecond : List Record → List Record → List ℕ → List �
 unfolding about records untangling
 afterSecond a b m listA listB = about textMerged (records m) (λ m. untangling a b m listA listB)
 
--- B is too
+-- B is still to be read too
 unfoldable pub afterFirst : List Record → List ℕ → List ℕ → List ℕ → List ℕ → merge.Verdict
 unfolding about records afterSecond
 afterFirst a b m listA listB = about textB (records b) (λ b. afterSecond a b m listA listB)

@@ -1,4 +1,4 @@
 -- Words for contracts and laws, and nothing to believe.
 -- The call that judges a merge:
---   Judged   its answer as the code gives it, and the definition's steps
+--   Judged   its answer as the code gives it, and the steps of the definition
 pub mod Judged

@@ -1,5 +1,5 @@
-// Judging a merge of two headers that was made elsewhere: the headers A and B, the merged header, and for each program of A and of B its
-// ordinal in the merged header.
+// Judges a merge of two headers that another tool made: the headers A and B, the merged header, and for each program of A and of B its ordinal in the
+// merged header.
 use format::LineNo;
 use merge_joined::Rules;
 use merge_programs::Opened;
@@ -8,6 +8,7 @@ ghost use mathlib.Core.Path.{_≡_};
 ghost use mathlib.Core.Bool.{true};
 ghost use Rattle.format.specs.Reading.{readText};
 ghost use Rattle.accepted.specs.Read.{isAccepted, recordsOf};
+ghost use Rattle.accepted_rule.specs.Rule.{ReadsBy};
 ghost use Rattle.format.specs.Merge.{judgedMerge, judgingMerge};
 ghost use Rattle.merge_programs.specs.Opened.{Untangled};
 ghost use Rattle.merge_judge.specs.Judged.{verdictOf, untangling, afterFirst, afterSecond};
@@ -19,21 +20,28 @@ pub enum Which {
     Merged,
 }
 
-// Accepted; refused for one of the texts, with a number and a line; or refused for how they go together, with a number.
+// The merge is accepted; refused because of one of the texts, with a number and a line; or refused because the texts do not fit together, with a
+// number.
 pub enum Verdict {
     Accepted,
     Unfit(Which, u8, LineNo),
     Unmerged(u8),
 }
 
-// What each of the three accepted texts is judged by.
+// What is known of each of the three accepted texts.
 struct Texts {
     a: Opened,
     b: Opened,
     merged: Opened,
 }
 
-// Three accepted texts in which nothing is tangled: 30, 31 and 32.
+// The rules for repeated tags that the lines of A and of B are read by.
+struct Pair {
+    a: bool,
+    b: bool,
+}
+
+// Judges three accepted texts without dangling PPs and cycles: refuses with 30, 31 or 32.
 fn judge_untangled(
     a: &[u8],
     b: &[u8],
@@ -74,23 +82,33 @@ fn judge_untangled(
     Verdict::Accepted
 }
 
-// Three accepted texts: 22 and 23 for each, then how they go together.
-fn judge_accepted(a: &[u8], b: &[u8], m: &[u8], list_a: &[u32], list_b: &[u32]) -> Verdict
+// Judges three accepted texts: refuses with 22 or 23 for each, then judges whether they fit together.
+fn judge_accepted(
+    a: &[u8],
+    b: &[u8],
+    m: &[u8],
+    rules: Rules,
+    list_a: &[u32],
+    list_b: &[u32],
+) -> Verdict
     requires { ⌜ isAccepted (readText (now a)) ≡ true ⌝ }
     requires { ⌜ isAccepted (readText (now b)) ≡ true ⌝ }
     requires { ⌜ isAccepted (readText (now m)) ≡ true ⌝ }
+    requires { ⌜ ReadsBy (rules .a) (now a) ⌝ }
+    requires { ⌜ ReadsBy (rules .b) (now b) ⌝ }
+    requires { ⌜ ReadsBy (rules .merged) (now m) ⌝ }
     ensures { λ r. ⌜ r ≡ verdictOf (untangling (recordsOf (now (a .entry))) (recordsOf (now (b .entry))) (recordsOf (now (m .entry)))
         (now («list_a» .entry)) (now («list_b» .entry))) ⌝ }
 {
-    let of_a = merge_programs::open_text(a);
+    let of_a = merge_programs::open_text(a, rules.a);
     if of_a.refusal != 0 {
         return Verdict::Unfit(Which::A, of_a.refusal, LineNo(0));
     }
-    let of_b = merge_programs::open_text(b);
+    let of_b = merge_programs::open_text(b, rules.b);
     if of_b.refusal != 0 {
         return Verdict::Unfit(Which::B, of_b.refusal, LineNo(0));
     }
-    let of_m = merge_programs::open_text(m);
+    let of_m = merge_programs::open_text(m, rules.merged);
     if of_m.refusal != 0 {
         return Verdict::Unfit(Which::Merged, of_m.refusal, LineNo(0));
     }
@@ -102,38 +120,62 @@ fn judge_accepted(a: &[u8], b: &[u8], m: &[u8], list_a: &[u32], list_b: &[u32]) 
     judge_untangled(a, b, m, of, list_a, list_b)
 }
 
-// The merged text is read, after A and B were.
-fn judge_merged(a: &[u8], b: &[u8], m: &[u8], list_a: &[u32], list_b: &[u32]) -> Verdict
+// Reads the merged text, after A and B were read.
+fn judge_merged(
+    a: &[u8],
+    b: &[u8],
+    m: &[u8],
+    rules: Pair,
+    list_a: &[u32],
+    list_b: &[u32],
+) -> Verdict
     requires { ⌜ isAccepted (readText (now a)) ≡ true ⌝ }
     requires { ⌜ isAccepted (readText (now b)) ≡ true ⌝ }
+    requires { ⌜ ReadsBy (rules .a) (now a) ⌝ }
+    requires { ⌜ ReadsBy (rules .b) (now b) ⌝ }
     ensures { λ r. ⌜ r ≡ verdictOf (afterSecond (recordsOf (now (a .entry))) (recordsOf (now (b .entry))) (now (m .entry))
         (now («list_a» .entry)) (now («list_b» .entry))) ⌝ }
 {
     match read_judge::judge(m) {
         Judged::Refused(n, line) => Verdict::Unfit(Which::Merged, n, line),
-        Judged::Accepted(_) => judge_accepted(a, b, m, list_a, list_b),
+        Judged::Accepted(_, once) => {
+            let all = Rules {
+                a: rules.a,
+                b: rules.b,
+                merged: once,
+            };
+            judge_accepted(a, b, m, all, list_a, list_b)
+        }
     }
 }
 
-// B is read, after A was.
-fn judge_second(a: &[u8], b: &[u8], m: &[u8], list_a: &[u32], list_b: &[u32]) -> Verdict
+// B is read, after A was, whose lines are read by `rule` for repeated tags.
+fn judge_second(a: &[u8], b: &[u8], m: &[u8], rule: bool, list_a: &[u32], list_b: &[u32]) -> Verdict
     requires { ⌜ isAccepted (readText (now a)) ≡ true ⌝ }
+    requires { ⌜ ReadsBy rule (now a) ⌝ }
     ensures { λ r. ⌜ r ≡ verdictOf (afterFirst (recordsOf (now (a .entry))) (now (b .entry)) (now (m .entry))
         (now («list_a» .entry)) (now («list_b» .entry))) ⌝ }
 {
     match read_judge::judge(b) {
         Judged::Refused(n, line) => Verdict::Unfit(Which::B, n, line),
-        Judged::Accepted(_) => judge_merged(a, b, m, list_a, list_b),
+        Judged::Accepted(_, once) => judge_merged(
+            a,
+            b,
+            m,
+            Pair { a: rule, b: once },
+            list_a,
+            list_b,
+        ),
     }
 }
 
-// Judges a merge: reading's refusals for A, B and the merged text, then 22 and 23 for each in that order, then 30, 31 and 32.
+// Judges a merge. The refusals, in this order: those of reading A, B and the merged text, then 22 and 23 for each, then 30, 31 and 32.
 pub fn judge_merge(a: &[u8], b: &[u8], m: &[u8], list_a: &[u32], list_b: &[u32]) -> Verdict
     ensures { λ r. ⌜ r ≡ verdictOf (judgingMerge (now (a .entry)) (now (b .entry)) (now (m .entry))
         (now («list_a» .entry)) (now («list_b» .entry))) ⌝ }
 {
     match read_judge::judge(a) {
         Judged::Refused(n, line) => Verdict::Unfit(Which::A, n, line),
-        Judged::Accepted(_) => judge_second(a, b, m, list_a, list_b),
+        Judged::Accepted(_, once) => judge_second(a, b, m, once, list_a, list_b),
     }
 }

@@ -1,4 +1,4 @@
--- A merge is accepted exactly if document 02's conditions hold; each number is given exactly where its condition is the first that fails.
+-- A merge is accepted exactly if document 02's conditions hold; each number is given exactly if its condition is the first that fails.
 use Prim.Native.Nat.{ℕ}
 use mathlib.Core.Path.{_≡_, refl, sym, ap, _∙_}
 use mathlib.Core.Logic.{_↔_, _⊎_, inl, inr}
@@ -13,7 +13,7 @@ use Rattle.format.specs.References.{sqList}
 use Rattle.format.specs.Calls.{Answer, refused, yes, records, untangled}
 use Rattle.format.specs.Merge.{Which, Verdict, merged, unfit, unmerged, isJoined, assigned, images, shapes, judgedMerge, about, untangledRecords, judgingMerge}
 use Rattle.accepted.specs.Read.{kept, recordsOf}
-use Rattle.accepted.proofs.Bools.{never, and-left, and-right}
+use Rattle.lists.proofs.Bools.{never, and-left, and-right}
 use Rattle.tidy_laws.proofs.Answered.{read-of, untangled-yes}
 use Rattle.merge_laws.specs.Fit.{parentLinks, Fit, Fits}
 use Rattle.merge_laws.specs.IsMerge.{IsMerge}

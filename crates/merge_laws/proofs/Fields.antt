@@ -44,7 +44,7 @@ bares-count : (rs : List Record) → length (map otherFields (bares 4 rs)) ≡ l
 unfolding bares programs
 bares-count rs = length-map (map bare (ofKind 4 rs)) otherFields ∙ length-map (ofKind 4 rs) bare ∙ sym (length-map (ofKind 4 rs) programOf)
 
--- more programs behind
+-- more programs after them
 pub fields-front : (rs qs more : List Record) → bares 4 qs ≡ bares 4 rs ++ more → (k : ℕ) → k < length (programs rs) → fieldsAt qs k ≡ fieldsAt rs k
 fields-front rs qs more e k h =
     fields-bare qs k ∙ ap (λ bs. getD (map otherFields bs) k []) e ∙ ap (λ fs. getD fs k []) (map-append otherFields (bares 4 rs) more)

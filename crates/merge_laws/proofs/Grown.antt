@@ -1,4 +1,4 @@
--- Programs behind others, each a root or a child of one of those: no PP dangles and none comes back to itself where none did before.
+-- Programs after others, each a root or a child of one of those: no PP dangles and none comes back to itself where none did before.
 use Prim.Native.Nat.{ℕ, zero, suc, _+_, _-_, _≤_, _<_}
 use mathlib.Core.Path.{_≡_, refl, ap, _∙_}
 use mathlib.Core.Bool.{true, false, _||_}
@@ -12,8 +12,8 @@ use borrow.Author.Tests.{ne-eqb, ltb-true, ltb-false}
 use Rattle.format.specs.Bytes.{any}
 use Rattle.format.specs.Programs.{Link, root, dangling, child, links, isDangling, reaches, loopsFrom, depth}
 use Rattle.byte_slices.specs.Stands.{Each}
-use Rattle.accepted.proofs.Bools.{any-append, split}
-use Rattle.accepted.proofs.Pairs.{each-at}
+use Rattle.lists.proofs.Bools.{any-append, split}
+use Rattle.lists.proofs.Pairs.{each-at}
 use Rattle.program_chains.proofs.Paths.{Below, no-return, depth-less}
 use Rattle.program_chains.specs.Listed.{named}
 use Rattle.merge_laws.specs.Rewritten.{FollowsOld}
@@ -80,7 +80,7 @@ module _ (ls more : List Link) (below : (k : ℕ) → Below (length ls) (getD ls
         ∙ reaches-more ls j (length ls) (length (ls ++ more)) (getD ls j root) (omega (arith, length-append ls more)) (depth-less ls acyclic inside j h)
         ∙ no-return ls acyclic inside j
 
-    -- a new one, `n` places behind them
+    -- a new one, `n` places after them
     new-once : (n : ℕ) → n < length more → reaches (ls ++ more) (length ls + n) (length (ls ++ more)) (getD (ls ++ more) (length ls + n) root) ≡ false
     new-once n h =
         let b : Below (length ls) (getD more n root) = follows-below (getD more n root) (each-at (FollowsOld (length ls)) more n root follows h) in

@@ -15,7 +15,7 @@ use Rattle.format.specs.Reading.{ofKind}
 use Rattle.format.specs.Programs.{Program, Link, root, dangling, child, programOf, programs, link, links, isDangling}
 use Rattle.format.specs.Merge.{ProgramShape, shapeOf, shapes, noShape, alike, sameField, keepsFields, isRoot, isChildOf, keepsParent, isImage, images}
 use Rattle.byte_slices.proofs.Equal.{same-equal, same-self}
-use Rattle.accepted.proofs.Bools.{never, and-left, and-right}
+use Rattle.lists.proofs.Bools.{never, and-left, and-right}
 use Rattle.program_chains.proofs.Walks.{map-at}
 use Rattle.tidy_laws.specs.Bare.{bareBytes, bareField}
 use Rattle.merge_laws.specs.IsMerge.{imageIn, parentAt, otherFields, fieldsAt, ImageOf, Images}

@@ -10,7 +10,7 @@ use lib.ListN.{length, getD, length-map}
 use Rattle.format.specs.Bytes.{any, same}
 use Rattle.format.specs.Lines.{Piece}
 use Rattle.format.specs.Programs.{Program, Link, root, dangling, child, ordinalFrom, found, link, links, isDangling, loopsFrom, tangled}
-use Rattle.accepted.proofs.Bools.{never, or-left, or-right}
+use Rattle.lists.proofs.Bools.{never, or-left, or-right}
 use Rattle.program_chains.specs.Listed.{named}
 use Rattle.program_chains.proofs.Paths.{Below}
 use Rattle.program_chains.proofs.Some.{named-at}

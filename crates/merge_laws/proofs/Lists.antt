@@ -11,7 +11,7 @@ use borrow.Author.Tests.{eq-eqb, eqb-true, lt-ltb, ltb-true, not-true}
 use Rattle.format.specs.Bytes.{all, any, distinct}
 use Rattle.format.specs.Programs.{numbersFrom}
 use Rattle.format.specs.Merge.{assigns, covers, assigned}
-use Rattle.accepted.proofs.Bools.{or-true, or-split, and-left, and-right}
+use Rattle.lists.proofs.Bools.{or-true, or-split, and-left, and-right}
 use Rattle.program_chains.proofs.Leaf.{counting-length}
 use Rattle.merge_laws.specs.IsMerge.{imageIn, Hits, Assigns, Lists}
 use Rattle.merge_laws.proofs.Members.{three, all-three, is-false, all-at, at-all}

@@ -7,7 +7,7 @@ use mathlib.Core.List.{List, [], _∷_, List·Memᴰ, List·Memᴰ·head, List·
 use native.Mathlib.Omega.{arith}
 use lib.ListN.{length, getD}
 use Rattle.format.specs.Bytes.{all, any}
-use Rattle.accepted.proofs.Bools.{or-true, and-left, and-right}
+use Rattle.lists.proofs.Bools.{or-true, and-left, and-right}
 
 pub both : (a b : Bool) → a ≡ true → b ≡ true → a && b ≡ true
 both a b p q = rw (p, q) refl

@@ -17,7 +17,7 @@ use Rattle.format.specs.Calls.{yes, records}
 use Rattle.byte_slices.proofs.Equal.{same-self}
 use Rattle.accepted.specs.Admits.{KeysDiffer}
 use Rattle.accepted.specs.Read.{recordsOf}
-use Rattle.accepted.proofs.Bools.{or-left, or-right, never}
+use Rattle.lists.proofs.Bools.{or-left, or-right, never}
 use Rattle.accepted.proofs.Text.{text-apart}
 use Rattle.program_chains.proofs.Leaf.{counting-length}
 use Rattle.program_chains.proofs.Paths.{Below}

@@ -10,7 +10,7 @@ use borrow.Author.Tests.{eqb-true, eqb-false}
 use Rattle.format.specs.Bytes.{same}
 use Rattle.format.specs.Records.{program}
 use Rattle.format.specs.Programs.{programs}
-use Rattle.accepted.proofs.Bools.{split}
+use Rattle.lists.proofs.Bools.{split}
 use Rattle.program_chains.proofs.Times.{hit, times, hit-same, hit-other}
 use Rattle.program_chains.proofs.Paths.{at-most}
 use Rattle.merge_laws.specs.IsMerge.{imageIn, Hits, Assigns, Lists}
@@ -66,7 +66,7 @@ module _ (list : List ℕ) where
   pub long-enough : (m : ℕ) → ((i : ℕ) → i < m → Hits list i) → m ≤ length list
   long-enough m f = omega (arith, at-most (length list) (places m f) (places-inside m f) (places-once m f), places-count m f)
 
--- one list for two times the same programs hits too few, and so does one list alone
+-- one list for two times the same programs hits too few, and so does just one list
 module _ (n m : ℕ) (list : List ℕ) (h : n < m) where
   too-short : Assigns n m list → ((i : ℕ) → i < m → Hits list i) → ⊥
   too-short a f = omega (arith, a .count, long-enough list m f)

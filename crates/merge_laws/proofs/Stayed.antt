@@ -11,7 +11,7 @@ use borrow.Author.Tests.{ltb-true, ltb-false}
 use Rattle.format.specs.Records.{Record}
 use Rattle.format.specs.Programs.{Link, root, dangling, child, programs, links, numbersFrom}
 use Rattle.format.specs.Prune.{chosen}
-use Rattle.accepted.proofs.Bools.{never, split}
+use Rattle.lists.proofs.Bools.{never, split}
 use Rattle.program_chains.proofs.Leaf.{counting-length}
 use Rattle.merge_laws.specs.IsMerge.{imageIn, imageLink, Assigns, parentAt, fieldsAt, ImageOf}
 

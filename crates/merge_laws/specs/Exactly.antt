@@ -1,4 +1,4 @@
--- A merge is accepted exactly if document 02's conditions hold, and each number is given exactly where its condition is the first that fails.
+-- A merge is accepted exactly if the conditions of document 02 hold, and each number is given exactly if its condition is the first that fails.
 use Prim.Native.Nat.{ℕ}
 use mathlib.Core.Path.{_≡_}
 use mathlib.Core.Logic.{_↔_, _⊎_}
@@ -14,7 +14,7 @@ use Rattle.accepted.specs.Read.{recordsOf}
 use Rattle.merge_laws.specs.Fit.{Fits}
 use Rattle.merge_laws.specs.IsMerge.{Joins, Lists, Images, IsMerge}
 
--- the conditions one by one, of three texts
+-- the conditions one by one, for three texts
 unfoldable pub JoinsTexts : List ℕ → List ℕ → List ℕ → Type 0
 unfolding sqList recordsOf
 JoinsTexts a b m = Joins (sqList (recordsOf a)) (sqList (recordsOf b)) (sqList (recordsOf m))
@@ -28,7 +28,7 @@ unfoldable pub ImagesTexts : List ℕ → List ℕ → List ℕ → List ℕ →
 unfolding Images recordsOf
 ImagesTexts a b m listA listB = Images (recordsOf a) (recordsOf m) listA × Images (recordsOf b) (recordsOf m) listB
 
--- what is asked of the texts, in document 02's order: that reading accepts each, then that no PP dangles and no program comes back to itself
+-- what the texts must satisfy, in the order of document 02: reading accepts each, then no PP dangles and no program comes back to itself
 unfoldable pub textChecks : List ℕ → List ℕ → List ℕ → List (Which × Answer (List Record))
 unfolding records untangledRecords recordsOf
 textChecks a b m =
@@ -43,17 +43,17 @@ firstRefusal ((w, yes rs) ∷ cs) = firstRefusal cs
 -- the verdict on three texts and two lists
 pub record Exactly (a b m listA listB : List ℕ) (v : Verdict) : Type 0 where
   pub accepted : (v ≡ merged) ↔ (Fits a b m × IsMerge (recordsOf a) (recordsOf b) (recordsOf m) listA listB)
-  -- a refusal for one of the texts is the first one, and there is one exactly unless all three are fit
+  -- a refusal because of one of the texts is the first one, and there is one exactly if not all three are fit
   pub unfitted : (w : Which) (n l : ℕ) → (v ≡ unfit w n l) ↔ (firstRefusal (textChecks a b m) ≡ some (unfit w n l))
   pub fitted : (firstRefusal (textChecks a b m) ≡ none) ↔ Fits a b m
   pub number30 : (v ≡ unmerged 30) ↔ (Fits a b m × (JoinsTexts a b m → ⊥))
   pub number31 : (v ≡ unmerged 31) ↔ (Fits a b m × JoinsTexts a b m × (ListsTexts a b m listA listB → ⊥))
   pub number32 : (v ≡ unmerged 32)
       ↔ (Fits a b m × JoinsTexts a b m × ListsTexts a b m listA listB × (ImagesTexts a b m listA listB → ⊥))
-  -- there is no other number
+  -- no other number is given
   pub numbers : (n : ℕ) → v ≡ unmerged n → (n ≡ 30) ⊎ (n ≡ 31) ⊎ (n ≡ 32)
 
--- of all texts and lists
+-- the law, for all texts and lists
 unfoldable pub AllExactly : Type 0
 unfolding judgingMerge
 AllExactly = (a b m listA listB : List ℕ) → Exactly a b m listA listB (judgingMerge a b m listA listB)

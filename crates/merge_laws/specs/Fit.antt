@@ -18,7 +18,7 @@ pub record Fit (t : List ℕ) : Type 0 where
   pub linked : any isDangling (parentLinks t) ≡ false
   pub acyclic : loopsFrom (parentLinks t) 0 (parentLinks t) ≡ false
 
--- all three
+-- all three texts
 pub record Fits (a b m : List ℕ) : Type 0 where
   pub fitA : Fit a
   pub fitB : Fit b

@@ -1,4 +1,4 @@
--- Document 02's conditions on a merge, each by itself: of the records of A, of B and of the merged header, and of the two lists.
+-- The conditions of document 02 on a merge, one by one: on the records of A, of B and of the merged header, and on the two lists.
 use Prim.Native.Nat.{ℕ, _<_}
 use mathlib.Core.Path.{_≡_}
 use mathlib.Core.Logic.{_↔_, _⊎_}
@@ -15,9 +15,9 @@ use Rattle.tidy_laws.specs.Bare.{bareField}
 -- ---- 30: the references
 
 pub record Joins (a b m : List Reference) : Type 0 where
-  -- a name that both have has one length
+  -- a name that both have has the same length in both
   pub agree : (r q : Reference) → List·Memᴰ r a → List·Memᴰ q b → r .name ≡ q .name → r .size ≡ q .size
-  -- A's, followed by those of B whose name A lacks
+  -- the merged list is A's, followed by those of B whose name A lacks
   pub list : m ≡ a ++ lacking a b
 
 -- ---- 31: the lists
@@ -31,13 +31,13 @@ unfoldable pub Hits : List ℕ → ℕ → Type 0
 unfolding imageIn
 Hits list i = (k : ℕ) × (k < length list) × (imageIn list k ≡ i)
 
--- one image for each of `n` programs, an ordinal among `m`, and none twice
+-- one image for each of `n` programs: an ordinal below `m`, and none twice
 pub record Assigns (n m : ℕ) (list : List ℕ) : Type 0 where
   pub count : length list ≡ n
   pub valid : (k : ℕ) → k < n → imageIn list k < m
   pub once : (j k : ℕ) → j < n → k < n → imageIn list j ≡ imageIn list k → j ≡ k
 
--- of `a` programs of A, `b` of B and `m` of the merged header
+-- the lists of `a` programs of A and `b` of B, with `m` programs in the merged header
 pub record Lists (a b m : ℕ) (listA listB : List ℕ) : Type 0 where
   pub ofA : Assigns a m listA
   pub ofB : Assigns b m listB
@@ -46,7 +46,7 @@ pub record Lists (a b m : ℕ) (listA listB : List ℕ) : Type 0 where
 
 -- ---- 32: the programs
 
--- what the PP of the program `k` does
+-- what the PP of the program `k` means
 unfoldable pub parentAt : List Record → ℕ → Link
 unfolding links programs
 parentAt rs k = getD (links (programs rs)) k root
@@ -61,7 +61,7 @@ unfoldable pub fieldsAt : List Record → ℕ → List Field
 unfolding otherFields ofKind
 fieldsAt rs k = getD (map otherFields (ofKind 4 rs)) k []
 
--- the link of an image: what is named by an original's PP has an image too
+-- the link of an image leads to the image of the program that the original's link leads to
 unfoldable pub imageLink : List ℕ → Link → Link
 unfolding imageIn
 imageLink list root = root
@@ -76,7 +76,7 @@ pub record ImageOf (a m : List Record) (list : List ℕ) (k : ℕ) : Type 0 wher
   -- its parent is the image of the program's parent
   pub parent : (p : ℕ) → parentAt a k ≡ child p → parentAt m (imageIn list k) ≡ child (imageIn list p)
 
--- and so has every program
+-- every program has an image
 unfoldable pub Images : List Record → List Record → List ℕ → Type 0
 unfolding programs
 Images a m list = (k : ℕ) → k < length (programs a) → ImageOf a m list k

@@ -1,5 +1,5 @@
--- What an accepted merge means: every reference and every program of A and of B is found in the merged header, and following parents
--- there is following them at home.
+-- What an accepted merge means: every reference and every program of A and of B is in the merged header, and following parents there gives the same
+-- as following them in A or B.
 use Prim.Native.Nat.{ℕ, zero, suc, _<_}
 use mathlib.Core.Path.{_≡_}
 use mathlib.Core.Logic.{_⊎_}
@@ -20,19 +20,19 @@ pub record HoldsReferences (a b m : List Reference) : Type 0 where
   pub first : take (length a) m ≡ a
   -- B's are there too
   pub ofB : (q : Reference) → List·Memᴰ q b → List·Memᴰ q m
-  -- and there are no others
+  -- there are no others
   pub only : (r : Reference) → List·Memᴰ r m → List·Memᴰ r a ⊎ List·Memᴰ r b
 
 -- ---- chains
 
--- the programs from `l` on, parent by parent, at most `f` of them
+-- the programs from `l` on, from parent to parent, at most `f` of them
 unfoldable pub ancestors : List Link → ℕ → Link → List ℕ
 ancestors ls zero l = []
 ancestors ls (suc f) root = []
 ancestors ls (suc f) dangling = []
 ancestors ls (suc f) (child k) = k ∷ ancestors ls f (getD ls k root)
 
--- the parent links from the program `k` to its root
+-- the number of parent links from the program `k` to its root
 unfoldable pub depthOf : List Record → ℕ → ℕ
 unfolding depth links programs parentAt
 depthOf rs k = depth (links (programs rs)) (length (links (programs rs))) (parentAt rs k)
@@ -56,7 +56,7 @@ pub record Means (a b m listA listB : List ℕ) : Type 0 where
   pub chainsA : KeepsChains (recordsOf a) (recordsOf m) listA
   pub chainsB : KeepsChains (recordsOf b) (recordsOf m) listB
 
--- of every merge that is accepted
+-- the law of every merge that is accepted
 unfoldable pub AllMeans : Type 0
 unfolding judgingMerge
 AllMeans = (a b m listA listB : List ℕ) → judgingMerge a b m listA listB ≡ merged → Means a b m listA listB

@@ -1,4 +1,4 @@
--- Headers that were written anew from one another: which of them are judged to be merges.
+-- Headers that were written from one another, and which of them are judged to be merges.
 use Prim.Native.Nat.{ℕ, _<_}
 use mathlib.Core.Path.{_≡_}
 use mathlib.Core.Bool.{Bool}
@@ -22,12 +22,12 @@ unfoldable pub programCount : List ℕ → ℕ
 unfolding programs recordsOf
 programCount t = length (programs (recordsOf t))
 
--- the list by which each program is its own image
+-- the list in which each program is its own image
 unfoldable pub itself : List ℕ → List ℕ
 unfolding numbersFrom programCount
 itself t = numbersFrom 0 (programCount t)
 
--- the same references, by name and length
+-- the same references, with the same names and lengths
 unfoldable pub sameSq : List ℕ → List ℕ → Type 0
 unfolding sqList recordsOf
 sameSq t u = sqList (recordsOf u) ≡ sqList (recordsOf t)
@@ -38,7 +38,7 @@ FollowsOld n root = Unit
 FollowsOld n dangling = ⊥
 FollowsOld n (child k) = k < n
 
--- `u` has the programs of `t`, and others behind them that follow those, as adding writes them
+-- `u` has the programs of `t` and others after them that follow those, as adding writes them
 pub record Longer (t u : List ℕ) : Type 0 where
   pub accepted : records u ≡ yes (recordsOf u)
   pub references : sameSq t u
@@ -53,7 +53,7 @@ unfoldable pub stayed : List ℕ → (ℕ → Bool) → List ℕ
 unfolding chosen itself
 stayed t stays = chosen stays 0 (itself t)
 
--- `u` has those programs of `t` that stay, and each PP names what it named, as pruning writes them
+-- `u` has the programs of `t` that stay, and each PP names the program that it named, as pruning writes them
 pub record Shorter (t u : List ℕ) (stays : ℕ → Bool) : Type 0 where
   pub references : sameSq t u
   pub fewer : bares 4 (recordsOf u) ≡ chosen stays 0 (bares 4 (recordsOf t))
@@ -62,23 +62,23 @@ pub record Shorter (t u : List ℕ) (stays : ℕ → Bool) : Type 0 where
 pub record Rewritten : Type 0 where
   -- a header is a merge of itself with itself
   pub own : (t : List ℕ) → Fit t → judgingMerge t t t (itself t) (itself t) ≡ merged
-  -- and with the text of no bytes, on either side
+  -- a header is a merge of itself and the empty text, on either side
   pub withNothing : (t : List ℕ) → Fit t → (judgingMerge t [] t (itself t) [] ≡ merged) × (judgingMerge [] t t [] (itself t) ≡ merged)
-  -- a text with equal references and programs, as the tidy text, is a merge of a header with itself too
+  -- a text with equal references and programs, such as the tidy text, is a merge of a header with itself too
   pub equal : (t u : List ℕ) → Fit t → records u ≡ yes (recordsOf u) → sameSq t u → bares 4 (recordsOf u) ≡ bares 4 (recordsOf t)
       → judgingMerge t t u (itself t) (itself t) ≡ merged
-  -- a header of which all programs have images in another one brings nothing new to it
+  -- if all programs of a header have images in another one, the other one is a merge of both
   pub absorbed : (t u list : List ℕ) → Fit t → Fit u → sameSq t u → Assigns (programCount u) (programCount t) list
       → Images (recordsOf u) (recordsOf t) list → judgingMerge t u t (itself t) list ≡ merged
-  -- a merged program that no list hits is refused, as the merging tool's own
+  -- a merged program that no list hits is refused; a program that the merging tool adds for itself is one
   pub unlisted : (a b m listA listB : List ℕ) (i : ℕ) → Fits a b m → JoinsTexts a b m → i < programCount m
       → (Hits listA i → ⊥) → (Hits listB i → ⊥) → judgingMerge a b m listA listB ≡ unmerged 31
-  -- no list makes a header with more programs a merge of one header with itself: nobody hits one of them
+  -- a header with more programs is not a merge of a header with itself, whatever the list: some program is not hit
   pub unhit : (t u list : List ℕ) → Fit t → Fit u → sameSq t u → programCount t < programCount u → judgingMerge t t u list list ≡ unmerged 31
-  -- nor of it with nothing
+  -- it is not a merge of that header and the empty text either
   pub unhitAlone : (t u list : List ℕ) → Fit t → Fit u → sameSq t u → programCount t < programCount u → judgingMerge t [] u list [] ≡ unmerged 31
-  -- a header with programs added is fit, and a merge of itself and the old one; of the old one with itself it is none
+  -- a header with programs added is fit, and is a merge of itself and the old header; it is not a merge of the old header with itself
   pub grown : (t u : List ℕ) → Fit t → Longer t u → Fit u × (judgingMerge u t u (itself u) (itself t) ≡ merged)
   pub grownUnhit : (t u list : List ℕ) → Fit t → Longer t u → programCount t < programCount u → judgingMerge t t u list list ≡ unmerged 31
-  -- a header with programs dropped brings nothing new to the one that it was
+  -- a header is a merge of itself and the same header with programs dropped
   pub pruned : (t u : List ℕ) (stays : ℕ → Bool) → Fit t → Fit u → Shorter t u stays → judgingMerge t u t (itself t) (stayed t stays) ≡ merged

@@ -1,1 +1,1 @@
-// What an accepted merge means, and which headers are merges of each other. There is no code here.
+// What an accepted merge means, and which headers are merges of each other. This crate has no code.

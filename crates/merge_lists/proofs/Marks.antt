@@ -1,4 +1,4 @@
--- Marks tell what the definitions of the lists ask: which ordinals are met, whether one comes again, and which are hit.
+-- Marks say what the definitions of the lists ask: which ordinals are met, whether one comes again, and which are hit.
 use Prim.Native.Nat.{ℕ, zero, suc, _+_, _-_, _≤_, _<_}
 use mathlib.Core.Path.{_≡_, refl, sym, ap, ap₂, _∙_}
 use mathlib.Core.Bool.{Bool, true, false, not, _&&_, _||_, cond}
@@ -11,11 +11,11 @@ use lib.Dec.{eqb, ltb}
 use borrow.Author.Tests.{eqb-true, eqb-false, eq-eqb, ne-eqb, ltb-true, ltb-false, lt-ltb, le-ltb}
 use Rattle.format.specs.Bytes.{all, any, distinct}
 use Rattle.format.specs.Programs.{numbersFrom}
-use Rattle.accepted.proofs.Bools.{never, split, eqb-sym, or-assoc, or-comm, or-false, and-left, and-right}
+use Rattle.lists.proofs.Bools.{never, split, eqb-sym, or-assoc, or-comm, or-false, and-left, and-right}
 use Rattle.format.specs.Merge.{assigns, covers, assigned}
 use Rattle.merge_lists.specs.Marks.{freshBy, markedBy, hitFrom}
 
--- ---- a turn of each walk
+-- ---- a step of each walk
 
 module _ (m : ℕ) (hits : List Bool) (ks : List ℕ) (i : ℕ) where
   fresh-turn : i < length ks → freshBy m hits (drop i ks) ≡ cond (ltb (getD ks i 0) m) (cond (getD hits (getD ks i 0) false) false (freshBy m (set hits (getD ks i 0) true) (drop (i + 1) ks))) false
@@ -43,7 +43,7 @@ module _ (m : ℕ) (hits : List Bool) (ks : List ℕ) (i : ℕ) where
   unfolding markedBy
   marked-end h = rw drop-of-length-le refl
 
--- ---- what the marks tell
+-- ---- what the marks say
 
 -- after one mark
 getD-mark : (hits : List Bool) (k j : ℕ) → k < length hits → getD (set hits k true) j false ≡ eqb j k || getD hits j false

@@ -1,4 +1,4 @@
-// The two lists of a merge: for each program of A and for each of B, its ordinal in the merged header.
+// The two lists of a merge: the ordinal in the merged header of each program of A and of B.
 ghost use mathlib.Core.Path.{_≡_};
 ghost use mathlib.Core.Bool.{true, false};
 ghost use Prim.Native.Nat.{_≤_};
@@ -6,13 +6,13 @@ ghost use lib.ListN.{length, replicate};
 ghost use Rattle.format.specs.Merge.{assigned};
 ghost use Rattle.merge_lists.specs.Marks.{freshBy, markedBy, hitFrom};
 
-// Whether a list has valid ordinals, none twice; and, where it has, the ordinals that it hits.
+// Whether a list has valid ordinals and none twice, and if so, the ordinals that it hits.
 struct Marked {
     good: bool,
     hits: [bool; 1024],
 }
 
-// The ordinals below `count` of a list, marked one after another: the first that is too high or comes again ends it.
+// Marks the ordinals of a list one after another. The first that is not below `count` or comes a second time ends the walk.
 fn mark_list(list: &[u32], count: usize) -> Marked
     requires { ⌜ count ≤ 1024 ⌝ }
     ensures good { λ r. ⌜ r .good ≡ freshBy count (replicate 1024 false) (now (list .entry)) ⌝ }
@@ -51,8 +51,8 @@ fn is_covered(a: [bool; 1024], b: [bool; 1024], count: usize) -> bool
     true
 }
 
-// Whether both lists are in order, where A has `a` programs, B has `b` and the merged header `count`: one valid ordinal for each program,
-// none twice in a list, and every program of the merged header hit.
+// Whether both lists are valid if A has `a` programs, B has `b` and the merged header has `count`: one ordinal below `count` per program, none twice
+// in a list, and every program of the merged header hit.
 pub fn is_assigned(a: usize, b: usize, count: usize, list_a: &[u32], list_b: &[u32]) -> bool
     requires { ⌜ count ≤ 1024 ⌝ }
     ensures { λ r. ⌜ r ≡ assigned a b count (now («list_a» .entry)) (now («list_b» .entry)) ⌝ }

@@ -19,12 +19,12 @@ use Rattle.format.specs.declared.Kind.the-variants as kinds
 use Rattle.byte_slices.specs.Stands.{Stands, Each}
 use Rattle.byte_slices.proofs.Stands.{lines-stand}
 use Rattle.accepted.specs.Read.{recordsOf}
-use Rattle.accepted.specs.Pieces.{Pairs}
+use Rattle.lists.specs.Pairs.{Pairs}
 use Rattle.accepted.specs.Sound.{kind}
-use Rattle.accepted.proofs.Bools.{never, and-left, and-right}
+use Rattle.lists.proofs.Bools.{never, and-left, and-right}
 use Rattle.accepted.proofs.Read.{accepted-reads}
 use Rattle.accepted.proofs.Text.{text-fits}
-use Rattle.accepted.proofs.Pairs.{each-at, pairs-at, pairs-length}
+use Rattle.lists.proofs.Pairs.{each-at, pairs-at, pairs-length}
 use Rattle.record_tags.specs.Others.{firsts}
 use Rattle.accepted_line.specs.Run.{fieldsFrom}
 use Rattle.accepted_line.proofs.fields.Start.{start-none, accepted-others}

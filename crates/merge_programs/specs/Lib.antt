@@ -1,6 +1,6 @@
 -- Words for contracts and laws, and nothing to believe.
 -- The programs of a text that is judged:
---   Opened    what is found of an accepted text
---   Members   one program, by its line and its parent
+--   Opened    what is known of an accepted text
+--   Members   one program: its line and its parent
 pub mod Opened
 pub mod Members

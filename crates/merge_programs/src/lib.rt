@@ -1,4 +1,5 @@
-// The programs of a merge: what an accepted text has of them, and whether they have their images in the merged text, by a list of ordinals.
+// The programs of a merge: what is known of those of an accepted text, and whether each has its image in the merged text, given by a list of
+// ordinals.
 use program_parents::Parents;
 use program_places::Places;
 ghost use mathlib.Core.Path.{_≡_};
@@ -10,11 +11,13 @@ ghost use Rattle.format.specs.Bytes.{all};
 ghost use Rattle.format.specs.Reading.{readText};
 ghost use Rattle.format.specs.Merge.{shapes, keepsParent, isImage, images};
 ghost use Rattle.accepted.specs.Read.{isAccepted, recordsOf};
+ghost use Rattle.accepted_rule.specs.Rule.{ReadsBy};
 ghost use Rattle.program_chains.specs.Parents.{nobody, linkOf};
 ghost use Rattle.merge_programs.specs.Opened.{IsOpened, Untangled};
 ghost use Rattle.merge_programs.specs.Members.{memberOf, shapeAt, IsMember};
 
-// What an accepted text is judged by: what it says of repeated tags, 0 or 22 or 23, where the lines of its programs stand, and their parents.
+// What an accepted text is judged by: the rule for repeated tags that its lines are read by, 0 or 22 or 23, where the lines of its programs
+// are, and their parents.
 pub struct Opened {
     pub strict: bool,
     pub refusal: u8,
@@ -22,21 +25,15 @@ pub struct Opened {
     pub parents: Parents,
 }
 
-pub fn open_text(text: &[u8]) -> Opened
+pub fn open_text(text: &[u8], strict: bool) -> Opened
     requires { ⌜ isAccepted (readText (now text)) ≡ true ⌝ }
+    requires { ⌜ ReadsBy strict (now text) ⌝ }
     ensures { λ r. ⌜ IsOpened (now (text .entry)) r ⌝ }
 {
-    let strict = read_repeat_rule::is_strict(text);
     let gathered = program_lines::gather(text, strict);
     let programs = gathered.programs;
     let lines = gathered.lines;
-    let id = programs.id;
-    let ats = id.at;
-    let lens = id.len;
-    let previous = programs.previous;
-    let from = previous.at;
-    let widths = previous.len;
-    let parents = program_parents::find_parents(text, &ats, &lens, &from, &widths, programs.count);
+    let parents = program_parents::parents_in(text, programs);
     let refusal = program_parents::tangle(parents);
     Opened {
         strict,
@@ -46,7 +43,7 @@ pub fn open_text(text: &[u8]) -> Opened
     }
 }
 
-// A program of a text: what the text says of repeated tags, where the program's line stands, and its parent.
+// A program of a text: the rule for repeated tags that the text's lines are read by, where the program's line is, and its parent.
 struct Member {
     strict: bool,
     at: u32,
@@ -54,7 +51,7 @@ struct Member {
     parent: u32,
 }
 
-// The program `i` of a text, by the arrays of all.
+// The program `i` of a text, from the arrays of all.
 fn member_at(
     strict: bool,
     ats: &[u32; 1024],
@@ -73,7 +70,7 @@ fn member_at(
     }
 }
 
-// Whether an image's parent is the image of the parent, or both have none.
+// Whether the parent of the image is the image of the parent, or neither has a parent.
 fn keeps_parent(list: &[u32], parent: u32, image: u32) -> bool
     requires { ⌜ (eqb parent nobody || ltb parent (length (now list))) ≡ true ⌝ }
     ensures { λ r. ⌜ r ≡ keepsParent (now (list .entry)) (linkOf parent) (linkOf image) ⌝ }
@@ -111,7 +108,7 @@ fn is_image(a: &[u8], p: Member, m: &[u8], image: Member, list: &[u32]) -> bool
     keeps_parent(list, p.parent, image.parent)
 }
 
-// Whether each program of a text has its image in the merged one: the list has an ordinal there for each, and none is too high.
+// Whether each program of a text has its image in the merged text. The list has one ordinal for each, and none is too high.
 pub fn has_images(a: &[u8], of_a: Opened, m: &[u8], of_m: Opened, list: &[u32]) -> bool
     requires { ⌜ Untangled (now a) «of_a» ⌝ }
     requires { ⌜ Untangled (now m) «of_m» ⌝ }

@@ -1,4 +1,4 @@
--- What a list has of a name, where no two have one: the first with that name tells all.
+-- What a list has of a name, if no two have the same name: the first with that name decides.
 use Prim.Native.Nat.{ℕ, _≤_}
 use mathlib.Core.Path.{_≡_, refl, sym, ap, ap₂, subst, _∙_}
 use mathlib.Core.Bool.{Bool, true, false, not, _&&_, _||_, cond}
@@ -15,7 +15,7 @@ use Rattle.format.specs.Records.{Record, header, reference, group, program, com
 use Rattle.format.specs.Reading.{clash, sameKeys}
 use Rattle.byte_slices.proofs.Equal.{same-equal}
 use Rattle.accepted.specs.Admits.{KeysDiffer}
-use Rattle.accepted.proofs.Bools.{never, split, or-left, or-right, any-append}
+use Rattle.lists.proofs.Bools.{never, split, or-left, or-right, any-append}
 use Rattle.format.specs.References.{Reference, sqList}
 use Rattle.format.specs.Merge.{sameName, differ}
 use Rattle.binary_references.specs.Next.{sqFrom}
@@ -103,7 +103,7 @@ module _ (q : Reference) (rs : List Reference) (h : Apart rs) where
 
 -- ---- the last of them
 
--- one that is behind has the name: none before has
+-- a later one has the name: none before has
 pub past-front : (q f : Reference) (front rest : List Reference) → any (sameName f) (front ++ rest) ≡ false → any (sameName q) rest ≡ true → sameName q f ≡ false
 past-front q f front rest h n =
     split (sameName q f)

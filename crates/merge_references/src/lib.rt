@@ -1,4 +1,4 @@
-// The references of a merge compared: by name and by length, one after another among A's, and A's own at the front of the merged list.
+// Compares the references of a merge by name and length, and checks that A's references are the front of the merged list.
 use binary_references::NextReference;
 ghost use mathlib.Core.Path.{_≡_};
 ghost use mathlib.Core.Bool.{_&&_};
@@ -17,13 +17,13 @@ pub enum Met {
     Other,
 }
 
-// Where the walk over the merged list goes on, if all is well so far.
+// Where the walk over the merged list goes on, if everything agrees so far.
 pub struct Front {
     pub good: bool,
     pub next: usize,
 }
 
-// Whether two references have one name.
+// Whether two references have the same name.
 pub fn same_name(a: &[u8], r: NextReference, b: &[u8], q: NextReference) -> bool
     requires { ⌜ r .name .at + r .name .len ≤ length (now a) ⌝ }
     requires { ⌜ q .name .at + q .name .len ≤ length (now b) ⌝ }
@@ -36,7 +36,7 @@ pub fn same_name(a: &[u8], r: NextReference, b: &[u8], q: NextReference) -> bool
     byte_slices::same(&a[from..to], &b[start..end])
 }
 
-// Whether two references have one name and one length.
+// Whether two references have the same name and length.
 pub fn same_reference(a: &[u8], r: NextReference, b: &[u8], q: NextReference) -> bool
     requires { ⌜ r .name .at + r .name .len ≤ length (now a) ⌝ }
     requires { ⌜ q .name .at + q .name .len ≤ length (now b) ⌝ }
@@ -48,13 +48,13 @@ pub fn same_reference(a: &[u8], r: NextReference, b: &[u8], q: NextReference) ->
     same_name(a, r, b, q)
 }
 
-// What a look finds of a name, and where the references behind the one that was found start.
+// What a search finds of a name, and where the references after the one found start.
 pub struct Look {
     pub met: Met,
     pub next: usize,
 }
 
-// What the references of A from the offset `start` on have of the name of a reference of B: the first with that name tells.
+// What the references of A from the offset `start` on have of the name of a reference of B. The first with that name decides.
 pub fn look_from(a: &[u8], strict: bool, start: usize, b: &[u8], q: NextReference) -> Look
     requires { ⌜ length (now a) ≤ 16777216 ⌝ }
     requires { ⌜ From strict (now a) start ⌝ }
@@ -87,7 +87,7 @@ pub fn look_from(a: &[u8], strict: bool, start: usize, b: &[u8], q: NextReferenc
     }
 }
 
-// Passes the references of A in the merged list, from its front on.
+// Passes the references of A at the front of the merged list.
 pub fn pass_front(a: &[u8], strict_a: bool, m: &[u8], strict_m: bool) -> Front
     requires { ⌜ length (now a) ≤ 16777216 ⌝ }
     requires { ⌜ length (now m) ≤ 16777216 ⌝ }

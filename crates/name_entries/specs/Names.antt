@@ -1,4 +1,4 @@
--- The names that the entries of a catalogue say.
+-- The names in the entries of a catalogue.
 use Prim.Native.Nat.{ℕ}
 use mathlib.Core.Bool.{cond}
 use mathlib.Core.List.{List, [], _∷_}
@@ -9,11 +9,11 @@ use Rattle.catalogue_entries.specs.declared.Entry.the-variants.{End, Header, Re
 use Rattle.catalogue_entries.specs.declared.Place.{Place}
 use Rattle.catalogue_entries.specs.Entries.{kindByte}
 
--- the bytes of a text at a place: as many of them as the text has
+-- the bytes of a text at a place, as far as the text has them
 abbrev pub nameAt : List ℕ → Place → List ℕ
 nameAt t p = take (p .len) (drop (p .at) t)
 
--- the name that an entry says: that of SQ
+-- the name in an entry of an SQ
 unfoldable pub nameIn : List ℕ → Entry → List ℕ
 nameIn t End = []
 nameIn t (Header v l) = []
@@ -23,7 +23,7 @@ nameIn t (Program p l) = []
 nameIn t (Comment p l) = []
 nameIn t (Field a b p) = []
 
--- the names that the SQ entries say, in order
+-- the names in the SQ entries, in order
 unfoldable pub namesIn : List ℕ → List Entry → List (List ℕ)
 unfolding kindByte nameIn
 namesIn t [] = []

@@ -1,11 +1,11 @@
-// The SQ entries of a catalogue: where the next one stands, and how many there are.
+// The SQ entries of a catalogue: where the next one is, and how many there are.
 ghost use mathlib.Core.Path.{_≡_};
 ghost use Prim.Native.Nat.{_≤_};
 ghost use lib.ListN.{length};
 ghost use Rattle.catalogue_entries.specs.Entries.{entriesIn, counted};
 ghost use Rattle.name_entries.specs.Next.{nextSq};
 
-// Passes the entries of fields from `start` on: the next SQ entry is the same.
+// Passes the field entries from `start` on. The next SQ entry stays the same.
 fn pass_fields(catalogue: &[u8], start: usize) -> usize
     requires { ⌜ start ≤ length (now catalogue) ⌝ }
     ensures { λ r. ⌜ (start ≤ r) × (r ≤ length (now (catalogue .entry))) × (nextSq (now (catalogue .entry)) start ≡ nextSq (now (catalogue .entry)) r) ⌝ }
@@ -20,7 +20,7 @@ fn pass_fields(catalogue: &[u8], start: usize) -> usize
     at
 }
 
-// Where the next SQ entry stands, from `start` on: behind the last entry where there is none.
+// Where the next SQ entry from `start` on is; the place after the last entry if there is none.
 pub fn next_sq(catalogue: &[u8], start: usize) -> usize
     requires { ⌜ start ≤ length (now catalogue) ⌝ }
     ensures { λ r. ⌜ r ≡ nextSq (now (catalogue .entry)) start ⌝ }

@@ -1,4 +1,4 @@
--- One byte more in a name's number, by adds that wrap at 2 ^ 32. Assumes nothing.
+-- One more byte in a name's number, by adds that wrap at 2 ^ 32. Assumes nothing.
 use Prim.Native.Nat.{ℕ, _+_, _*_, _%_, _^_, _<_}
 use mathlib.Core.Path.{_≡_, sym, ap, _∙_}
 use native.Mathlib.Omega.{arith}

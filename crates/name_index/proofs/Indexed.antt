@@ -1,4 +1,4 @@
--- Looking in the index finds what the plain search finds, and soon, by the law of slots. Assumes nothing.
+-- A search in the index finds what the plain search finds, in few steps, by the law of slots. Assumes nothing.
 use Prim.Native.Nat.{ℕ, zero, suc, _+_, _*_, _≤_, _<_}
 use mathlib.Core.Path.{_≡_, refl, sym, ap, ap₂, subst, _∙_}
 use mathlib.Core.Bool.{Bool, true, false, cond}
@@ -36,7 +36,7 @@ unfoldable values : ℕ → List (List ℕ) → List ℕ
 values k [] = []
 values k (x ∷ xs) = suc k ∷ values (k + 1) xs
 
--- where looking for the name that a value tells starts
+-- where the search for the name of a value starts
 unfoldable begins : List (List ℕ) → ℕ → ℕ → ℕ
 begins xs n v = first n (nameOf xs v)
 

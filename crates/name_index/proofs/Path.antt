@@ -1,4 +1,4 @@
--- The path of a name: which slot a turn of looking is at.
+-- The path of a name: which slot a step of the search is at.
 use Prim.Native.Nat.{ℕ, _+_, _%_, _<_}
 use mathlib.Core.Path.{_≡_, sym, ap, _∙_}
 use mathlib.Core.List.{List}
@@ -18,7 +18,7 @@ module _ (slots : List ℕ) (f : ℕ) (below : f < length slots) where
   pub around-long : length (around f slots) ≡ length slots
   around-long = around-length f slots (omega (arith, below))
 
-  -- the slot `at` of a turn that is `i` slots on
+  -- the slot `at` of a step that is `i` slots on
   module _ (i at : ℕ) (on : at ≡ (f + i) % length slots) where
     pub within : at < length slots
     within = rw on (mod-lt _ (omega (arith, below)))

@@ -1,11 +1,11 @@
-// The index of names: how many slots there are, which a name's first slot is, and how a name enters.
+// The index of names: how many slots it has, which slot is a name's first, and how a name enters.
 ghost use mathlib.Core.Path.{_≡_};
 ghost use Prim.Native.Nat.{ℕ, _≤_, _<_, _+_, _*_, _%_, _^_};
 ghost use lib.ListN.{length, set};
 ghost use Rattle.format.specs.Slots.{seat};
 ghost use Rattle.format.specs.NameIndex.{slotCount, hashFrom};
 
-// How many slots `m` names take: the smallest power of two that is not below twice `m`, at least 2.
+// How many slots the index of `m` names has: the smallest power of two that is at least twice `m`, and at least 2.
 pub fn slot_count(m: u32) -> u32
     requires { ⌜ m ≤ 16777216 ⌝ }
     ensures { λ r. ⌜ r ≡ slotCount m ⌝ }
@@ -16,7 +16,7 @@ pub fn slot_count(m: u32) -> u32
     1u32 << (32 - u32::leading_zeros(2 * m - 1))
 }
 
-// A name's number with one byte more: 33 times itself plus the byte, wrapping at 2 to the 32.
+// The hash of a name with one more byte: 33 times the hash plus the byte, modulo 2 ^ 32.
 fn with_byte(h: u32, b: u8) -> u32
     ensures { λ r. ⌜ r ≡ (33 * h + b) % 2 ^ 32 ⌝ }
 {
@@ -29,7 +29,7 @@ fn with_byte(h: u32, b: u8) -> u32
     std::num::wrapping_add_u32(thirty_three, b as u32)
 }
 
-// A name's number.
+// The hash of a name.
 pub fn hash(name: &[u8]) -> u32
     ensures { λ r. ⌜ r ≡ hashFrom 0 (now (name .entry)) ⌝ }
 {
@@ -42,7 +42,7 @@ pub fn hash(name: &[u8]) -> u32
     h
 }
 
-// The slot, of `n`, at which looking for a name with this number starts: `n` is a power of two, so that a mask gives the remainder.
+// The slot, of `n`, at which the search for a name with this hash starts. `n` is a power of two, so a mask gives the remainder.
 pub fn first_slot(number: u32, n: usize) -> usize
     requires { ⌜ n ≤ 33554432 ⌝ }
     requires { ⌜ ((e : ℕ) × (n ≡ 2 ^ e)) ⌝ }
@@ -52,7 +52,7 @@ pub fn first_slot(number: u32, n: usize) -> usize
     (number % size) as usize
 }
 
-// The slot `i` places on from the slot `first` of `n`, round the end.
+// The slot `i` places after the slot `first` of `n`; the first slot comes after the last.
 pub fn turned(first: usize, i: usize, n: usize) -> usize
     requires { ⌜ first < n ⌝ }
     requires { ⌜ i ≤ n ⌝ }
@@ -66,7 +66,7 @@ pub fn turned(first: usize, i: usize, n: usize) -> usize
     at - n
 }
 
-// The first empty slot from the slot `first` on, round the end: the slot `first` where none is empty.
+// The first empty slot from the slot `first` on, going round the end; the slot `first` if none is empty.
 fn free_slot(slots: &[u32], first: usize) -> usize
     requires { ⌜ first < length (now slots) ⌝ }
     requires { ⌜ length (now slots) ≤ 33554432 ⌝ }
@@ -84,7 +84,7 @@ fn free_slot(slots: &[u32], first: usize) -> usize
     turned(first, n, n)
 }
 
-// A name whose first slot is `first` enters with a value: the slot that it enters.
+// Puts a value into the first empty slot for a name whose first slot is `first`. Returns the slot that it went into.
 pub fn enter(slots: &mut [u32], first: usize, value: u32) -> usize
     requires { ⌜ first < length (now slots) ⌝ }
     requires { ⌜ length (now slots) ≤ 33554432 ⌝ }

@@ -15,7 +15,7 @@ use Rattle.byte_slices.proofs.Lines.{upto-le}
 use Rattle.format.specs.Asked.{asked}
 use Rattle.name_list.specs.Ends.{ends}
 
--- a byte that is no LF stands before the first name of what follows
+-- a byte that is not an LF comes before the first name of what follows
 onto-asked : (b : ℕ) (s : List ℕ) → ((c : ℕ) (r : List ℕ) → s ≡ c ∷ r → asked s ≡ take (upto 10 s) s ∷ asked (drop (suc (upto 10 s)) s))
     → onto b (asked s) ≡ (b ∷ take (upto 10 s) s) ∷ asked (drop (suc (upto 10 s)) s)
 unfolding onto asked upto
@@ -47,7 +47,7 @@ unfolding onto
 onto-length b [] h = absurd (omega arith)
 onto-length b (x ∷ xs) h = refl
 
--- one for each LF, and one more where the last byte is no LF
+-- one for each LF, and one more where the last byte is not an LF
 pub asked-count : (b : ℕ) (s : List ℕ) → length (asked (b ∷ s)) ≡ ends (b ∷ s) + cond (eqb (getD (b ∷ s) (length s) 0) 10) 0 1
 unfolding asked ends onto
 asked-count b [] = go (eqb b 10)
@@ -119,7 +119,7 @@ module _ (list : List ℕ) (i : ℕ) where
     pub ends-on : (getD list i 0 ≡ 10 → ⊥) → ends (drop i list) ≡ ends (drop (i + 1) list)
     ends-on q = opened ∙ ap (λ b. cond b (suc (ends (drop (i + 1) list))) (ends (drop (i + 1) list))) (ne-eqb (getD list i 0) 10 q)
 
--- ---- a turn of a walk that is at `at`, with `n` bytes before the next LF
+-- ---- a step of a walk that is at `at`, with `n` bytes before the next LF
 
 module _ (list : List ℕ) (at : ℕ) where
   pub asked-none : length list ≤ at → asked (drop at list) ≡ []

@@ -1,11 +1,11 @@
-// The names of a list: each LF ends one, and bytes after the last LF are one name more. How many there are.
+// Counts the names of a list. Each LF ends a name, and bytes after the last LF are one more name.
 ghost use mathlib.Core.Path.{_≡_};
 ghost use Prim.Native.Nat.{_≤_, _+_};
 ghost use lib.ListN.{length, drop};
 ghost use Rattle.name_list.specs.Ends.{ends};
 ghost use Rattle.format.specs.Asked.{asked};
 
-// How many LFs are among the 128 bytes from `at` on: in eight bits, so that a processor can take many bytes at once.
+// How many LFs are among the 128 bytes from `at` on. The count has eight bits, so that the processor can take many bytes at once.
 fn count_block(list: &[u8], at: usize) -> u8
     requires { ⌜ at + 128 ≤ length (now list) ⌝ }
     ensures { λ r. ⌜ (r ≤ 128) × (ends (drop at (now (list .entry))) ≡ r + ends (drop (at + 128) (now (list .entry)))) ⌝ }
@@ -38,7 +38,7 @@ fn count_rest(list: &[u8], from: usize) -> u32
     n
 }
 
-// How many LFs a list has: whole blocks first.
+// How many LFs a list has. Whole blocks come first.
 fn count_ends(list: &[u8]) -> u32
     requires { ⌜ length (now list) ≤ 16777216 ⌝ }
     ensures { λ r. ⌜ r ≡ ends (now (list .entry)) ⌝ }
@@ -52,7 +52,7 @@ fn count_ends(list: &[u8]) -> u32
     n + count_rest(list, at)
 }
 
-// How many names a list has: each LF ends one, and bytes after the last LF are one name more.
+// How many names a list has. Each LF ends a name, and bytes after the last LF are one more name.
 pub fn count_names(list: &[u8]) -> usize
     requires { ⌜ length (now list) ≤ 16777216 ⌝ }
     ensures { λ r. ⌜ r ≡ length (asked (now (list .entry))) ⌝ }

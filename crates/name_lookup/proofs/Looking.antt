@@ -1,4 +1,4 @@
--- Looking along a path, slot by slot: where it lands, and how many slots it takes.
+-- A search along a path, slot by slot: where it ends, and how many slots it looks at.
 use Prim.Native.Nat.{ℕ, zero, suc, _+_, _%_, _≤_, _<_}
 use mathlib.Core.Path.{_≡_, refl, ap, _∙_}
 use mathlib.Core.Bool.{Bool, true, false, cond}

@@ -1,4 +1,4 @@
--- Slots that tell names by their offsets in the text and by marks, looked in, and slots with ordinals, read.
+-- A search in slots that hold offsets of names in the text and bits of their hashes, and reading slots that hold ordinals.
 use Prim.Native.Nat.{ℕ, zero, suc, _+_, _-_, _/_, _%_}
 use mathlib.Core.Bool.{Bool, cond, _&&_}
 use mathlib.Core.List.{List, [], _∷_}
@@ -9,14 +9,14 @@ use Rattle.key_at.specs.Word.{word}
 use Rattle.format.specs.NameIndex.{absent, hashFrom, first, path, ordinalOf, looked}
 use Rattle.name_slots.specs.Filled.{markOf}
 
--- ---- looking
+-- ---- the search
 
--- does a slot with `v` tell the name `x`?
+-- does a slot with the value `v` hold the name `x`?
 unfoldable pub says : List ℕ → List ℕ → ℕ → Bool
 unfolding markOf hashFrom same word
 says t x v = eqb (markOf (hashFrom 0 x)) ((v - 1) % 128) && same x (word (drop ((v - 1) / 128) t))
 
--- the slot, of `n`, with the first value that is accepted; an empty one ends the looking. It is at the slot `i`, round the end
+-- the slot, of `n`, with the first value that is accepted; an empty slot ends the search. The search is at the slot `i` and goes round the end
 unfoldable pub landing : (ℕ → Bool) → ℕ → ℕ → List ℕ → ℕ
 unfolding absent
 landing hit n i [] = absent
@@ -28,7 +28,7 @@ unfoldable pub landed : (ℕ → Bool) → List ℕ → List ℕ → ℕ
 unfolding landing first path
 landed hit slots x = landing hit (length slots) (first (length slots) x) (path x slots)
 
--- the slot that tells a name
+-- the slot that holds a name
 unfoldable pub slotOf : List ℕ → List ℕ → List ℕ → ℕ
 unfolding landed says
 slotOf t slots x = landed (says t x) slots x
@@ -40,7 +40,7 @@ looksOf t slots x = looked (says t x) (path x slots)
 
 -- ---- reading
 
--- the ordinal in a slot: none where there is no such slot
+-- the ordinal in a slot: none if there is no such slot
 unfoldable pub ordinalAt : List ℕ → ℕ → ℕ
 unfolding ordinalOf
 ordinalAt slots p = ordinalOf (getD slots p 0)

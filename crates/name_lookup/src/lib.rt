@@ -1,4 +1,4 @@
-// Names are looked for in slots that tell them by their offsets in the text and by marks, and slots are turned into the ordinals in them.
+// Looks for names in slots that hold their offsets in the text and some bits of their hashes, and replaces slots by the ordinals in them.
 ghost use mathlib.Core.Path.{_≡_};
 ghost use mathlib.Core.Bool.{_&&_};
 ghost use mathlib.Core.List.{map};
@@ -9,11 +9,11 @@ ghost use Rattle.format.specs.Bytes.{same};
 ghost use Rattle.key_at.specs.Word.{word};
 ghost use Rattle.name_lookup.specs.Looking.{slotOf, looksOf, ordinalAt};
 
-// What is answered for a name that no SQ has.
+// The answer for a name that no SQ has.
 pub const ABSENT: u32 = 4294967295;
 
-// Whether a slot tells a name with this mark: only where the marks are equal the text is looked at.
-fn is_told(text: &[u8], v: u32, told: u32, name: &[u8]) -> bool
+// Whether a slot holds a name with these bits of its hash. The text is looked at only if the bits are equal.
+fn is_slot_of(text: &[u8], v: u32, told: u32, name: &[u8]) -> bool
     requires { ⌜ 0 < v ⌝ }
     requires { ⌜ length (now name) ≤ 16777216 ⌝ }
     ensures { λ r. ⌜ r ≡ (eqb told ((v - 1) % 128) && same (now (name .entry)) (word (drop ((v - 1) / 128) (now (text .entry))))) ⌝ }
@@ -25,13 +25,13 @@ fn is_told(text: &[u8], v: u32, told: u32, name: &[u8]) -> bool
     key_at::is_at(text, (code / 128) as usize, name)
 }
 
-// The slot with a name, or ABSENT, and how many slots were looked at.
+// The slot that holds a name, or ABSENT, and how many slots were looked at.
 pub struct Looked {
     pub slot: u32,
     pub looks: u32,
 }
 
-// Looks for a name in slots that hold offsets: from its first slot on, up to the one with the name or the first empty one.
+// Looks for a name in slots that hold offsets, from its first slot on up to the one that holds it or the first empty one.
 pub fn find_slot(text: &[u8], slots: &[u32], name: &[u8]) -> Looked
     requires { ⌜ length (now slots) ≤ 33554432 ⌝ }
     requires { ⌜ ((e : ℕ) × (length (now slots) ≡ 2 ^ e)) ⌝ }
@@ -41,7 +41,7 @@ pub fn find_slot(text: &[u8], slots: &[u32], name: &[u8]) -> Looked
 {
     let n = slots.len();
     let number = name_index::hash(name);
-    let told = name_slots::mark(number);
+    let told = name_slots::check_bits(number);
     let first = name_index::first_slot(number, n);
     let mut i: usize = 0;
     while i < n {
@@ -53,10 +53,10 @@ pub fn find_slot(text: &[u8], slots: &[u32], name: &[u8]) -> Looked
                 looks: (i + 1) as u32, // the empty slot too
             };
         }
-        if is_told(text, v, told, name) {
+        if is_slot_of(text, v, told, name) {
             return Looked {
                 slot: at as u32,
-                looks: (i + 1) as u32, // and no slot behind it
+                looks: (i + 1) as u32, // and no slot after it
             };
         }
         i += 1;
@@ -67,7 +67,7 @@ pub fn find_slot(text: &[u8], slots: &[u32], name: &[u8]) -> Looked
     }
 }
 
-// The ordinal in a slot that holds it plus one: none where the slot is empty, or where there is no such slot.
+// The ordinal in a slot, which holds it plus one; ABSENT if the slot is empty or there is no such slot.
 fn ordinal_at(slots: &[u32], p: u32) -> u32
     ensures { λ r. ⌜ r ≡ ordinalAt (now (slots .entry)) p ⌝ }
 {
@@ -82,7 +82,7 @@ fn ordinal_at(slots: &[u32], p: u32) -> u32
     v - 1
 }
 
-// Turns slots into the ordinals in them.
+// Replaces slots by the ordinals in them.
 pub fn to_ordinals(slots: &[u32], out: &mut [u32])
     ensures { λ _. ⌜ now (out .exit) ≡ map (ordinalAt (now (slots .entry))) (now (out .entry)) ⌝ }
 {

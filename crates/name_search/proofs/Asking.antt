@@ -36,7 +36,7 @@ module _ (write count : List ℕ → ℕ) (list : List ℕ) where
           omega (arith, a .counted, ap (summed count) none),
         )
 
-    -- a name more
+    -- one more name
     module _ (n : ℕ) (is : n ≡ upto 10 (take (length list - at) (drop at list))) (l : at < length list) where
       pub asking-room : j < length now
       asking-room = omega (arith, a .room, a .long, ap length (asked-on list at n is l))

@@ -1,4 +1,4 @@
-// The search for each name of a list among the SQ names whose places stand in slots.
+// Looks for each name of a list among the SQ names whose places are in slots.
 ghost use mathlib.Core.Path.{_≡_};
 ghost use mathlib.Core.List.{map};
 ghost use Prim.Native.Nat.{ℕ, _≤_, _^_};
@@ -8,7 +8,7 @@ ghost use Rattle.format.specs.Asked.{asked};
 ghost use Rattle.name_lookup.specs.Looking.{slotOf, looksOf};
 ghost use Rattle.format.specs.Summed.{summed};
 
-// Looks for each name of a list: the slot with it goes into `out`, and the slots that were looked at are summed.
+// Looks for each name of a list: puts the slot that holds it into `out`, and sums the numbers of slots that were looked at.
 pub fn find_slots(text: &[u8], slots: &[u32], list: &[u8], out: &mut [u32]) -> u64
     requires { ⌜ length (now slots) ≤ 33554432 ⌝ }
     requires { ⌜ ((e : ℕ) × (length (now slots) ≡ 2 ^ e)) ⌝ }

@@ -15,7 +15,7 @@ use Rattle.catalogue_lookup.specs.Lookup.{entriesFrom}
 use Rattle.format.specs.NameIndex.{hashFrom, first, enter}
 use Rattle.name_entries.specs.Next.{nextSq}
 use Rattle.name_entries.specs.Names.{nameIn}
-use Rattle.name_entries.proofs.Turns.{no-more, one-more}
+use Rattle.name_entries.proofs.NextEntry.{no-more, one-more}
 use Rattle.name_slots.specs.Filled.{startIn, markOf, valueOf, entering, seats}
 
 pub mark-lt : (h : ℕ) → markOf h < 128

@@ -15,7 +15,7 @@ use Rattle.name_index.proofs.Passing.{opened}
 use Rattle.name_entries.specs.Names.{nameIn}
 use Rattle.name_slots.specs.Filled.{startIn, valueOf, entering, seats, withOrdinals}
 
--- a slot more is noted
+-- one more slot is noted
 pub note-on : {all rest : List ℕ} {s : ℕ} (notes now : List ℕ) (k r : ℕ) → all ≡ s ∷ rest → r ≡ s → now ≡ set notes k r → sets notes k all ≡ sets now (k + 1) rest
 note-on {rest = rest} notes now k r e q n =
     ap (sets notes k) e ∙ ap (λ s. sets (set notes k s) (suc k) rest) (sym q) ∙ ap (λ l. sets l (suc k) rest) (sym n) ∙ ap (λ j. sets now j rest) (sym (add-one k))

@@ -1,5 +1,5 @@
--- Slots that are filled from the entries of a catalogue. What a slot holds is one more than the ordinal of an SQ entry, or one more than the
--- offset of its name in the text with a mark of the name below it, by which the name is told.
+-- Slots that are filled from the entries of a catalogue. A slot holds one more than the ordinal of an SQ entry, or one more than the offset of its
+-- name in the text with seven bits of the name's hash below it.
 use Prim.Native.Nat.{ℕ, suc, _+_, _*_, _/_, _%_}
 use mathlib.Core.Bool.{Bool, cond}
 use mathlib.Core.List.{List, [], _∷_}
@@ -14,9 +14,9 @@ use Rattle.catalogue_entries.specs.Entries.{kindByte, entriesIn}
 use Rattle.format.specs.NameIndex.{hashFrom, first, enter}
 use Rattle.name_entries.specs.Names.{nameAt, nameIn}
 
--- ---- what a slot is to hold
+-- ---- the value of a slot
 
--- where the name of an SQ entry starts: behind the text where there is none
+-- where the name of an SQ entry starts: after the text if there is none
 unfoldable pub startIn : List ℕ → Entry → ℕ
 startIn t End = length t
 startIn t (Header v l) = length t
@@ -26,19 +26,19 @@ startIn t (Program p l) = length t
 startIn t (Comment p l) = length t
 startIn t (Field a b p) = length t
 
--- what it keeps of a name besides its place: seven bits of its number, by which most other names are told apart without a look at the
--- text. Names that enter near each other differ in the low bits of their numbers, or in the high ones
+-- what a slot keeps of a name besides its place: seven bits of its hash, which tell most other names apart without a look at the text. The hashes of
+-- names that enter near each other differ in their low bits or in their high bits
 unfoldable pub markOf : ℕ → ℕ
 markOf h = (h % 65536 + h / 65536) % 128
 
--- the ordinal plus one, or the offset with the mark below it, plus one
+-- the ordinal plus one, or the offset with the seven bits below it, plus one
 unfoldable pub valueOf : Bool → ℕ → ℕ → ℕ → ℕ
 unfolding markOf
 valueOf ordinals k h at = suc (cond ordinals k (at * 128 + markOf h))
 
 -- ---- filling
 
--- the names of the SQ entries enter in order: the first SQ has the ordinal `k`
+-- the names of the SQ entries enter in order; the first SQ has the ordinal `k`
 unfoldable pub entering : Bool → List ℕ → ℕ → List Entry → List ℕ → List ℕ
 unfolding kindByte nameIn startIn valueOf hashFrom enter
 entering ordinals t k [] slots = slots
@@ -56,14 +56,14 @@ seats ordinals t k (e ∷ es) slots =
     (seat (first (length slots) (nameIn t e)) slots ∷ seats ordinals t (k + 1) es (enter (valueOf ordinals k (hashFrom 0 (nameIn t e)) (startIn t e)) (nameIn t e) slots))
     (seats ordinals t k es slots)
 
--- ordinals plus one at the slots `ss`: the first of them has the ordinal `k`
+-- ordinals plus one at the slots `ss`; the first of them has the ordinal `k`
 unfoldable pub withOrdinals : ℕ → List ℕ → List ℕ → List ℕ
 withOrdinals k [] slots = slots
 withOrdinals k (s ∷ ss) slots = withOrdinals (k + 1) ss (set slots s (suc k))
 
 -- ---- what calls leave
 
--- the slots after the name at a place entered, of the SQ with the ordinal `k`
+-- the slots after the name at a place entered, for the SQ with the ordinal `k`
 abbrev pub nameEntered : Bool → List ℕ → Place → ℕ → List ℕ → List ℕ
 nameEntered ordinals t p k slots = enter (valueOf ordinals k (hashFrom 0 (nameAt t p)) (p .at % 16777216)) (nameAt t p) slots
 
@@ -75,7 +75,7 @@ namesEntered ordinals t c slots = entering ordinals t 0 (entriesIn c) slots
 abbrev pub seatsNoted : Bool → List ℕ → List ℕ → List ℕ → List ℕ → List ℕ
 seatsNoted ordinals t c slots notes = sets notes 0 (seats ordinals t 0 (entriesIn c) slots)
 
--- ---- and where all slots were emptied before
+-- ---- the same, if all slots were emptied before
 
 abbrev pub filledAnew : Bool → List ℕ → List ℕ → List ℕ → List ℕ
 filledAnew ordinals t c slots = entering ordinals t 0 (entriesIn c) (replicate (length slots) 0)

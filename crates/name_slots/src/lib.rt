@@ -1,4 +1,4 @@
-// Slots that are filled with the SQ names of a catalogue: a slot tells a name by its ordinal, or by its offset in the text and a mark.
+// Fills slots with the SQ names of a catalogue. A slot holds the ordinal of a name, or its offset in the text and some bits of its hash.
 use catalogue_entries::Entry;
 use catalogue_entries::Place;
 use key_at::OFFSETS;
@@ -12,7 +12,7 @@ ghost use Rattle.format.specs.NameIndex.{first};
 ghost use Rattle.name_entries.specs.Names.{nameAt};
 ghost use Rattle.name_slots.specs.Filled.{markOf, valueOf, withOrdinals, nameEntered, namesEntered, seatsNoted, filledAnew, seatsAnew, notedAnew};
 
-// The bytes of a text at a place: as many of them as the text has.
+// The bytes of a text at a place, as far as the text has them.
 fn bytes_at<'a>(text: &'a [u8], p: Place) -> &'a [u8]
     ensures { λ r. ⌜ now r ≡ nameAt (now (text .entry)) p ⌝ }
 {
@@ -29,14 +29,14 @@ fn bytes_at<'a>(text: &'a [u8], p: Place) -> &'a [u8]
     &text[start..end]
 }
 
-// What a slot keeps of a name besides its place: seven bits of its number, by which most other names are told apart.
-pub fn mark(number: u32) -> u32
+// What a slot keeps of a name besides its place: seven bits of its hash, which tell most other names apart.
+pub fn check_bits(number: u32) -> u32
     ensures { λ r. ⌜ r ≡ markOf number ⌝ }
 {
     (number % 65536 + number / 65536) % 128
 }
 
-// What a slot is to hold for the name at `at` with this number: the ordinal plus one, or the offset with the mark below it, plus one.
+// The value of the slot for the name at `at` with this hash: the ordinal plus one, or the offset with the seven bits below it, plus one.
 fn value(ordinals: bool, k: usize, number: u32, at: u32) -> u32
     requires { ⌜ k ≤ 4294967294 ⌝ }
     requires { ⌜ at < 16777216 ⌝ }
@@ -45,10 +45,10 @@ fn value(ordinals: bool, k: usize, number: u32, at: u32) -> u32
     if ordinals {
         return (k + 1) as u32;
     }
-    at * 128 + mark(number) + 1
+    at * 128 + check_bits(number) + 1
 }
 
-// The name at a place enters: the slot that it enters.
+// Enters the name at a place. Returns the slot that it went into.
 fn put_name(text: &[u8], p: Place, k: usize, slots: &mut [u32], ordinals: bool) -> usize
     requires { ⌜ k ≤ 4294967294 ⌝ }
     requires { ⌜ length (now slots) ≤ 33554432 ⌝ }
@@ -62,7 +62,7 @@ fn put_name(text: &[u8], p: Place, k: usize, slots: &mut [u32], ordinals: bool) 
     name_index::enter(slots, first, v)
 }
 
-// The names of the SQ entries enter in order, each with its ordinal plus one, or with its mark and offset. The slot of each is noted as long
+// Enters the names of the SQ entries in order, each with its ordinal plus one, or with its offset and seven bits. The slot of each is noted as long
 // as there is room for notes.
 fn put_names(text: &[u8], catalogue: &[u8], slots: &mut [u32], notes: &mut [u32], ordinals: bool)
     requires { ⌜ length (now slots) ≤ 33554432 ⌝ }
@@ -90,7 +90,7 @@ fn put_names(text: &[u8], catalogue: &[u8], slots: &mut [u32], notes: &mut [u32]
     }
 }
 
-// Empties the slots, and then the names of the SQ entries enter.
+// Empties the slots and enters the names of the SQ entries.
 pub fn fill(text: &[u8], catalogue: &[u8], slots: &mut [u32], notes: &mut [u32], ordinals: bool)
     requires { ⌜ length (now slots) ≤ 33554432 ⌝ }
     requires { ⌜ ((e : ℕ) × (length (now slots) ≡ 2 ^ e)) ⌝ }
@@ -102,7 +102,7 @@ pub fn fill(text: &[u8], catalogue: &[u8], slots: &mut [u32], notes: &mut [u32],
     put_names(text, catalogue, slots, notes, ordinals);
 }
 
-// Puts ordinals plus one at the slots that are noted, in order.
+// Puts ordinals plus one into the slots that are noted, in order.
 fn put_ordinals(notes: &[u32], slots: &mut [u32])
     requires { ⌜ length (now notes) ≤ 4294967294 ⌝ }
     ensures { λ _. ⌜ now (slots .exit) ≡ withOrdinals 0 (now (notes .entry)) (now (slots .entry)) ⌝ }
@@ -117,7 +117,7 @@ fn put_ordinals(notes: &[u32], slots: &mut [u32])
     }
 }
 
-// The slots anew, with ordinals: by the slots that the first `m` names entered, where all `m` are noted, and else by the names.
+// Fills the slots with ordinals. If the slots of all `m` names are noted, these are used; otherwise the names are entered again.
 pub fn refill(text: &[u8], catalogue: &[u8], m: usize, slots: &mut [u32], notes: &mut [u32])
     requires { ⌜ length (now slots) ≤ 33554432 ⌝ }
     requires { ⌜ ((e : ℕ) × (length (now slots) ≡ 2 ^ e)) ⌝ }

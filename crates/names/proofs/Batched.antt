@@ -13,11 +13,11 @@ use Rattle.accepted.specs.Read.{recordsOf}
 use Rattle.catalogue_entries.specs.Entries.{entriesIn, counted}
 use Rattle.read.specs.Answers.{outputOf}
 use Rattle.read.proofs.Fresh.{Current, goes-on, stops}
-use Rattle.read.proofs.Told.{too-short, fits}
+use Rattle.read.proofs.AnswerCases.{too-short, fits}
 use Rattle.format.specs.NameIndex.{nameOrdinal, slotCount, index, looks}
 use Rattle.name_index.proofs.Indexed.{index-length}
 use Rattle.name_entries.specs.Names.{namesIn}
-use Rattle.names.specs.Told.{Told}
+use Rattle.names.specs.NameEnds.{Told}
 use Rattle.name_entries.proofs.Names.{names-counted}
 use Rattle.format.specs.Asked.{asked}
 use Rattle.format.specs.Summed.{summed}
@@ -25,7 +25,7 @@ use Rattle.format.specs.Batch.{references, batched, batching}
 use Rattle.names.specs.declared.NamesAnswer.the-variants.{Refused, Counted}
 use Rattle.names.specs.Answers.{namesOf, resultsOf, slotsOf}
 use Rattle.names.proofs.References.{text-names, few-names}
-use Rattle.names.proofs.Told.{text-told}
+use Rattle.names.proofs.NameEnds.{text-told}
 use Rattle.names.proofs.Short.{text-short}
 
 -- a refusal of the check

@@ -1,4 +1,4 @@
--- How much a batch looks at: for each name at most one slot more than there are SQ, and so few that the number fits in 64 bits.
+-- How much a batch looks at: for each name at most one more slot than there are SQ, and so few that the number fits in 64 bits.
 use Prim.Native.Nat.{ℕ, _+_, _*_, _^_, _≤_, _<_}
 use mathlib.Core.Path.{_≡_, refl, sym, ap, subst, _∙_}
 use mathlib.Core.Bool.{Bool, true, false, cond}
@@ -77,7 +77,7 @@ module _ (t c list : List ℕ) (work room : ℕ) (a : List ℕ × List ℕ × �
   pub batch-few : length (a .0) ≤ 16777216
   batch-few = bounded .few
 
-  -- at most one slot more for each name than there are SQ
+  -- at most one more slot for each name than there are SQ
   pub batch-bound : a .2 ≤ length (a .0) * (length (references (recordsOf t)) + 1)
   batch-bound = bounded .most
 

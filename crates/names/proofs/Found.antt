@@ -15,13 +15,13 @@ use Rattle.name_entries.proofs.Names.{names-counted}
 use Rattle.name_slots.specs.Filled.{entering, seats}
 use Rattle.name_slots.proofs.Noted.{seats-counted}
 use Rattle.name_lookup.specs.Looking.{says, landed, slotOf, looksOf, ordinalAt}
-use Rattle.names.specs.Told.{Told}
+use Rattle.names.specs.NameEnds.{Told}
 use Rattle.name_index.proofs.SlotCount.{slots-some, slots-few}
 use Rattle.name_index.proofs.Indexed.{indexed, index-length}
 use Rattle.names.proofs.Recoded.{recode, none-recode, landed-recode, looks-recode, landed-holds}
 use Rattle.names.proofs.Named.{with-ordinals, code, code-tells, filled-codes, filled-seats}
 
--- no slot is the one that says that there is none
+-- no slot number is the one that means that there is none
 below-absent : (n : ℕ) → n ≤ 33554432 → n ≤ absent
 unfolding absent
 below-absent n h = omega (arith, h)

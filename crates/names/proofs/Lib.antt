@@ -1,6 +1,6 @@
 pub mod Short
 pub mod References
-pub mod Told
+pub mod NameEnds
 pub mod Batched
 pub mod Bound
 pub mod Recoded

@@ -24,7 +24,7 @@ use Rattle.name_entries.proofs.Names.{name-from}
 use Rattle.name_slots.specs.Filled.{startIn, markOf, valueOf, entering, seats}
 use Rattle.name_slots.proofs.Filling.{mark-lt}
 use Rattle.name_lookup.specs.Looking.{says}
-use Rattle.names.specs.Told.{Told}
+use Rattle.names.specs.NameEnds.{Told}
 use Rattle.names.proofs.Recoded.{recode, enter-recode, place-recode}
 
 module _ (t : List ℕ) where
@@ -43,7 +43,7 @@ module _ (t : List ℕ) where
 
   -- ---- with places
 
-  -- what a slot tells the name of an entry by, less one
+  -- what a slot holds for the name of an entry, less one
   unfoldable pub codeOf : Entry → ℕ
   codeOf e = startIn t e * 128 + markOf (hashFrom 0 (nameIn t e))
 
@@ -154,13 +154,13 @@ module _ (t : List ℕ) where
       go true ih jh = ih
       go false ih jh = jh
 
--- what a slot tells the name of the SQ with an ordinal by, less one
+-- what a slot holds for the name of the SQ with an ordinal, less one
 unfoldable pub code : List ℕ → List ℕ → ℕ → ℕ
 unfolding codeOf firstEntry entriesFrom entriesIn
 code t c k = codeOf t (firstEntry (entriesFrom 2 k (entriesIn c)))
 
 module _ (t c : List ℕ) where
-  -- it tells the name that the ordinal tells
+  -- it holds the name with that ordinal
   pub code-tells : Each (Told t) (entriesIn c) → (x : List ℕ) (k : ℕ) → says t x (suc (code t c k)) ≡ tellsName (namesIn t (entriesIn c)) x (suc k)
   unfolding tellsName nameOf code
   code-tells h x k = code-says t x (firstEntry (entriesFrom 2 k (entriesIn c))) (front-told t k (entriesIn c) h) ∙ ap (same x) (name-from t k (entriesIn c))

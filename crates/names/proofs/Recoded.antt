@@ -72,7 +72,7 @@ module _ (f : ℕ → ℕ) where
   unfolding path
   path-recode x slots = ap (λ m. around (first m x) (map (recode f) slots)) (length-map slots (recode f)) ∙ around-recode (first (length slots) x) slots
 
-  -- ---- looking, where the values are accepted alike
+  -- ---- searches that accept the same values
 
   module _ (hit own : ℕ → Bool) (alike : (k : ℕ) → hit (suc (f k)) ≡ own (suc k)) where
     landing-recode : (n i : ℕ) (ss : List ℕ) → landing hit n i (map (recode f) ss) ≡ landing own n i ss
@@ -97,7 +97,7 @@ module _ (f : ℕ → ℕ) where
         ∙ ap (landing hit (length slots) (first (length slots) x)) (path-recode x slots)
         ∙ landing-recode (length slots) (first (length slots) x) (path x slots)
 
--- ---- the slot that looking lands on holds what is found
+-- ---- the slot at which a search ends holds what is found
 
 module _ (hit : ℕ → Bool) (x slots : List ℕ) (some : 0 < length slots) (few : length slots ≤ absent) where
   nothing : ordinalAt slots absent ≡ absent

@@ -15,7 +15,7 @@ use Rattle.byte_slices.proofs.Lines.{lines-none}
 use Rattle.byte_slices.proofs.First.{first-some, first-within, first-le, lines-first}
 use Rattle.byte_slices.proofs.Stands.{by-parts}
 use Rattle.accepted.specs.Admits.{strictly}
-use Rattle.accepted.specs.Pieces.{Pairs}
+use Rattle.lists.specs.Pairs.{Pairs}
 use Rattle.accepted.proofs.Text.{text-lines, text-fits}
 use Rattle.catalogue_lines.specs.Line.{recordBytes}
 use Rattle.catalogue_lines.proofs.Records.{from-cons}

@@ -1,4 +1,4 @@
--- What answering asks of a text, its catalogue, a list of names, a work area and a result list, and what it leaves.
+-- What answering needs of a text, its catalogue, a list of names, a work area and a result list, and what it leaves.
 use Prim.Native.Nat.{ℕ, _≤_}
 use mathlib.Core.Path.{_≡_}
 use mathlib.Core.List.{List, map}
@@ -8,15 +8,15 @@ use Rattle.catalogue_entries.specs.Entries.{entriesIn}
 use Rattle.format.specs.Asked.{asked}
 use Rattle.format.specs.NameIndex.{nameOrdinal, slotCount, index, looks}
 use Rattle.name_entries.specs.Names.{namesIn}
-use Rattle.names.specs.Told.{Told}
+use Rattle.names.specs.NameEnds.{Told}
 use Rattle.format.specs.Summed.{summed}
 
--- the names that the catalogue's SQ entries say
+-- the names in the catalogue's SQ entries
 abbrev pub namesOfSq : List ℕ → List ℕ → List (List ℕ)
 namesOfSq text kept = namesIn text (entriesIn kept)
 
--- none is too long, the slots are as many as the index has, the results as many as the list has names, the SQ are `m`, and their names are
--- told by their places
+-- none is too long, there are as many slots as the index has, as many results as the list has names, and `m` SQ entries, whose names are given by
+-- their places
 pub record Answerable (text kept : List ℕ) (m : ℕ) (list slots out : List ℕ) : Type 0 where
   pub short : length kept ≤ 4294967294
   pub short-list : length list ≤ 16777216

@@ -1,7 +1,7 @@
 -- Words for contracts and laws, and nothing to believe.
--- Req 06 and 07 of document 02: many names at once.
---   Batch     what the call answers, for every argument
---   Answers   that answer in the code's types
+-- Many names at once (Req 06 and 07), whose answer `format` defines (`Batch`):
+--   Answers     that answer in the code's types
+--   Answering   what answering needs and leaves
 pub mod Answers
 pub mod Answering
-pub mod Told
+pub mod NameEnds

@@ -1,13 +1,13 @@
-// The answer of many names at once, where nothing refuses: an index of the SQ names, and by it the ordinal of each name of a list.
+// The answer for many names at once, if nothing refuses: an index of the SQ names, and from it the ordinal of each name of a list.
 ghost use mathlib.Core.Path.{_≡_};
 ghost use Rattle.names.specs.Answering.{Answerable, nameIndexIn, ordinalsIn, looksIn};
 
-// Texts of at most so many bytes are answered with little room for notes.
+// For texts of at most so many bytes there is little room for notes.
 const MIDDLE: usize = 262144;
 
-// Once nothing refuses: each name's ordinal in `out`, the index in `slots`, and the slots that were looked at. While names are looked for
-// the slots tell where names stand, so that a slot's name is found at once, and the ordinals afterwards: each of the `m` names of the SQ keeps
-// its slot, and `notes` take which it is.
+// If nothing refuses: writes the ordinal of each name to `out` and the index to `slots`, and counts the slots that were looked at. During the search
+// the slots hold where names are, so that the name of a slot is found at once; afterwards they hold ordinals. Each of the `m` SQ names keeps its
+// slot, and `notes` records which it is.
 fn answer_noting(
     text: &[u8],
     catalogue: &[u8],
@@ -29,8 +29,8 @@ fn answer_noting(
     looks
 }
 
-// The same for a text of any length, with 65,536 notes, and `more` times again. Nobody asks for more than once: a function that calls itself is
-// compiled by itself, so that its 256 KiB are not in the frame of its caller, which serves short texts too (`read_judge::judge_long`).
+// The same for a text of any length, with 65,536 notes, done `more` times again. Nobody asks for more than once. The function calls itself so that it
+// is compiled as a function of its own: its 256 KiB are not in the frame of its caller, which serves short texts too (see `read_judge::judge_long`).
 fn answer_long(
     text: &[u8],
     catalogue: &[u8],
@@ -53,7 +53,7 @@ fn answer_long(
     looks
 }
 
-// The same with room for notes: little of it is cleared where there are few SQ, and 16 KiB where the text is not long.
+// The same with room for notes: little is cleared if there are few SQ lines, and 16 KiB if the text is not long.
 pub fn answer(
     text: &[u8],
     catalogue: &[u8],

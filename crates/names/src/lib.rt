@@ -1,4 +1,5 @@
-// Many names at once: an index of the SQ names in a lent work area, by it the ordinal of each name of a list, and how much was looked at.
+// Many names at once: makes an index of the SQ names in a lent work area, finds the ordinal of each name of a list with it, and counts the slots
+// looked at.
 pub mod answer;
 
 use format::LineNo;
@@ -9,15 +10,15 @@ ghost use Rattle.read.specs.Answers.{outputOf};
 ghost use Rattle.format.specs.Batch.{batching};
 ghost use Rattle.names.specs.Answers.{namesOf, resultsOf, slotsOf};
 
-// A refusal and its line, or how many names are answered, and the slots that were looked at.
+// A refusal and its line, or how many names were answered and how many slots were looked at.
 pub enum NamesAnswer {
     Refused(u8, LineNo),
     Counted(usize, u64),
 }
 
-// For each name of a list its ordinal among the SQ at the front of `out`, or 4294967295, and the index of the SQ names at the front of
-// `work`; the slots that looking for the names took are counted. Reading's refusals, 21, then 1 for a list that is too long, then 20 for a
-// short work area or result list.
+// Writes the ordinal among the SQ lines of each name of a list to the front of `out`, or 4294967295, and the index of the SQ names to the front of
+// `work`. The slots that the searches looked at are counted. The refusals, in this order: those of reading, 21, 1 for a list that is too long, 20 for
+// a work area or a result list that is too short.
 pub fn names(
     text: &[u8],
     catalogue: &[u8],

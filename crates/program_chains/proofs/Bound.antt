@@ -14,7 +14,7 @@ use Rattle.format.specs.Bytes.{all}
 use Rattle.format.specs.Programs.{Link, root, dangling, child, loopsFrom, depth, depths, hops}
 use Rattle.program_chains.specs.Listed.{named}
 use Rattle.program_chains.specs.Parents.{nobody, linkOf, linksOf, areParents}
-use Rattle.program_chains.proofs.Bools.{both-true}
+use Rattle.lists.proofs.Bools.{both-true}
 use Rattle.program_chains.proofs.Pairs.{under, unders, pairs, under-next}
 use Rattle.program_chains.proofs.Paths.{Below, below-at, depth-less}
 use Rattle.program_chains.proofs.Walks.{map-at, depth-root, depth-dangling}

@@ -84,7 +84,7 @@ left-times x l (child k ∷ ls) o =
     go false true = refl
     go false false = refl
 
--- how often each number stands among the leaves
+-- how often each number occurs among the leaves
 pub leaves-times : (ls : List Link) (x : ℕ) → times x (leaves ls) ≡ cond (ltb x (length ls) && not (named x ls)) 1 0
 unfolding leaves
 leaves-times ls x =

@@ -1,4 +1,4 @@
--- The leaves are what is demanded of them.
+-- The leaves satisfy their laws.
 use Prim.Native.Nat.{ℕ, _+_, _≤_, _<_}
 use mathlib.Core.Path.{_≡_, refl, sym, ap, _∙_}
 use mathlib.Core.Logic.{_↔_}

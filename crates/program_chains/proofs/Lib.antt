@@ -1,5 +1,4 @@
 pub mod Arrays
-pub mod Bools
 pub mod Leaf
 pub mod Places
 pub mod Swaps

@@ -11,7 +11,7 @@ use borrow.Author.Tests.{eq-eqb, eqb-true, eqb-false, ltb-true, ltb-false}
 use Rattle.format.specs.Bytes.{any}
 use Rattle.format.specs.Programs.{Link, root, dangling, child, reaches, loopsFrom, depth}
 use Rattle.program_chains.specs.Listed.{named}
-use Rattle.program_chains.proofs.Bools.{both-false}
+use Rattle.lists.proofs.Bools.{both-false}
 use Rattle.program_chains.proofs.Times.{hit, times, Once, hit-same, hit-other, times-none}
 use Rattle.program_chains.proofs.Walks.{reaches-root}
 
@@ -108,7 +108,7 @@ loops-at all i (l ∷ ls) (suc j) e =
     ap (λ n. reaches all n (length all) (getD ls j root)) (omega arith)
     ∙ loops-at all (i + 1) ls j (both-false (reaches all i (length all) l) (loopsFrom all (i + 1) ls) e .1)
 
--- a parent that there is stands below `n`
+-- a parent, if there is one, is below `n`
 abbrev pub Below : ℕ → Link → Type 0
 Below n root = Unit
 Below n dangling = Unit

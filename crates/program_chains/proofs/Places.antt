@@ -46,7 +46,7 @@ module _ (x : ℕ) (l places : List ℕ) (has : HasPlaces places l) where
   pub found-place : getD places x 0 < length l → x ≡ getD l (getD places x 0) 0 → getD places x 0 ≡ indexIn x l
   found-place h e = listed (omega (arith, at-most-there x l (getD places x 0) h e))
 
-  -- and else there is none
+  -- and otherwise there is none
   absent : (indexIn x l < length l → ⊥) → length l ≡ indexIn x l
   absent gone = go (ltb (indexIn x l) (length l)) refl
     where

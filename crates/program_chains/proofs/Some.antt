@@ -1,4 +1,4 @@
--- Programs without a cycle have a leaf: a child stands one link deeper than its parent, and no program stands deeper than there are programs.
+-- Programs without a cycle have a leaf: a child is one link deeper than its parent, and no program is deeper than there are programs.
 use Prim.Native.Nat.{ℕ, zero, suc, _≤_, _<_}
 use mathlib.Core.Path.{_≡_, refl, sym, ap, _∙_}
 use mathlib.Core.Bool.{Bool, true, false, not, _&&_, _||_, false≢true}
@@ -35,7 +35,7 @@ depth-fewer ls (suc f) m dangling h e = e
 depth-fewer ls (suc f) zero (child k) h e = omega arith
 depth-fewer ls (suc f) (suc m) (child k) h e = let r = depth-fewer ls f m (getD ls k root) (omega arith) (omega arith) in omega (arith, r)
 
--- the parent of a program stands a link above it
+-- the parent of a program is one link above it
 deeper : (ls : List Link) (n m k : ℕ) → m < n → m ≤ depth ls n (getD ls k root) → suc m ≤ depth ls n (child k)
 unfolding depth
 deeper ls zero m k h e = absurd (omega arith)

@@ -1,4 +1,4 @@
--- How often a number stands in a list, and what a swap leaves of that. Assumes nothing.
+-- How often a number occurs in a list, and what a swap leaves of that. Assumes nothing.
 use Prim.Native.Nat.{ℕ, _+_, _≤_, _<_}
 use mathlib.Core.Path.{_≡_, refl, sym, ap, _∙_}
 use mathlib.Core.Bool.{Bool, true, false, cond, _||_, false≢true}
@@ -13,13 +13,13 @@ use Rattle.format.specs.Programs.{lastOr, butLast, instead, swapRemove}
 unfoldable pub hit : ℕ → ℕ → ℕ
 hit x y = cond (eqb x y) 1 0
 
--- how often `x` stands in a list
+-- how often `x` occurs in a list
 unfoldable pub times : ℕ → List ℕ → ℕ
 unfolding hit
 times x [] = 0
 times x (y ∷ ys) = hit x y + times x ys
 
--- no number stands in it twice
+-- no number occurs in it twice
 abbrev pub Once : List ℕ → Type 0
 Once xs = (x : ℕ) → times x xs ≤ 1
 
@@ -69,7 +69,7 @@ as-many true false h s t u e = omega arith
 as-many false true h s t u e = omega arith
 as-many false false h s t u e = omega arith
 
--- `z` instead of `k`: as often as `k` stood there
+-- `z` instead of `k`: as often as `k` was there
 pub times-instead : (x k z : ℕ) (m : List ℕ) → times x (map (instead k z) m) + cond (eqb x k) (times k m) 0 ≡ times x m + cond (eqb x z) (times k m) 0
 unfolding times instead
 times-instead x k z [] = none (eqb x k) (eqb x z)
@@ -124,13 +124,13 @@ moved x k z m o = go (eqb k z) refl o
         let one : times k m ≡ 1 = omega arith in
         rw one at (times-instead x k z m)
 
--- `k`, which stands there once, goes
+-- `k`, which occurs there once, goes
 pub swap-times : (x k : ℕ) (l : List ℕ) → any (eqb k) l ≡ true → times k l ≡ 1 → times x (swapRemove k l) + hit x k ≡ times x l
 swap-times x k l e o =
     let h : 0 < length l = filled l k e in
     rw (swap-some k l e, times-last x l h) (moved x k (lastOr 0 l) (butLast l) (sym (times-last k l h) ∙ o))
 
--- the same for a list in which no number stands twice
+-- the same for a list in which no number occurs twice
 pub swap-once : (x k : ℕ) (l : List ℕ) → Once l → times x (swapRemove k l) ≡ cond (eqb x k) 0 (times x l)
 unfolding hit
 swap-once x k l o = go (any (eqb k) l) refl (eqb x k) refl

@@ -9,7 +9,7 @@ use lib.Dec.{eqb, ltb}
 use borrow.Author.Tests.{eq-eqb, ne-eqb, ltb-true}
 use Rattle.format.specs.Bytes.{all}
 use Rattle.format.specs.Programs.{Link, root, dangling, child, reaches, depth}
-use Rattle.program_chains.proofs.Bools.{both-true}
+use Rattle.lists.proofs.Bools.{both-true}
 use Rattle.program_chains.specs.Parents.{nobody, linkOf, linksOf, areParents}
 
 pub link-none : (p : ℕ) → p ≡ 4294967295 → linkOf p ≡ root
@@ -20,7 +20,7 @@ pub link-some : (p : ℕ) → (p ≡ 4294967295 → ⊥) → linkOf p ≡ child 
 unfolding linkOf nobody
 link-some p e = rw (ne-eqb _ _ e) refl
 
--- what stands at a place of a mapped list
+-- what is at a place of a mapped list
 pub map-at : {A B : Type 0} (f : A → B) (l : List A) (k : ℕ) (d : A) (e : B) → k < length l → getD (map f l) k e ≡ f (getD l k d)
 map-at f [] k d e h = absurd (omega arith)
 map-at f (x ∷ l) zero d e h = refl
@@ -30,7 +30,7 @@ pub link-at : (ps : List ℕ) (k : ℕ) → k < length ps → getD (linksOf ps) 
 unfolding linksOf
 link-at ps k h = map-at linkOf ps k 0 root h
 
--- each parent that there is stands below `n`
+-- each parent, if there is one, is below `n`
 pub within-at : (n : ℕ) (ps : List ℕ) (k : ℕ) → areParents n ps ≡ true → k < length ps → (getD ps k 0 ≡ 4294967295 → ⊥) → getD ps k 0 < n
 unfolding areParents nobody all
 within-at n [] k w h e = absurd (omega arith)

@@ -1,4 +1,4 @@
--- What the laws of leaves speak of: the programs that are a parent.
+-- The programs that are a parent, for the laws of leaves.
 use Prim.Native.Nat.{ℕ}
 use mathlib.Core.Bool.{Bool, false, _||_}
 use mathlib.Core.List.{List, [], _∷_}

@@ -1,4 +1,4 @@
--- The parent of each program as a number, and what the graph's functions answer.
+-- The parent of each program as a number, and the answers of the functions on the graph.
 use Prim.Native.Nat.{ℕ, suc, _-_, _<_}
 use mathlib.Core.Path.{_≡_}
 use mathlib.Core.Bool.{Bool, _||_, cond}
@@ -16,7 +16,7 @@ unfoldable pub linkOf : ℕ → Link
 unfolding nobody
 linkOf p = cond (eqb p nobody) root (child p)
 
--- the links that a list of parents says
+-- the links that a list of parents describes
 unfoldable pub linksOf : List ℕ → List Link
 unfolding linkOf
 linksOf ps = map linkOf ps
@@ -30,7 +30,7 @@ areParents n ps = all (λ p. eqb p nobody || ltb p n) ps
 unfoldable pub inArray : List ℕ → List ℕ
 inArray xs = xs ++ replicate (1024 - length xs) 0
 
--- the place of `x` in a list, or the list's length where it is not there
+-- the place of `x` in a list, or the list's length if it is not there
 unfoldable pub indexIn : ℕ → List ℕ → ℕ
 indexIn x [] = 0
 indexIn x (y ∷ ys) = cond (eqb x y) 0 (suc (indexIn x ys))

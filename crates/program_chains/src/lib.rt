@@ -1,4 +1,4 @@
-// Chains of programs: roots and leaves over a list of parents. The parent of a program without PP is 4,294,967,295.
+// Chains of programs: roots and leaves, from a list of parents. A program without PP has the parent 4,294,967,295.
 ghost use mathlib.Core.Path.{_≡_};
 ghost use mathlib.Core.Bool.{true};
 ghost use Prim.Native.Nat.{_≤_, _<_};
@@ -8,7 +8,7 @@ ghost use Rattle.program_chains.specs.Parents.{linksOf, areParents, inAr
 
 pub const NOBODY: u32 = 4294967295;
 
-// Ordinals in an array, and how many they are.
+// Ordinals in an array, and how many there are.
 pub struct Ordinals {
     pub list: [u32; 1024],
     pub count: usize,
@@ -28,14 +28,14 @@ fn counting(n: usize) -> [u32; 1024]
     list
 }
 
-// A number as a size.
+// A number as a `usize`.
 fn size(x: u32) -> usize
     ensures { λ r. ⌜ r ≡ x ⌝ }
 {
     x as usize
 }
 
-// The place of `x` in a list, or the list's length where it is not there: `places` has the place of each number that is listed.
+// The place of `x` in a list, or the list's length if it is not there. `places` has the place of each number in the list.
 fn place(list: &[u32], places: &[u32; 1024], x: u32) -> usize
     requires { ⌜ HasPlaces (now places) (now list) ⌝ }
     requires { ⌜ x < 1024 ⌝ }
@@ -50,7 +50,8 @@ fn place(list: &[u32], places: &[u32; 1024], x: u32) -> usize
     list.len()
 }
 
-// The leaves in the crate's order: for each program in order that has a PP, the last of the list takes the parent's place. No list is searched.
+// The leaves in the order of noodles-sam: for each program that has a PP, in order, the last of the list takes the place of its parent. No list is
+// searched.
 pub fn leaves(parents: &[u32]) -> Ordinals
     requires { ⌜ areParents (length (now parents)) (now parents) ≡ true ⌝ }
     requires { ⌜ length (now parents) ≤ 1024 ⌝ }

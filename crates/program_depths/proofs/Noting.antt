@@ -67,7 +67,7 @@ pub noted-none : (ps : List ℕ) → KnownRight ps (inArray (replicate (length p
 noted-none ps k h e =
     absurd (e (array-at (replicate (length ps) 4294967295) k (omega (arith, unknown-count (length ps))) ∙ getD-replicate (length ps) k 4294967295 0 h))
 
--- ---- behind the programs there are zeros
+-- ---- after the programs there are zeros
 
 abbrev pub Behind : List ℕ → ℕ → Type 0
 Behind ds n = (k : ℕ) → n ≤ k → getD ds k 0 ≡ 0
@@ -136,7 +136,7 @@ module _ (ps : List ℕ) (i : ℕ) where
   unfolding depths linksOf
   sum-spent h = rw drop-of-length-le refl
 
--- ---- what is told of a cycle
+-- ---- what is answered for a cycle
 
 pub cycle-is : (ls : List Link) (d : Depths) → d ≡ depthsOf ls → d .cycle ≡ loopsFrom ls 0 ls
 unfolding depthsOf

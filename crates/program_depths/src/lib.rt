@@ -1,4 +1,4 @@
-// The depth of every program over a list of parents: each takes it from its parent, so that every link is gone along at most twice.
+// The depth of every program, from a list of parents. Each program takes it from its parent, so every link is followed at most twice.
 ghost use mathlib.Core.Path.{_≡_};
 ghost use mathlib.Core.Bool.{true, false};
 ghost use Prim.Native.Nat.{_≤_, _<_};
@@ -6,10 +6,10 @@ ghost use lib.ListN.{length, getD, replicate};
 ghost use Rattle.program_chains.specs.Parents.{linksOf, areParents, inArray};
 ghost use Rattle.program_depths.specs.Depths.{deep, KnownRight, KnownStay, depthsOf};
 
-// The depth of a program that has none yet.
+// The depth of a program whose depth is not known yet.
 pub const UNKNOWN: u32 = 4294967295;
 
-// The parent links from program `i` to its root: up to a root or to a program whose depth is known, at most n.
+// The number of parent links from program `i` to its root, at most n. The walk stops early at a program whose depth is known.
 fn climb(parents: &[u32], depths: &[u32; 1024], i: usize) -> u32
     requires { ⌜ areParents (length (now parents)) (now parents) ≡ true ⌝ }
     requires { ⌜ length (now parents) ≤ 1024 ⌝ }
@@ -39,7 +39,7 @@ fn climb(parents: &[u32], depths: &[u32; 1024], i: usize) -> u32
     steps
 }
 
-// Notes the depth of each program above `i`, whose own is `d`, up to one that has its depth.
+// Notes the depths of the programs above `i`, whose own depth is `d`, up to one whose depth is known.
 fn settle(parents: &[u32], depths: &mut [u32; 1024], i: usize, d: u32)
     requires { ⌜ areParents (length (now parents)) (now parents) ≡ true ⌝ }
     requires { ⌜ length (now parents) ≤ 1024 ⌝ }
@@ -62,7 +62,7 @@ fn settle(parents: &[u32], depths: &mut [u32; 1024], i: usize, d: u32)
     }
 }
 
-// Finds the depth of program `i`, and of those above it: false where there is no end, for a cycle.
+// Finds the depths of program `i` and of those above it. False if the parents never end, because there is a cycle.
 fn learn(parents: &[u32], depths: &mut [u32; 1024], i: usize) -> bool
     requires { ⌜ areParents (length (now parents)) (now parents) ≡ true ⌝ }
     requires { ⌜ length (now parents) ≤ 1024 ⌝ }
@@ -86,7 +86,7 @@ fn learn(parents: &[u32], depths: &mut [u32; 1024], i: usize) -> bool
     true
 }
 
-// `n` depths that are not known yet, and zeros behind them.
+// `n` depths that are not known yet, and zeros after them.
 fn unknown(n: usize) -> [u32; 1024]
     requires { ⌜ n ≤ 1024 ⌝ }
     ensures { λ r. ⌜ r ≡ inArray (replicate n 4294967295) ⌝ }
@@ -100,7 +100,7 @@ fn unknown(n: usize) -> [u32; 1024]
     list
 }
 
-// The depth of each program in order, their sum, and whether some program comes back to itself: then the rest is zeros.
+// The depth of each program in order, their sum, and whether some program comes back to itself. In that case the other depths are zeros.
 pub struct Depths {
     pub list: [u32; 1024],
     pub hops: u32,

@@ -1,7 +1,7 @@
--- Places of a text, as numbers in arrays and as its bytes: where the IDs of programs stand.
+-- Places of a text, as numbers in arrays: where the IDs of programs stand.
 use Prim.Native.Nat.{ℕ, _+_, _≤_}
 use mathlib.Core.Path.{_≡_}
-use mathlib.Core.List.{List, [], _∷_, map}
+use mathlib.Core.List.{List, [], _∷_}
 use lib.ListN.{length, take, drop}
 use Rattle.byte_slices.specs.Stands.{Each}
 use Rattle.catalogue_entries.specs.declared.Place.{Place}
@@ -10,7 +10,7 @@ use Rattle.catalogue_entries.specs.declared.Place.{Place}
 abbrev pub InsideText : ℕ → Place → Type 0
 InsideText n p = p .at + p .len ≤ n
 
--- no place of a text is there
+-- a place that is in no text
 unfoldable pub nowhere : Place
 nowhere = record { at = 4294967295; len = 0 }
 
@@ -24,12 +24,7 @@ placesOf [] lens = []
 placesOf (a ∷ ats) [] = []
 placesOf (a ∷ ats) (l ∷ lens) = record { at = a; len = l } ∷ placesOf ats lens
 
--- the bytes there
-unfoldable pub idsAt : List ℕ → List ℕ → List ℕ → List (List ℕ)
-unfolding bytesAt placesOf
-idsAt t ats lens = map (bytesAt t) (placesOf ats lens)
-
--- as many offsets as lengths, 1,024 at most, and each place is within the text
+-- there are as many offsets as lengths, 1,024 at most, and each place is within the text
 pub record PlacesInText (t ats lens : List ℕ) : Type 0 where
   pub even : length ats ≡ length lens
   pub few : length ats ≤ 1024

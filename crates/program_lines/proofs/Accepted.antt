@@ -9,17 +9,17 @@ use lib.Dec.{eqb}
 use Rattle.format.specs.Lines.{Piece, lines}
 use Rattle.format.specs.Records as records
 use Rattle.format.specs.Records.{Record, header, reference, group, program, comment, code, read}
-use Rattle.format.specs.Reading.{accept, readText, announced, isStrict, ofKind}
+use Rattle.format.specs.Reading.{accept, readText, ofKind}
 use Rattle.byte_slices.specs.Stands.{Each}
-use Rattle.accepted.specs.Pieces.{Pairs}
-use Rattle.accepted.specs.Admits.{strictly}
+use Rattle.lists.specs.Pairs.{Pairs}
 use Rattle.accepted.specs.Sound.{kind}
 use Rattle.accepted.specs.Spelled as sp
 use Rattle.accepted.specs.Spelled.{AcceptedLine, Spelled, kind₀}
-use Rattle.accepted.proofs.Bools.{never, split}
+use Rattle.lists.proofs.Bools.{never, split}
 use Rattle.accepted.proofs.Spelled.{line-accepted}
-use Rattle.accepted.proofs.Text.{text-lines}
-use Rattle.accepted.proofs.Pairs.{pairs-left}
+use Rattle.accepted_rule.specs.Rule.{ReadsBy}
+use Rattle.accepted_rule.proofs.Rule.{lines-by}
+use Rattle.lists.proofs.Pairs.{pairs-left}
 use Rattle.accepted_line.proofs.fields.Start.{accepted-start, accepted-tags}
 use Rattle.binary_references.proofs.Next.{second-byte}
 use Rattle.program_lines.specs.Line.{FieldsOf}
@@ -55,9 +55,9 @@ pairs-programs strict (p ∷ ps) (r ∷ rs) h =
     go true e ih = (record { reads = h .0; kind = e }, ih)
     go false e ih = ih
 
-pub text-program-lines : (strict : Bool) (t : List ℕ) (rs : List Record) → readText t ≡ accept rs → strict ≡ isStrict (announced (lines t)) → Pairs (IsProgram strict) (pgFrom t 0) (ofKind 4 rs)
-unfolding lines strictly
-text-program-lines strict t rs e s = rw s (pairs-programs (strictly t) (lines t) rs (text-lines t rs e))
+pub text-program-lines : (strict : Bool) (t : List ℕ) (rs : List Record) → readText t ≡ accept rs → ReadsBy strict t → Pairs (IsProgram strict) (pgFrom t 0) (ofKind 4 rs)
+unfolding lines
+text-program-lines strict t rs e s = pairs-programs strict (lines t) rs (lines-by strict t rs e s)
 
 -- such a line is one of fields
 spelled-of : (strict : Bool) (at : ℕ) (s : List ℕ) (r : Record) → AcceptedLine strict at s r → eqb (code r) 4 ≡ true → Spelled strict at s r

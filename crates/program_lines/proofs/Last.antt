@@ -1,4 +1,4 @@
--- The last value of a tag stands in the line, or is none.
+-- The last value of a tag is in the line, or there is none.
 use Prim.Native.Nat.{ℕ, _+_, _-_, _≤_, _<_, _^_}
 use mathlib.Core.Path.{_≡_, refl, sym, ap, subst, _∙_}
 use mathlib.Core.Bool.{Bool}

@@ -1,4 +1,4 @@
--- The laws of gathering: a turn passes a PG line, which goes to the end of the arrays.
+-- The laws of gathering: a step passes a PG line, which goes to the end of the arrays.
 use Prim.Native.Nat.{ℕ, suc, _+_, _-_, _≤_, _<_, _^_}
 use mathlib.Core.Path.{_≡_, refl, sym, ap, ap₂, subst, _∙_}
 use mathlib.Core.Bool.{Bool, true, false}
@@ -6,14 +6,15 @@ use mathlib.Core.List.{List, [], _∷_, _++_, map, map-map, append-nil}
 use native.Mathlib.Omega.{arith}
 use lib.ListN.{length, take, drop, set, replicate, length-append, length-map, length-drop}
 use lib.Seq.{append-snoc, length-take-le}
-use Rattle.format.specs.Lines.{Piece, lines}
+use Rattle.format.specs.Lines.{Piece}
 use Rattle.format.specs.Records.{Record}
-use Rattle.format.specs.Reading.{readText, accept, ofKind, announced, isStrict}
+use Rattle.format.specs.Reading.{readText, accept, ofKind}
+use Rattle.accepted_rule.specs.Rule.{ReadsBy}
 use Rattle.byte_slices.specs.Stands.{Each}
 use Rattle.accepted.specs.Read.{isAccepted, recordsOf}
 use Rattle.accepted.proofs.Read.{accepted-reads}
 use Rattle.accepted.proofs.Text.{text-fits, text-programs}
-use Rattle.accepted.proofs.Pairs.{pairs-left, pairs-length}
+use Rattle.lists.proofs.Pairs.{pairs-left, pairs-length}
 use Rattle.program_chains.specs.Parents.{inArray}
 use Rattle.program_chains.proofs.Arrays.{array-push}
 use Rattle.catalogue_entries.specs.declared.Place.{Place}
@@ -34,7 +35,7 @@ use Rattle.program_lines.proofs.Accepted.{IsProgram, fielded, text-prog
 abbrev Kept : (Piece → ℕ) → List Piece → List ℕ → Type 0
 Kept f ps xs = xs ≡ inArray (map f ps)
 
--- and that of one line more
+-- and that of one more line
 kept-more : (f : Piece → ℕ) (ps : List Piece) (p : Piece) (xs : List ℕ) (count v : ℕ) → Kept f ps xs → length ps ≡ count → count < 1024 → v ≡ f p → Kept f (ps ++ (p ∷ [])) (set xs count v)
 kept-more f ps p xs count v k l h e =
     let m : length (map f ps) ≡ count = length-map ps f ∙ l in
@@ -66,7 +67,7 @@ pub record Listed (t : List ℕ) (strict : Bool) (starts sizes ats lens from wid
 abbrev zeros : List ℕ
 zeros = replicate 1024 0
 
-pub listed-none : (t : List ℕ) (strict : Bool) → isAccepted (readText t) ≡ true → strict ≡ isStrict (announced (lines t)) → Listed t strict zeros zeros zeros zeros zeros zeros 0 0
+pub listed-none : (t : List ℕ) (strict : Bool) → isAccepted (readText t) ≡ true → ReadsBy strict t → Listed t strict zeros zeros zeros zeros zeros zeros 0 0
 unfolding inArray
 listed-none t strict h s =
     let reads = accepted-reads t h in
@@ -130,7 +131,7 @@ module _ (t : List ℕ) (strict : Bool) (starts sizes ats lens from widths : Lis
     unfolding Each
     split-each = subst (Each (IsProgramLine strict)) opened (x .each)
 
-    -- the line of a turn, as it is lent
+    -- the line of a step, as it is lent
     pub listed-fields : FieldsOf strict (r .at) (take (r .at + r .len - r .at) (drop (r .at) t))
     unfolding toldLine
     listed-fields =

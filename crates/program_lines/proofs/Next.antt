@@ -14,7 +14,7 @@ use Rattle.byte_slices.proofs.First.{lines-first, first-le, first-within, first
 use Rattle.program_lines.specs.Found.{mayBeProgram, programLines, pgFrom, toldLine, toldLines}
 use Rattle.program_lines.specs.declared.NextLine.{NextLine}
 
--- behind the last line there is none
+-- there is no line after the last
 pub pg-none : (t : List ℕ) (at : ℕ) → length t ≤ at → pgFrom t at ≡ []
 unfolding programLines
 pg-none t at h = ap (λ s. programLines (linesFrom at s)) (drop-of-length-le t h) ∙ ap programLines (lines-none at)
@@ -49,7 +49,7 @@ turn t at h c f =
       other = λ e. list ∙ ap (λ b. cond b (record { at = at; bytes = take (c .len) s } ∷ pgFrom t (at + c .next)) (pgFrom t (at + c .next))) (ap (λ n. mayBeProgram (take n s)) (sym m) ∙ e);
     }
 
--- ---- by what the next line tells
+-- ---- by what the next line is
 
 module _ (t : List ℕ) (r : NextLine) where
   pub told-one : r .found ≡ true → toldLines t r ≡ toldLine t r ∷ pgFrom t (r .next)

@@ -9,17 +9,18 @@ use lib.ListN.{length}
 use lib.Dec.{eqb}
 use borrow.Author.Tests.{eqb-true, eq-eqb, ne-eqb}
 use Rattle.format.specs.Bytes.{any}
-use Rattle.format.specs.Lines.{Piece, lines}
+use Rattle.format.specs.Lines.{Piece}
 use Rattle.format.specs.Fields.{Field, tagged, repeats, later, lastOf, without, put, settledOn, settled}
 use Rattle.format.specs.Records.{Record, header, reference, group, program, comment, code, key, others}
-use Rattle.format.specs.Reading.{accept, readText, announced, isStrict, ofKind}
+use Rattle.format.specs.Reading.{accept, readText, ofKind}
+use Rattle.accepted_rule.specs.Rule.{ReadsBy}
 use Rattle.format.specs.Catalogue.{catalogue}
 use Rattle.byte_slices.specs.Stands.{Each}
-use Rattle.accepted.specs.Pieces.{Pairs}
+use Rattle.lists.specs.Pairs.{Pairs}
 use Rattle.accepted.specs.Sound.{Sound}
 use Rattle.accepted.specs.Spelled as sp
 use Rattle.accepted.specs.Spelled.{Spelled, Made}
-use Rattle.accepted.proofs.Bools.{never, split, or-left, or-right}
+use Rattle.lists.proofs.Bools.{never, split, or-left, or-right}
 use Rattle.accepted.proofs.Tags.{tagged-same, later-assoc, repeats-put}
 use Rattle.accepted.proofs.Text.{text-sound}
 use Rattle.tidy_laws.proofs.Length.{last-without}
@@ -39,7 +40,7 @@ use Rattle.program_lines.specs.Found.{pgFrom, placeOf, previousOf, notes
 use Rattle.program_lines.proofs.Accepted.{IsProgram, spelled, text-program-lines}
 use Rattle.program_lines.proofs.Last.{last-after}
 
--- ---- the last value of a tag, where each tag stands once
+-- ---- the last value of a tag, where each tag occurs once
 
 abbrev own : ℕ → ℕ → Field → Option Piece
 own a b f = cond (tagged a b f) (some (f .value)) none
@@ -154,7 +155,7 @@ noted-on l (program p fs ∷ rs) s =
     (noted-fields fs (entriesOn (l + 1) rs) ∙ noted-on (l + 1) rs (s .1))
 noted-on l (comment p ∷ rs) s = noted-on (l + 1) rs (s .1)
 
-pub same-gathered : (strict : Bool) (t : List ℕ) (rs : List Record) → readText t ≡ accept rs → strict ≡ isStrict (announced (lines t)) → map notesOf (pgFrom t 0) ≡ notedIn (entriesIn (catalogue rs))
+pub same-gathered : (strict : Bool) (t : List ℕ) (rs : List Record) → readText t ≡ accept rs → ReadsBy strict t → map notesOf (pgFrom t 0) ≡ notedIn (entriesIn (catalogue rs))
 unfolding entriesOf
 same-gathered strict t rs e s =
     all-notes strict (pgFrom t 0) (ofKind 4 rs) (text-program-lines strict t rs e s)

@@ -1,15 +1,15 @@
-// The programs of an accepted text, gathered from its PG lines: where each line stands, its ID and its PP.
-use accepted_line::fields::Value;
+// The programs of an accepted text, gathered from its PG lines: where each line is, its ID and its PP.
 use catalogue_entries::Place;
 use program_places::Places;
 use program_places::Programs;
+use record::Stretch;
 ghost use mathlib.Core.Path.{_≡_};
 ghost use mathlib.Core.Bool.{true};
 ghost use mathlib.Core.List.{map};
 ghost use Prim.Native.Nat.{_≤_, _+_, _<_, _^_};
 ghost use lib.ListN.{length};
-ghost use Rattle.format.specs.Lines.{lines};
-ghost use Rattle.format.specs.Reading.{announced, isStrict, readText};
+ghost use Rattle.format.specs.Reading.{readText};
+ghost use Rattle.accepted_rule.specs.Rule.{ReadsBy};
 ghost use Rattle.accepted.specs.Read.{isAccepted};
 ghost use Rattle.accepted_line.specs.Next.{lastIn};
 ghost use Rattle.accepted_line.specs.Tables.{Walkable};
@@ -17,7 +17,7 @@ ghost use Rattle.program_places.specs.Gathered.{gatheredOf};
 ghost use Rattle.program_lines.specs.Line.{FieldsOf};
 ghost use Rattle.program_lines.specs.Found.{mayBeProgram, pgFrom, toldLines, NextLineInText, placeOf, previousOf, notesOf, linesOf};
 
-// The next PG line, where it stands, and the offset of the line after it; `found` is false where none is left.
+// The next PG line, where it is, and the offset of the line after it; `found` is false if none is left.
 struct NextLine {
     found: bool,
     at: usize,
@@ -25,19 +25,19 @@ struct NextLine {
     next: usize,
 }
 
-// Where the ID and the PP of a program stand.
+// Where the ID and the PP of a program are.
 pub struct Noted {
     pub id: Place,
     pub previous: Place,
 }
 
-// The programs of a text, and where their lines stand.
+// The programs of a text, and where their lines are.
 pub struct ProgramLines {
     pub programs: Programs,
     pub lines: Places,
 }
 
-// Whether a line is a program's: an accepted line's second byte tells its kind.
+// Whether a line is a program. The second byte of an accepted line determines its kind.
 fn may_be_program(line: &[u8]) -> bool
     ensures { λ r. ⌜ r ≡ mayBeProgram (now (line .entry)) ⌝ }
 {
@@ -47,7 +47,7 @@ fn may_be_program(line: &[u8]) -> bool
     line[1] == b'P'
 }
 
-// The first PG line from the offset `start` on, where a line starts.
+// The first PG line from the offset `start` on, at which a line starts.
 fn next_program(text: &[u8], start: usize) -> NextLine
     requires { ⌜ start ≤ length (now text) ⌝ }
     ensures list { λ r. ⌜ pgFrom (now (text .entry)) start ≡ toldLines (now (text .entry)) r ⌝ }
@@ -77,7 +77,7 @@ fn next_program(text: &[u8], start: usize) -> NextLine
 }
 
 // A place, in the numbers of an entry.
-fn narrow(v: Value) -> Place
+fn narrow(v: Stretch) -> Place
     requires { ⌜ (v .at < 2 ^ 32) × (v .len < 2 ^ 32) ⌝ }
     ensures { λ r. ⌜ r ≡ placeOf v ⌝ }
 {
@@ -87,8 +87,8 @@ fn narrow(v: Value) -> Place
     }
 }
 
-// Where a PP stands: nowhere where there is none.
-fn narrow_previous(v: Value) -> Place
+// Where a PP is, or a place that is in no text if there is none.
+fn narrow_previous(v: Stretch) -> Place
     requires { ⌜ (v .at < 2 ^ 32) × (v .len < 2 ^ 32) ⌝ }
     ensures { λ r. ⌜ r ≡ previousOf v ⌝ }
 {
@@ -101,21 +101,14 @@ fn narrow_previous(v: Value) -> Place
     narrow(v)
 }
 
-// The ID and the PP of an accepted PG line, by a walk.
-fn find_places(line: &[u8], at: usize, once: bool, tables: &[u32]) -> Noted
-    requires { ⌜ Walkable once at (now line) (now tables) ⌝ }
+// The ID and the PP of an accepted PG line, found by walking over it.
+fn find_places(line: &[u8], at: usize, tables: &[u32]) -> Noted
+    requires { ⌜ Walkable at (now line) (now tables) ⌝ }
     requires { ⌜ at + length (now line) ≤ 16777216 ⌝ }
     ensures { λ r. ⌜ (r .id ≡ placeOf (lastIn at (now (line .entry)) 73 68)) × (r .previous ≡ previousOf (lastIn at (now (line .entry)) 80 80)) ⌝ }
 {
-    let id = narrow(accepted_line::fields::find_value(line, at, b'I', b'D', once, tables));
-    let previous = narrow_previous(accepted_line::fields::find_value(
-        line,
-        at,
-        b'P',
-        b'P',
-        once,
-        tables,
-    ));
+    let id = narrow(accepted_line::fields::find_value(line, at, b'I', b'D', tables));
+    let previous = narrow_previous(accepted_line::fields::find_value(line, at, b'P', b'P', tables));
     Noted { id, previous }
 }
 
@@ -125,17 +118,17 @@ pub fn places_of(line: &[u8], at: usize, strict: bool) -> Noted
     ensures { λ r. ⌜ (r .id ≡ placeOf (lastIn at (now (line .entry)) 73 68)) × (r .previous ≡ previousOf (lastIn at (now (line .entry)) 80 80)) ⌝ }
 {
     if accepted_line::fields::is_once(line, at, strict) {
-        return find_places(line, at, true, &[]);
+        return find_places(line, at, &[]);
     }
     let mut tables = [0u32; 6448];
     accepted_line::fields::note_tags(line, at, &mut tables);
-    find_places(line, at, false, &tables)
+    find_places(line, at, &tables)
 }
 
-// The programs of an accepted text; `strict` is what the text says of repeated tags.
+// The programs of an accepted text; `strict` is the rule for repeated tags that its lines are read by.
 pub fn gather(text: &[u8], strict: bool) -> ProgramLines
     requires { ⌜ isAccepted (readText (now text)) ≡ true ⌝ }
-    requires { ⌜ strict ≡ isStrict (announced (lines (now text))) ⌝ }
+    requires { ⌜ ReadsBy strict (now text) ⌝ }
     ensures programs { λ r. ⌜ r .programs ≡ gatheredOf (map notesOf (pgFrom (now (text .entry)) 0)) ⌝ }
     ensures lines { λ r. ⌜ r .lines ≡ linesOf (pgFrom (now (text .entry)) 0) ⌝ }
 {

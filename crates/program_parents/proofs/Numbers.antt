@@ -14,8 +14,8 @@ use Rattle.format.specs.Bytes.{same, any, all}
 use Rattle.format.specs.Lines.{Piece}
 use Rattle.format.specs.Programs.{Program, Link, root, dangling, child, ordinalFrom, found, link, links, isDangling, roots, rootsFrom}
 use Rattle.byte_slices.specs.Stands.{Each}
-use Rattle.accepted.proofs.Bools.{never, or-true, or-false, any-snoc}
-use Rattle.accepted.proofs.Pairs.{each-at}
+use Rattle.lists.proofs.Bools.{never, or-true, or-false, any-snoc}
+use Rattle.lists.proofs.Pairs.{each-at}
 use Rattle.program_chains.specs.Parents.{nobody, linksOf, areParents, inArray}
 use Rattle.program_chains.specs.Listed.{named}
 use Rattle.program_chains.proofs.Arrays.{array-push}

@@ -13,7 +13,8 @@ use Rattle.format.specs.Reading.{readText, accept, ofKind}
 use Rattle.format.specs.Catalogue.{catalogue}
 use Rattle.format.specs.Programs.{Program, programs, programOf, bytesOf, ordinalFrom, found, link}
 use Rattle.byte_slices.specs.Stands.{Each, Stands}
-use Rattle.accepted.specs.Pieces.{pieces, Pairs}
+use Rattle.accepted.specs.Pieces.{pieces}
+use Rattle.lists.specs.Pairs.{Pairs}
 use Rattle.accepted.specs.Sound.{Sound}
 use Rattle.accepted.proofs.Text.{text-sound, text-stand}
 use Rattle.program_chains.specs.Parents.{nobody}
@@ -26,6 +27,7 @@ use Rattle.catalogue_lookup.proofs.Answers.{value-fields}
 use Rattle.program_ids.specs.Places.{InsideText, bytesAt, nowhere}
 use Rattle.program_places.specs.Gathered.{ProgramPlaces, orNowhere, notedIn}
 use Rattle.program_parents.specs.Parents.{Somewhere, linkNumber, orStranger, parentOf}
+use Rattle.program_parents.specs.Placed.{Before, Says}
 use Rattle.program_ids.specs.Search.{idsOf, idOrdinalFrom}
 use Rattle.program_ids.proofs.Search.{ordinal-ids}
 
@@ -40,19 +42,6 @@ module _ (t : List ℕ) where
   stands-bytes : (p : Piece) → Stands t 0 p → bytesAt t (pieceAt p) ≡ p .bytes
   unfolding bytesAt pieceAt
   stands-bytes p s = let z : p .at - 0 ≡ p .at = omega arith in sym (s .bytes ∙ ap (λ n. take (length (p .bytes)) (drop n t)) z)
-
--- ---- one program
-
--- where a PP stands: nowhere without PP
-unfoldable pub Before : List ℕ → Place → Option Piece → Type 0
-unfolding pieceAt nowhere
-Before t q none = q ≡ nowhere
-Before t q (some p) = (q ≡ pieceAt p) × Stands t 0 p
-
-pub record Says (t : List ℕ) (n : ProgramPlaces) (p : Program) : Type 0 where
-  pub inside : InsideText (length t) (n .id)
-  pub bytes : bytesAt t (n .id) ≡ p .id
-  pub previous : Before t (n .previous) (p .previous)
 
 -- ---- from records
 

@@ -1,4 +1,4 @@
--- The parents of the programs, as numbers, and what is found along them.
+-- The parents of the programs as numbers, and what is found from them.
 use Prim.Native.Nat.{ℕ, _≤_}
 use mathlib.Core.Path.{_≡_}
 use mathlib.Core.Bool.{cond}
@@ -18,11 +18,11 @@ use Rattle.program_parents.specs.declared.Graph.{Graph}
 
 -- ---- parents
 
--- the parent of a program whose PP equals no ID: no ordinal, and not nobody
+-- the parent of a program whose PP equals no ID: neither an ordinal nor nobody
 unfoldable pub stranger : ℕ
 stranger = 4294967294
 
--- a link as a parent's number
+-- a link, as the number of a parent
 unfoldable pub linkNumber : Link → ℕ
 unfolding nobody stranger
 linkNumber root = nobody
@@ -34,21 +34,21 @@ unfolding stranger
 orStranger none = stranger
 orStranger (some k) = k
 
--- by the place of its PP: nobody without PP, the ordinal of the program that it names, a stranger where it names none
+-- the parent, from the place of the PP: nobody without a PP, the ordinal of the program that it names, a stranger if it names none
 unfoldable pub parentOf : List ℕ → List (List ℕ) → Place → ℕ
 unfolding nobody orStranger idOrdinalFrom bytesAt
 parentOf t ids p = cond (eqb (p .at) 4294967295) nobody (orStranger (idOrdinalFrom (bytesAt t p) 0 ids))
 
--- a PP that is there is within `n` bytes
+-- a PP, if there is one, is within `n` bytes
 abbrev pub Somewhere : ℕ → Place → Type 0
 Somewhere n p = (p .at ≡ 4294967295 → ⊥) → InsideText n p
 
--- the parents that links say, in an array
+-- the parents that links describe, in an array
 unfoldable pub parentsOf : List Link → Parents
 unfolding inArray linkNumber any isDangling
 parentsOf ls = record { list = inArray (map linkNumber ls); count = length ls; dangling = any isDangling ls }
 
--- they are those of some programs, of at most 1,024
+-- they are the parents of at most 1,024 programs
 pub record AreParents (q : Parents) : Type 0 where
   pub ps : List Program
   pub few : length ps ≤ 1024
@@ -56,7 +56,7 @@ pub record AreParents (q : Parents) : Type 0 where
 
 -- ---- leaves
 
--- the leaves: none where a PP dangles or there is a cycle
+-- the leaves: none if a PP dangles or there is a cycle
 unfoldable pub leavesIn : List Link → List ℕ
 unfolding tangled leaves
 leavesIn ls = cond (eqb (tangled ls) 0) (leaves ls) []

@@ -1,36 +1,37 @@
-// The parents of the programs that are gathered from a catalogue, and the road along them to the leaves.
+// The parents of the programs that were gathered from a catalogue, and from the parents the leaves.
 use catalogue_entries::Place;
 use program_chains::Ordinals;
 use program_ids::Named;
+use program_places::Programs;
 ghost use mathlib.Core.Path.{_≡_};
 ghost use mathlib.Core.Bool.{true};
 ghost use mathlib.Core.List.{List, []};
 ghost use Prim.Native.Nat.{_≤_};
 ghost use lib.ListN.{length};
 ghost use Rattle.format.specs.Reading.{readText};
-ghost use Rattle.format.specs.Catalogue.{catalogue};
+ghost use Rattle.format.specs.Catalogue as format;
 ghost use Rattle.format.specs.Programs.{Program, programs, links, tangled};
 ghost use Rattle.accepted.specs.Read.{isAccepted, recordsOf};
-ghost use Rattle.catalogue_entries.specs.Entries.{entriesIn};
-ghost use Rattle.program_places.specs.Gathered.{notedIn, programsIn, gatheredOf};
-ghost use Rattle.program_ids.specs.Places.{idsAt, PlacesInText};
+ghost use Rattle.program_places.specs.Gathered.{programsIn};
+ghost use Rattle.program_ids.specs.Ids.{idsAt, IdsInText};
 ghost use Rattle.program_parents.specs.Parents.{Somewhere, parentOf, parentsOf, AreParents, ordinalsOf, graphOf};
+ghost use Rattle.program_parents.specs.Placed.{PlacesOf, ArePlaces, ListsIds};
 
-// The parent of a program whose PP equals no ID: no ordinal, and not nobody.
+// The parent of a program whose PP equals no ID. It is neither an ordinal nor `NOBODY`.
 pub const STRANGER: u32 = 4294967294;
 
-// The parent of a program by the place of its PP: nobody without PP, a stranger where PP equals no ID.
-pub fn find_parent(text: &[u8], ats: &[u32], lens: &[u32], previous: Place) -> u32
-    requires { ⌜ PlacesInText (now text) (now ats) (now lens) ⌝ }
+// The parent of a program, from the place of its PP: `NOBODY` without a PP, `STRANGER` if the PP equals no ID.
+fn find_parent(text: &[u8], ids: &[u32], previous: Place) -> u32
+    requires { ⌜ IdsInText (now text) (now ids) ⌝ }
     requires { ⌜ Somewhere (length (now text)) previous ⌝ }
-    ensures { λ r. ⌜ r ≡ parentOf (now (text .entry)) (idsAt (now (text .entry)) (now (ats .entry)) (now (lens .entry))) previous ⌝ }
+    ensures { λ r. ⌜ r ≡ parentOf (now (text .entry)) (idsAt (now (text .entry)) (now (ids .entry))) previous ⌝ }
 {
     if previous.at == program_places::NOWHERE {
         return program_chains::NOBODY;
     }
     let start = previous.at as usize;
     let end = start + previous.len as usize;
-    match program_ids::find_program(text, ats, lens, &text[start..end]) {
+    match program_ids::find_program(text, ids, &text[start..end]) {
         Named::Nobody => STRANGER,
         Named::Is(k) => k.0,
     }
@@ -43,8 +44,8 @@ pub struct Parents {
     pub dangling: bool,
 }
 
-// The parents of the programs of an accepted text, which are gathered in arrays: one search among the IDs for each PP.
-pub fn find_parents(
+// The parents of programs by the places of their IDs and PPs, which are gathered in arrays: one search among the IDs for each PP.
+fn find_parents(
     text: &[u8],
     ats: &[u32],
     lens: &[u32],
@@ -52,10 +53,14 @@ pub fn find_parents(
     widths: &[u32],
     count: usize,
 ) -> Parents
-    requires { ⌜ isAccepted (readText (now text)) ≡ true ⌝ }
-    requires { ⌜ programsIn (now ats) (now lens) (now from) (now widths) count ≡ gatheredOf (notedIn (entriesIn (catalogue (recordsOf (now text))))) ⌝ }
-    ensures { λ r. ⌜ r ≡ parentsOf (links (programs (recordsOf (now (text .entry))))) ⌝ }
+    requires { ⌜ ArePlaces (now text) (programsIn (now ats) (now lens) (now from) (now widths) count) ⌝ }
+    ensures { λ r. ⌜ ((ps : List Program)
+        → PlacesOf (now (text .entry)) ps (programsIn (now (ats .entry)) (now (lens .entry)) (now (from .entry)) (now (widths .entry)) count)
+        → r ≡ parentsOf (links ps)) ⌝ }
 {
+    let mut ids: [u32; 3072] = [0; 3072];
+    program_ids::list_ids(text, &ats[..count], &lens[..count], &mut ids);
+    let end = count * program_ids::ROW;
     let mut list: [u32; 1024] = [0; 1024];
     let mut dangling = false;
     let mut i: usize = 0;
@@ -64,7 +69,7 @@ pub fn find_parents(
             at: from[i],
             len: widths[i],
         };
-        let parent = find_parent(text, &ats[..count], &lens[..count], place);
+        let parent = find_parent(text, &ids[..end], place);
         if parent == STRANGER {
             dangling = true;
         }
@@ -78,34 +83,77 @@ pub fn find_parents(
     }
 }
 
-// The same by the text's own catalogue, and `more` times again. Nobody asks for more than once: a function that calls itself is compiled by itself, so
+// The same, by places that are held together.
+pub fn parents_in(text: &[u8], programs: Programs) -> Parents
+    requires { ⌜ ArePlaces (now text) programs ⌝ }
+    ensures { λ r. ⌜ ((ps : List Program) → PlacesOf (now (text .entry)) ps programs → r ≡ parentsOf (links ps)) ⌝ }
+{
+    let id = programs.id;
+    let ats = id.at;
+    let lens = id.len;
+    let previous = programs.previous;
+    let from = previous.at;
+    let widths = previous.len;
+    find_parents(text, &ats, &lens, &from, &widths, programs.count)
+}
+
+// The parents of an accepted text's programs by its own catalogue, and `more` times again. Nobody asks for more than once: a function that calls itself is compiled by itself, so
 // that its four arrays are on the stack only while it runs, and not while a text is checked (`read_judge::judge_long`).
-fn parents_again(text: &[u8], kept: &[u8], more: usize) -> Parents
+fn parents_again(text: &[u8], catalogue: &[u8], more: usize) -> Parents
     requires { ⌜ isAccepted (readText (now text)) ≡ true ⌝ }
-    requires { ⌜ now kept ≡ catalogue (recordsOf (now text)) ⌝ }
+    requires { ⌜ now catalogue ≡ format.catalogue (recordsOf (now text)) ⌝ }
     ensures { λ r. ⌜ r ≡ parentsOf (links (programs (recordsOf (now (text .entry))))) ⌝ }
 {
     let mut ats: [u32; 1024] = [0; 1024];
     let mut lens: [u32; 1024] = [0; 1024];
     let mut from: [u32; 1024] = [0; 1024];
     let mut widths: [u32; 1024] = [0; 1024];
-    let count = program_places::gather(kept, &mut ats, &mut lens, &mut from, &mut widths);
+    let count = program_places::gather(catalogue, &mut ats, &mut lens, &mut from, &mut widths);
     if 0 < more {
-        return parents_again(text, kept, more - 1);
+        return parents_again(text, catalogue, more - 1);
     }
     find_parents(text, &ats, &lens, &from, &widths, count)
 }
 
-// The parents of the programs of an accepted text, by its own catalogue, which is far shorter than is needed for one time more.
-pub fn parents_of(text: &[u8], kept: &[u8]) -> Parents
+// The parents of the programs of an accepted text, from its own catalogue. No catalogue is long enough for a second time.
+pub fn parents_of(text: &[u8], catalogue: &[u8]) -> Parents
     requires { ⌜ isAccepted (readText (now text)) ≡ true ⌝ }
-    requires { ⌜ now kept ≡ catalogue (recordsOf (now text)) ⌝ }
+    requires { ⌜ now catalogue ≡ format.catalogue (recordsOf (now text)) ⌝ }
     ensures { λ r. ⌜ r ≡ parentsOf (links (programs (recordsOf (now (text .entry))))) ⌝ }
 {
-    parents_again(text, kept, kept.len() / 4294967296)
+    parents_again(text, catalogue, catalogue.len() / 4294967296)
 }
 
-// 0, or 22 where a PP dangles, or 23 where there is a cycle.
+// Lists the IDs of the programs of an accepted text, by its own catalogue, and `more` times again, as `parents_again`.
+fn list_again(text: &[u8], catalogue: &[u8], ids: &mut [u32], more: usize) -> usize
+    requires { ⌜ isAccepted (readText (now text)) ≡ true ⌝ }
+    requires { ⌜ now catalogue ≡ format.catalogue (recordsOf (now text)) ⌝ }
+    requires { ⌜ 3072 ≤ length (now ids) ⌝ }
+    ensures { λ r. ⌜ ListsIds (now (text .entry)) (now (ids .exit)) r ⌝ }
+{
+    let mut ats: [u32; 1024] = [0; 1024];
+    let mut lens: [u32; 1024] = [0; 1024];
+    let mut from: [u32; 1024] = [0; 1024];
+    let mut widths: [u32; 1024] = [0; 1024];
+    let count = program_places::gather(catalogue, &mut ats, &mut lens, &mut from, &mut widths);
+    if 0 < more {
+        return list_again(text, catalogue, ids, more - 1);
+    }
+    program_ids::list_ids(text, &ats[..count], &lens[..count], ids);
+    count
+}
+
+// The list of the IDs of the programs of an accepted text, at the front of `ids`. Answers how many there are.
+pub fn list_ids(text: &[u8], catalogue: &[u8], ids: &mut [u32]) -> usize
+    requires { ⌜ isAccepted (readText (now text)) ≡ true ⌝ }
+    requires { ⌜ now catalogue ≡ format.catalogue (recordsOf (now text)) ⌝ }
+    requires { ⌜ 3072 ≤ length (now ids) ⌝ }
+    ensures { λ r. ⌜ ListsIds (now (text .entry)) (now (ids .exit)) r ⌝ }
+{
+    list_again(text, catalogue, ids, catalogue.len() / 4294967296)
+}
+
+// 0, or 22 if a PP dangles, or 23 if there is a cycle.
 pub fn tangle(parents: Parents) -> u8
     requires { ⌜ AreParents parents ⌝ }
     ensures { λ r. ⌜ ((ps : List Program) → length ps ≤ 1024 → parents ≡ parentsOf (links ps) → r ≡ tangled (links ps)) ⌝ }
@@ -120,7 +168,7 @@ pub fn tangle(parents: Parents) -> u8
     0
 }
 
-// The road to the leaves: 0, or 22 or 23 with no leaves; the parents; and the leaves.
+// What is found on the way to the leaves: 0, or 22 or 23 with no leaves; the parents; and the leaves.
 pub struct Graph {
     pub refusal: u8,
     pub parents: Parents,
@@ -140,7 +188,7 @@ fn refused(refusal: u8, parents: Parents) -> Graph
     }
 }
 
-// The leaves along the parents, in the crate's order: 22 where a PP dangles, then 23 where there is a cycle.
+// The leaves, from the parents, in the order of noodles-sam. Refuses with 22 if a PP dangles, then with 23 if there is a cycle.
 pub fn find_leaves(parents: Parents) -> Graph
     requires { ⌜ AreParents parents ⌝ }
     ensures { λ r. ⌜ ((ps : List Program) → length ps ≤ 1024 → parents ≡ parentsOf (links ps) → r ≡ graphOf (links ps)) ⌝ }

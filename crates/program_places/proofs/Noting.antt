@@ -1,4 +1,4 @@
--- The laws of gathering: a turn passes an entry, and a program's goes to the end of the arrays.
+-- The laws of gathering: a step passes an entry, and a program's goes to the end of the arrays.
 use Prim.Native.Nat.{ℕ, suc, _+_, _≤_, _<_}
 use mathlib.Core.Path.{_≡_, refl, sym, ap, _∙_}
 use mathlib.Core.List.{List, [], _∷_, _++_, map, append-nil}
@@ -47,7 +47,7 @@ pub map-snoc : {A B : Type 0} (f : A → B) (xs : List A) (x : A) → map f xs +
 map-snoc f [] x = refl
 map-snoc f (y ∷ xs) x = ap (λ zs. f y ∷ zs) (map-snoc f xs x)
 
--- and that of one program more
+-- and that of one more program
 kept-more : (f : ProgramPlaces → ℕ) (ns : List ProgramPlaces) (n : ProgramPlaces) (xs : List ℕ) (count v : ℕ) → Kept f ns xs → length ns ≡ count → count < 1024 → v ≡ f n → Kept f (ns ++ (n ∷ [])) (set xs count v)
 kept-more f ns n xs count v k l h e =
     let m : length (map f ns) ≡ count = length-map ns f ∙ l in

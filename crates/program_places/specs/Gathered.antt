@@ -1,4 +1,4 @@
--- The programs of a catalogue: where the ID and the PP of each stand, as numbers in arrays.
+-- The programs of a catalogue: where the ID and the PP of each are, as numbers in arrays.
 use Prim.Native.Nat.{ℕ}
 use mathlib.Core.List.{List, [], _∷_, map}
 use lib.ListN.{length}
@@ -13,18 +13,18 @@ use Rattle.program_ids.specs.Places.{nowhere}
 use Rattle.program_places.specs.declared.Places.{Places}
 use Rattle.program_places.specs.declared.Programs.{Programs}
 
--- where the ID of a program stands, and its PP
+-- where the ID and the PP of a program are
 pub record ProgramPlaces : Type 0 where
   pub id : Place
   pub previous : Place
 
--- no PP: no place of a text
+-- no PP: a place that is in no text
 unfoldable pub orNowhere : Found → Place
 unfolding nowhere
 orNowhere Nothing = nowhere
 orNowhere (At p) = p
 
--- each PG entry, in order, with the PP among the field entries behind it
+-- each PG entry, in order, with the PP among the field entries after it
 unfoldable pub notedIn : List Entry → List ProgramPlaces
 unfolding orNowhere valueIn
 notedIn [] = []
@@ -36,12 +36,12 @@ notedIn (Program p l ∷ es) = record { id = p; previous = orNowhere (valueIn 80
 notedIn (Comment p l ∷ es) = notedIn es
 notedIn (Field a b p ∷ es) = notedIn es
 
--- one of their places in arrays
+-- one of the two places of each program: the offsets and the lengths, in arrays
 unfoldable pub arraysOf : (ProgramPlaces → Place) → List ProgramPlaces → Places
 unfolding inArray
 arraysOf f ns = record { at = inArray (map (λ n. f n .at) ns); len = inArray (map (λ n. f n .len) ns) }
 
--- the places in four arrays, and how many they are
+-- the places in four arrays, and how many there are
 abbrev pub programsIn : List ℕ → List ℕ → List ℕ → List ℕ → ℕ → Programs
 programsIn ats lens from widths n = record { id = record { at = ats; len = lens }; previous = record { at = from; len = widths }; count = n }
 

@@ -1,4 +1,4 @@
-// The programs of a catalogue, gathered in one walk: where the ID and the PP of each stand.
+// The programs of a catalogue, gathered in one walk: where the ID and the PP of each are.
 use catalogue_entries::Entry;
 use catalogue_entries::Place;
 use catalogue_lookup::Found;
@@ -9,23 +9,23 @@ ghost use Rattle.catalogue_entries.specs.Entries.{entriesIn, counted};
 ghost use Rattle.catalogue_lookup.specs.Lookup.{valueIn};
 ghost use Rattle.program_places.specs.Gathered.{orNowhere, notedIn, programsIn, gatheredOf};
 
-// The offset of a PP that is not there: no place of a text is so far.
+// The offset that stands for a missing PP. No text is so long.
 pub const NOWHERE: u32 = 4294967295;
 
-// Places of the text: their offsets, and their lengths.
+// Places in the text: their offsets and their lengths.
 pub struct Places {
     pub at: [u32; 1024],
     pub len: [u32; 1024],
 }
 
-// Where the ID and the PP of each program stand, in order, and how many programs there are.
+// Where the ID and the PP of each program are, in order, and how many programs there are.
 pub struct Programs {
     pub id: Places,
     pub previous: Places,
     pub count: usize,
 }
 
-// Where the PP of the program stands whose fields stand from `from` on.
+// Where the PP of a program is whose field entries start at `from`.
 fn find_previous(catalogue: &[u8], from: usize) -> Place
     ensures { λ r. ⌜ r ≡ orNowhere (valueIn 80 80 (entriesIn (drop from (now (catalogue .entry))))) ⌝ }
 {
@@ -38,8 +38,8 @@ fn find_previous(catalogue: &[u8], from: usize) -> Place
     }
 }
 
-// The programs of a catalogue, in four arrays of zeros: where their IDs stand and how long they are, and the same of their PPs. One walk from entry to
-// entry, in which the fields of a program are looked at once more. Answers how many there are.
+// Gathers the programs of a catalogue into four arrays of zeros: the offsets and lengths of their IDs, and those of their PPs. It walks from entry to
+// entry and looks at the fields of each program once more. Answers how many programs there are.
 pub fn gather(
     catalogue: &[u8],
     ats: &mut [u32; 1024],

@@ -1,4 +1,4 @@
--- One record more at the front of a table is one store.
+-- One more record at the front of a table is one store.
 use Prim.Native.Nat.{ℕ, zero, suc, _<_, _≤_}
 use mathlib.Core.Path.{_≡_, refl, ap}
 use mathlib.Core.List.{List, [], _∷_}

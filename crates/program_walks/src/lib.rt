@@ -1,4 +1,4 @@
-// Chains of programs, walked from parent to parent: cycles and hops over a list of parents.
+// Chains of programs, walked from parent to parent: cycles and hops, from a list of parents.
 ghost use mathlib.Core.Path.{_≡_};
 ghost use mathlib.Core.Bool.{true};
 ghost use Prim.Native.Nat.{_≤_, _<_};
@@ -28,7 +28,7 @@ fn comes_back(parents: &[u32], i: usize) -> bool
     false
 }
 
-// Whether some program comes back to itself after 1 to n parent steps: every program is looked at, with at most n steps each.
+// Whether some program comes back to itself after 1 to n parent steps. Every program is tried, with at most n steps each.
 pub fn has_cycle(parents: &[u32]) -> bool
     requires { ⌜ areParents (length (now parents)) (now parents) ≡ true ⌝ }
     ensures { λ r. ⌜ r ≡ loopsFrom (linksOf (now (parents .entry))) 0 (linksOf (now (parents .entry))) ⌝ }
@@ -43,7 +43,7 @@ pub fn has_cycle(parents: &[u32]) -> bool
     false
 }
 
-// The parent links from program `i` to its root.
+// The number of parent links from program `i` to its root.
 fn depth(parents: &[u32], i: usize) -> u32
     requires { ⌜ areParents (length (now parents)) (now parents) ≡ true ⌝ }
     requires { ⌜ length (now parents) ≤ 1024 ⌝ }
@@ -64,7 +64,7 @@ fn depth(parents: &[u32], i: usize) -> u32
     steps
 }
 
-// The parent links from every program to its root, summed.
+// The sum of the numbers of parent links from every program to its root.
 pub fn hops(parents: &[u32]) -> u32
     requires { ⌜ areParents (length (now parents)) (now parents) ≡ true ⌝ }
     requires { ⌜ length (now parents) ≤ 1024 ⌝ }

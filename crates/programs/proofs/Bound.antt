@@ -9,14 +9,14 @@ use lib.Dec.{eqb, ltb}
 use borrow.Author.Tests.{ltb-true, ltb-false, eqb-true, eqb-false}
 use Rattle.format.specs.Programs.{Program, Link, programs, links, hops, leaves, tangled}
 use Rattle.format.specs.Calls.{Answer, refused, yes, then, fitting, leafing}
-use Rattle.accepted.proofs.Bools.{split}
+use Rattle.lists.proofs.Bools.{split}
 use Rattle.accepted.specs.Read.{recordsOf}
 use Rattle.program_chains.proofs.Bound.{hops-bound}
 use Rattle.program_chains.proofs.Leaf.{leaves-length}
 use Rattle.program_parents.proofs.Numbers.{links-count, links-named}
 use Rattle.program_parents.proofs.Road.{none-dangles, none-loops}
 use Rattle.read.proofs.Fresh.{Current, refused-is-no-answer, passed}
-use Rattle.read.proofs.Told.{too-short, fits}
+use Rattle.read.proofs.AnswerCases.{too-short, fits}
 use Rattle.program_parents.proofs.Opened.{opened}
 use Rattle.programs.proofs.Chained.{leaves-tangled, leaves-own}
 

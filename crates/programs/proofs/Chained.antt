@@ -8,7 +8,7 @@ use Rattle.format.specs.Calls.{Answer, refused, yes, then, fitting, untangled, 
 use Rattle.format.specs.declared.LineNo.{LineNo}
 use Rattle.accepted.specs.Read.{recordsOf}
 use Rattle.read.specs.Answers.{answerOf, outputOf}
-use Rattle.read.proofs.Told.{refused-answer}
+use Rattle.read.proofs.AnswerCases.{refused-answer}
 use Rattle.programs.specs.declared.LeavesAnswer.the-variants.{Refused}
 use Rattle.programs.specs.Answers.{leavesAnswerOf, listOf, withHops}
 use Rattle.read.proofs.Fresh.{Current, goes-on, stops}

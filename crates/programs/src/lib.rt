@@ -1,4 +1,4 @@
-// The roots and the leaves of the programs over a text and its catalogue. Each call judges the text and the catalogue first.
+// The roots and the leaves of the programs of a text and its catalogue. Each call first judges the text and the catalogue.
 use format::LineNo;
 use read::Checked;
 use read::CountAnswer;
@@ -8,13 +8,13 @@ ghost use Rattle.format.specs.Calls.{fitting, rooting, leafing};
 ghost use Rattle.read.specs.Answers.{answerOf, outputOf};
 ghost use Rattle.programs.specs.Answers.{leavesAnswerOf, listOf, withHops};
 
-// A refusal and its line, or how many leaves are written, and the hops.
+// A refusal and its line, or how many leaves were written, and the hops.
 pub enum LeavesAnswer {
     Refused(u8, LineNo),
     Counted(usize, u32),
 }
 
-// Writes ordinals to the front of `out`, and answers how many: 20 where it is too short.
+// Writes ordinals to the front of `out` and answers how many, or refuses with 20 if `out` is too short.
 pub fn put_ordinals(out: &mut [u32], from: &[u32]) -> CountAnswer
     ensures answer { λ r. ⌜ r ≡ answerOf (fitting (length (now (out .entry))) (now (from .entry))) ⌝ }
     ensures wrote { λ _. ⌜ now (out .exit) ≡ outputOf (fitting (length (now (out .entry))) (now (from .entry))) (now (out .entry)) ⌝ }
@@ -30,7 +30,7 @@ pub fn put_ordinals(out: &mut [u32], from: &[u32]) -> CountAnswer
     CountAnswer::Count(i)
 }
 
-// The programs without PP at the front of `out`: no graph check.
+// Writes the programs without PP to the front of `out`. The chains are not checked.
 pub fn roots(text: &[u8], catalogue: &[u8], out: &mut [u32]) -> CountAnswer
     ensures answer { λ r. ⌜ r ≡ answerOf (rooting (now (text .entry)) (now (catalogue .entry)) (length (now (out .entry)))) ⌝ }
     ensures wrote { λ _. ⌜ now (out .exit) ≡ outputOf (rooting (now (text .entry)) (now (catalogue .entry)) (length (now (out .entry)))) (now (out .entry)) ⌝ }
@@ -47,7 +47,7 @@ pub fn roots(text: &[u8], catalogue: &[u8], out: &mut [u32]) -> CountAnswer
     }
 }
 
-// An answer with the hops beside the number of leaves.
+// An answer with the hops next to the number of leaves.
 fn with_hops(a: CountAnswer, hops: u32) -> LeavesAnswer
     ensures { λ r. ⌜ r ≡ withHops a hops ⌝ }
 {
@@ -57,7 +57,8 @@ fn with_hops(a: CountAnswer, hops: u32) -> LeavesAnswer
     }
 }
 
-// The leaves at the front of `out`, in the crate's order, and the hops: 22 where a PP dangles, 23 where there is a cycle.
+// Writes the leaves to the front of `out`, in the order of noodles-sam, and answers the hops. Refuses with 22 if a PP dangles, with 23 if there is a
+// cycle.
 pub fn leaves(text: &[u8], catalogue: &[u8], out: &mut [u32]) -> LeavesAnswer
     ensures answer { λ r. ⌜ r ≡ leavesAnswerOf (leafing (now (text .entry)) (now (catalogue .entry)) (length (now (out .entry)))) ⌝ }
     ensures wrote { λ _. ⌜ now (out .exit) ≡ outputOf (listOf (leafing (now (text .entry)) (now (catalogue .entry)) (length (now (out .entry)))))

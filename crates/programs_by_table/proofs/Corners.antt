@@ -1,4 +1,4 @@
--- Cases of the second engine, as one table and one statement: every call in it gives the answer beside it.
+-- Cases of the second engine, as one table and one statement: every call in it gives the answer next to it.
 use Prim.Native.Nat.{ℕ}
 use Prim.Native.Char.{code}
 use Prim.Native.String.{String, [] as nil, _∷_ as cons}

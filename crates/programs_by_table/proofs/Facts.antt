@@ -14,7 +14,7 @@ use Rattle.format.specs.Table.{parentNumber, nodes}
 use Rattle.byte_slices.proofs.Equal.{same-equal}
 use Rattle.accepted.specs.Read.{recordsOf}
 use Rattle.program_chains.specs.Listed.{named}
-use Rattle.program_chains.proofs.Bools.{both-false}
+use Rattle.lists.proofs.Bools.{both-false}
 use Rattle.program_chains.proofs.Walks.{map-at, depth-root}
 use Rattle.program_chains.proofs.Paths.{depth-less}
 use Rattle.program_chains.proofs.Bound.{depth-next}

@@ -10,7 +10,7 @@ use Rattle.read.specs.Answers.{outputOf}
 use Rattle.programs.specs.declared.LeavesAnswer.{LeavesAnswer}
 use Rattle.programs.specs.Answers.{leavesAnswerOf, listOf}
 
--- the answer without the table: what the first engine would say
+-- the answer without the table, as the first engine gives it
 unfoldable pub withoutTable : Answer (List ℕ × ℕ × List Node) → Answer (List ℕ × ℕ)
 withoutTable (refused n l) = refused n l
 withoutTable (yes a) = yes (a .0, a .1)
@@ -20,7 +20,7 @@ unfoldable pub nodesIn : Answer (List ℕ × ℕ × List Node) → List Node
 nodesIn (refused n l) = []
 nodesIn (yes a) = a .2
 
--- ---- of a call with a text, a catalogue, a table and an output
+-- ---- a call with a text, a catalogue, a table and an output
 
 -- its answer, for a table of `seats` records
 abbrev pub seatedAnswer : List ℕ → List ℕ → ℕ → List ℕ → LeavesAnswer
@@ -30,6 +30,6 @@ seatedAnswer text c seats out = leavesAnswerOf (withoutTable (leafingTable text 
 abbrev pub seatedLeaves : List ℕ → List ℕ → ℕ → List ℕ → List ℕ
 seatedLeaves text c seats out = outputOf (listOf (withoutTable (leafingTable text c (length out) seats))) out
 
--- and in the table: the records at the front; a refusal changes nothing
+-- what it leaves in the table: the records at the front; a refusal changes nothing
 abbrev pub nodesLeft : List ℕ → List ℕ → List Node → List ℕ → List Node
 nodesLeft text c table out = inFront (nodesIn (leafingTable text c (length out) (length table))) table

@@ -1,4 +1,4 @@
--- What a table says of the programs of a text, in the words of their PP and ID.
+-- What a table says of the programs of a text, in terms of their PP and ID.
 use Prim.Native.Nat.{ℕ, suc, _+_, _<_}
 use mathlib.Core.Path.{_≡_}
 use mathlib.Core.List.{List, [], _∷_}
@@ -25,23 +25,23 @@ unfoldable pub depthSum : List Node → ℕ
 depthSum [] = 0
 depthSum (n ∷ ns) = n .depth + depthSum ns
 
--- the parent of a program with this PP: one of the programs, whose ID is the PP, and which is one link nearer to its root
+-- the parent of a program with this PP: the program whose ID is the PP, one link nearer to its root
 pub record HasParent (ps : List Program) (ns : List Node) (previous : Piece) (n : Node) : Type 0 where
   pub listed : n .parent < length ps
   pub named : programAt ps (n .parent) .id ≡ previous .bytes
   pub deeper : n .depth ≡ suc (nodeAt ns (n .parent) .depth)
 
 pub record TableSays (ps : List Program) (hops : ℕ) (ns : List Node) : Type 0 where
-  -- a record for each program
+  -- there is one record per program
   pub each : length ns ≡ length ps
-  -- a program without PP has nobody as its parent, and depth 0
+  -- a program without PP has no parent, and the depth 0
   pub roots : (i : ℕ) → i < length ps → programAt ps i .previous ≡ none → nodeAt ns i ≡ record { parent = 4294967295; depth = 0 }
-  -- any other has the depth of its parent, and one more
+  -- any other has the depth of its parent plus one
   pub children : (i : ℕ) → i < length ps → (p : Piece) → programAt ps i .previous ≡ some p → HasParent ps ns p (nodeAt ns i)
   -- the hops are the sum of the depths
   pub summed : hops ≡ depthSum ns
 
--- whatever the text, the catalogue, and the rooms of output and table are
+-- the law, for every text, catalogue, and room of output and table
 unfoldable pub AllTablesSay : Type 0
 AllTablesSay = (text c : List ℕ) (room seats : ℕ) (xs : List ℕ) (h : ℕ) (ns : List Node) → leafingTable text c room seats ≡ yes (xs, h, ns)
     → TableSays (programs (recordsOf text)) h ns

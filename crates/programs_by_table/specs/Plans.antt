@@ -1,4 +1,4 @@
--- What is found along the parents, and what goes into the output and the table.
+-- What is found from the parents, and what goes into the output and the table.
 use Prim.Native.Nat.{ℕ}
 use mathlib.Core.Path.{_≡_}
 use mathlib.Core.List.{List, map}
@@ -17,7 +17,7 @@ use Rattle.programs.specs.Answers.{leavesAnswerOf}
 use Rattle.format.specs.Table.{nodes}
 use Rattle.programs_by_table.specs.Answers.{withoutTable, nodesIn}
 
--- the parents and the depths that records say, each in an array
+-- the parents and the depths in some records, each in an array
 unfoldable pub parentsIn : List Node → List ℕ
 unfolding inArray
 parentsIn ns = inArray (map (λ n. n .parent) ns)
@@ -26,18 +26,18 @@ unfoldable pub depthsIn : List Node → List ℕ
 unfolding inArray
 depthsIn ns = inArray (map (λ n. n .depth) ns)
 
--- the plan for an answer: what is told, and what goes into the table
+-- the plan for an answer: the answer, and what goes into the table
 unfoldable pub planFor : Answer (List ℕ × ℕ × List Node) → TablePlan
 unfolding leavesAnswerOf withoutTable parentsIn depthsIn nodesIn
 planFor a = record { answer = leavesAnswerOf (withoutTable a); parents = parentsIn (nodesIn a); depths = depthsIn (nodesIn a); count = length (nodesIn a) }
 
--- nothing, because of a refusal
+-- nothing found, because of a refusal
 unfoldable pub noGraphOf : ℕ → DeepGraph
 noGraphOf n =
     let none : List ℕ = replicate 1024 0 in
     record { refusal = n; parents = none; depths = none; count = 0; hops = 0; leaves = record { list = none; count = 0 } }
 
--- what links say: 0, 22 or 23, and where it is 0 the programs, the leaves and the hops
+-- what links say: 0, 22 or 23, and for 0 the programs, the leaves and the hops
 pub record DeepGraphOf (ls : List Link) (f : DeepGraph) : Type 0 where
   pub refusal : f .refusal ≡ tangled ls
   pub count : f .refusal ≡ 0 → f .count ≡ length ls
@@ -51,7 +51,7 @@ pub record DeepGraphOf (ls : List Link) (f : DeepGraph) : Type 0 where
 unfoldable pub stoppedPlanOf : ℕ → LineNo → TablePlan
 stoppedPlanOf n l = record { answer = answer.Refused n l; parents = replicate 1024 0; depths = replicate 1024 0; count = 0 }
 
--- a plan by what became of the output
+-- the plan that follows from what was written to the output
 unfoldable pub tablePlanOf : parser.CountAnswer → DeepGraph → TablePlan
 unfolding stoppedPlanOf
 tablePlanOf (Refused n l) f = stoppedPlanOf n l

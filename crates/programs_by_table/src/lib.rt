@@ -1,5 +1,5 @@
-// The leaves over a text and its catalogue by a second engine: each program takes its depth from its parent, and a lent table gets the parent
-// and the depth of each. What is found is the first engine's (roots_and_leaves).
+// The leaves of a text and its catalogue, found by a second engine: each program takes its depth from its parent, and a lent table gets the parent
+// and the depth of each. The answers are those of the first engine (`programs`).
 use format::LineNo;
 use format::Node;
 use program_chains::Ordinals;
@@ -17,7 +17,7 @@ ghost use Rattle.accepted.specs.Read.{isAccepted, recordsOf};
 ghost use Rattle.programs_by_table.specs.Answers.{seatedAnswer, seatedLeaves, nodesLeft};
 ghost use Rattle.programs_by_table.specs.Plans.{noGraphOf, DeepGraphOf, stoppedPlanOf, tablePlanOf, planFor};
 
-// What is found along the parents: 0, 22 or 23, with nothing else; the parents and the depths, and how many programs there are; and the leaves.
+// What is found from the parents: 0, 22 or 23 (the last two with nothing else); the parents, the depths and the number of programs; and the leaves.
 struct DeepGraph {
     refusal: u8,
     parents: [u32; 1024],
@@ -27,7 +27,7 @@ struct DeepGraph {
     leaves: Ordinals,
 }
 
-// Nothing, because of a refusal.
+// Nothing found, because of a refusal.
 fn nothing(refusal: u8) -> DeepGraph
     ensures { λ r. ⌜ r ≡ noGraphOf refusal ⌝ }
 {
@@ -46,7 +46,7 @@ fn nothing(refusal: u8) -> DeepGraph
     }
 }
 
-// The leaves of an accepted text's programs, with the depths: 22 where a PP dangles, then 23 where there is a cycle.
+// The leaves and the depths of an accepted text's programs. Refuses with 22 if a PP dangles, then with 23 if there is a cycle.
 fn find(text: &[u8], kept: &[u8]) -> DeepGraph
     requires { ⌜ isAccepted (readText (now text)) ≡ true ⌝ }
     requires { ⌜ now kept ≡ catalogue (recordsOf (now text)) ⌝ }
@@ -75,7 +75,7 @@ fn find(text: &[u8], kept: &[u8]) -> DeepGraph
     }
 }
 
-// The answer, and what goes into the table: nothing for a refusal.
+// The answer, and what goes into the table; for a refusal nothing does.
 pub struct TablePlan {
     pub answer: LeavesAnswer,
     pub parents: [u32; 1024],
@@ -83,7 +83,7 @@ pub struct TablePlan {
     pub count: usize,
 }
 
-// A refusal: nothing goes into the table.
+// A refusal, with nothing for the table.
 fn stopped(n: u8, line: LineNo) -> TablePlan
     ensures { λ r. ⌜ r ≡ stoppedPlanOf n line ⌝ }
 {
@@ -97,7 +97,7 @@ fn stopped(n: u8, line: LineNo) -> TablePlan
     }
 }
 
-// By what became of the output.
+// The plan that follows from what was written to the output.
 fn planned(a: CountAnswer, found: DeepGraph) -> TablePlan
     ensures { λ r. ⌜ r ≡ tablePlanOf a found ⌝ }
 {
@@ -117,8 +117,8 @@ fn planned(a: CountAnswer, found: DeepGraph) -> TablePlan
     }
 }
 
-// All but the table, which has `seats` records: the leaves are at the front of `out`. A program in Rattle that only compares calls this, since it
-// cannot lend a table without a proof by hand.
+// All but filling the table, which has `seats` records: writes the leaves to the front of `out`. A program in Rattle that only compares answers calls
+// this, because it can't lend a table without a proof by hand.
 pub fn make_plan(text: &[u8], catalogue: &[u8], seats: usize, out: &mut [u32]) -> TablePlan
     ensures plan { λ r. ⌜ r ≡ planFor (leafingTable (now (text .entry)) (now (catalogue .entry)) (length (now (out .entry))) seats) ⌝ }
     ensures wrote { λ _. ⌜ now (out .exit) ≡ seatedLeaves (now (text .entry)) (now (catalogue .entry)) seats (now (out .entry)) ⌝ }
@@ -143,8 +143,8 @@ pub fn make_plan(text: &[u8], catalogue: &[u8], seats: usize, out: &mut [u32]) -
     }
 }
 
-// The leaves at the front of `out`, in the crate's order, the hops, and the parent and the depth of each program at the front of `table`:
-// 22 where a PP dangles, 23 where there is a cycle, 20 where `out` or `table` is too short.
+// Writes the leaves to the front of `out`, in the order of noodles-sam, and the parent and the depth of each program to the front of `table`; answers
+// the hops. Refuses with 22 if a PP dangles, with 23 if there is a cycle, with 20 if `out` or `table` is too short.
 pub fn leaves_by_table(
     text: &[u8],
     catalogue: &[u8],

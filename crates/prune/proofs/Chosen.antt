@@ -66,7 +66,7 @@ tidy-order : (rs : List Record) → tidy (inOrder rs) ≡ tidy rs
 unfolding tidy
 tidy-order rs = ap text (order-again rs)
 
--- of the kinds the programs alone are sifted
+-- only programs are dropped
 module _ (p : ℕ → Bool) (rs : List Record) where
   sifted-order : inOrder (sifted p 0 rs) ≡ ofKind 1 rs ++ ofKind 2 rs ++ ofKind 3 rs ++ chosen p 0 (ofKind 4 rs) ++ ofKind 5 rs
   sifted-order = order-of (sifted p 0 rs) ∙ rw (

@@ -1,6 +1,6 @@
-// Pruning: the tidy text with the programs in use and all their ancestors, in the old order, and nothing else changed.
+// Pruning: writes the tidy text with only the programs in use and all their ancestors, in the old order. Nothing else is changed.
 use format::LineNo;
-use read::Checked;
+use read::CheckedText;
 use read::CountAnswer;
 ghost use mathlib.Core.Path.{_≡_};
 ghost use lib.ListN.{length};
@@ -9,7 +9,7 @@ ghost use Rattle.format.specs.Bytes.{any};
 ghost use Rattle.read.specs.Answers.{answerOf, outputOf};
 ghost use Rattle.format.specs.Prune.{pruning};
 
-// Whether some ordinal in a list is `count` or more: no program has it.
+// Whether some ordinal in a list is `count` or more, so that no program has it.
 fn has_high(used: &[u32], count: usize) -> bool
     ensures { λ r. ⌜ r ≡ any (leb count) (now (used .entry)) ⌝ }
 {
@@ -24,17 +24,17 @@ fn has_high(used: &[u32], count: usize) -> bool
     false
 }
 
-// Writes the tidy text with only the programs `used`, by their ordinals, and all their ancestors to the front of `out`: reading's
-// refusals, 21, 25 for an ordinal that no program has, 22, 23, 24, 1, 20.
+// Writes the tidy text with only the programs `used`, given by their ordinals, and all their ancestors to the front of `out`. The refusals, in this
+// order: those of reading, 21, 25 for an ordinal that no program has, 22, 23, 24, 1, 20.
 pub fn prune(text: &[u8], catalogue: &[u8], used: &[u32], out: &mut [u8]) -> CountAnswer
     ensures answer { λ r. ⌜ r ≡ answerOf (pruning (now (text .entry)) (now (catalogue .entry)) (now (used .entry)) (length (now (out .entry)))) ⌝ }
     ensures wrote { λ _. ⌜ now (out .exit) ≡ outputOf
         (pruning (now (text .entry)) (now (catalogue .entry)) (now (used .entry)) (length (now (out .entry))))
         (now (out .entry)) ⌝ }
 {
-    match read::check(text, catalogue) {
-        Checked::Refused(n, line) => CountAnswer::Refused(n, line),
-        Checked::Fresh => {
+    match read::check_text(text, catalogue) {
+        CheckedText::Refused(n, line) => CountAnswer::Refused(n, line),
+        CheckedText::Fresh(once) => {
             let found = program_parents::parents_of(text, catalogue);
             let high = has_high(used, found.count);
             if high {
@@ -49,8 +49,8 @@ pub fn prune(text: &[u8], catalogue: &[u8], used: &[u32], out: &mut [u8]) -> Cou
             if depths.cycle {
                 return CountAnswer::Refused(23, LineNo(0));
             }
-            let marks = prune_marks::mark(links, used);
-            tidy::write_marked(text, read_repeat_rule::is_strict(text), &marks, out)
+            let marks = prune_marks::mark_needed(links, used);
+            tidy::write_marked(text, once, &marks, out)
         }
     }
 }

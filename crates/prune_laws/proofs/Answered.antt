@@ -14,7 +14,7 @@ use Rattle.format.specs.Tidy.{tidy, unwritable}
 use Rattle.format.specs.Calls.{Answer, refused, yes, fresh, untangled, writing}
 use Rattle.format.specs.Prune.{pruned, pruning}
 use Rattle.accepted.specs.Read.{kept, recordsOf}
-use Rattle.accepted.proofs.Bools.{never}
+use Rattle.lists.proofs.Bools.{never}
 use Rattle.tidy_laws.proofs.Answered.{then-yes, fresh-yes, untangled-yes, writing-yes}
 
 high-yes : (b : Bool) (a : Answer (List ℕ)) (out : List ℕ) → cond b (refused 25 0) a ≡ yes out → (b ≡ false) × (a ≡ yes out)

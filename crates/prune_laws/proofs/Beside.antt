@@ -1,4 +1,4 @@
--- Pruning beside tidying: with all programs in use it is tidying, and it never needs more room.
+-- Pruning compared with tidying: with all programs in use it is tidying, and it never needs more room.
 use Prim.Native.Nat.{ℕ, zero, suc, _+_, _≤_, _<_}
 use mathlib.Core.Path.{_≡_, refl, sym, ap, subst, _∙_}
 use mathlib.Core.Bool.{Bool, true, false, cond}

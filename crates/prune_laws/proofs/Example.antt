@@ -1,4 +1,4 @@
--- A chain of three and a program alone: what pruning writes by some of them, by none, and by one that is not there.
+-- A chain of three and a program by itself: what pruning writes for some of them, for none, and for one that is not there.
 use Prim.Native.Nat.{ℕ}
 use mathlib.Core.Path.{_≡_, refl}
 use mathlib.Core.List.{List, [], _∷_}
@@ -8,7 +8,7 @@ use Rattle.accepted.specs.Read.{recordsOf}
 use Rattle.format.proofs.Ascii.{ascii}
 use Rattle.format.specs.Prune.{pruning}
 
--- not tidy: the comment stands first, a child before its parent
+-- not tidy: the comment comes first, a child before its parent
 unfoldable old : List ℕ
 unfolding ascii
 old = ascii "@CO\tx\n@PG\tPP:b\tID:c\n@PG\tID:d\n@PG\tID:b\tPP:a\n@PG\tID:a\n"

@@ -15,7 +15,7 @@ use Rattle.format.specs.Reading.{readText, accept, clash, ofKind, barred}
 use Rattle.format.specs.Tidy.{isWritable, unwritable}
 use Rattle.accepted.specs.Admits.{Unbarred}
 use Rattle.accepted.proofs.Admits.{barred-clear}
-use Rattle.accepted.proofs.Bools.{never, any-snoc, or-left, or-right}
+use Rattle.lists.proofs.Bools.{never, any-snoc, or-left, or-right}
 use Rattle.accepted.proofs.OfKind.{ofKind-append}
 use Rattle.tidy_laws.specs.Gathered as ga
 use Rattle.tidy_laws.specs.Gathered.{From, Gathered}

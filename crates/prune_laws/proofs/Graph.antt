@@ -11,7 +11,7 @@ use lib.Dec.{eqb, leb, ltb}
 use borrow.Author.Tests.{eq-eqb, eqb-true, ltb-true, ltb-false, leb-false, not-true}
 use Rattle.format.specs.Bytes.{any}
 use Rattle.format.specs.Programs.{Link, root, dangling, child, isDangling, reaches, loopsFrom, tangled, leaves}
-use Rattle.accepted.proofs.Bools.{never, split, or-split, or-true, or-left, or-right, and-left, and-right}
+use Rattle.lists.proofs.Bools.{never, split, or-split, or-true, or-left, or-right, and-left, and-right}
 use Rattle.program_chains.specs.Listed.{named}
 use Rattle.program_chains.proofs.Walks.{map-at, reaches-root}
 use Rattle.program_chains.proofs.Leaf.{leaves-exactly}

@@ -11,7 +11,7 @@ use Rattle.format.specs.Bytes.{any, same}
 use Rattle.format.specs.Lines.{Piece}
 use Rattle.format.specs.Programs.{Program, Link, root, child, ordinalFrom, found, link, links, isDangling}
 use Rattle.format.specs.Adding.{noProgram}
-use Rattle.accepted.proofs.Bools.{never, or-left, or-right}
+use Rattle.lists.proofs.Bools.{never, or-left, or-right}
 use Rattle.program_chains.proofs.Walks.{map-at}
 use Rattle.format.specs.Prune.{chosen}
 use Rattle.prune_laws.proofs.Ranks.{rank}
@@ -19,7 +19,7 @@ use Rattle.prune_laws.proofs.Graph.{renumber, pruneLinks}
 
 -- ---- the first program with an ID
 
--- it stands at the place `d`, and at none before
+-- it is at the place `d`, and at none before
 record First (id : List ℕ) (ps : List Program) (d : ℕ) : Type 0 where
   inside : d < length ps
   here : same id (getD ps d noProgram .id) ≡ true

@@ -21,8 +21,8 @@ use Rattle.byte_slices.specs.Stands.{Each}
 use Rattle.byte_slices.proofs.Equal.{same-self}
 use Rattle.accepted.specs.Sound.{KeyIsValue, Sound}
 use Rattle.accepted.specs.Read.{isAccepted, kept, recordsOf}
-use Rattle.accepted.proofs.Bools.{never, split, or-split, or-true, or-left, or-right}
-use Rattle.accepted.proofs.Pairs.{each-at}
+use Rattle.lists.proofs.Bools.{never, split, or-split, or-true, or-left, or-right}
+use Rattle.lists.proofs.Pairs.{each-at}
 use Rattle.accepted.proofs.Text.{text-sound}
 use Rattle.program_chains.specs.Listed.{named}
 use Rattle.program_parents.proofs.Numbers.{links-count, links-named}

@@ -1,4 +1,4 @@
--- Pruning beside tidying: with all programs in use it is tidying, and it never needs more room.
+-- Pruning compared with tidying: with all programs in use it is tidying, and it never needs more room.
 use Prim.Native.Nat.{ℕ, _+_, _≤_, _<_}
 use mathlib.Core.Path.{_≡_}
 use mathlib.Core.Bool.{true, false}
@@ -14,7 +14,7 @@ use Rattle.format.specs.Calls.{yes, fresh, tidying}
 use Rattle.format.specs.Prune.{pruned, pruning}
 use Rattle.accepted.specs.Read.{recordsOf}
 
--- where 21, 25, 22 and 23 are passed and each program is in use, pruning is tidying, refusals too
+-- if 21, 25, 22 and 23 do not apply and each program is in use, pruning is tidying, including its refusals
 unfoldable pub TidiesAll : Type 0
 unfolding pruning
 TidiesAll =
@@ -25,14 +25,14 @@ TidiesAll =
     → ((k : ℕ) → k < length (programs rs) → any (eqb k) us ≡ true)
     → pruning t c us room ≡ tidying t room
 
--- what is written is never longer than the tidy text, and so has at most one byte more than the text
+-- what is written is never longer than the tidy text, and so at most one byte longer than the text
 unfoldable pub NeverLonger : Type 0
 NeverLonger =
     (t us : List ℕ) (rs : List Record)
     → readText t ≡ accept rs
     → (length (tidy (pruned us rs)) ≤ length (tidy rs)) × (length (tidy (pruned us rs)) ≤ length t + 1)
 
--- an output that takes the tidy text is large enough: a larger one gets the same answer
+-- an output with room for the tidy text is large enough: a larger one gets the same answer
 unfoldable pub RoomForTidy : Type 0
 unfolding pruning
 RoomForTidy = (t c us : List ℕ) (room more : ℕ) → length (tidy (recordsOf t)) ≤ room → pruning t c us (room + more) ≡ pruning t c us room

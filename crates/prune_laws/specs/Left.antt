@@ -1,4 +1,4 @@
--- What is in the text that pruning answers: all records of the other kinds, and of the programs those that are needed, in the old order.
+-- What is in the text that pruning answers: all records of the other kinds, and the programs that are needed, in the old order.
 use Prim.Native.Nat.{ℕ}
 use mathlib.Core.Path.{_≡_}
 use mathlib.Core.List.{List}
@@ -9,7 +9,7 @@ use Rattle.accepted.specs.Read.{recordsOf}
 use Rattle.tidy_laws.specs.Bare.{bares}
 use Rattle.format.specs.Prune.{isNeeded, chosen, pruning}
 
--- `out` is the text `t` with the programs `us` and their ancestors alone; where a key or a value is in the text does not count
+-- `out` is the text `t` with only the programs `us` and their ancestors; where a key or a value is in the text does not count
 pub record Left (t us out : List ℕ) : Type 0 where
   -- it is accepted
   pub found : List Record
@@ -24,7 +24,7 @@ pub record Left (t us out : List ℕ) : Type 0 where
   -- tidying it changes nothing
   pub tidied : (room : ℕ) → tidying out room ≡ fitting room out
 
--- of every text that pruning answers
+-- the law of every text that pruning answers
 unfoldable pub AllLeft : Type 0
 unfolding pruning
 AllLeft = (t c us : List ℕ) (room : ℕ) (out : List ℕ) → pruning t c us room ≡ yes out → Left t us out

@@ -1,4 +1,4 @@
--- What pruning refuses of programs: 25 comes before 22 and 23, and these two judge all programs, whichever are in use.
+-- Which programs pruning refuses: 25 comes before 22 and 23, and these two judge all programs, whichever are in use.
 use Prim.Native.Nat.{ℕ, suc}
 use mathlib.Core.Path.{_≡_}
 use mathlib.Core.Bool.{true, false}
@@ -11,11 +11,11 @@ use Rattle.format.specs.Programs.{programs, links, tangled}
 use Rattle.format.specs.Calls.{refused, yes, fresh}
 use Rattle.format.specs.Prune.{pruning}
 
--- of a text with the records `rs`, whose catalogue is its own
+-- the laws of a text with the records `rs` and its own catalogue
 pub record Refuses (t c us : List ℕ) (room : ℕ) (rs : List Record) : Type 0 where
-  -- an ordinal is too high, whatever the chains are
+  -- an ordinal is too high: the answer is 25, whatever the chains are
   pub high : any (leb (length (links (programs rs)))) us ≡ true → pruning t c us room ≡ refused 25 0
-  -- a PP names no program, or there is a cycle, wherever in the header
+  -- a PP names no program or there is a cycle, anywhere in the header: the answer is 22 or 23
   pub tangled : any (leb (length (links (programs rs)))) us ≡ false → (n : ℕ) → tangled (links (programs rs)) ≡ suc n → pruning t c us room ≡ refused (suc n) 0
 
 unfoldable pub AllRefuse : Type 0

@@ -11,7 +11,7 @@ use lib.Dec.{eqb, leb}
 use borrow.Author.Tests.{eqb-true, eqb-false, leb-false}
 use Rattle.format.specs.Bytes.{any}
 use Rattle.format.specs.Programs.{Link, root, dangling, child, reaches, loopsFrom, numbersFrom}
-use Rattle.accepted.proofs.Bools.{never, split, or-split, or-assoc, or-true, or-false, or-left, or-right}
+use Rattle.lists.proofs.Bools.{never, split, or-split, or-assoc, or-true, or-false, or-left, or-right}
 use Rattle.program_chains.specs.Listed.{named}
 use Rattle.program_chains.proofs.Leaf.{counting-length}
 use Rattle.program_chains.proofs.Walks.{map-at, reaches-root}

@@ -16,7 +16,7 @@ neededMarks ls us = map (isNeeded ls us) (numbersFrom 0 1024)
 unfoldable pub Closed : List Link → List Bool → Type 0
 Closed ls marks = (k j : ℕ) → getD marks k false ≡ true → getD ls k root ≡ child j → getD marks j false ≡ true
 
--- `u` and its ancestors are marked besides those that were
+-- `u` and its ancestors are marked, and those that were marked before
 pub record Up (ls : List Link) (u : ℕ) (before after : List Bool) : Type 0 where
   pub closed : Closed ls after
   pub each : (k : ℕ) → getD after k false ≡ (getD before k false || reaches ls k (length ls) (child u))

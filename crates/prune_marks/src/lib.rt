@@ -1,4 +1,4 @@
-// Which programs stay when those that nobody uses are dropped: the ones in use, and all their ancestors.
+// Which programs stay when those that nobody uses are dropped: those in use, and all their ancestors.
 ghost use mathlib.Core.Path.{_≡_};
 ghost use mathlib.Core.Bool.{true, false};
 ghost use Prim.Native.Nat.{_≤_, _<_};
@@ -9,7 +9,7 @@ ghost use Rattle.format.specs.Programs.{loopsFrom};
 ghost use Rattle.program_chains.specs.Parents.{linksOf, areParents};
 ghost use Rattle.prune_marks.specs.Marks.{neededMarks, Closed, Up};
 
-// Marks the program `u` and its ancestors, parent by parent, up to one that is marked already: then all above it are too.
+// Marks the program `u` and its ancestors, from parent to parent, up to one that is marked already. All above that one are marked too.
 fn mark_up(parents: &[u32], marks: &mut [bool], u: u32)
     requires { ⌜ areParents (length (now parents)) (now parents) ≡ true ⌝ }
     requires { ⌜ loopsFrom (linksOf (now parents)) 0 (linksOf (now parents)) ≡ false ⌝ }
@@ -29,8 +29,8 @@ fn mark_up(parents: &[u32], marks: &mut [bool], u: u32)
     }
 }
 
-// The marks of the programs in use, `used`, and of all their ancestors: each program is marked once.
-pub fn mark(parents: &[u32], used: &[u32]) -> [bool; 1024]
+// Marks the programs in use, `used`, and all their ancestors. Each program is marked once.
+pub fn mark_needed(parents: &[u32], used: &[u32]) -> [bool; 1024]
     requires { ⌜ areParents (length (now parents)) (now parents) ≡ true ⌝ }
     requires { ⌜ loopsFrom (linksOf (now parents)) 0 (linksOf (now parents)) ≡ false ⌝ }
     requires { ⌜ length (now parents) ≤ 1024 ⌝ }

@@ -1,6 +1,6 @@
 -- What the check of text and catalogue says to every call: the records that the catalogue is of, or the refusal.
 use Prim.Native.Nat.{ℕ}
-use mathlib.Core.Path.{_≡_, refl, sym, ap, _∙_}
+use mathlib.Core.Path.{_≡_, refl, sym, ap, subst, _∙_}
 use mathlib.Core.Bool.{Bool, true, false, cond}
 use mathlib.Core.List.{List}
 use native.Mathlib.Omega.{arith}
@@ -11,12 +11,16 @@ use Rattle.format.specs.Catalogue.{catalogue}
 use Rattle.format.specs.Calls.{Answer, refused, yes, then, fresh}
 use Rattle.format.specs.declared.LineNo.{LineNo}
 use Rattle.byte_slices.proofs.Equal.{same-equal}
-use Rattle.accepted.proofs.Bools.{never}
+use Rattle.lists.proofs.Bools.{never}
 use Rattle.accepted.specs.Read.{kept, recordsOf}
 use Rattle.read.specs.declared.Checked.{Checked}
 use Rattle.read.specs.declared.Checked.the-variants.{Refused, Fresh}
-use Rattle.read.specs.Answers.{checkedOf}
-use Rattle.read.proofs.Told.{fresh-refused, fresh-reads}
+use Rattle.accepted_rule.specs.Rule.{ReadsBy, isOnce}
+use Rattle.accepted_rule.proofs.Rule.{once-reads}
+use Rattle.read.specs.declared.CheckedText.{CheckedText}
+use Rattle.read.specs.declared.CheckedText.the-variants as text
+use Rattle.read.specs.Answers.{checkedOf, checkedTextOf, withoutRule}
+use Rattle.read.proofs.AnswerCases.{fresh-refused, fresh-reads}
 
 -- a refusal is no answer
 pub refused-is-no-answer : {A : Type 0} (n l : ℕ) (a : A) → refused n l ≡ yes a → ⊥
@@ -27,6 +31,12 @@ pub record Current (t c : List ℕ) : Type 0 where
   pub reads : readText t ≡ accept (recordsOf t)
   pub own : c ≡ catalogue (recordsOf t)
   pub says : fresh t c ≡ yes (recordsOf t)
+
+-- a check without the rule is the check of the face
+pub without-rule : (once : Bool) (a : Answer (List Record)) → withoutRule (checkedTextOf once a) ≡ checkedOf a
+unfolding withoutRule checkedTextOf checkedOf
+without-rule once (refused n l) = refl
+without-rule once (yes rs) = refl
 
 module _ (t c : List ℕ) where
   answer-refused : (a : Answer (List Record)) (n : ℕ) (l : LineNo) → checkedOf a ≡ Refused n l → a ≡ refused n (l .0)
@@ -67,6 +77,27 @@ module _ (t c : List ℕ) where
 
   pub fresh-by : {w : Checked} → w ≡ checkedOf (fresh t c) → w ≡ Fresh → Current t c
   fresh-by said e = check-fresh (sym said ∙ e)
+
+  -- by the word of the check that tells the rule too
+  module _ {w : CheckedText} (said : w ≡ checkedTextOf (isOnce t) (fresh t c)) where
+    told : withoutRule w ≡ checkedOf (fresh t c)
+    told = ap withoutRule said ∙ without-rule (isOnce t) (fresh t c)
+
+    pub text-refused-by : (n : ℕ) (l : LineNo) → w ≡ text.Refused n l → fresh t c ≡ refused n (l .0)
+    unfolding withoutRule
+    text-refused-by n l e = refused-by told n l (ap withoutRule e)
+
+    pub text-fresh-by : (once : Bool) → w ≡ text.Fresh once → Current t c
+    unfolding withoutRule
+    text-fresh-by once e = fresh-by told (ap withoutRule e)
+
+    pub rule-by : (once : Bool) → w ≡ text.Fresh once → ReadsBy once t
+    unfolding checkedTextOf
+    rule-by once e = subst (λ b. ReadsBy b t) (go (fresh t c) (sym said ∙ e)) (once-reads t (recordsOf t) (text-fresh-by once e .reads))
+      where
+        go : (a : Answer (List Record)) → checkedTextOf (isOnce t) a ≡ text.Fresh once → isOnce t ≡ once
+        go (refused n l) e = absurd (never (cc))
+        go (yes rs) e = cc
 
   -- ---- what a call goes on with
 

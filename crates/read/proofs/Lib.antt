@@ -1,3 +1,3 @@
 pub mod Walking
-pub mod Told
+pub mod AnswerCases
 pub mod Fresh

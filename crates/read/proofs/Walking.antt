@@ -1,4 +1,4 @@
--- The lines of an accepted text, one after another: the records behind a line, and those ahead of it.
+-- The lines of an accepted text, one after another: the records before a line, and those from it on.
 use Prim.Native.Nat.{ℕ, zero, suc, _+_, _-_, _≤_, _<_}
 use mathlib.Core.Path.{_≡_, refl, sym, ap, subst, _∙_}
 use mathlib.Core.Bool.{Bool, true, false}
@@ -15,9 +15,9 @@ use Rattle.byte_slices.specs.declared.Cut.{Cut}
 use Rattle.byte_slices.proofs.Lines.{lines-none}
 use Rattle.byte_slices.proofs.First.{lines-first, first-le, first-within, first-some}
 use Rattle.byte_slices.proofs.Before.{rest}
-use Rattle.accepted.specs.Pieces.{Pairs}
-use Rattle.accepted.specs.Admits.{strictly}
-use Rattle.accepted.proofs.Text.{text-lines, text-fits}
+use Rattle.lists.specs.Pairs.{Pairs}
+use Rattle.accepted.proofs.Text.{text-fits}
+use Rattle.accepted_rule.proofs.Rule.{lines-by}
 use Rattle.accepted.specs.Read.{isRead, recordsOf}
 use Rattle.read.specs.Accepted.{AcceptedText}
 
@@ -34,13 +34,13 @@ pub text-size : (strict : Bool) (t : List ℕ) → AcceptedText strict t → len
 text-size strict t a = text-fits t (recordsOf t) (a .reads)
 
 unfoldable pub walking-start : (strict : Bool) (t : List ℕ) → AcceptedText strict t → Walking strict t 0
-unfolding lines strictly
+unfolding lines
 walking-start strict t a =
     record {
       done = [];
       rest = recordsOf t;
       whole = refl;
-      ahead = subst (λ s. Pairs (λ p r. records.line s p ≡ read r) (linesFrom 0 t) (recordsOf t)) (sym (a .rule)) (text-lines t (recordsOf t) (a .reads));
+      ahead = lines-by strict t (recordsOf t) (a .reads) (a .rule);
       inside = omega arith;
       few = omega arith;
     }

@@ -1,4 +1,4 @@
-// The whole text: judged line by line, its catalogue written, and a catalogue compared with it.
+// A whole text: judges it line by line, writes its catalogue, and compares a catalogue with it.
 use catalogue_lines::Matched;
 use format::LineNo;
 use read_judge::Judged;
@@ -7,16 +7,16 @@ ghost use Prim.Native.Nat.{_≤_};
 ghost use lib.ListN.{length};
 ghost use Rattle.format.specs.Bytes.{same};
 ghost use Rattle.format.specs.Catalogue.{catalogue};
-ghost use Rattle.format.specs.Reading.{readText};
 ghost use Rattle.format.specs.Calls.{reading, fresh};
 ghost use Rattle.format.specs.Work.{allZeros, readingWith};
 ghost use Rattle.byte_slices.specs.Over.{over};
 ghost use Rattle.accepted.specs.Read.{recordsOf};
-ghost use Rattle.read_judge.specs.Judged.{judgedOf};
+ghost use Rattle.accepted_rule.specs.Rule.{isOnce};
+ghost use Rattle.read_judge.specs.Judged.{judgement};
 ghost use Rattle.read.specs.Accepted.{AcceptedText};
-ghost use Rattle.read.specs.Answers.{answerOf, outputOf, checkedOf};
+ghost use Rattle.read.specs.Answers.{answerOf, outputOf, checkedOf, checkedTextOf, withoutRule};
 
-// A refusal and its line, or how many bytes or ordinals are written.
+// A refusal and its line, or how many bytes or ordinals were written.
 pub enum CountAnswer {
     Refused(u8, LineNo),
     Count(usize),
@@ -26,6 +26,12 @@ pub enum CountAnswer {
 pub enum Checked {
     Refused(u8, LineNo),
     Fresh,
+}
+
+// The same, for those who go over the lines again: whether no tag is repeated in any of them.
+pub enum CheckedText {
+    Refused(u8, LineNo),
+    Fresh(bool),
 }
 
 // Writes the catalogue of an accepted text to the front of `out`.
@@ -46,7 +52,7 @@ fn put_catalogue(text: &[u8], strict: bool, out: &mut [u8])
     }
 }
 
-// Whether `kept` is the catalogue of an accepted text: nothing is read out of it that has not been compared.
+// Whether `kept` is the catalogue of an accepted text. Nothing in it is used before it has been compared.
 fn is_catalogue(text: &[u8], strict: bool, kept: &[u8]) -> bool
     requires { ⌜ AcceptedText strict (now text) ⌝ }
     ensures { λ r. ⌜ r ≡ same (now (kept .entry)) (catalogue (recordsOf (now (text .entry)))) ⌝ }
@@ -76,23 +82,23 @@ fn is_catalogue(text: &[u8], strict: bool, kept: &[u8]) -> bool
 
 // Reads a text that has been judged.
 fn read_judged(text: &[u8], judged: Judged, kept: &mut [u8]) -> CountAnswer
-    requires { ⌜ judged ≡ judgedOf (readText (now text)) ⌝ }
+    requires { ⌜ judged ≡ judgement (now text) ⌝ }
     ensures answer { λ r. ⌜ r ≡ answerOf (reading (now (text .entry)) (length (now (kept .entry)))) ⌝ }
     ensures wrote { λ _. ⌜ now (kept .exit) ≡ outputOf (reading (now (text .entry)) (length (now (kept .entry)))) (now (kept .entry)) ⌝ }
 {
     match judged {
         Judged::Refused(n, line) => CountAnswer::Refused(n, line),
-        Judged::Accepted(size) => {
+        Judged::Accepted(size, once) => {
             if kept.len() < size {
                 return CountAnswer::Refused(20, LineNo(0));
             }
-            put_catalogue(text, read_repeat_rule::is_strict(text), kept);
+            put_catalogue(text, once, kept);
             CountAnswer::Count(size)
         }
     }
 }
 
-// Reads `text`: its catalogue at the front of `kept`, or the first refusal, which changes nothing.
+// Reads `text`: writes its catalogue to the front of `kept`, or answers the first refusal and changes nothing.
 pub fn read(text: &[u8], catalogue: &mut [u8]) -> CountAnswer
     ensures answer { λ r. ⌜ r ≡ answerOf (reading (now (text .entry)) (length (now (catalogue .entry)))) ⌝ }
     ensures wrote { λ _. ⌜ now (catalogue .exit) ≡ outputOf (reading (now (text .entry)) (length (now (catalogue .entry)))) (now (catalogue .entry)) ⌝ }
@@ -100,7 +106,7 @@ pub fn read(text: &[u8], catalogue: &mut [u8]) -> CountAnswer
     read_judged(text, read_judge::judge(text), catalogue)
 }
 
-// The same with a lent work area, which is all zeros afterwards.
+// The same as `read`, with a lent work area, which is all zeros afterwards.
 pub fn read_with(text: &[u8], catalogue: &mut [u8], work: &mut [u32]) -> CountAnswer
     ensures answer { λ r. ⌜ r ≡ answerOf (readingWith (now (text .entry)) (length (now (catalogue .entry))) (now (work .entry)) .0) ⌝ }
     ensures wrote { λ _. ⌜ now (catalogue .exit)
@@ -112,36 +118,53 @@ pub fn read_with(text: &[u8], catalogue: &mut [u8], work: &mut [u32]) -> CountAn
 }
 
 // Whether `kept` is the catalogue of a text that has been judged.
-fn check_judged(text: &[u8], judged: Judged, kept: &[u8]) -> Checked
-    requires { ⌜ judged ≡ judgedOf (readText (now text)) ⌝ }
-    ensures { λ r. ⌜ r ≡ checkedOf (fresh (now (text .entry)) (now (kept .entry))) ⌝ }
+fn check_judged(text: &[u8], judged: Judged, kept: &[u8]) -> CheckedText
+    requires { ⌜ judged ≡ judgement (now text) ⌝ }
+    ensures { λ r. ⌜ r ≡ checkedTextOf (isOnce (now (text .entry))) (fresh (now (text .entry)) (now (kept .entry))) ⌝ }
 {
     match judged {
-        Judged::Refused(n, line) => Checked::Refused(n, line),
-        Judged::Accepted(size) => {
+        Judged::Refused(n, line) => CheckedText::Refused(n, line),
+        Judged::Accepted(size, once) => {
             if size != kept.len() {
-                return Checked::Refused(21, LineNo(0));
+                return CheckedText::Refused(21, LineNo(0));
             }
-            if is_catalogue(text, read_repeat_rule::is_strict(text), kept) {
-                return Checked::Fresh;
+            if is_catalogue(text, once, kept) {
+                return CheckedText::Fresh(once);
             }
-            Checked::Refused(21, LineNo(0))
+            CheckedText::Refused(21, LineNo(0))
         }
     }
 }
 
-// Whether `kept` is the catalogue of `text`: reading's own refusal comes first, then 21.
-pub fn check(text: &[u8], catalogue: &[u8]) -> Checked
-    ensures { λ r. ⌜ r ≡ checkedOf (fresh (now (text .entry)) (now (catalogue .entry))) ⌝ }
+// Whether `catalogue` is that of `text`, for calls that go over its lines again.
+pub fn check_text(text: &[u8], catalogue: &[u8]) -> CheckedText
+    ensures { λ r. ⌜ r ≡ checkedTextOf (isOnce (now (text .entry))) (fresh (now (text .entry)) (now (catalogue .entry))) ⌝ }
 {
     check_judged(text, read_judge::judge(text), catalogue)
 }
 
-// The same with a lent work area, which is all zeros afterwards.
+// For those who go over no line again.
+fn without_rule(checked: CheckedText) -> Checked
+    ensures { λ r. ⌜ r ≡ withoutRule checked ⌝ }
+{
+    match checked {
+        CheckedText::Refused(n, line) => Checked::Refused(n, line),
+        CheckedText::Fresh(_) => Checked::Fresh,
+    }
+}
+
+// Whether `kept` is the catalogue of `text`. The refusals of reading come first, then 21.
+pub fn check(text: &[u8], catalogue: &[u8]) -> Checked
+    ensures { λ r. ⌜ r ≡ checkedOf (fresh (now (text .entry)) (now (catalogue .entry))) ⌝ }
+{
+    without_rule(check_text(text, catalogue))
+}
+
+// The same as `check`, with a lent work area, which is all zeros afterwards.
 pub fn check_with(text: &[u8], catalogue: &[u8], work: &mut [u32]) -> Checked
     ensures checked { λ r. ⌜ r ≡ checkedOf (fresh (now (text .entry)) (now (catalogue .entry))) ⌝ }
     ensures zeros { λ _. ⌜ now (work .exit) ≡ allZeros (now (work .entry)) ⌝ }
 {
     let judged = read_judge::judge_with(text, work);
-    check_judged(text, judged, catalogue)
+    without_rule(check_judged(text, judged, catalogue))
 }

@@ -22,17 +22,18 @@ use Rattle.format.specs.Reading as reading
 use Rattle.format.specs.Reading.{sameKeys, clash, ofKind, unless, following, admitted}
 use Rattle.byte_slices.specs.Stands.{Stands, Each}
 use Rattle.byte_slices.proofs.Stands.{each-map}
-use Rattle.accepted.specs.Pieces.{pieces, Pairs}
-use Rattle.accepted.proofs.Bools.{never}
+use Rattle.accepted.specs.Pieces.{pieces}
+use Rattle.lists.specs.Pairs.{Pairs}
+use Rattle.lists.proofs.Bools.{never}
 use Rattle.accepted.proofs.Stands.{line-stand, stands-within}
 use Rattle.record.specs.Head.{headOf, recordHead, stretchOf}
 use Rattle.record.specs.declared.Head.{Head}
 use Rattle.record.specs.declared.Head.the-variants as head
 use Rattle.read_admission.specs.Admission.{lineRefusal, isKeyed, hasKey, isUsed, isTaken, barring}
 
--- ---- a line's key stands in the text
+-- ---- a line's key is in the text
 
--- the pieces of a line that stands in the text stand there too
+-- the pieces of a line that is in the text are there too
 pub stood : (strict : Bool) (t : List ℕ) (p : Piece) → Stands t 0 p → (r : Record) → records.line strict p ≡ read r → Each (Stands t 0) (pieces r)
 stood strict t p s r e = each-map (Stands (p .bytes) (p .at)) (Stands t 0) (λ x. stands-within t 0 p x s) (pieces r) (line-stand strict p r e)
 
@@ -82,7 +83,7 @@ module _ (t : List ℕ) (before : List Record) where
       bytes : p .bytes ≡ take (length (p .bytes)) (drop (p .at) t)
       bytes = s .bytes ∙ ap (λ m. take (length (p .bytes)) (drop m t)) (let z : p .at - 0 ≡ p .at = omega arith in z)
 
-  -- a record's key is taken exactly where one of them clashes with it
+  -- a record's key is taken exactly if one of them clashes with it
   pub taken-clash : (r : Record) → Each (Stands t 0) (pieces r) → isTaken before t (recordHead r) ≡ any (clash r) before
   unfolding isTaken recordHead pieces Each code key
   taken-clash (header v fs) s = sym (unkeyed-clash (header v fs) refl before)

@@ -12,7 +12,7 @@ use Rattle.format.specs.Records.{Record, others, read, line}
 use Rattle.format.specs.declared.Kind.{Kind}
 use Rattle.accepted.specs.Spelled as sp
 use Rattle.accepted.specs.Spelled.{Good, Made, AcceptedLine}
-use Rattle.accepted.proofs.Pairs.{pairs-length}
+use Rattle.lists.proofs.Pairs.{pairs-length}
 use Rattle.accepted.proofs.Spelled.{line-accepted}
 
 -- ---- fields that are left out, or settled

@@ -1,4 +1,4 @@
--- One program more, or none.
+-- One more program, or none.
 use Prim.Native.Nat.{_≤_}
 use mathlib.Core.Path.{_≡_, refl}
 use mathlib.Core.List.{[], _∷_}

@@ -1,4 +1,4 @@
--- Why a line may not follow the records before it: what is judged of its head.
+-- Why a line may not follow the records before it: the judgement of its head.
 use Prim.Native.Nat.{ℕ}
 use mathlib.Core.Bool.{Bool, true, false, _&&_, cond}
 use mathlib.Core.List.{List}
@@ -22,17 +22,17 @@ unfolding same
 isKeyed id none = false
 isKeyed id (some p) = same id (p .bytes)
 
--- is a record of kind `k`, and has it the key `id`?
+-- is this a record of kind `k` with the key `id`?
 unfoldable pub hasKey : ℕ → List ℕ → Record → Bool
 unfolding isKeyed code key
 hasKey k id r = eqb k (code r) && isKeyed id (key r)
 
--- has one of some records, in kind `k`, the key at a place of the text?
+-- does one of some records have kind `k` and the key at a place of the text?
 unfoldable pub isUsed : List Record → List ℕ → ℕ → Stretch → Bool
 unfolding any hasKey
 isUsed rs t k p = any (hasKey k (take (p .len) (drop (p .at) t))) rs
 
--- has one of some records the key of this head, in its kind?
+-- does one of some records have the kind and the key of this head?
 unfoldable pub isTaken : List Record → List ℕ → Head → Bool
 unfolding isUsed
 isTaken rs t (head.Refused n) = false
@@ -42,7 +42,7 @@ isTaken rs t (head.ReadGroup p n) = isUsed rs t 3 p
 isTaken rs t (head.Program p n) = isUsed rs t 4 p
 isTaken rs t (head.Comment p) = false
 
--- 0, or why a line with this head may not follow `count` lines, among which are `programs` programs and, if `taken`, one with its key
+-- 0, or why a line with this head may not follow `count` lines, `programs` of which are programs; `taken` says whether one of them has its key
 unfoldable pub barring : Bool → ℕ → ℕ → Head → ℕ
 barring taken count programs (head.Refused n) = n
 barring taken count programs (head.Header v n) = cond (eqb count 0) 0 17
@@ -51,7 +51,7 @@ barring taken count programs (head.ReadGroup p n) = cond taken 18 0
 barring taken count programs (head.Program p n) = cond taken 18 (cond (leb 1024 programs) 19 0)
 barring taken count programs (head.Comment p) = 0
 
--- a program counts
+-- a program counts as one
 unfoldable pub programsOf : Head → ℕ
 programsOf (head.Refused n) = 0
 programsOf (head.Header v n) = 0

@@ -1,10 +1,10 @@
-// What a line may be after the lines before it: 17, 18 and 19.
+// Whether a line may follow the lines before it: refusals 17, 18 and 19.
 use record::Head;
 ghost use mathlib.Core.Path.{_≡_};
 ghost use Rattle.read_admission.specs.Admission.{barring, programsOf};
 
-// 0, or the refusal of a line with this head after `count` lines, among which are `programs` programs. `taken` says whether one of
-// them has its key.
+// 0, or the refusal of a line with this head after `count` lines, `programs` of which are programs. `taken` says whether one of these lines has the
+// same key.
 pub fn barred(head: Head, taken: bool, count: usize, programs: usize) -> u8
     ensures { λ r. ⌜ r ≡ barring taken count programs head ⌝ }
 {
@@ -41,7 +41,7 @@ pub fn barred(head: Head, taken: bool, count: usize, programs: usize) -> u8
     }
 }
 
-// A program counts.
+// How many programs a head adds: 1 for a program, and otherwise 0.
 pub fn programs_of(head: Head) -> usize
     ensures { λ r. ⌜ r ≡ programsOf head ⌝ }
 {

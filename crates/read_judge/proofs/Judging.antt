@@ -1,6 +1,6 @@
--- What holds of the loop over a text's lines at a line, and one turn of it.
+-- What holds of the loop over a text's lines at a line, and one step of it.
 use Prim.Native.Nat.{ℕ, zero, suc, _+_, _-_, _*_, _≤_, _<_}
-use mathlib.Core.Path.{_≡_, refl, sym, ap, subst, _∙_}
+use mathlib.Core.Path.{_≡_, refl, sym, ap, ap₂, subst, _∙_}
 use mathlib.Core.Bool.{Bool, true, false, cond}
 use mathlib.Core.List.{List, [], _∷_, _++_, append-assoc, append-nil}
 use native.Mathlib.Omega.{arith}
@@ -15,15 +15,16 @@ use Rattle.format.specs.Catalogue.{catalogue}
 use Rattle.byte_slices.specs.First.{firstLine}
 use Rattle.byte_slices.specs.Stands.{Stands}
 use Rattle.byte_slices.proofs.First.{lines-first, first-le, first-within, first-some}
-use Rattle.accepted.specs.Pieces.{Pairs}
+use Rattle.lists.specs.Pairs.{Pairs}
+use Rattle.accepted_rule.specs.Rule.{isOnce}
 use Rattle.accepted.proofs.Onward.{read-first, read-none}
-use Rattle.accepted.proofs.Pairs.{pairs-length}
+use Rattle.lists.proofs.Pairs.{pairs-length}
 use Rattle.accepted.proofs.OfKind.{ofKind-append}
 use Rattle.record.specs.Head.{headOf, recordHead}
 use Rattle.read_admission.specs.Admission.{programsOf}
 use Rattle.read_admission.proofs.Programs.{programs-one}
 use Rattle.read_judge.specs.declared.Judged.the-variants.{Refused, Accepted}
-use Rattle.read_judge.specs.Judged.{judgedOf}
+use Rattle.read_judge.specs.Judged.{judgedOf, judgedBy}
 
 -- at the line that starts at `at`, the line number `n`: the lines before it are records
 pub record Judging (strict : Bool) (t : List ℕ) (at n programs size : ℕ) : Type 0 where
@@ -65,11 +66,11 @@ pairs-snoc R (a ∷ xs) (b ∷ ys) x y p r = (p .0, pairs-snoc R xs ys x y (p .1
 
 module _ (strict : Bool) (t : List ℕ) (at n programs size : ℕ) (j : Judging strict t at n programs size) where
   -- no line is left
-  pub judging-end : length t ≤ at → Accepted size ≡ judgedOf (readFrom strict 0 [] (lines t))
-  unfolding judgedOf
-  judging-end h =
-      ap Accepted (j .sized)
-      ∙ sym (ap judgedOf (j .left ∙ ap (λ l. readFrom strict n (j .before) (linesFrom at l)) (drop-of-length-le t h) ∙ read-none strict n (j .before) at))
+  pub judging-end : (once : Bool) → isOnce t ≡ once → length t ≤ at → Accepted size once ≡ judgedBy strict t
+  unfolding judgedBy judgedOf
+  judging-end once o h =
+      ap₂ Accepted (j .sized) (sym o)
+      ∙ sym (ap (judgedOf (isOnce t)) (j .left ∙ ap (λ l. readFrom strict n (j .before) (linesFrom at l)) (drop-of-length-le t h) ∙ read-none strict n (j .before) at))
 
   pub few-lines : n ≤ length (lines t)
   few-lines = omega (arith, j .counted, pairs-length (λ p r. records.line strict p ≡ read r) (j .passed) (j .before) (j .pairs), ap length (j .split), length-append (j .passed) (linesFrom at (drop at t)))
@@ -114,11 +115,11 @@ module _ (strict : Bool) (t : List ℕ) (at n programs size : ℕ) (j : Judging 
 
     -- the line is refused
     pub judging-refused : (m : ℕ) → admitted strict (j .before) (record { at = at; bytes = take (firstLine (drop at t) .len) (drop at t) }) ≡ refusedLine m
-        → Refused m (record { 0 = n }) ≡ judgedOf (readFrom strict 0 [] (lines t))
-    unfolding judgedOf readOn
-    judging-refused m e = sym (ap judgedOf (onward ∙ ap (readOn n (λ r. readFrom strict (n + 1) (j .before ++ (r ∷ [])) (linesFrom (at + firstLine (drop at t) .next) (drop (at + firstLine (drop at t) .next) t)))) e))
+        → Refused m (record { 0 = n }) ≡ judgedBy strict t
+    unfolding judgedBy judgedOf readOn
+    judging-refused m e = sym (ap (judgedOf (isOnce t)) (onward ∙ ap (readOn n (λ r. readFrom strict (n + 1) (j .before ++ (r ∷ [])) (linesFrom (at + firstLine (drop at t) .next) (drop (at + firstLine (drop at t) .next) t)))) e))
 
-    -- the line is a record more
+    -- the line is one more record
     module _ (r : Record) (is : records.line strict (record { at = at; bytes = take (firstLine (drop at t) .len) (drop at t) }) ≡ read r)
         (ok : admitted strict (j .before) (record { at = at; bytes = take (firstLine (drop at t) .len) (drop at t) }) ≡ read r)
         (entry : ℕ) (long : length (catalogue (j .before ++ (r ∷ []))) ≡ length (catalogue (j .before)) + entry) (bound : entry ≤ 32 * firstLine (drop at t) .next) where

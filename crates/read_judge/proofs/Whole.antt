@@ -1,6 +1,6 @@
 -- A whole text by its lines, and what its judgement says.
 use Prim.Native.Nat.{ℕ, _≤_, _<_}
-use mathlib.Core.Path.{_≡_, refl, sym, ap, _∙_}
+use mathlib.Core.Path.{_≡_, refl, sym, ap, subst, _∙_}
 use mathlib.Core.Bool.{Bool}
 use mathlib.Core.List.{List, []}
 use native.Mathlib.Omega.{arith}
@@ -11,8 +11,10 @@ use Rattle.format.specs.Reading.{Reading, refusedText, accept, readText, readFr
 use Rattle.format.specs.Catalogue.{catalogue}
 use Rattle.format.specs.declared.LineNo.{LineNo}
 use Rattle.accepted.specs.Read.{kept, recordsOf}
+use Rattle.accepted_rule.specs.Rule.{ReadsBy, isOnce}
+use Rattle.accepted_rule.proofs.Rule.{once-reads}
 use Rattle.read_judge.specs.declared.Judged.the-variants.{Refused, Accepted}
-use Rattle.read_judge.specs.Judged.{judgedOf}
+use Rattle.read_judge.specs.Judged.{judgedOf, judgedBy, judgement}
 
 -- ---- by its lines
 
@@ -26,24 +28,32 @@ by-lines strict t h e = rw (le-ltb 16777216 (length t) h, e) refl
 
 -- ---- what its judgement says
 
-pub text-refused : (t : List ℕ) (n : ℕ) (l : LineNo) → judgedOf (readText t) ≡ Refused n l → readText t ≡ refusedText n (l .0)
-unfolding judgedOf
+pub text-refused : (t : List ℕ) (n : ℕ) (l : LineNo) → judgement t ≡ Refused n l → readText t ≡ refusedText n (l .0)
+unfolding judgement judgedOf
 text-refused t n l j = go (readText t) j
   where
-    go : (r : Reading) → judgedOf r ≡ Refused n l → r ≡ refusedText n (l .0)
+    go : (r : Reading) → judgedOf (isOnce t) r ≡ Refused n l → r ≡ refusedText n (l .0)
     go (refusedText m k) j =
         let x : m ≡ n = cc in
         let y : _≡_ {A = LineNo} (record { 0 = k }) l = cc in
         rw (x, ← y) refl
     go (accept rs) j = absurd (let z : _≡_ {A = ℕ} 0 1 = cc in omega arith)
 
-pub text-accepted : (t : List ℕ) (n : ℕ) → judgedOf (readText t) ≡ Accepted n → (readText t ≡ accept (recordsOf t)) × (n ≡ length (catalogue (recordsOf t)))
-unfolding judgedOf recordsOf kept
-text-accepted t n j = go (readText t) refl j
+-- the text is accepted, and so are its lines by the rule that is told: the strict one where no tag is repeated
+pub record Told (t : List ℕ) (n : ℕ) (once : Bool) : Type 0 where
+  pub reads : readText t ≡ accept (recordsOf t)
+  pub size : n ≡ length (catalogue (recordsOf t))
+  pub told : once ≡ isOnce t
+  pub rule : ReadsBy once t
+
+pub text-accepted : (t : List ℕ) (n : ℕ) (once : Bool) → judgement t ≡ Accepted n once → Told t n once
+unfolding judgement judgedOf recordsOf kept
+text-accepted t n once j = go (readText t) refl j
   where
-    go : (r : Reading) → readText t ≡ r → judgedOf r ≡ Accepted n → (readText t ≡ accept (recordsOf t)) × (n ≡ length (catalogue (recordsOf t)))
+    go : (r : Reading) → readText t ≡ r → judgedOf (isOnce t) r ≡ Accepted n once → Told t n once
     go (refusedText m k) q j = absurd (let z : _≡_ {A = ℕ} 0 1 = cc in omega arith)
     go (accept rs) q j =
         let own : recordsOf t ≡ rs = ap kept q in
         let size : length (catalogue rs) ≡ n = cc in
-        (q ∙ ap accept (sym own), sym size ∙ ap (λ x. length (catalogue x)) (sym own))
+        let told : isOnce t ≡ once = cc in
+        record { reads = q ∙ ap accept (sym own); size = sym size ∙ ap (λ x. length (catalogue x)) (sym own); told = sym told; rule = subst (λ b. ReadsBy b t) told (once-reads t rs q) }

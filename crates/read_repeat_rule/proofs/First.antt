@@ -43,7 +43,7 @@ module _ (s : List ℕ) where
   unfolding firstVersion
   first-none e h = rw (cut-last 9 s h, e) refl
 
--- line 0 alone decides; a text without lines announces nothing, as an empty line does
+-- only line 0 decides; a text without lines announces nothing, like an empty line
 pub announced-first : (s : List ℕ) → announced (lines s) ≡ announced (record { at = 0; bytes = take (firstLine s .len) s } ∷ [])
 unfolding announced lines
 announced-first [] = rw (take-nil (firstLine [] .len)) refl

@@ -1,4 +1,4 @@
-// The rule for repeated tags: a header that announces 1.6 or a later version may not repeat a tag in a line, and any other header may.
+// The rule for repeated tags: a header that announces version 1.6 or later may not repeat a tag in a line. Any other header may.
 use field::version::ParsedVersion;
 use format::Version;
 ghost use mathlib.Core.Path.{_≡_};
@@ -9,14 +9,14 @@ ghost use Rattle.format.specs.Reading.{firstVersion, announced, isStrict};
 ghost use Rattle.field.specs.Spelled.{parsedVersionOf};
 ghost use Rattle.read_repeat_rule.specs.Rule.{strictAfter};
 
-// Whether a piece starts `VN:`.
+// Whether a piece starts with `VN:`.
 fn is_version(piece: &[u8]) -> bool
     ensures { λ r. ⌜ r ≡ starts (86 ∷ 78 ∷ 58 ∷ []) (now (piece .entry)) ⌝ }
 {
     byte_slices::starts(b"VN:", piece)
 }
 
-// The version of the first tab-parted piece of `src` that starts `VN:`, also where it can't be read: the search ends with that piece.
+// The version in the first piece of `src`, between tabs, that starts with `VN:`. The search ends at that piece even if its version can't be read.
 fn first_version(src: &[u8]) -> ParsedVersion
     ensures { λ r. ⌜ r ≡ parsedVersionOf (firstVersion (cut 9 (now (src .entry)))) ⌝ }
 {
@@ -37,7 +37,7 @@ fn first_version(src: &[u8]) -> ParsedVersion
     field::version::parse_version(&src[from..stop])
 }
 
-// The version that line 0, without its ending, announces.
+// The version that line 0, given without its ending, announces.
 fn announced(line: &[u8]) -> ParsedVersion
     ensures { λ r. ⌜ r ≡ parsedVersionOf (announced (record { at = 0; bytes = now (line .entry) } ∷ [])) ⌝ }
 {
@@ -47,7 +47,7 @@ fn announced(line: &[u8]) -> ParsedVersion
     ParsedVersion::Invalid
 }
 
-// Whether a tag that comes twice is refused in `line` and after it, if it was before or not: a version that the line announces decides.
+// Whether repeated tags are refused in `line` and after it, given whether they were before. A version that the line announces decides.
 pub fn is_strict_after(strict: bool, line: &[u8]) -> bool
     ensures { λ r. ⌜ r ≡ strictAfter strict (announced (record { at = 0; bytes = now (line .entry) } ∷ [])) ⌝ }
 {
@@ -57,7 +57,7 @@ pub fn is_strict_after(strict: bool, line: &[u8]) -> bool
     }
 }
 
-// Whether a tag that comes twice in a line is refused: never where no version is announced.
+// Whether repeated tags are refused in a text. They are not if it announces no version.
 pub fn is_strict(text: &[u8]) -> bool
     ensures { λ r. ⌜ r ≡ isStrict (announced (lines (now (text .entry)))) ⌝ }
 {

@@ -1,4 +1,4 @@
--- What reading one line answers: the refusal, or the record's head. The keys that the fields read so far give.
+-- The answer of reading one line: the refusal, or the head of the record.
 use Prim.Native.Nat.{ℕ}
 use mathlib.Core.Bool.{Bool, true, false, _&&_, _||_, cond}
 use mathlib.Core.List.{List, [], _∷_, _++_}
@@ -33,7 +33,7 @@ unfolding recordHead
 headOf (refusedLine n) = head.Refused n
 headOf (read r) = recordHead r
 
--- is it a record of fields?
+-- is it the head of a record with fields?
 unfoldable pub hasFields : Head → Bool
 hasFields (head.Refused n) = false
 hasFields (head.Header v n) = true

@@ -1,4 +1,4 @@
--- The keys that the fields read so far give, in plain numbers, and the head that they make at the line's end.
+-- The keys among the fields read so far, in plain numbers, and the head that they make at the end of the line.
 use Prim.Native.Nat.{ℕ, suc}
 use mathlib.Core.Bool.{Bool, true, false, cond}
 use mathlib.Core.List.{List}
@@ -91,14 +91,14 @@ plainly p v l n =
 abbrev pub noKeys : Keys
 noKeys = record { «key_at» = 0; «key_len» = 0; length = 0; major = 0; minor = 0; versioned = false; others = 0 }
 
--- of the fields read so far: a repeated tag counts once
+-- the keys of the fields read so far: a repeated tag counts once
 unfoldable pub keysOf : Kind → List Field → Keys
 unfolding plainly keyAmong versionAmong lengthAmong unkeyed settled
 keysOf k fs = plainly (keyAmong k fs) (versionAmong k fs) (lengthAmong k fs) (length (settled (unkeyed k fs)))
 
 -- ---- one field more
 
--- a key that is kept by its place
+-- a key that is kept as a place
 unfoldable pub withPlace : ℕ → ℕ → Keys → Keys
 withPlace at n keys =
     record {
@@ -135,7 +135,7 @@ withLength n keys =
       others = keys .others;
     }
 
--- a field that is no key: one more, but for a tag that was there before
+-- a field that is not a key: it counts as one more, unless its tag was there before
 unfoldable pub withOther : Bool → Keys → Keys
 withOther again keys =
     record {
@@ -148,7 +148,7 @@ withOther again keys =
       others = cond again (keys .others) (suc (keys .others));
     }
 
--- a field whose value stands at the offset `at`; `again` says that its tag was there before
+-- a field whose value is at the offset `at`; `again` says whether its tag was there before
 unfoldable pub withField : Kind → field.ParsedField → ℕ → Bool → Keys → Keys
 unfolding isKey isVersion isLength withPlace withVersion withLength withOther
 withField k f at again keys =
@@ -158,7 +158,7 @@ withField k f at again keys =
     (withPlace at (f .len) keys)))
     (withOther again keys)
 
--- ---- the line ends
+-- ---- the end of the line
 
 -- RG and PG need ID
 unfoldable pub keyedHead : (Stretch → Head) → Keys → Head

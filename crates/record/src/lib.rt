@@ -1,4 +1,4 @@
-// What a line's fields make: the keys that they give, and the head of the record, or its refusal.
+// What the fields of a line make: the keys among them, and the head of the record or its refusal.
 use field::ParsedField;
 use format::Kind;
 use format::Version;
@@ -6,7 +6,7 @@ ghost use mathlib.Core.Path.{_≡_};
 ghost use Prim.Native.Nat.{_≤_, _+_};
 ghost use Rattle.record.specs.Keys.{noKeys, withField, headFrom};
 
-// Where a piece of the text stands.
+// Where a piece of the text is.
 pub struct Stretch {
     pub at: usize,
     pub len: usize,
@@ -22,7 +22,7 @@ pub enum Head {
     Comment(Stretch),
 }
 
-// What the fields read so far give, in plain numbers: a key has at least one byte and LN is at least 1, so 0 says that there was none yet.
+// What the fields read so far give, in plain numbers. A key has at least one byte and LN is at least 1, so 0 means that there was none yet.
 pub struct Keys {
     pub key_at: usize,
     pub key_len: usize,
@@ -48,7 +48,7 @@ impl Keys {
         }
     }
 
-    // One field more, whose value stands at `at`: the last value of a key stands, and a tag that comes `again` is no field more.
+    // With one more field, whose value is at `at`. The last value of a key counts, and a tag that comes `again` is not another field.
     pub fn with(mut self, kind: Kind, f: ParsedField, at: usize, again: bool) -> Keys
         requires { ⌜ self .others + 1 ≤ 18446744073709551615 ⌝ }
         ensures { λ r. ⌜ r ≡ withField kind f at again self ⌝ }
@@ -75,7 +75,7 @@ impl Keys {
         self
     }
 
-    // The line ends: HD needs VN; SQ needs SN, then LN; RG and PG need ID.
+    // At the end of the line: HD needs VN; SQ needs SN, then LN; RG and PG need ID.
     pub fn head(self, kind: Kind) -> Head
         ensures { λ r. ⌜ r ≡ headFrom kind self ⌝ }
     {

@@ -1,4 +1,4 @@
--- What reading the front of a line answers: the byte that is due there, and the kind.
+-- The answer of reading the front of a line: the byte that must be there, and the kind.
 use Prim.Native.Nat.{ℕ, suc}
 use mathlib.Core.Path.{_≡_}
 use mathlib.Core.Bool.{Bool}
@@ -20,12 +20,12 @@ kindAt [] = Empty
 kindAt (a ∷ []) = Invalid
 kindAt (a ∷ b ∷ s) = parsedKindOf (kindOf a b)
 
--- the refusal that each is, and 0 for a kind
+-- the refusal of each answer, and 0 for a kind
 unfoldable pub kindRefusal : ParsedKind → ℕ
 kindRefusal Empty = 4
 kindRefusal Invalid = 5
 kindRefusal (Is k) = 0
 
--- a line whose kind bytes, at the front of `s`, are answered by `r`: where that is a refusal, the line is refused with its number
+-- a line for whose kind bytes, at the front of `s`, `r` is the answer: if that is a refusal, the line is refused with its number
 abbrev pub KindTold : List ℕ → ParsedKind → Type 0
 KindTold s r = (strict : Bool) (at n : ℕ) → kindRefusal r ≡ suc n → kinded strict at s ≡ refusedLine (suc n)

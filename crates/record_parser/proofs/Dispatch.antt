@@ -1,4 +1,4 @@
--- The front of a line: `@`, the kind, and what follows it; and lines in which LF or CR stands.
+-- The front of a line: `@`, the kind, and what follows it; and lines with an LF or a CR.
 use Prim.Native.Nat.{ℕ, zero, suc, _+_, _-_, _≤_, _<_}
 use mathlib.Core.Path.{_≡_, refl, sym, ap, _∙_}
 use mathlib.Core.Bool.{Bool, true, false, _&&_, _||_, cond}
@@ -16,7 +16,7 @@ use Rattle.byte_slices.specs.Upto.{leads}
 use Rattle.record_kind.specs.declared.ParsedKind.{ParsedKind}
 use Rattle.record_kind.specs.declared.ParsedKind.the-variants.{Empty, Invalid, Is}
 use Rattle.record_kind.specs.Kind.{parsedKindOf, kindAt}
-use Rattle.accepted.proofs.Bools.{split}
+use Rattle.lists.proofs.Bools.{split}
 use Rattle.accepted.proofs.Clean.{unbroken}
 use Rattle.record.specs.declared.Head.{Head}
 use Rattle.record.specs.Head.{headOf, recordHead, hasFields}

@@ -1,5 +1,6 @@
 pub mod Dispatch
-pub mod Turn
+pub mod FieldByField
 pub mod Made
 pub mod Walked
 pub mod Step
+pub mod Alone

@@ -1,4 +1,4 @@
--- The keys of the fields read so far: one field more, and the head that they make when the line ends.
+-- The keys of the fields read so far: one more field, and the head that they make when the line ends.
 use Prim.Native.Nat.{ℕ, suc}
 use mathlib.Core.Path.{_≡_, refl, sym, ap, _∙_}
 use mathlib.Core.Bool.{Bool, true, false, _||_, cond}
@@ -31,12 +31,12 @@ use Rattle.record.specs.Head.{stretchOf, headOf}
 use Rattle.format.specs.Keys.{isKey}
 use Rattle.record_tags.specs.Others.{unkeyed}
 use Rattle.record.specs.Keys.{keyAmong, spelt, versionAmong, worthIfThere, lengthAmong, stretchIfThere, isThere, numbers, plainly, keysOf, withField, headFrom, keyedHead}
-use Rattle.accepted.proofs.Bools.{or-true, split, and-left}
+use Rattle.lists.proofs.Bools.{or-true, split, and-left}
 use Rattle.accepted.proofs.Tags.{lastOf-snoc, settled-snoc, any-settled, length-put}
 use Rattle.accepted.proofs.Fields.{lastOf-of}
 use Rattle.record_tags.proofs.Firsts.{not-key}
 
--- ---- one field more
+-- ---- one more field
 
 unkeyed-append : (k : Kind) (fs gs : List Field) → unkeyed k (fs ++ gs) ≡ unkeyed k fs ++ unkeyed k gs
 unfolding unkeyed
@@ -125,7 +125,7 @@ length-snoc fs f n y =
     plain-path {v = none} (last-no 83 78 fs f n) refl (ap worthIfThere (last-yes 76 78 fs f y)) (others-key ReferenceSequence fs f (ap (λ u. tagged 83 78 f || u) y ∙ or-true (tagged 83 78 f)))
     ∙ rw (valued-length ReferenceSequence f y) refl
 
--- a tag is one tag alone
+-- a tag is only one tag
 not-both : (f : Field) → tagged 76 78 f ≡ true → tagged 83 78 f ≡ false
 unfolding tagged
 not-both f t =
@@ -135,7 +135,7 @@ not-both f t =
     rw e refl
 
 module _ (fs : List Field) (f : Field) where
-  -- one field more, whatever the kind
+  -- one more field, whatever the kind
   pub keys-snoc : (k : Kind) → Told k f
       → keysOf k (fs ++ (f ∷ [])) ≡ withField k (fieldNumbers k f) (f .value .at) (any (tagged (f .tag₀) (f .tag₁)) fs) (keysOf k fs)
   unfolding keyAmong versionAmong lengthAmong isKey isVersion isLength tagged

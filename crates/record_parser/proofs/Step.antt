@@ -1,4 +1,4 @@
--- One turn of the field loop: a field more, a refusal, or a tag that stands twice.
+-- One step of the field loop: one more field, a refusal, or a repeated tag.
 use Prim.Native.Nat.{ℕ, suc, _+_, _-_, _≤_, _<_}
 use mathlib.Core.Path.{_≡_, refl, sym, ap, _∙_}
 use mathlib.Core.Bool.{Bool, true, false, _&&_, _||_, cond}
@@ -33,11 +33,11 @@ use Rattle.record.specs.Head.{headOf}
 use Rattle.record.specs.Keys.{keysOf, noKeys, withField, headFrom}
 use Rattle.record_parser.specs.Marks.{markPlace, marksOf}
 use Rattle.record_parser.proofs.marks.Marks.{marked-none, marked-again, marked-more, place-below}
-use Rattle.record_parser.proofs.Turn.{tailScan, prepend, fielded-tail, judged-stop, judged-twice, judged-end, prepend-prepend, upto-not}
+use Rattle.record_parser.proofs.FieldByField.{tailScan, prepend, fielded-tail, judged-stop, judged-twice, judged-end, prepend-prepend, upto-not}
 use Rattle.record_parser.proofs.Made.{keys-snoc, head-made}
 use Rattle.record_parser.proofs.Walked.{Walked, Turned}
 
--- one field more at the end of a run
+-- one more field at the end of a run
 fields-snoc : (fs : List Field) (f : Field) → fieldsText (fs ++ (f ∷ [])) ≡ fieldsText fs ++ fieldText (f .tag₀) (f .tag₁) (f .value .bytes)
 unfolding fieldsText
 fields-snoc [] f = append-nil (fieldText (f .tag₀) (f .tag₁) (f .value .bytes))
@@ -87,7 +87,7 @@ module _ (kind : Kind) (at : ℕ) (s : List ℕ) (g : code.ParsedField) (t : Tur
 pub turn-shown : (kind : Kind) (at : ℕ) (s : List ℕ) (g : code.ParsedField) (t : Turned kind at s g) → Shown (t .field) g
 turn-shown kind at s g t = rw (t .answer) (shown kind (t .field) (t .told))
 
--- one field more is at most one other field more
+-- one more field is at most one more other field
 pub with-few : (k : Kind) (g : code.ParsedField) (at : ℕ) (again : Bool) (keys : Keys) → withField k g at again keys .others ≤ suc (keys .others)
 unfolding withField
 with-few k g at again keys = go (isKey k (g .«tag_0») (g .«tag_1»)) refl (isVersion k (g .«tag_0») (g .«tag_1»)) refl (isLength k (g .«tag_0») (g .«tag_1»)) refl again
@@ -133,7 +133,7 @@ walked-start kind src at strict exact seen keys h c e =
     never false = refl
 
 module _ (kind : Kind) (src : List ℕ) (at : ℕ) (strict exact : Bool) (seen : List Bool) (keys : Keys) (pos : ℕ) (w : Walked kind src at strict exact seen keys pos) where
-  -- a byte that is no tab stands where one is due
+  -- a byte that is not a tab is where one must be
   pub turn-six : pos < length src → (getD src pos 0 ≡ 9 → ⊥) → fielded strict kind (at + 3) (drop 3 src) ≡ refusedLine 6
   unfolding tailScan
   turn-six h n =
@@ -154,14 +154,14 @@ module _ (kind : Kind) (src : List ℕ) (at : ℕ) (strict exact : Bool) (seen :
       ∙ ap (λ l. judged strict kind (prepend (w .fields) (tailScan kind (at + pos) l))) (drop-of-length-le src h)
       ∙ judged-end kind (w .fields) strict (w .once)))
 
--- ---- a turn at a tab
+-- ---- a step at a tab
 
 module _ (kind : Kind) (src : List ℕ) (at : ℕ) (strict exact : Bool) (seen : List Bool) (keys : Keys) (pos : ℕ)
     (w : Walked kind src at strict exact seen keys pos) (h : pos < length src) (tab : getD src pos 0 ≡ 9) where
   open-tail : drop pos src ≡ 9 ∷ drop (pos + 1) src
   open-tail = drop-cons src pos 0 h ∙ rw (tab, add-one pos) refl
 
-  -- a field is refused: nothing stood twice before it
+  -- a field is refused: nothing was repeated before it
   pub turn-refused : (n : ℕ) → tailScan kind (at + pos) (9 ∷ drop (pos + 1) src) ≡ record { fields = []; stop = n } → (n ≡ 0 → ⊥)
       → fielded strict kind (at + 3) (drop 3 src) ≡ refusedLine n
   turn-refused n e m =
@@ -190,7 +190,7 @@ module _ (kind : Kind) (src : List ℕ) (at : ℕ) (strict exact : Bool) (seen :
     pub turn-place : markPlace exact (g .«tag_0») (g .«tag_1») < length seen
     turn-place = omega (arith, w .marked .size, place-below exact (g .«tag_0») (g .«tag_1») turn-tag)
 
-    -- what the loop is told of the tag: exactly whether it stood before
+    -- what the loop learns of the tag: exactly whether it was there before
     pub told-again : getD seen (markPlace exact (g .«tag_0») (g .«tag_1»)) false && (exact || occurs (g .«tag_0») (g .«tag_1») (take (pos - 3) (drop 3 src)))
         ≡ any (tagged (t .field .tag₀) (t .field .tag₁)) (w .fields)
     told-again =
@@ -211,7 +211,7 @@ module _ (kind : Kind) (src : List ℕ) (at : ℕ) (strict exact : Bool) (seen :
         ∙ ap (λ l. judged strict kind (prepend (w .fields ++ (t .field ∷ [])) (tailScan kind (at + pos + 1 + (3 + n)) l))) (drop-drop (3 + n) (pos + 1) src)
         ∙ rw (a, b) refl
 
-    -- a tag stands twice where that is forbidden
+    -- a tag is repeated where that is forbidden
     pub turn-twice : strict ≡ true → any (tagged (t .field .tag₀) (t .field .tag₁)) (w .fields) ≡ true → fielded strict kind (at + 3) (drop 3 src) ≡ refusedLine 14
     turn-twice s y =
         let m : Scan = tailScan kind (at + (pos + 4 + g .len)) (drop (pos + 4 + g .len) src) in
@@ -239,7 +239,7 @@ module _ (kind : Kind) (src : List ℕ) (at : ℕ) (strict exact : Bool) (seen :
         go true n o = ap (λ u. u || repeats (w .fields)) n ∙ o
         go false n o = refl
 
-    -- a field more
+    -- one more field
     pub walked : strict && any (tagged (t .field .tag₀) (t .field .tag₁)) (w .fields) ≡ false
         → Walked kind src at strict exact (set seen (markPlace exact (g .«tag_0») (g .«tag_1»)) true)
         (withField kind g (at + pos + 4) (any (tagged (t .field .tag₀) (t .field .tag₁)) (w .fields)) keys) (pos + 4 + g .len)

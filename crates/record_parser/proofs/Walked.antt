@@ -1,4 +1,4 @@
--- What holds of the field loop at a place of the line, and one turn of it.
+-- What holds of the field loop at a place of the line, and one step of it.
 use Prim.Native.Nat.{ℕ, _+_, _-_, _≤_}
 use mathlib.Core.Path.{_≡_, sym, ap, _∙_}
 use mathlib.Core.Bool.{Bool, true, false, _&&_}
@@ -21,12 +21,12 @@ use Rattle.field.proofs.Anywhere.{field-anywhere}
 use Rattle.field.proofs.Answer.{Told, Found, parsed-bad, parsed-found}
 use Rattle.field.proofs.Next.{Kept, good-onward, then-onward}
 use Rattle.field.proofs.Place.{field-in-place, place-tag, place-colon, colon-other}
-use Rattle.accepted.proofs.Bools.{never, split}
+use Rattle.lists.proofs.Bools.{never, split}
 use Rattle.record_tags.proofs.Region.{Clean}
 use Rattle.record.specs.declared.Keys.{Keys}
 use Rattle.record.specs.Keys.{keysOf}
 use Rattle.record_parser.proofs.marks.Marks.{Marked}
-use Rattle.record_parser.proofs.Turn.{tailScan, prepend, turn-bad, turn-good, turn-then}
+use Rattle.record_parser.proofs.FieldByField.{tailScan, prepend, turn-bad, turn-good, turn-then}
 
 -- at the place `pos` of the line `src`
 pub record Walked (kind : Kind) (src : List ℕ) (at : ℕ) (strict exact : Bool) (seen : List Bool) (keys : Keys) (pos : ℕ) : Type 0 where
@@ -72,7 +72,7 @@ pub record Turned (kind : Kind) (at : ℕ) (s : List ℕ) (g : code.ParsedField)
       ≡ prepend (field ∷ []) (tailScan kind (at + 1 + (3 + length (field .value .bytes))) (drop (3 + length (field .value .bytes)) s))
 
 module _ (kind : Kind) (at : ℕ) (s : List ℕ) (g : code.ParsedField) (e : g ≡ parsedOf kind (field kind 0 (before 9 s))) where
-  -- wherever the line stands
+  -- wherever the line is
   answered : g ≡ parsedOf kind (field kind (at + 1) (before 9 s))
   answered = e ∙ sym (field-anywhere kind (at + 1) (before 9 s))
 

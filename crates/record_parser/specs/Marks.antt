@@ -1,8 +1,8 @@
--- The marks of the tags that a line's fields have: where a tag's mark stands, and how many there are.
+-- The marks of the tags of a line: the place of a tag's mark, and how many places there are.
 use Prim.Native.Nat.{ℕ, _+_, _-_, _*_, _%_}
 use mathlib.Core.Bool.{Bool, true, false}
 
--- exact: each tag its own place; else one of 64
+-- exact: each tag has its own place; otherwise it has one of 64
 unfoldable pub markPlace : Bool → ℕ → ℕ → ℕ
 markPlace true a b = (a - 65) * 75 + (b - 48)
 markPlace false a b = (a * 4 + b) % 64

@@ -1,4 +1,4 @@
-// The fields of a line: what they make, or the refusal of the first that is wrong.
+// The fields of a line: what they make, or the refusal of the first field that is wrong.
 use format::Kind;
 use record::Head;
 use record::Keys;
@@ -10,7 +10,8 @@ ghost use Rattle.format.specs.Records.{fielded};
 ghost use Rattle.record.specs.Head.{headOf};
 ghost use Rattle.record_parser.specs.Marks.{marksOf};
 
-// The fields of a line of any kind but CO, from its third byte on: one walk, and each value is looked at once. `seen` has a mark for each tag, none set.
+// Reads the fields of a line of any kind but CO, from its third byte on, in one walk that looks at each value once. `seen` has the marks of the tags,
+// none of them set.
 fn walk_fields(
     kind: Kind,
     src: &[u8],
@@ -48,7 +49,7 @@ fn walk_fields(
     keys.head(kind)
 }
 
-// A short line: few marks to clear, and little to look back over where one was set before.
+// A short line: there are few marks to clear, and if a mark was set before, there is little to search.
 fn parse_short(kind: Kind, src: &[u8], at: usize, strict: bool) -> Head
     requires { ⌜ 3 ≤ length (now src) ⌝ }
     requires { ⌜ at + length (now src) ≤ 4294967295 ⌝ }
@@ -58,7 +59,7 @@ fn parse_short(kind: Kind, src: &[u8], at: usize, strict: bool) -> Head
     walk_fields(kind, src, at, strict, false, &mut seen)
 }
 
-// A long line: a mark for each tag, so that nothing is looked back for.
+// A long line: each tag has a mark of its own, so nothing has to be searched.
 fn parse_long(kind: Kind, src: &[u8], at: usize, strict: bool) -> Head
     requires { ⌜ 3 ≤ length (now src) ⌝ }
     requires { ⌜ at + length (now src) ≤ 4294967295 ⌝ }
@@ -68,7 +69,7 @@ fn parse_long(kind: Kind, src: &[u8], at: usize, strict: bool) -> Head
     walk_fields(kind, src, at, strict, true, &mut seen)
 }
 
-// The fields of a line of any kind but CO.
+// Reads the fields of a line of any kind but CO.
 pub fn parse_fields(kind: Kind, src: &[u8], at: usize, strict: bool) -> Head
     requires { ⌜ 3 ≤ length (now src) ⌝ }
     requires { ⌜ at + length (now src) ≤ 4294967295 ⌝ }

@@ -1,6 +1,7 @@
-// One line of a header: the record that it is, or the refusal that it gets.
+// One line of a header: its record, or its refusal.
 pub mod fields;
 pub mod marks;
+pub mod plain;
 
 use format::Kind;
 use record::Head;
@@ -13,7 +14,7 @@ ghost use Rattle.format.specs.Bytes.{any};
 ghost use Rattle.format.specs.Records.{line, prefixed, body, remark, breaks};
 ghost use Rattle.record.specs.Head.{headOf, hasFields};
 
-// Whether LF or CR stands in `src`.
+// Whether `src` has an LF or a CR.
 fn has_break(src: &[u8]) -> bool
     ensures { λ r. ⌜ r ≡ any breaks (now (src .entry)) ⌝ }
 {
@@ -23,7 +24,7 @@ fn has_break(src: &[u8]) -> bool
     byte_slices::upto(src, b'\r') < src.len()
 }
 
-// CO: one tab, then any bytes, also none.
+// Reads a CO: one tab, then any bytes or none.
 fn parse_comment(src: &[u8], at: usize) -> Head
     requires { ⌜ 3 ≤ length (now src) ⌝ }
     requires { ⌜ at + length (now src) ≤ 4294967295 ⌝ }
@@ -42,7 +43,7 @@ fn parse_comment(src: &[u8], at: usize) -> Head
     Head::Comment(place)
 }
 
-// What follows the kind bytes.
+// Reads what follows the kind bytes.
 fn parse_value(kind: Kind, src: &[u8], at: usize, strict: bool) -> Head
     requires { ⌜ 3 ≤ length (now src) ⌝ }
     requires { ⌜ at + length (now src) ≤ 4294967295 ⌝ }
@@ -50,12 +51,17 @@ fn parse_value(kind: Kind, src: &[u8], at: usize, strict: bool) -> Head
 {
     match kind {
         Kind::Comment => parse_comment(src, at),
-        Kind::Header | Kind::ReferenceSequence | Kind::ReadGroup | Kind::Program =>
-            fields::parse_fields(kind, src, at, strict),
+        Kind::ReferenceSequence => plain::parse_reference(src, at, strict),
+        Kind::Header | Kind::ReadGroup | Kind::Program => fields::parse_fields(
+            kind,
+            src,
+            at,
+            strict,
+        ),
     }
 }
 
-// A line in which LF and CR are bytes like any other.
+// Reads a line in which LF and CR are bytes like any other.
 fn parse_bytes(src: &[u8], at: usize, strict: bool) -> Head
     requires { ⌜ at + length (now src) ≤ 4294967295 ⌝ }
     ensures { λ r. ⌜ r ≡ headOf (prefixed strict at (now (src .entry))) ⌝ }
@@ -70,7 +76,7 @@ fn parse_bytes(src: &[u8], at: usize, strict: bool) -> Head
     }
 }
 
-// Whether a head is that of accepted fields: no LF and no CR stands in such a line.
+// Whether a head is that of accepted fields. Such a line has no LF and no CR.
 fn has_fields(head: Head) -> bool
     ensures { λ r. ⌜ r ≡ hasFields head ⌝ }
 {
@@ -84,7 +90,7 @@ fn has_fields(head: Head) -> bool
     }
 }
 
-// A line without its ending, which starts at the offset `at`: its record, or why it is refused; `strict` forbids repeated tags.
+// Reads a line without its ending, which starts at the offset `at`: answers its record, or why it is refused. `strict` forbids repeated tags.
 pub fn parse_record(src: &[u8], at: usize, strict: bool) -> Head
     requires { ⌜ at + length (now src) ≤ 4294967295 ⌝ }
     ensures { λ r. ⌜ r ≡ headOf (line strict (record { at = at; bytes = now (src .entry) })) ⌝ }

@@ -1,12 +1,12 @@
-// The marks of the tags that a line's fields have: where each stands, and what it says.
+// The marks of the tags of a line: where the mark of each is, and what it means.
 ghost use mathlib.Core.Path.{_≡_};
 ghost use mathlib.Core.Bool.{true, _&&_, _||_};
 ghost use Rattle.format.specs.Fields.{isTag};
 ghost use Rattle.record_tags.specs.Occurs.{occurs};
 ghost use Rattle.record_parser.specs.Marks.{markPlace};
 
-// Where the mark of a tag stands. `exact`: each tag has a place of its own among 4,350, since its bytes are 65 to 122 and 48 to 122. Else it is one of
-// 64 places, and tags of the specification that stand in one record have different ones.
+// The place of a tag's mark. If `exact`, each tag has a place of its own among 4,350, because its bytes are 65 to 122 and 48 to 122. Otherwise it is
+// one of 64 places, and the tags that the specification has for one record have different ones.
 pub fn mark_of(a: u8, b: u8, exact: bool) -> usize
     requires { ⌜ isTag a b ≡ true ⌝ }
     ensures { λ r. ⌜ r ≡ markPlace exact a b ⌝ }
@@ -17,7 +17,8 @@ pub fn mark_of(a: u8, b: u8, exact: bool) -> usize
     ((a as usize) * 4 + (b as usize)) % 64
 }
 
-// Whether the tag `a`, `b`, whose mark is `seen`, stands among the fields `src`: where the marks are not exact, a mark alone does not say so.
+// Whether the tag `a`, `b`, whose mark is `seen`, is among the fields `src`. If the marks are not exact, a mark is not enough, and the fields are
+// searched.
 pub fn stands_again(src: &[u8], a: u8, b: u8, exact: bool, seen: bool) -> bool
     ensures { λ r. ⌜ r ≡ (seen && (exact || occurs a b (now (src .entry)))) ⌝ }
 {

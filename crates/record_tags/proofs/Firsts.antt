@@ -14,7 +14,7 @@ use Rattle.format.specs.Fields.{Field, tagged, repeats, later, lastOf, without,
 use Rattle.format.specs.declared.Kind.{Kind}
 use Rattle.format.specs.Keys.{isKey}
 use Rattle.record_tags.specs.Others.{unkeyed, orLast, latest, firsts}
-use Rattle.accepted.proofs.Bools.{or-assoc, or-comm, or-true, or-false, eqb-sym, any-append, any-snoc, and-left, and-right, or-left, or-right, split}
+use Rattle.lists.proofs.Bools.{or-assoc, or-comm, or-true, or-false, eqb-sym, any-append, any-snoc, and-left, and-right, or-left, or-right, split}
 use Rattle.accepted.proofs.Tags.{tagged-sym, tagged-same, any-same, any-put, repeats-put}
 
 -- ---- the last value, one field later
@@ -111,7 +111,7 @@ module _ (k : Kind) (a b : ℕ) (n : isKey k a b ≡ false) where
       go true h ih = ih ∙ sym (ap (λ t. later (cond t (some (f .value)) none) (lastOf a b fs)) (not-key f h) ∙ later-none (lastOf a b fs))
       go false h ih = ap (later (cond (tagged a b f) (some (f .value)) none)) ih
 
--- which fields are first depends on the tags before them alone, and not on keys
+-- which fields are first depends only on the tags before them, and not on keys
 firsts-done : (k : Kind) (d e fs : List Field) → ((a b : ℕ) → isKey k a b ≡ false → any (tagged a b) d ≡ any (tagged a b) e) → firsts k d fs ≡ firsts k e fs
 unfolding firsts
 firsts-done k d e [] h = refl

@@ -15,7 +15,7 @@ use Rattle.format.specs.Tidy.{fieldText, fieldsText}
 use Rattle.byte_slices.specs.Upto.{upto}
 use Rattle.byte_slices.specs.Stands.{Each}
 use Rattle.record_tags.specs.Occurs.{occurs}
-use Rattle.accepted.proofs.Bools.{or-true, or-false, eqb-sym}
+use Rattle.lists.proofs.Bools.{or-true, or-false, eqb-sym}
 
 pub occurs-short : (a b : ℕ) (s : List ℕ) → length s ≤ 2 → occurs a b s ≡ false
 unfolding occurs

@@ -1,4 +1,4 @@
--- Whether a field with a tag stands in a run of fields, by its bytes.
+-- Whether a run of fields has a field with a tag, as its bytes show.
 use Prim.Native.Nat.{ℕ}
 use mathlib.Core.Bool.{Bool, false, _&&_, _||_}
 use mathlib.Core.List.{List, [], _∷_}

@@ -1,4 +1,4 @@
--- The other fields of a record, in the order in which they stand in the line: each tag at its first place, with its last value.
+-- The other fields of a record, in their order in the line: each tag at its first place, with its last value.
 use Prim.Native.Nat.{ℕ}
 use mathlib.Core.Bool.{Bool, true, false, _&&_, _||_, cond}
 use mathlib.Core.List.{List, [], _∷_, _++_}
@@ -10,7 +10,7 @@ use Rattle.format.specs.Fields.{Field, tagged, lastOf}
 use Rattle.format.specs.declared.Kind.{Kind}
 use Rattle.format.specs.Keys.{isKey}
 
--- the fields that are no key
+-- the fields that are not keys
 unfoldable pub unkeyed : Kind → List Field → List Field
 unfolding isKey
 unkeyed k [] = []
@@ -20,12 +20,12 @@ unfoldable pub orLast : Piece → Option Piece → Piece
 orLast p none = p
 orLast p (some q) = q
 
--- a field with the last value that its tag has in `fs`, if it has one there
+-- a field with the last value of its tag in `fs`, if there is one
 unfoldable pub latest : List Field → Field → Field
 unfolding orLast lastOf
 latest fs f = record { tag₀ = f .tag₀; tag₁ = f .tag₁; value = orLast (f .value) (lastOf (f .tag₀) (f .tag₁) fs) }
 
--- of the fields that follow `done`: those that are no key and whose tag is not in `done`, each with its tag's last value
+-- of the fields after `done`: those that are not keys and whose tag is not in `done`, each with the last value of its tag
 unfoldable pub firsts : Kind → List Field → List Field → List Field
 unfolding isKey any tagged latest
 firsts k done [] = []

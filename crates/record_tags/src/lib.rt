@@ -1,10 +1,10 @@
-// Tags of a line's fields: which are keys, and whether one stands among the fields before.
+// The tags of a line: which are keys, and whether one is among the fields before.
 use format::Kind;
 ghost use mathlib.Core.Path.{_≡_};
 ghost use Rattle.format.specs.Keys.{isKey};
 ghost use Rattle.record_tags.specs.Occurs.{occurs};
 
-// VN of HD, SN and LN of SQ, ID of RG and PG.
+// Whether the tag is a key: VN of HD, SN and LN of SQ, ID of RG and PG.
 pub fn is_key(kind: Kind, a: u8, b: u8) -> bool
     ensures { λ r. ⌜ r ≡ isKey kind a b ⌝ }
 {
@@ -22,7 +22,8 @@ pub fn is_key(kind: Kind, a: u8, b: u8) -> bool
     }
 }
 
-// Whether a field with the tag `a`, `b` stands among the fields `src`: looked for from the end, so that a tag that comes again and again is found near.
+// Whether a field with the tag `a`, `b` is among the fields `src`. The search starts at the end, so that a tag that comes again and again is found
+// soon.
 pub fn occurs(src: &[u8], a: u8, b: u8) -> bool
     ensures { λ r. ⌜ r ≡ occurs a b (now (src .entry)) ⌝ }
 {

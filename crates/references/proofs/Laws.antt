@@ -15,10 +15,10 @@ use Rattle.format.specs.Reading.{ofKind}
 use Rattle.format.specs.Calls.{refused, yes, then, fitting, there, keyIfThere, lengthIfThere, counting, keying, sizing}
 use Rattle.accepted.specs.Read.{recordsOf}
 use Rattle.read.proofs.Fresh.{Current, refused-is-no-answer, passed, goes-on}
-use Rattle.calls.proofs.Told.{count-served}
+use Rattle.calls.proofs.OwnCatalogue.{count-served}
 use Rattle.format.specs.Referencing.{row, rows, referencing}
 use Rattle.references.specs.Laws.{RowOf}
-use Rattle.references.proofs.Told.{count-is}
+use Rattle.references.proofs.OwnCatalogue.{count-is}
 
 -- ---- over records
 

@@ -1,3 +1,3 @@
 pub mod Rows
-pub mod Told
+pub mod OwnCatalogue
 pub mod Laws

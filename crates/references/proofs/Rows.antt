@@ -1,4 +1,4 @@
--- A turn of the walk over SQ entries: the rows from an entry on, and what is written of them.
+-- A step of the walk over SQ entries: the rows from an entry on, and what is written of them.
 use Prim.Native.Nat.{ℕ, _+_, _≤_, _<_}
 use mathlib.Core.Path.{_≡_, refl, sym, ap, subst, _∙_}
 use mathlib.Core.Bool.{Bool, true, false, cond}
@@ -21,7 +21,7 @@ use Rattle.catalogue_entries.specs.declared.Entry.the-variants.{End, Header, Re
 use Rattle.catalogue_entries.specs.Entries.{kindByte, entryOf, entriesIn}
 use Rattle.catalogue_lookup.specs.Lookup.{entriesFrom}
 use Rattle.name_entries.specs.Next.{nextSq}
-use Rattle.name_entries.proofs.Turns.{no-more, one-more, sq-within}
+use Rattle.name_entries.proofs.NextEntry.{no-more, one-more, sq-within}
 use Rattle.references.specs.Rows.{entryRow, rowsIn, ShortLength, RowsFit}
 
 -- three stores in a row
@@ -29,7 +29,7 @@ pub over-three : (out : List ℕ) (at a b c : ℕ) → at + 3 ≤ length out →
 unfolding over
 over-three out at a b c h = rw (add-one at, add-two at) (sets-eq (a ∷ b ∷ c ∷ []) out at h)
 
--- ---- what stands before the next SQ entry has no row
+-- ---- what comes before the next SQ entry has no row
 
 no-row : (e : Entry) → (kindByte e ≡ 2 → ⊥) → entryRow e ≡ []
 unfolding entryRow kindByte
@@ -83,7 +83,7 @@ pub record Left (c before : List ℕ) (at end : ℕ) (table : List ℕ) : Type 0
 pub left-all : (c table : List ℕ) → RowsFit (entriesIn c) (length table) → Left c table 0 0 table
 left-all c table f = record { within = omega arith; same = refl; short = f .short; space = omega (arith, f .space); decides = refl }
 
--- the walk was at `at`, and `e` is what stands where the next SQ entry does
+-- the walk was at `at`, and `e` is what is at the place of the next SQ entry
 module _ (c before : List ℕ) (at end : ℕ) (table : List ℕ) (w : Left c before at end table) (r : ℕ) (is : r ≡ nextSq c at) (e : Entry) (found : e ≡ entryOf (drop r c)) where
   pub left-none : (kindByte e ≡ 2 → ⊥) → table ≡ over before 0 (rowsIn (entriesIn c))
   unfolding rowsIn

@@ -1,4 +1,4 @@
--- What is promised of the rows: each is what the calls `key` and `length` answer for its SQ.
+-- What the rows must satisfy: each is what the calls `key` and `length` answer for its SQ.
 use Prim.Native.Nat.{ℕ, _*_}
 use mathlib.Core.Path.{_≡_}
 use mathlib.Core.List.{List, [], _∷_}
@@ -7,7 +7,7 @@ use lib.ListN.{take, drop}
 use Rattle.format.specs.Lines.{Piece}
 use Rattle.format.specs.Calls.{yes, keying, sizing}
 
--- in the numbers that are answered, three are the row of the SQ with an ordinal
+-- three of the numbers in the answer are the row of the SQ with an ordinal
 pub record RowOf (t c xs : List ℕ) (i : ℕ) : Type 0 where
   pub name : Piece
   pub ln : ℕ

@@ -1,4 +1,4 @@
--- The rows that the entries of a catalogue say.
+-- The rows that the entries of a catalogue give.
 use Prim.Native.Nat.{ℕ, _≤_, _<_}
 use mathlib.Core.List.{List, [], _∷_, _++_}
 use lib.ListN.{length}
@@ -6,7 +6,7 @@ use Rattle.byte_slices.specs.Stands.{Each}
 use Rattle.catalogue_entries.specs.declared.Entry.{Entry}
 use Rattle.catalogue_entries.specs.declared.Entry.the-variants.{End, Header, ReferenceSequence, ReadGroup, Program, Comment, Field}
 
--- the row of an SQ entry: where the name stands, how long it is, and LN
+-- the row of an SQ entry: where the name is, how long it is, and LN
 unfoldable pub entryRow : Entry → List ℕ
 entryRow End = []
 entryRow (Header v l) = []
@@ -21,7 +21,7 @@ unfolding entryRow
 rowsIn [] = []
 rowsIn (e ∷ es) = entryRow e ++ rowsIn es
 
--- the LN of an SQ entry fits a number of 32 bits
+-- the LN of an SQ entry fits into 32 bits
 unfoldable pub ShortLength : Entry → Type 0
 ShortLength End = Unit
 ShortLength (Header v l) = Unit

@@ -1,4 +1,4 @@
-// The references of a header in one call, over a text and its catalogue: of each SQ where its SN stands, how long it is, and the LN.
+// The references of a header in one call, from a text and its catalogue: where the SN of each SQ is, how long it is, and the LN.
 use catalogue_entries::Entry;
 use catalogue_entries::Place;
 use format::LineNo;
@@ -15,7 +15,7 @@ ghost use Rattle.format.specs.Referencing.{referencing};
 ghost use Rattle.references.specs.Answers.{rowCountOf, numbersOf};
 ghost use Rattle.references.specs.Rows.{rowsIn, RowsFit};
 
-// Writes the row of one SQ from `at` on.
+// Writes the row of one SQ at `at`.
 fn put_row(table: &mut [u32], at: usize, name: Place, ln: u32)
     requires { ⌜ at + 3 ≤ length (now table) ⌝ }
     ensures { λ _. ⌜ now (table .exit) ≡ over (now (table .entry)) at (name .at ∷ name .len ∷ ln ∷ []) ⌝ }
@@ -45,8 +45,8 @@ fn put_rows(catalogue: &[u8], table: &mut [u32])
     }
 }
 
-// For each SQ, in order, three numbers at the front of `table`: the offset of SN, its length, and LN. Answers how many SQ there are. 20 where the
-// table has fewer than three numbers for each.
+// Writes three numbers for each SQ, in order, to the front of `table`: the offset of SN, its length, and LN. Answers how many SQ lines there are, or
+// refuses with 20 if the table has fewer than three numbers for each.
 pub fn references(text: &[u8], catalogue: &[u8], table: &mut [u32]) -> CountAnswer
     ensures answer { λ r. ⌜ r ≡ rowCountOf (referencing (now (text .entry)) (now (catalogue .entry)) (length (now (table .entry)))) ⌝ }
     ensures wrote { λ _. ⌜ now (table .exit) ≡ outputOf

@@ -1,5 +1,5 @@
-// Replays stored answers: each line of the files that its arguments name is a question with its answer, and what the library answers is
-// compared with it. One line of counts is written for each file.
+// Replays stored answers. Each line of the files that its arguments name is a question with its answer, and the library's answer is compared with it.
+// One line of counts is written for each file.
 //
 // `vectors.txt`: 373 questions to `count`, `key`, `length`, `field`, `roots`, `leaves`, `add` and `answer`, answered by a model written from
 // document 01 alone.
@@ -17,7 +17,7 @@
 // `lens.txt`: fronts of SAM files and of uncompressed BAM streams, to `text_len` and `binary_len`: answered by that model, written by samtools, and
 // corners written by hand.
 //
-// Words are parted by one space; byte strings are in hex, `-` for none. A line is a call, its text, its catalogue (`=` for the one that
+// Words are separated by one space; byte strings are in hex, `-` for none. A line is a call, its text, its catalogue (`=` for the one that
 // `read::read` gives), its other arguments, and the answer:
 //     count TEXT KEPT KIND ok COUNT
 //     key TEXT KEPT KIND ORDINAL ok OFFSET LENGTH
@@ -33,9 +33,9 @@
 //     find TEXT KEPT KIND KEY ok ORDINAL
 //     references TEXT KEPT ROOM ok COUNT ROWS
 //     check_sealed TEXT KEPT ROOM SEAL ok
-// or `refused NUMBER LINE` in place of `ok ..`. ORDINALS have four hex digits each; those of names and of USED have eight, and so have the
-// slots of INDEX, the parent and the depth of each program in ROWS, and each number of a row of references; SEATS is how many records the
-// table has; LOOKS is `-` where it is not stored. Over a text alone:
+// or `refused NUMBER LINE` in place of `ok ..`. ORDINALS have four hex digits each; those of names and of USED have eight, and so have the slots of
+// INDEX, the parent and the depth of each program in ROWS, and each number of a row of references. SEATS is how many records the table has. LOOKS is
+// `-` if it is not stored. Calls that take only a text:
 //     program TEXT BYTES
 //     tidy TEXT ROOM ok BYTES
 //     carry_on TEXT ROOM TABLE ok BYTES ROWS
@@ -45,24 +45,23 @@
 //     binary_out TEXT ROOM ok BYTES
 //     binary_in BYTES ROOM ok BYTES
 //     seal TEXT ROOM ok SEAL
-// have what the program on standard input writes, the tidy text, the tidy text of what is kept with the table of what is skipped, eight
-// digits for each number, the table of the faulty lines, the catalogue, which the check must then take, and refuse when its last byte is another,
-// the catalogue again, by
-// a work area of SLOTS numbers, which is all zeros afterwards, the binary header, the tidy text of a binary header, and the seal, by a work area
-// of ROOM bytes, which must be as tidying leaves it, and after the check of a seal too unless that is refused before 33. A line of the oracle
-// has its text first; each such text is read, tidied, and asked for its roots and leaves. Of an output that is lent every element is looked at:
-// what is not the answer must be as it was. Where the field call's answer stands no program can see: its contract says it. Over three texts and
-// two lists:
+// `program` has what the program on standard input writes, `tidy` the tidy text, `carry_on` the tidy text of what is kept and the table of what is
+// skipped, eight digits per number, `faults` the table of the faulty lines, and `read` the catalogue. The check must take that catalogue, and refuse
+// it with another last byte. `read_with` has the catalogue again, made with a work area of SLOTS numbers, which is all zeros afterwards. `binary_out`
+// has the binary header, and `binary_in` the tidy text of a binary header. `seal` has the seal, made with a work area of ROOM bytes, which must be as
+// tidying leaves it; so it must be after the check of a seal, unless that is refused before 33. A line of the oracle has its text first; each such
+// text is read, tidied, and asked for its roots and leaves. Every element of a lent output is looked at: what is not the answer must be as it was. No
+// program can see where the answer of `field` is; its contract says it. Calls that take three texts and two lists:
 //     judge_merge A B MERGED LIST_A LIST_B ok
 // or `refused NUMBER LINE ABOUT` in place of `ok`: ABOUT is `A`, `B` or `M` for the text that it is about, or `-`; each number of a list has eight
-// hex digits. Over the front of a file or of a stream:
+// hex digits. Calls that take the front of a file or of a stream:
 //     text_len BYTES ok COUNT
 //     binary_len BYTES ok whole COUNT
 //     binary_len BYTES ok more COUNT
-// or `refused 28 0`. The same must be said where as many bytes as are asked for are lent each time, with the cursor.
+// or `refused 28 0`. The answer must be the same if as many bytes as are asked for are lent each time, with the cursor.
 //
-// A line that starts with `!` holds a wrong answer, and the program must find it wrong: so it is seen that each comparison can fail. One that
-// starts with `#` is a note.
+// A line that starts with `!` holds a wrong answer, and the program must find it wrong, which shows that each comparison can fail. A line that starts
+// with `#` is a note.
 use libc::STDOUT_FILENO;
 use replay_asked::ACCEPTED;
 use replay_asked::ADDED;
@@ -117,7 +116,7 @@ fn is_call(line: &[u8], asked: usize, text: &[u8], kept: &[u8], out: &mut [u32])
     }
 }
 
-// Whether a call over text and catalogue answers as the line says.
+// Whether a call on a text and its catalogue answers as the line says.
 fn is_answer(line: &[u8], asked: usize, text: &[u8]) -> bool {
     let mut kept = io::large_buffer();
     let n = replay_calls::keep(replay_cases::word(line, 2), text, &mut kept);
@@ -137,7 +136,7 @@ fn is_answer(line: &[u8], asked: usize, text: &[u8]) -> bool {
     is_call(line, asked, text, &kept[..n], &mut out)
 }
 
-// Whether a call over a text, or a binary header, alone answers as the line says.
+// Whether a call on only a text or a binary header answers as the line says.
 fn is_written(line: &[u8], asked: usize, text: &[u8]) -> bool {
     if asked == PROGRAM {
         return replay_texts::is_program(line, text);
@@ -163,7 +162,7 @@ fn is_written(line: &[u8], asked: usize, text: &[u8]) -> bool {
     }
 }
 
-// Whether the library says of a text what the crate says.
+// Whether the library says the same of a text as noodles-sam.
 fn is_sample(line: &[u8], asked: usize, text: &[u8]) -> bool {
     let mut kept = replay_answers::bytes();
     let mut out = replay_answers::bytes();
@@ -182,7 +181,7 @@ fn is_sample(line: &[u8], asked: usize, text: &[u8]) -> bool {
     }
 }
 
-// Whether the library's answer is the one that stands in the line.
+// Whether the library's answer is the one in the line.
 fn is_right(line: &[u8], asked: usize) -> bool {
     if asked == MERGED {
         return replay_merged::is_merged(line);
@@ -223,7 +222,7 @@ fn case(line: &[u8], tally: &mut [u32])
     }
 }
 
-// One line that is marked: it asks something, and its answer must be found wrong.
+// A marked line: it asks something, and its answer must be found wrong.
 fn marked_case(line: &[u8], tally: &mut [u32])
     ensures { λ _. ⌜ length (now (tally .exit)) ≡ length (now (tally .entry)) ⌝ }
 {
@@ -237,7 +236,7 @@ fn marked_case(line: &[u8], tally: &mut [u32])
     }
 }
 
-// A line of a file: a case, a marked one, or a note.
+// A line of a file: a case, a marked case, or a note.
 fn any_case(line: &[u8], tally: &mut [u32])
     ensures { λ _. ⌜ length (now (tally .exit)) ≡ length (now (tally .entry)) ⌝ }
 {
@@ -255,7 +254,7 @@ fn any_case(line: &[u8], tally: &mut [u32])
     case(line, tally);
 }
 
-// The whole lines of `input`. Answers how many bytes they are.
+// Replays the whole lines of `input`. Answers how many bytes they are.
 fn block(input: &[u8], tally: &mut [u32]) -> usize
     ensures { λ r. ⌜ (r ≤ length (now (input .entry))) × (length (now (tally .exit)) ≡ length (now (tally .entry))) ⌝ }
 {
@@ -271,8 +270,8 @@ fn block(input: &[u8], tally: &mut [u32]) -> usize
     at
 }
 
-// Replays the whole lines of the part of a file that starts at `at`, and answers how many bytes they are: 0 at the file's end. A last line
-// without LF, and a line that is longer than the space, is counted as wrong.
+// Replays the whole lines of the part of a file that starts at `at`, and answers how many bytes they are: 0 at the end of the file. A last line
+// without LF, or a line that is longer than the buffer, is counted as wrong.
 fn next_block(fd: i32, at: usize, tally: &mut [u32]) -> usize
     requires { ⌜ at < 16777216 ⌝ }
     ensures { λ r. ⌜ (r ≤ 131072) × (length (now (tally .exit)) ≡ length (now (tally .entry))) ⌝ }
@@ -290,7 +289,7 @@ fn next_block(fd: i32, at: usize, tally: &mut [u32]) -> usize
     done
 }
 
-// All lines of a file of less than 16,777,216 bytes: nothing says that a file ends, and a proved loop has to.
+// Replays all lines of a file of less than 16,777,216 bytes. Nothing guarantees that a file ends, and a proved loop has to.
 fn all_blocks(fd: i32, tally: &mut [u32])
     ensures { λ _. ⌜ length (now (tally .exit)) ≡ length (now (tally .entry)) ⌝ }
 {
@@ -304,7 +303,7 @@ fn all_blocks(fd: i32, tally: &mut [u32])
     }
 }
 
-// One file: the argument at a place names it.
+// Replays one file, which the argument at a place names.
 fn replay(place: usize) {
     let mut name = io::buffer();
     let n = os::arg(place, &mut name);
@@ -323,7 +322,7 @@ fn replay(place: usize) {
     replay_asked::print_found(&tally);
 }
 
-// Each argument is a file.
+// Replays the file that each argument names.
 fn main() {
     let count = os::arg_count();
     let mut place: usize = 1;

@@ -1,4 +1,4 @@
--- The words of stored answers: what a number, bytes or a refusal are written as, and whether a line says them.
+-- The words of stored answers: how a number, bytes or a refusal are written, and whether a line says them.
 use Prim.Native.Nat.{ℕ, _+_, _/_, _%_}
 use mathlib.Core.Bool.{Bool, false, _&&_, cond}
 use mathlib.Core.List.{List, [], _∷_}
@@ -14,7 +14,7 @@ use Rattle.replay_cases.specs.Cases.{wordIn}
 unfoldable pub hexDigit : ℕ → ℕ
 hexDigit n = cond (ltb n 10) (48 + n) (87 + n)
 
--- two digits for each byte
+-- two digits per byte
 unfoldable pub hexOf : List ℕ → List ℕ
 unfolding hexDigit
 hexOf [] = []

@@ -1,4 +1,4 @@
-// Answers that stand in files: whether a number, bytes, ordinals or a refusal are the ones that a line's words say.
+// Answers that are stored in files: whether a number, bytes, ordinals or a refusal are the ones in a line.
 use format::LineNo;
 ghost use mathlib.Core.Path.{_≡_};
 ghost use mathlib.Core.Bool.{_&&_};
@@ -19,7 +19,7 @@ pub fn is_number(s: &[u8], n: u64) -> bool
     byte_slices::same(s, &digits[..len])
 }
 
-// The digit of a value below 16.
+// The hex digit of a value below 16.
 fn letter(n: u8) -> u8
     requires { ⌜ n < 16 ⌝ }
     ensures { λ r. ⌜ r ≡ hexDigit n ⌝ }
@@ -30,7 +30,7 @@ fn letter(n: u8) -> u8
     87 + n
 }
 
-// Whether the two digits at `at` are a byte's.
+// Whether the two digits at `at` are those of a byte.
 fn is_pair(s: &[u8], at: usize, b: u8) -> bool
     requires { ⌜ at + 2 ≤ length (now s) ⌝ }
     ensures { λ r. ⌜ r ≡ (eqb (getD (now (s .entry)) at 0) (hexDigit (b / 16)) && eqb (getD (now (s .entry)) (at + 1) 0) (hexDigit (b % 16))) ⌝ }
@@ -64,7 +64,7 @@ pub fn is_hex(s: &[u8], bytes: &[u8]) -> bool
     true
 }
 
-// Whether the `width` digits at `at` are a number's, the highest first.
+// Whether the `width` digits at `at` are those of a number, the highest first.
 fn is_wide(s: &[u8], at: usize, width: usize, n: u32) -> bool
     requires { ⌜ at + width ≤ length (now s) ⌝ }
 {
@@ -100,7 +100,7 @@ fn is_ordinals(s: &[u8], list: &[u32], width: usize) -> bool {
     at == s.len()
 }
 
-// Whether the first `n` ordinals of an output are these, `width` digits each, and the others as they were.
+// Whether the first `n` ordinals of an output are these, `width` digits each, and the others are as they were.
 pub fn is_list(word: &[u8], out: &[u32], n: usize, width: usize) -> bool {
     if out.len() < n {
         return false;
@@ -108,7 +108,7 @@ pub fn is_list(word: &[u8], out: &[u32], n: usize, width: usize) -> bool {
     is_ordinals(word, &out[..n], width) && replay_cases::is_unlisted(&out[n..])
 }
 
-// Whether the first `n` bytes of an output are these and the others as they were.
+// Whether the first `n` bytes of an output are these and the others are as they were.
 pub fn is_text(word: &[u8], out: &[u8], n: usize) -> bool
     ensures { λ r. ⌜ r ≡ textIs (now (word .entry)) (now (out .entry)) n ⌝ }
 {
@@ -135,14 +135,14 @@ pub fn ordinals() -> [u32; 2048]
     [replay_cases::NO_ORDINAL; 2048]
 }
 
-// A number of a line as a byte: 255 for any that is larger.
+// A number in a line as a byte; 255 if it is larger.
 pub fn byte_of(word: &[u8]) -> u8
     ensures { λ r. ⌜ r ≡ smaller (numberFrom 0 (now (word .entry))) 255 ⌝ }
 {
     replay_cases::least(replay_cases::number(word), 255) as u8
 }
 
-// A number of a line as an ordinal: the largest for any that is larger.
+// A number in a line as an ordinal; the largest ordinal if it is larger.
 pub fn ordinal_of(word: &[u8]) -> u32
     ensures { λ r. ⌜ r ≡ smaller (numberFrom 0 (now (word .entry))) 4294967295 ⌝ }
 {
@@ -182,7 +182,7 @@ pub fn is_refusal(line: &[u8], at: usize, n: u8, no: LineNo) -> bool
     replay_cases::word(line, at + 3).len() == 0
 }
 
-// Whether the answer at word `at` is `ok` and `n` words more.
+// Whether the answer at word `at` is `ok` and `n` more words.
 pub fn is_ok(line: &[u8], at: usize, n: usize) -> bool
     requires { ⌜ (at < 8) × (n < 4) ⌝ }
     ensures { λ r. ⌜ r ≡ okIs (now (line .entry)) at n ⌝ }

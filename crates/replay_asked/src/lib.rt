@@ -1,9 +1,9 @@
-// What a line of stored answers asks, and how often each was asked and answered wrongly (`replay` has the lines' form).
+// What a line of stored answers asks, and how often each question was asked and answered wrongly (the crate `replay` describes the lines).
 use libc::STDOUT_FILENO;
 ghost use mathlib.Core.Path.{_≡_};
 ghost use lib.ListN.{length};
 
-// What a line asks, as the place of its count; behind these what went wrong.
+// What a line asks, as the place of its count. The places after these count what went wrong.
 pub const COUNT: usize = 0;
 
 pub const KEY: usize = 1;
@@ -70,7 +70,7 @@ pub const CHECK_SEALED: usize = 31;
 
 pub const FAULTS: usize = 32;
 
-// What a line asks: its first word is a call, or its second what the crate makes of the text.
+// What a line asks: its first word is a call, or its second word is what noodles-sam makes of the text.
 pub fn asked_by(line: &[u8]) -> usize {
     let call = replay_cases::word(line, 0);
     if byte_slices::same(call, b"count") {
@@ -133,7 +133,7 @@ fn found_by(line: &[u8]) -> usize {
     written_by(line)
 }
 
-// What a line asks of a text alone, or of a binary header.
+// What a line asks of only a text or a binary header.
 fn written_by(line: &[u8]) -> usize {
     let call = replay_cases::word(line, 0);
     if byte_slices::same(call, b"program") {
@@ -166,7 +166,7 @@ fn written_by(line: &[u8]) -> usize {
     judged_by(replay_cases::word(line, 1))
 }
 
-// What the crate makes of a text, by its name.
+// What noodles-sam makes of a text, from its name.
 fn judged_by(word: &[u8]) -> usize {
     if byte_slices::same(word, b"refused") {
         return REFUSED;
@@ -204,7 +204,7 @@ fn print_count(name: &[u8], n: u32) {
     }
 }
 
-// Writes how many lines ask for something written.
+// Writes how many lines ask for a text or a table to be written.
 fn print_written(tally: &[u32])
     requires { ⌜ length (now tally) ≡ 33 ⌝ }
 {
@@ -264,7 +264,7 @@ pub fn print_asked(tally: &[u32])
     print_sealed(tally);
 }
 
-// Writes how many texts the crate judged in each way, and how many lines ask nothing.
+// Writes how many texts noodles-sam judged in each way, and how many lines ask nothing.
 pub fn print_judged(tally: &[u32])
     requires { ⌜ length (now tally) ≡ 33 ⌝ }
 {
@@ -274,7 +274,7 @@ pub fn print_judged(tally: &[u32])
     print_count(b" unknown ", tally[UNKNOWN]);
 }
 
-// Writes how many answers were wrong, and how many of the marked lines were found.
+// Writes how many answers were wrong, and how many marked lines were found.
 pub fn print_found(tally: &[u32])
     requires { ⌜ length (now tally) ≡ 33 ⌝ }
 {

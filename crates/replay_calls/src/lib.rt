@@ -1,5 +1,5 @@
-// The calls that answer one number, place or value, and the catalogue that a call is asked about: whether each answers as a line of stored
-// answers says (`replay` has the lines' form).
+// The calls that answer one number, place or value, and the catalogue that a call is asked about: whether each answers as a line of stored answers
+// says (the crate `replay` describes the lines).
 use calls::KeyAnswer;
 use calls::LengthAnswer;
 use calls::LineAnswer;
@@ -52,7 +52,7 @@ pub fn is_key(line: &[u8], text: &[u8], kept: &[u8]) -> bool {
     }
 }
 
-// Whether an LN is the line's, by its decimal digits.
+// Whether an LN is the line's, compared by its decimal digits.
 pub fn is_length(line: &[u8], text: &[u8], kept: &[u8]) -> bool {
     match calls::length(
         text,
@@ -65,7 +65,7 @@ pub fn is_length(line: &[u8], text: &[u8], kept: &[u8]) -> bool {
     }
 }
 
-// Whether a record's line is the one that the stored line says.
+// Whether the line of a record is the one that the stored line says.
 pub fn is_line(line: &[u8], text: &[u8], kept: &[u8]) -> bool {
     let kind = replay_answers::byte_of(replay_cases::word(line, 3));
     match calls::line(

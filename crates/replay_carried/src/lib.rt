@@ -1,9 +1,9 @@
-// Carrying on after refused lines: whether the call answers as a line of stored answers says (`replay` has the lines' form).
+// Carrying on after refused lines: whether the call answers as a line of stored answers says (the crate `replay` describes the lines).
 use carry_on::Carried;
 ghost use mathlib.Core.Path.{_≡_};
 ghost use lib.ListN.{length};
 
-// The call, named in this place alone: what it lends out is as long as before.
+// Carries on over a text. All that is promised here is that the output and the table keep their lengths.
 fn carried(text: &[u8], out: &mut [u8], table: &mut [u32]) -> Carried
     ensures { λ _. ⌜ length (now (out .exit)) ≡ length (now (out .entry)) ⌝ }
     ensures room { λ _. ⌜ length (now (table .exit)) ≡ length (now (table .entry)) ⌝ }
@@ -11,7 +11,7 @@ fn carried(text: &[u8], out: &mut [u8], table: &mut [u32]) -> Carried
     carry_on::carry_on(text, out, table)
 }
 
-// Whether the rows of as many skipped lines are these, eight digits each number, and the rest of the table as it was.
+// Whether the rows of so many skipped lines are these, eight digits per number, and the rest of the table is as it was.
 fn is_table(word: &[u8], table: &[u32], skipped: usize) -> bool {
     if format::LONGEST < skipped {
         return false;
@@ -19,7 +19,7 @@ fn is_table(word: &[u8], table: &[u32], skipped: usize) -> bool {
     replay_answers::is_list(word, table, 2 * skipped, 8)
 }
 
-// Whether what is kept and the table of the skipped lines are the line's, in an output and a table of as many elements as it says.
+// Whether the tidy text and the table of the skipped lines are the line's, with an output and a table of the sizes that it says.
 pub fn is_carried(line: &[u8], text: &[u8], out: &mut [u8], table: &mut [u32]) -> bool {
     let room = replay_answers::byte_room(replay_cases::word(line, 2), out);
     let rows = replay_answers::ordinal_room(replay_cases::word(line, 3), table);

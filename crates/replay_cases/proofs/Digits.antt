@@ -1,4 +1,4 @@
--- Digits one by one: what each is worth, and a turn of the numbers and of the bytes that they spell.
+-- Digits one by one: what each is worth, and a step of the numbers and of the bytes that they spell.
 use Prim.Native.Nat.{ℕ, zero, suc, _+_, _-_, _*_, _%_, _/_, _≤_, _<_}
 use mathlib.Core.Path.{_≡_, refl, sym, ap, ap₂, _∙_}
 use mathlib.Core.List.{List, [], _∷_, _++_}
@@ -68,7 +68,7 @@ decoded-at (a ∷ b ∷ s) (suc i) h =
     let second : 2 * suc i + 1 ≡ suc (suc (2 * i + 1)) = omega arith in
     decoded-at s i (omega (arith, h)) ∙ sym (ap₂ (λ j k. digitValue (getD (a ∷ b ∷ s) j 0) * 16 + digitValue (getD (a ∷ b ∷ s) k 0)) first second)
 
--- one byte more is pasted
+-- one more byte is pasted
 pub decoded-turn : (out s : List ℕ) (i : ℕ) → i < length out → 2 * i + 1 < length s
     → set (paste out 0 (decoded s) i) i (getD (decoded s) i 0) ≡ paste out 0 (decoded s) (i + 1)
 decoded-turn out s i h two =

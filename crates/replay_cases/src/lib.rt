@@ -1,4 +1,4 @@
-// Cases that stand in files: their words, numbers and bytes in hex, and a filler that shows what a call has written.
+// Cases that are stored in files: their words, numbers and bytes in hex, and a filler that shows what a call has written.
 ghost use mathlib.Core.Path.{_≡_};
 ghost use Prim.Native.Nat.{_<_, _≤_, _+_};
 ghost use lib.ListN.{length, take, drop, replicate};
@@ -21,7 +21,7 @@ pub fn space() -> [u8; 131072]
     [0; 131072]
 }
 
-// The smaller of two.
+// The smaller of two numbers.
 pub fn least(a: usize, b: usize) -> usize
     ensures { λ r. ⌜ (r ≤ a) × (r ≤ b) × (r ≡ smaller a b) ⌝ }
 {
@@ -47,7 +47,7 @@ fn digit(b: u8) -> u8
     0
 }
 
-// The number that `s` spells, by its last ten digits.
+// The number that `s` spells, taken from its last ten digits.
 pub fn number(s: &[u8]) -> usize
     ensures { λ r. ⌜ (r < 10000000016) × (r ≡ numberFrom 0 (now (s .entry))) ⌝ }
 {
@@ -113,7 +113,7 @@ pub fn until(s: &[u8], at: usize, d: u8) -> usize
     at + byte_slices::upto(&s[at..], d)
 }
 
-// Where word `k` of a line starts, counted from 0: words are parted by one space. The line's end where there is none.
+// Where word `k` of a line starts, counted from 0. Words are separated by one space. It is the end of the line if there is no such word.
 fn word_start(line: &[u8], k: usize) -> usize
     ensures { λ r. ⌜ (r ≤ length (now (line .entry))) × (drop r (now (line .entry)) ≡ fromWord k (now (line .entry))) ⌝ }
 {
@@ -130,7 +130,7 @@ fn word_start(line: &[u8], k: usize) -> usize
     at
 }
 
-// Word `k` of a line: empty where there is none.
+// Word `k` of a line; empty if there is none.
 pub fn word(line: &[u8], k: usize) -> &[u8]
     ensures short { λ r. ⌜ length (now r) ≤ length (now (line .entry)) ⌝ }
     ensures value { λ r. ⌜ now r ≡ wordIn k (now (line .entry)) ⌝ }

@@ -1,16 +1,16 @@
-// The faults of a text: whether the call answers as a line of stored answers says (`replay` has the lines' form).
+// The faults of a text: whether the call answers as a line of stored answers says (the crate `replay` describes the lines).
 use read::CountAnswer;
 ghost use mathlib.Core.Path.{_≡_};
 ghost use lib.ListN.{length};
 
-// The call, named in this place alone: the table is as long as before.
+// Finds the faults of a text. All that is promised here is that the table keeps its length.
 fn found(text: &[u8], table: &mut [u32]) -> CountAnswer
     ensures { λ _. ⌜ length (now (table .exit)) ≡ length (now (table .entry)) ⌝ }
 {
     faults::faults(text, table)
 }
 
-// Whether the rows are the line's, in a table of as many numbers as it says.
+// Whether the rows are the line's, with a table of the size that it says.
 pub fn is_faults(line: &[u8], text: &[u8], table: &mut [u32]) -> bool {
     let room = replay_answers::ordinal_room(replay_cases::word(line, 2), table);
     match found(text, &mut table[..room]) {

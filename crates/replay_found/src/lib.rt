@@ -1,4 +1,5 @@
-// The search for a key, and the table of references: whether each call answers as a line of stored answers says (`replay` has the lines' form).
+// The search for a key, and the table of references: whether each call answers as a line of stored answers says (the crate `replay` describes the
+// lines).
 use find::FindAnswer;
 use read::CountAnswer;
 
@@ -14,7 +15,7 @@ pub fn is_found(line: &[u8], text: &[u8], kept: &[u8]) -> bool {
     }
 }
 
-// Whether the rows are the line's, in a table of as many numbers as it says, and as many as it says.
+// Whether the rows and their number are the line's, with a table of the size that it says.
 pub fn is_referenced(line: &[u8], text: &[u8], kept: &[u8], table: &mut [u32]) -> bool {
     let room = replay_answers::ordinal_room(replay_cases::word(line, 3), table);
     let rows = replay_cases::number(replay_cases::word(line, 5));

@@ -1,9 +1,9 @@
-// Reading, and the calls over program graphs: whether each answers as a line of stored answers says (`replay` has the lines' form).
+// Reading, and the calls on program graphs: whether each answers as a line of stored answers says (the crate `replay` describes the lines).
 use programs::LeavesAnswer;
 use read::Checked;
 use read::CountAnswer;
 
-// Whether the roots are the line's, in an output of as many elements as it says.
+// Whether the roots are the line's, with an output of the size that it says.
 pub fn is_roots(line: &[u8], text: &[u8], kept: &[u8], out: &mut [u32]) -> bool {
     let room = replay_answers::ordinal_room(replay_cases::word(line, 3), out);
     match programs::roots(text, kept, &mut out[..room]) {
@@ -14,7 +14,7 @@ pub fn is_roots(line: &[u8], text: &[u8], kept: &[u8], out: &mut [u32]) -> bool 
     }
 }
 
-// Whether the leaves and the hops are the line's, in an output of as many elements as it says.
+// Whether the leaves and the hops are the line's, with an output of the size that it says.
 pub fn is_leaves(line: &[u8], text: &[u8], kept: &[u8], out: &mut [u32]) -> bool {
     let room = replay_answers::ordinal_room(replay_cases::word(line, 3), out);
     match programs::leaves(text, kept, &mut out[..room]) {
@@ -28,7 +28,7 @@ pub fn is_leaves(line: &[u8], text: &[u8], kept: &[u8], out: &mut [u32]) -> bool
     }
 }
 
-// Whether the roots are the crate's.
+// Whether the roots are those of noodles-sam.
 fn are_roots(word: &[u8], text: &[u8], kept: &[u8], out: &mut [u32]) -> bool {
     match programs::roots(text, kept, out) {
         CountAnswer::Refused(_, _) => false,
@@ -36,7 +36,7 @@ fn are_roots(word: &[u8], text: &[u8], kept: &[u8], out: &mut [u32]) -> bool {
     }
 }
 
-// Whether the leaves are the crate's, or it found a cycle and the answer is 23.
+// Whether the leaves are those of noodles-sam, or it found a cycle and the answer is 23.
 fn are_leaves(word: &[u8], text: &[u8], kept: &[u8], out: &mut [u32]) -> bool {
     match programs::leaves(text, kept, out) {
         LeavesAnswer::Refused(n, no) => {
@@ -49,7 +49,7 @@ fn are_leaves(word: &[u8], text: &[u8], kept: &[u8], out: &mut [u32]) -> bool {
     }
 }
 
-// Whether roots and leaves are words 3 and 4, over the catalogue that is the first `n` bytes of `kept`.
+// Whether roots and leaves are words 3 and 4, with the catalogue in the first `n` bytes of `kept`.
 fn is_graph(line: &[u8], text: &[u8], kept: &[u8], n: usize) -> bool {
     if kept.len() < n {
         return false;
@@ -78,7 +78,7 @@ fn is_stale(text: &[u8], kept: &[u8]) -> bool {
     }
 }
 
-// Whether the check takes `kept`, and refuses it with another last byte. The empty one has no last byte.
+// Whether the check takes `kept`, and refuses it with another last byte. An empty catalogue has no last byte.
 fn is_fresh(text: &[u8], kept: &mut [u8]) -> bool {
     match read::check(text, kept) {
         Checked::Fresh => {}
@@ -92,7 +92,7 @@ fn is_fresh(text: &[u8], kept: &mut [u8]) -> bool {
     is_stale(text, kept)
 }
 
-// Whether the catalogue is the first `n` bytes of `kept`, as a word says, and the check takes it.
+// Whether the first `n` bytes of `kept` are the catalogue that a word says, and the check takes it.
 fn is_own(word: &[u8], text: &[u8], kept: &mut [u8], n: usize) -> bool {
     if kept.len() < n {
         return false;
@@ -100,7 +100,7 @@ fn is_own(word: &[u8], text: &[u8], kept: &mut [u8], n: usize) -> bool {
     replay_answers::is_text(word, kept, n) && is_fresh(text, &mut kept[..n])
 }
 
-// Whether reading answers as the line says, in a slice of as many bytes as it says, and the check takes what was read.
+// Whether reading answers as the line says, with an output of the size that it says, and the check takes what was read.
 pub fn is_reading(line: &[u8], text: &[u8], kept: &mut [u8]) -> bool {
     let room = replay_answers::byte_room(replay_cases::word(line, 2), kept);
     match read::read(text, &mut kept[..room]) {
@@ -111,7 +111,7 @@ pub fn is_reading(line: &[u8], text: &[u8], kept: &mut [u8]) -> bool {
     }
 }
 
-// Whether reading refuses a text as the crate does, and writes nothing.
+// Whether reading refuses a text as noodles-sam does, and writes nothing.
 pub fn is_read_refused(line: &[u8], text: &[u8], out: &mut [u8]) -> bool {
     match read::read(text, out) {
         CountAnswer::Refused(n, no) => replay_answers::is_refusal(line, 1, n, no)

@@ -1,10 +1,10 @@
-// How long the header at the front of a file or of a stream is: whether the calls answer as a line of stored answers says (`replay` has the
-// lines' form).
+// How long the header at the front of a file or of a stream is: whether the calls answer as a line of stored answers says (the crate `replay`
+// describes the lines).
 use binary_len::BinaryLen;
 use binary_len::Step;
 use format::LineNo;
 
-// Whether the text header at the front of a line's bytes is as long as it says.
+// Whether the text header at the front of a line's bytes is as long as the line says.
 pub fn is_text_len(line: &[u8]) -> bool {
     let mut bytes = io::large_buffer();
     let n = replay_cases::decode(replay_cases::word(line, 1), &mut bytes);
@@ -22,8 +22,8 @@ fn is_len(line: &[u8], what: &[u8], n: usize) -> bool {
         && replay_answers::is_number(replay_cases::word(line, 4), n as u64)
 }
 
-// Whether a line says this of a binary header.
-fn is_told(line: &[u8], len: BinaryLen) -> bool {
+// Whether a line gives this answer for a binary header.
+fn is_answer(line: &[u8], len: BinaryLen) -> bool {
     match len {
         BinaryLen::Refused(n) => replay_answers::is_refusal(line, 2, n, LineNo(0)),
         BinaryLen::Whole(n) => is_len(line, b"whole", n),
@@ -31,9 +31,9 @@ fn is_told(line: &[u8], len: BinaryLen) -> bool {
     }
 }
 
-// What is told of some bytes where as many as are asked for are lent each time, with the cursor: `Refused(0)` where no more are asked for than
-// were lent.
-fn told_by_fronts(bytes: &[u8]) -> BinaryLen {
+// The answer for some bytes if each call is lent as many bytes as the call before it asked for, with the cursor; `Refused(0)` if a call asks for no
+// more bytes than it was lent.
+fn answer_by_fronts(bytes: &[u8]) -> BinaryLen {
     let mut from = binary_len::first_cursor();
     let mut lent: usize = 0;
     while lent < bytes.len() {
@@ -56,9 +56,10 @@ fn told_by_fronts(bytes: &[u8]) -> BinaryLen {
     binary_len::without_cursor(binary_len::binary_len_from(bytes, from))
 }
 
-// Whether the binary header at the front of a line's bytes is as long as it says.
+// Whether the binary header at the front of a line's bytes is as long as the line says.
 pub fn is_binary_len(line: &[u8]) -> bool {
     let mut bytes = io::large_buffer();
     let n = replay_cases::decode(replay_cases::word(line, 1), &mut bytes);
-    is_told(line, binary_len::binary_len(&bytes[..n])) && is_told(line, told_by_fronts(&bytes[..n]))
+    is_answer(line, binary_len::binary_len(&bytes[..n]))
+        && is_answer(line, answer_by_fronts(&bytes[..n]))
 }

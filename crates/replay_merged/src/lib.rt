@@ -1,4 +1,4 @@
-// Judging merges: whether the call answers as a line of stored answers says (`replay` has the lines' form).
+// Judging merges: whether the call answers as a line of stored answers says (the crate `replay` describes the lines).
 use format::LineNo;
 use merge_judge::Verdict;
 use merge_judge::Which;
@@ -6,14 +6,14 @@ ghost use mathlib.Core.Path.{_≡_};
 ghost use Prim.Native.Nat.{_≤_, _<_, _+_};
 ghost use lib.ListN.{length, take};
 
-// The number of two bytes, the high one first.
+// The number in two bytes, the high one first.
 fn pair(high: u8, low: u8) -> u32
     ensures { λ r. ⌜ r < 65536 ⌝ }
 {
     high as u32 * 256 + low as u32
 }
 
-// The number of the four bytes at `at`, the highest first.
+// The number in the four bytes at `at`, the highest first.
 fn ordinal(bytes: &[u8], at: usize) -> u32
     requires { ⌜ at + 4 ≤ length (now bytes) ⌝ }
 {

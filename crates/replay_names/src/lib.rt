@@ -1,12 +1,13 @@
-// Many names at once: whether the call answers as a line of stored answers says (`replay` has the lines' form).
+// Many names at once: whether the call answers as a line of stored answers says (the crate `replay` describes the lines).
 use names::NamesAnswer;
 
-// Whether the slots that were looked at are as many as a word says, where it says a number.
+// Whether as many slots were looked at as a word says, if it is a number.
 fn is_looks(word: &[u8], looks: u64) -> bool {
     byte_slices::same(word, b"-") || replay_answers::is_number(word, looks)
 }
 
-// Whether the ordinals of the names, the index and the slots looked at are the line's, in a work area and an output of as many elements as it says.
+// Whether the ordinals of the names, the index and the number of slots looked at are the line's, with a work area and an output of the sizes that it
+// says.
 pub fn is_names(line: &[u8], text: &[u8], kept: &[u8], work: &mut [u32], out: &mut [u32]) -> bool {
     let mut list = io::buffer();
     let n = replay_cases::decode(replay_cases::word(line, 3), &mut list);

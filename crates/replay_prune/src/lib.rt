@@ -1,4 +1,4 @@
-// Pruning: whether the call answers as a line of stored answers says (`replay` has the lines' form).
+// Pruning: whether the call answers as a line of stored answers says (the crate `replay` describes the lines).
 use read::CountAnswer;
 ghost use mathlib.Core.Path.{_≡_};
 ghost use Prim.Native.Nat.{_≤_, _+_};
@@ -26,7 +26,7 @@ fn listed(word: &[u8], list: &mut [u32]) -> usize
     n
 }
 
-// Whether the text with only the programs in use and their ancestors is the line's, in an output of as many bytes as it says.
+// Whether the text with only the programs in use and their ancestors is the line's, with an output of the size that it says.
 pub fn is_pruned(line: &[u8], text: &[u8], kept: &[u8], out: &mut [u8]) -> bool {
     let mut used = replay_answers::ordinals();
     let u = listed(replay_cases::word(line, 4), &mut used);

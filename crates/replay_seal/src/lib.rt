@@ -1,10 +1,10 @@
-// Seals: whether the calls answer as a line of stored answers says (`replay` has the lines' form).
+// Seals: whether the calls answer as a line of stored answers says (the crate `replay` describes the lines).
 use read::Checked;
 use read::CountAnswer;
 ghost use mathlib.Core.Path.{_≡_};
 ghost use lib.ListN.{length};
 
-// Tidies a text: how many bytes are written, and 0 for a refusal.
+// Tidies a text: answers how many bytes were written, or 0 for a refusal.
 fn tidied(text: &[u8], out: &mut [u8]) -> usize
     ensures { λ _. ⌜ length (now (out .exit)) ≡ length (now (out .entry)) ⌝ }
 {
@@ -14,20 +14,20 @@ fn tidied(text: &[u8], out: &mut [u8]) -> usize
     }
 }
 
-// Whether a work area, of which as many bytes were lent as a word says, is as tidying leaves `own`, which is as that area was.
+// Whether a work area, of which a word says how many bytes were lent, is what tidying makes of `own`, which is what that area was before.
 fn is_like(text: &[u8], work: &[u8], word: &[u8], own: &mut [u8]) -> bool {
     let room = replay_answers::byte_room(word, own);
     tidied(text, &mut own[..room]);
     byte_slices::same(own, work)
 }
 
-// Whether a work area, of which as many bytes were lent as a word says, is as tidying leaves it.
+// Whether a work area, of which a word says how many bytes were lent, is as tidying leaves it.
 fn is_tidied(text: &[u8], work: &[u8], word: &[u8]) -> bool {
     let mut own = replay_answers::bytes();
     is_like(text, work, word, &mut own)
 }
 
-// Whether a tidy text has as many bytes.
+// Whether a tidy text has so many bytes.
 fn is_long(text: &[u8], n: usize) -> bool {
     let mut own = replay_answers::bytes();
     tidied(text, &mut own) == n
@@ -43,7 +43,7 @@ fn is_unsealed(seal: &[u8; 32]) -> bool {
     replay_cases::is_untouched(&seal[..32])
 }
 
-// Whether the seal of a text is the line's, for a work area of as many bytes as it says.
+// Whether the seal of a text is the line's, with a work area of the size that it says.
 fn is_seal(line: &[u8], text: &[u8], work: &mut [u8]) -> bool {
     let room = replay_answers::byte_room(replay_cases::word(line, 2), work);
     let mut seal: [u8; 32] = [replay_cases::FILLER; 32];
@@ -70,7 +70,7 @@ pub fn is_sealed(line: &[u8]) -> bool {
     is_seal(line, &text[..n], &mut work)
 }
 
-// Whether a work area is as the check of a seal leaves it: 33 comes when the tidy text is written, any other refusal before.
+// Whether a work area is as the check of a seal leaves it: 33 comes after the tidy text is written, and any other refusal before.
 fn is_left(line: &[u8], text: &[u8], work: &[u8], number: u8) -> bool {
     if number != 33 {
         return replay_cases::is_untouched(work);
@@ -78,7 +78,7 @@ fn is_left(line: &[u8], text: &[u8], work: &[u8], number: u8) -> bool {
     is_tidied(text, work, replay_cases::word(line, 3))
 }
 
-// Whether the check of a seal answers as the line says, for a work area of as many bytes as it says.
+// Whether the check of a seal answers as the line says, with a work area of the size that it says.
 fn is_check(line: &[u8], text: &[u8], kept: &[u8], seal: &[u8; 32], work: &mut [u8]) -> bool {
     let room = replay_answers::byte_room(replay_cases::word(line, 3), work);
     match seal::check_sealed(text, kept, seal, &mut work[..room]) {

@@ -1,10 +1,11 @@
-// The leaves by the second engine: whether the call answers as a line of stored answers says (`replay` has the lines' form). A program in Rattle
-// cannot lend a table without a proof by hand, so `make_plan` is asked: the call writes its parents and depths into the table, and nothing else.
+// The leaves found by the second engine: whether the call answers as a line of stored answers says (the crate `replay` describes the lines). A
+// program in Rattle can't lend a table without a proof by hand, so `make_plan` is asked: the call writes its parents and depths into the table, and
+// nothing else.
 use programs::LeavesAnswer;
 use programs_by_table::TablePlan;
 ghost use Prim.Native.Nat.{_≤_};
 
-// The numbers of a table, two for each record, as they are after a call that leaves `count` records in it.
+// The numbers of a table, two per record, as they are after a call that leaves `count` records in it.
 fn rows(parents: [u32; 1024], depths: [u32; 1024], count: usize) -> [u32; 2048]
     requires { ⌜ count ≤ 1024 ⌝ }
 {
@@ -18,7 +19,8 @@ fn rows(parents: [u32; 1024], depths: [u32; 1024], count: usize) -> [u32; 2048]
     table
 }
 
-// Whether the answer is the line's, the leaves are at the front of `out`, and the table's records are the line's: what is behind them is as it was.
+// Whether the answer is the line's, the leaves are at the front of `out`, and the table's records are the line's; the records after them are as they
+// were.
 fn is_plan(line: &[u8], plan: TablePlan, out: &[u32]) -> bool
     requires { ⌜ plan .count ≤ 1024 ⌝ }
 {
@@ -42,7 +44,7 @@ fn is_plan(line: &[u8], plan: TablePlan, out: &[u32]) -> bool
     }
 }
 
-// Whether the leaves, the hops and the table are the line's, with an output and a table of as many elements as it says.
+// Whether the leaves, the hops and the table are the line's, with an output and a table of the sizes that it says.
 pub fn is_leaves_by_table(line: &[u8], text: &[u8], kept: &[u8], out: &mut [u32]) -> bool {
     let room = replay_answers::ordinal_room(replay_cases::word(line, 3), out);
     let seats = replay_cases::number(replay_cases::word(line, 4));

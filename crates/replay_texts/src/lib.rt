@@ -1,9 +1,9 @@
-// The calls that write a text: whether each writes what a line of stored answers says (`replay` has the lines' form).
+// The calls that write a text: whether each writes what a line of stored answers says (the crate `replay` describes the lines).
 use read::CountAnswer;
 ghost use mathlib.Core.Path.{_≡_};
 ghost use lib.ListN.{length};
 
-// Whether the text with programs added is the line's, in an output of as many bytes as it says.
+// Whether the text with programs added is the line's, with an output of the size that it says.
 pub fn is_added(line: &[u8], text: &[u8], kept: &[u8], out: &mut [u8]) -> bool {
     let mut prefix = io::buffer();
     let p = replay_cases::decode(replay_cases::word(line, 4), &mut prefix);
@@ -26,21 +26,21 @@ pub fn is_program(line: &[u8], text: &[u8]) -> bool {
         && replay_cases::word(line, 3).len() == 0
 }
 
-// The tidy call, named in this place alone.
+// Tidies a text. All that is promised here is that the output keeps its length.
 fn tidied(text: &[u8], out: &mut [u8]) -> CountAnswer
     ensures { λ _. ⌜ length (now (out .exit)) ≡ length (now (out .entry)) ⌝ }
 {
     tidy::tidy(text, out)
 }
 
-// The binary header of a text, named in this place alone.
+// Writes the binary header of a text. All that is promised here is that the output keeps its length.
 fn written_out(text: &[u8], out: &mut [u8]) -> CountAnswer
     ensures { λ _. ⌜ length (now (out .exit)) ≡ length (now (out .entry)) ⌝ }
 {
     binary_out::binary_out(text, out)
 }
 
-// The tidy text of a binary header, named in this place alone.
+// Writes the tidy text of a binary header. All that is promised here is that the output keeps its length.
 fn read_in(bytes: &[u8], out: &mut [u8]) -> CountAnswer
     ensures { λ _. ⌜ length (now (out .exit)) ≡ length (now (out .entry)) ⌝ }
 {
@@ -57,21 +57,21 @@ fn is_answered(line: &[u8], answer: CountAnswer, out: &[u8]) -> bool {
     }
 }
 
-// Whether the tidy text is the line's, in an output of as many bytes as it says.
+// Whether the tidy text is the line's, with an output of the size that it says.
 pub fn is_tidied(line: &[u8], text: &[u8], out: &mut [u8]) -> bool {
     let room = replay_answers::byte_room(replay_cases::word(line, 2), out);
     let answer = tidied(text, &mut out[..room]);
     is_answered(line, answer, out)
 }
 
-// Whether the binary header of a text is the line's, in an output of as many bytes as it says.
+// Whether the binary header of a text is the line's, with an output of the size that it says.
 pub fn is_binary_out(line: &[u8], text: &[u8], out: &mut [u8]) -> bool {
     let room = replay_answers::byte_room(replay_cases::word(line, 2), out);
     let answer = written_out(text, &mut out[..room]);
     is_answered(line, answer, out)
 }
 
-// Whether the tidy text of a binary header is the line's, in an output of as many bytes as it says.
+// Whether the tidy text of a binary header is the line's, with an output of the size that it says.
 pub fn is_binary_in(line: &[u8], bytes: &[u8], out: &mut [u8]) -> bool {
     let room = replay_answers::byte_room(replay_cases::word(line, 2), out);
     let answer = read_in(bytes, &mut out[..room]);
@@ -87,7 +87,7 @@ pub fn is_tidy_refused(line: &[u8], text: &[u8], out: &mut [u8]) -> bool {
     }
 }
 
-// Whether the tidy text is the crate's.
+// Whether the tidy text is that of noodles-sam.
 pub fn is_tidy(word: &[u8], text: &[u8], out: &mut [u8]) -> bool {
     match tidied(text, out) {
         CountAnswer::Refused(_, _) => false,

@@ -1,4 +1,4 @@
-// Reading with a lent work area: whether the call answers as a line of stored answers says (`replay` has the lines' form).
+// Reading with a lent work area: whether the call answers as a line of stored answers says (the crate `replay` describes the lines).
 use read::CountAnswer;
 ghost use mathlib.Core.Path.{_≡_};
 ghost use lib.Dec.{eqb};
@@ -19,7 +19,7 @@ fn is_cleared(list: &[u32]) -> bool
     true
 }
 
-// The call: what it leaves is looked at below.
+// Reads a text. All that is promised here is that the output and the work area keep their lengths.
 fn read(text: &[u8], out: &mut [u8], work: &mut [u32]) -> CountAnswer
     ensures room { λ _. ⌜ length (now (out .exit)) ≡ length (now (out .entry)) ⌝ }
     ensures slots { λ _. ⌜ length (now (work .exit)) ≡ length (now (work .entry)) ⌝ }
@@ -27,7 +27,7 @@ fn read(text: &[u8], out: &mut [u8], work: &mut [u32]) -> CountAnswer
     read::read_with(text, out, work)
 }
 
-// Whether the first `n` numbers of an area are zeros, and the others as they were.
+// Whether the first `n` numbers of an area are zeros and the others are as they were.
 fn is_left(work: &[u32], n: usize) -> bool {
     if work.len() < n {
         return false;
@@ -35,7 +35,7 @@ fn is_left(work: &[u32], n: usize) -> bool {
     is_cleared(&work[..n]) && replay_cases::is_unlisted(&work[n..])
 }
 
-// Whether the catalogue is the line's, in an output of as many bytes as it says, and a work area of as many numbers as it says is all zeros.
+// Whether the catalogue is the line's, with an output of the size that it says, and a work area of the size that it says is all zeros.
 pub fn is_read_with(line: &[u8], text: &[u8], out: &mut [u8], work: &mut [u32]) -> bool {
     let room = replay_answers::byte_room(replay_cases::word(line, 2), out);
     let slots = replay_answers::ordinal_room(replay_cases::word(line, 3), work);

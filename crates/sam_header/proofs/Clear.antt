@@ -1,4 +1,4 @@
--- An answer of carrying on, leaves, key or field that is no refusal and not the stand-in keeps bit 63 clear.
+-- An answer of carrying on, leaves, key or field that is not a refusal and not the stand-in keeps bit 63 clear.
 use Prim.Native.Nat.{ℕ, _+_, _*_, _/_, _^_, _≤_, _<_}
 use mathlib.Core.Path.{_≡_, refl, sym, ap, subst}
 use mathlib.Core.List.{List}
@@ -9,7 +9,7 @@ use Rattle.format.specs.Calls.{Answer, refused, yes, keying, valuing, leafing}
 use Rattle.format.specs.Table.{leafingTable}
 use Rattle.format.specs.declared.Node.{Node}
 use Rattle.calls.specs.Answers.{keyAnswerOf, valuePlaceOf}
-use Rattle.calls.proofs.Told.{key-short, value-short}
+use Rattle.calls.proofs.OwnCatalogue.{key-short, value-short}
 use Rattle.programs.specs.Answers.{leavesAnswerOf}
 use Rattle.programs.proofs.Bound.{hops-few, leaves-few}
 use Rattle.programs_by_table.specs.Answers.{withoutTable}

@@ -1,4 +1,4 @@
--- The number of an answer is 2^63 or more exactly where the call refuses: the calls that were added.
+-- The number of an answer is 2^63 or more exactly if the call refuses: the calls that were added.
 use Prim.Native.Nat.{ℕ, suc, _+_, _/_, _^_, _≤_, _<_}
 use mathlib.Core.Path.{_≡_, refl, sym, ap, subst, _∙_}
 use mathlib.Core.Bool.{Bool, true, false, cond}
@@ -17,12 +17,12 @@ use Rattle.format.specs.Referencing.{referencing}
 use Rattle.format.specs.Faults.{faultsIn, faulting}
 use Rattle.format.specs.Seal.{checkingSealed}
 use Rattle.accepted.specs.Read.{recordsOf}
-use Rattle.accepted.proofs.Bools.{never}
+use Rattle.lists.proofs.Bools.{never}
 use Rattle.accepted.proofs.Text.{text-count, text-fits}
 use Rattle.tidy_laws.proofs.Answered.{Gave, then-yes}
 use Rattle.read.proofs.Fresh.{Current, passed, goes-on}
 use Rattle.read.specs.Answers.{checkedOf}
-use Rattle.calls.proofs.Told.{there-some}
+use Rattle.calls.proofs.OwnCatalogue.{there-some}
 use Rattle.find.specs.Answers.{findAnswerOf}
 use Rattle.references.specs.Answers.{rowCountOf}
 use Rattle.faults.specs.Answers.{faultyLines}

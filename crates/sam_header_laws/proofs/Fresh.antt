@@ -10,7 +10,7 @@ use Rattle.format.specs.Catalogue.{catalogue}
 use Rattle.format.specs.Calls.{refused, yes, records, fitting, reading, fresh}
 use Rattle.byte_slices.proofs.Equal.{same-equal, same-self}
 use Rattle.tidy_laws.proofs.Answered.{Gave, then-yes, fitting-yes, read-of}
-use Rattle.read.proofs.Told.{fresh-reads}
+use Rattle.read.proofs.AnswerCases.{fresh-reads}
 use Rattle.read.proofs.Fresh.{refused-is-no-answer}
 use Rattle.sam_header_laws.specs.Fresh.{FreshExactly, AllFreshExactly}
 

@@ -1,4 +1,4 @@
--- The number of an answer is 2^63 or more exactly where the call refuses.
+-- The number of an answer is 2^63 or more exactly if the call refuses.
 use Prim.Native.Nat.{ℕ, _+_, _*_, _^_, _≤_, _<_}
 use mathlib.Core.Path.{_≡_, refl, sym, ap, subst}
 use mathlib.Core.Bool.{cond}

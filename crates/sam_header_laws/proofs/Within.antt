@@ -13,7 +13,7 @@ use Rattle.format.specs.Records.{Record, code}
 use Rattle.format.specs.Reading.{longest, ofKind}
 use Rattle.format.specs.Calls.{Answer, refused, yes, then, fresh, fitting, writing, counting, locating}
 use Rattle.accepted.specs.Read.{recordsOf}
-use Rattle.accepted.proofs.Bools.{never}
+use Rattle.lists.proofs.Bools.{never}
 use Rattle.accepted.proofs.Text.{text-count, text-fits}
 use Rattle.accepted.proofs.Onward.{lines-count}
 use Rattle.tidy_laws.proofs.Answered.{Gave, then-yes, writing-yes}

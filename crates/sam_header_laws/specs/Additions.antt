@@ -1,4 +1,4 @@
--- The same of the calls that were added: the number of an answer is 2^63 or more exactly where the call refuses.
+-- The same laws for the calls that were added later: the number of an answer is 2^63 or more exactly if the call refuses.
 use Prim.Native.Nat.{ℕ, _^_, _≤_, _<_}
 use mathlib.Core.List.{List}
 use lib.ListN.{length}
@@ -19,5 +19,5 @@ pub record AdditionsTell (t c : List ℕ) : Type 0 where
   pub references : (room : ℕ) → Tells (referencing t c room) (answerWord (rowCountOf (referencing t c room)))
   pub faults : (room : ℕ) → room < 2 ^ 63 → Tells (faulting t room) (answerWord (faultyLines (faulting t room)))
   pub sealed : (seal : List ℕ) (room : ℕ) → Tells (checkingSealed t c seal room) (checkedWord (checkedOf (checkingSealed t c seal room)))
-  -- it never refuses
+  -- this call never refuses
   pub header : length t < 2 ^ 63 → textLen t < 2 ^ 63

@@ -1,4 +1,5 @@
--- In C an answer is one number: it is 2^63 or more exactly where the call refuses. `room` is how much an output takes, below 2^63 as the length of any slice.
+-- In C an answer is one number, which is 2^63 or more exactly if the call refuses. `room` is the size of an output; like the length of any slice it
+-- is below 2^63.
 use Prim.Native.Nat.{ℕ, _^_, _≤_, _<_}
 use mathlib.Core.Path.{_≡_}
 use mathlib.Core.List.{List}
@@ -18,12 +19,12 @@ use Rattle.carry_on.specs.Answers.{carriedOf}
 use Rattle.merge_judge.specs.Judged.{verdictOf}
 use Rattle.sam_header_words.specs.Words.{answerWord, checkedWord, carriedWord, leavesWord, keyWord, lengthWord, lineWord, namesWord, verdictWord}
 
--- the number of an answer tells whether it is a refusal
+-- the number of an answer shows whether it is a refusal
 pub record Tells {A : Type 0} (a : Answer A) (word : ℕ) : Type 0 where
   pub refusal : (n l : ℕ) → a ≡ refused n l → 2 ^ 63 ≤ word
   pub answer : (x : A) → a ≡ yes x → word < 2 ^ 63
 
--- of the calls that write bytes or ordinals
+-- the calls that write bytes or ordinals
 pub record WritingTells (t c used : List ℕ) (room : ℕ) : Type 0 where
   pub read : Tells (reading t room) (answerWord (answerOf (reading t room)))
   pub tidy : Tells (tidying t room) (answerWord (answerOf (tidying t room)))
@@ -33,7 +34,7 @@ pub record WritingTells (t c used : List ℕ) (room : ℕ) : Type 0 where
   pub add : (prefix fields : List ℕ) → Tells (adding t c prefix fields room) (answerWord (answerOf (adding t c prefix fields room)))
   pub prune : Tells (pruning t c used room) (answerWord (answerOf (pruning t c used room)))
 
--- of the calls that answer by numbers of their own
+-- the calls whose answers have numbers of their own
 pub record NumbersTell (t c : List ℕ) : Type 0 where
   pub check : Tells (fresh t c) (checkedWord (checkedOf (fresh t c)))
   pub count : (k : ℕ) → Tells (counting t c k) (answerWord (countOf (counting t c k)))
@@ -45,7 +46,7 @@ pub record NumbersTell (t c : List ℕ) : Type 0 where
   pub carried : (room table : ℕ) → Tells (carrying t room table) (carriedWord (carriedOf (carrying t room table)))
   pub names : (list : List ℕ) (work room : ℕ) → Tells (batching t c list work room) (namesWord (namesOf (batching t c list work room)))
 
--- a verdict is 0 exactly where the merge is accepted, and otherwise a refusal
+-- a verdict is 0 exactly if the merge is accepted, and otherwise a refusal
 pub record VerdictTells (a b m listA listB : List ℕ) : Type 0 where
   pub accepted : judgingMerge a b m listA listB ≡ merged → verdictWord (verdictOf (judgingMerge a b m listA listB)) ≡ 0
   pub refused : (judgingMerge a b m listA listB ≡ merged → ⊥) → 2 ^ 63 ≤ verdictWord (verdictOf (judgingMerge a b m listA listB))

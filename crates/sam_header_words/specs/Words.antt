@@ -1,4 +1,4 @@
--- Answers as one number: what is counted; or bit 63, the refusal number shifted left by 32, and the line.
+-- Answers as one number: a count; or bit 63, the number of the refusal shifted left by 32, and the line.
 use Prim.Native.Nat.{ℕ, _+_, _*_, _^_, _≤_, _<_}
 use mathlib.Core.Bool.{cond}
 use lib.Dec.{ltb}
@@ -47,13 +47,13 @@ checkedWord checked.Fresh = 0
 unfoldable pub pairWord : ℕ → ℕ → ℕ
 pairWord a b = a * 2 ^ 32 + b
 
--- the hops, and how many leaves
+-- the hops, and the number of leaves
 unfoldable pub leavesWord : LeavesAnswer → ℕ
 unfolding refusalWord pairWord
 leavesWord (leaves.Refused n l) = refusalWord n (l .0)
 leavesWord (leaves.Counted n h) = pairWord h n
 
--- so few leaves that their number does not reach the hops
+-- there are so few leaves that their number does not reach the hops
 unfoldable pub FewLeaves : LeavesAnswer → Type 0
 FewLeaves (leaves.Refused n l) = Unit
 FewLeaves (leaves.Counted n h) = n ≤ 1024
@@ -64,7 +64,7 @@ unfolding refusalWord pairWord
 carriedWord (carried.Refused n l) = refusalWord n (l .0)
 carriedWord (carried.Written n k) = pairWord k n
 
--- each of them fits half of the number
+-- each of them fits into half of the number
 unfoldable pub FitsHalves : Carried → Type 0
 FitsHalves (carried.Refused n l) = Unit
 FitsHalves (carried.Written n k) = (n < 2 ^ 32) × (k < 2 ^ 32)
@@ -87,7 +87,7 @@ unfolding refusalWord
 findWord (find.Refused n l) = refusalWord n (l .0)
 findWord (find.Is i) = i
 
--- the value's offset and its length, or all ones where the stand-in takes its place
+-- the value's offset and its length, or all ones if the stand-in is used
 unfoldable pub fieldWord : ValuePlace → ℕ
 unfolding pairWord
 fieldWord field.StandIn = 18446744073709551615
@@ -99,7 +99,7 @@ unfolding refusalWord
 lengthWord (ln.Refused n l) = refusalWord n (l .0)
 lengthWord (ln.Is n) = 0
 
--- the LN takes the place of the caller's number; a refusal leaves it
+-- the LN replaces the caller's number; a refusal leaves it
 unfoldable pub lengthLeft : LengthAnswer → ℕ → ℕ
 lengthLeft (ln.Refused n l) old = old
 lengthLeft (ln.Is n) old = n
@@ -110,7 +110,7 @@ unfolding refusalWord
 namesWord (names.Refused n l) = refusalWord n (l .0)
 namesWord (names.Counted n looks) = n
 
--- the slots that were looked at take the place of the caller's number; a refusal leaves it
+-- the number of slots looked at replaces the caller's number; a refusal leaves it
 unfoldable pub namesLeft : NamesAnswer → ℕ → ℕ
 namesLeft (names.Refused n l) old = old
 namesLeft (names.Counted n looks) old = looks
@@ -121,24 +121,24 @@ aboutNumber which.A = 1
 aboutNumber which.B = 2
 aboutNumber which.Merged = 3
 
--- a refusal of one of them: which it is about is shifted left by 48
+-- a refusal because of one of them: the number of that text is shifted left by 48
 unfoldable pub unfitWord : Which → ℕ → ℕ → ℕ
 unfolding refusalWord aboutNumber
 unfitWord w n l = refusalWord n l + aboutNumber w * 2 ^ 48
 
--- 0 for a merge that is accepted
+-- 0 for an accepted merge
 unfoldable pub verdictWord : Verdict → ℕ
 unfolding refusalWord unfitWord
 verdictWord verdict.Accepted = 0
 verdictWord (verdict.Unfit w n l) = unfitWord w n (l .0)
 verdictWord (verdict.Unmerged n) = refusalWord n 0
 
--- a number on top of the bits of its kind: 1 where it reaches bit 62, as no number of bytes in a memory does
+-- a number with the bits of its kind above it: 1 if it reaches bit 62, which no number of bytes in a memory does
 unfoldable pub shortWord : ℕ → ℕ → ℕ
 unfolding refusalWord
 shortWord kind n = cond (ltb n (2 ^ 62)) (kind + n) (refusalWord 1 0)
 
--- the bytes of a binary header; or bit 62, and the bytes that are needed to say more
+-- the length of a binary header; or bit 62, and how many bytes are needed to say more
 unfoldable pub lenWord : BinaryLen → ℕ
 unfolding refusalWord shortWord
 lenWord (len.Refused n) = refusalWord n 0

@@ -24,7 +24,7 @@ pub fn refusal_word(n: u8, line: LineNo) -> u64
     9223372036854775808 + (n as u64) * 4294967296 + (line.0 as u64)
 }
 
-// How many bytes or ordinals are written, or records are counted.
+// How many bytes or ordinals were written, or records counted.
 pub fn answer_word(answer: CountAnswer) -> u64
     ensures { λ r. ⌜ r ≡ answerWord answer ⌝ }
 {
@@ -34,7 +34,7 @@ pub fn answer_word(answer: CountAnswer) -> u64
     }
 }
 
-// 0 for a catalogue that is the text's.
+// 0 if the catalogue is this text's.
 pub fn checked_word(checked: Checked) -> u64
     ensures { λ r. ⌜ r ≡ checkedWord checked ⌝ }
 {
@@ -44,14 +44,14 @@ pub fn checked_word(checked: Checked) -> u64
     }
 }
 
-// Two numbers: a place's offset and length, or the hops and how many leaves there are.
+// Two numbers: the offset and length of a place, or the hops and the number of leaves.
 pub fn pair_word(high: u32, low: u32) -> u64
     ensures { λ r. ⌜ r ≡ pairWord high low ⌝ }
 {
     (high as u64) * 4294967296 + (low as u64)
 }
 
-// The hops and the number of leaves, of which there are few.
+// The hops and the number of leaves, which is small.
 pub fn leaves_word(answer: LeavesAnswer) -> u64
     requires { ⌜ FewLeaves answer ⌝ }
     ensures { λ r. ⌜ r ≡ leavesWord answer ⌝ }
@@ -62,7 +62,7 @@ pub fn leaves_word(answer: LeavesAnswer) -> u64
     }
 }
 
-// How many lines are skipped and how many bytes are written.
+// How many lines were skipped and how many bytes were written.
 pub fn carried_word(carried: Carried) -> u64
     requires { ⌜ FitsHalves carried ⌝ }
     ensures { λ r. ⌜ r ≡ carriedWord carried ⌝ }
@@ -73,7 +73,7 @@ pub fn carried_word(carried: Carried) -> u64
     }
 }
 
-// Where a key stands.
+// Where a key is.
 pub fn key_word(answer: KeyAnswer) -> u64
     ensures { λ r. ⌜ r ≡ keyWord answer ⌝ }
 {
@@ -103,7 +103,7 @@ pub fn find_word(answer: FindAnswer) -> u64
     }
 }
 
-// Where a value stands, or that the stand-in takes its place.
+// Where a value is, or that the stand-in is used.
 pub fn field_word(place: ValuePlace) -> u64
     ensures { λ r. ⌜ r ≡ fieldWord place ⌝ }
 {
@@ -124,14 +124,14 @@ pub fn about_number(which: Which) -> u64
     }
 }
 
-// A refusal of one of the three texts of a merge: which it is about stands in bits 48 to 55.
+// A refusal because of one of the three texts of a merge. Bits 48 to 55 say which one.
 pub fn unfit_word(which: Which, n: u8, line: LineNo) -> u64
     ensures { λ r. ⌜ r ≡ unfitWord which n (line .0) ⌝ }
 {
     refusal_word(n, line) + about_number(which) * 281474976710656
 }
 
-// 0 for a merge that is accepted.
+// 0 for an accepted merge.
 pub fn verdict_word(verdict: Verdict) -> u64
     ensures { λ r. ⌜ r ≡ verdictWord verdict ⌝ }
 {
@@ -142,7 +142,7 @@ pub fn verdict_word(verdict: Verdict) -> u64
     }
 }
 
-// A number on top of the bits of its kind: refusal 1 where it reaches bit 62.
+// A number with the bits of its kind above it; refusal 1 if it reaches bit 62.
 fn short_word(kind: u64, n: usize) -> u64
     requires { ⌜ kind ≤ 4611686018427387904 ⌝ }
     ensures { λ r. ⌜ r ≡ shortWord kind n ⌝ }
@@ -154,7 +154,7 @@ fn short_word(kind: u64, n: usize) -> u64
     }
 }
 
-// How many bytes a binary header has; or bit 62, and how many are needed to say more.
+// The length of a binary header in bytes; or bit 62, and how many bytes are needed to say more.
 pub fn len_word(len: BinaryLen) -> u64
     ensures { λ r. ⌜ r ≡ lenWord len ⌝ }
 {

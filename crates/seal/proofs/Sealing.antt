@@ -10,7 +10,7 @@ use Rattle.format.specs.Bytes.{same}
 use Rattle.format.specs.Records.{Record}
 use Rattle.format.specs.Calls.{Answer, refused, yes, then, fresh, tidying}
 use Rattle.format.specs.declared.LineNo.{LineNo}
-use Rattle.accepted.proofs.Bools.{never}
+use Rattle.lists.proofs.Bools.{never}
 use Rattle.read.specs.declared.CountAnswer.{CountAnswer}
 use Rattle.read.specs.declared.CountAnswer.the-variants as answer
 use Rattle.read.specs.declared.Checked.{Checked}
@@ -22,7 +22,7 @@ use Rattle.format.specs.Seal.{sealing, tidyingFresh, ownSeal, checkingSealed}
 
 -- ---- by the word of a call that writes
 
--- what it counts stands at the front of its output
+-- what it counts is at the front of its output
 pub record Written (a : Answer (List ℕ)) (n : ℕ) (last : List ℕ) : Type 0 where
   pub bytes : List ℕ
   pub says : a ≡ yes bytes

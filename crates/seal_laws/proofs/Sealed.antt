@@ -12,7 +12,7 @@ use Rattle.format.specs.Reading.{accept, readText}
 use Rattle.format.specs.Tidy.{tidy, unwritable}
 use Rattle.format.specs.Calls.{Answer, refused, yes, then, readAnswer, records, fresh, fitting, writing, tidying}
 use Rattle.byte_slices.proofs.Equal.{same-equal, same-self}
-use Rattle.accepted.proofs.Bools.{never}
+use Rattle.lists.proofs.Bools.{never}
 use Rattle.tidy_laws.specs.Bare.{Equal}
 use Rattle.tidy_laws.specs.Writable.{Writable}
 use Rattle.tidy_laws.specs.Faithful.{Allowed, Kept, Holds, Faithful}
@@ -21,7 +21,7 @@ use Rattle.tidy_laws.proofs.Gathered.{text-gathered, gathered-writable}
 use Rattle.tidy_laws.proofs.Tidy.{tidy-tells}
 use Rattle.tidy_laws.proofs.Bare.{tidy-equal}
 use Rattle.tidy_laws.proofs.Faithful.{faithful}
-use Rattle.read.proofs.Told.{fits}
+use Rattle.read.proofs.AnswerCases.{fits}
 use Rattle.format.specs.Sha256.{sha256}
 use Rattle.sha256.proofs.Laws.{digest-length}
 use Rattle.format.specs.Seal.{sealing, ownSeal, checkingSealed}

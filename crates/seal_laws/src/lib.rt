@@ -1,2 +1,2 @@
-// Laws of seals: a seal is the header's and not the text's, and who passes another header by a seal has a collision of SHA-256 in hand. There is no
-// code here.
+// Laws of seals: a seal belongs to the header and not to its spelling, and whoever gets another header past a seal has a collision of SHA-256. This
+// crate has no code.

@@ -1,7 +1,7 @@
 pub mod Examples
 pub mod Parsed
 pub mod Schedule
-pub mod Turns
+pub mod RoundByRound
 pub mod Big
 pub mod Blocks
 pub mod Padded

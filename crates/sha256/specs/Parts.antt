@@ -1,11 +1,11 @@
--- What the functions of the code have in hand: a hash value, a word at its place, and what follows the whole blocks of a message.
+-- What the functions of the code work on: a hash value, a word at its place, and what follows the whole blocks of a message.
 use Prim.Native.Nat.{ℕ, _+_, _*_, _/_}
 use mathlib.Core.List.{List, _++_}
 use lib.ListN.{length, drop, getD}
 use Rattle.format.specs.Sha256.{HashValue, fromBig, padding}
 use Rattle.sha256.specs.declared.State.{State}
 
--- the hash value that the code's words are
+-- the hash value that the code's words make
 abbrev pub valueOf : State → HashValue
 valueOf s = record { a = s .a; b = s .b; c = s .c; d = s .d; e = s .e; f = s .f; g = s .g; h = s .h }
 

@@ -26,21 +26,21 @@ fn plus(x: u32, y: u32) -> u32
     ((x as u64 + y as u64) % 4294967296) as u32
 }
 
-// Each bit of `y` where `x` has a bit, and each of `z` where it has none.
+// Each bit of `y` where `x` has a 1, and each bit of `z` where `x` has a 0.
 fn ch(x: u32, y: u32, z: u32) -> u32
     ensures { λ r. ⌜ r ≡ Ch x y z ⌝ }
 {
     (x & y) ^ (!x & z)
 }
 
-// Each bit that most of the three have.
+// Each bit that at least two of the three have.
 fn maj(x: u32, y: u32, z: u32) -> u32
     ensures { λ r. ⌜ r ≡ Maj x y z ⌝ }
 {
     (x & y) ^ (x & z) ^ (y & z)
 }
 
-// Σ0, Σ1, σ0 and σ1 of the standard: a word's rotations, or two of them and a shift, mixed.
+// Σ0, Σ1, σ0 and σ1 of the standard: the exclusive or of rotations of a word, or of two rotations and a shift.
 fn upper0(x: u32) -> u32
     ensures { λ r. ⌜ r ≡ Σ0 x ⌝ }
 {
@@ -179,7 +179,7 @@ fn word(s: &[u8], at: usize) -> u32
     16777216 * a + 65536 * b + 256 * c + d
 }
 
-// The sixteen words of the block at `at`, with room for the schedule after them.
+// The sixteen words of the block at `at`, with room for the rest of the schedule after them.
 fn words(s: &[u8], at: usize) -> [u32; 64]
     requires { ⌜ at + 64 ≤ length (now s) ⌝ }
     ensures { λ r. ⌜ take 16 r ≡ words (take 64 (drop at (now (s .entry)))) ⌝ }
@@ -204,7 +204,7 @@ fn next(w: &[u32; 64], t: usize) -> u32
     )
 }
 
-// The schedule: 48 words more.
+// The schedule: the sixteen words and 48 more.
 fn extended(words: [u32; 64]) -> [u32; 64]
     ensures { λ r. ⌜ r ≡ extend 48 (take 16 words) ⌝ }
 {
@@ -217,7 +217,7 @@ fn extended(words: [u32; 64]) -> [u32; 64]
     w
 }
 
-// All rounds, four in a turn.
+// All rounds, four in each step of the loop.
 fn rounds(w: &[u32; 64], start: State) -> State
     requires { ⌜ length (now w) ≡ 64 ⌝ }
     ensures { λ r. ⌜ valueOf r ≡ rounds K (now (w .entry)) (valueOf start) ⌝ }

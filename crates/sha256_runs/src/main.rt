@@ -1,8 +1,7 @@
-// Hashes files: for each a line as `sha256sum` writes it, the digest in hexadecimal digits, two spaces and the file's name.
+// Hashes files and writes a line for each as `sha256sum` does: the digest in hexadecimal digits, two spaces and the name of the file.
 //
-// The arguments name the files: no byte, the two examples of FIPS 180-4, and random bytes whose numbers lie about the ends of a block and of the
-// padding.
-// What is expected was written by `sha256sum` of GNU coreutils.
+// The arguments name the files: the empty file, the two examples of FIPS 180-4, and random bytes whose lengths are near the end of a block and of the
+// padding. The expected output was written by `sha256sum` of GNU coreutils.
 use libc::STDOUT_FILENO;
 
 fn wide(b: u8) -> u64 {

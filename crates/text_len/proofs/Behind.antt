@@ -1,4 +1,4 @@
--- The lines of a text that ends with LF, and of bytes behind it.
+-- The lines of a text that ends with LF, and of bytes after it.
 use Prim.Native.Nat.{ℕ, _+_}
 use mathlib.Core.Path.{_≡_, refl, ap, _∙_}
 use mathlib.Core.Bool.{Bool, true, false, cond}

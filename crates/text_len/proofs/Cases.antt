@@ -5,7 +5,7 @@ use mathlib.Core.List.{List, [], _∷_, map}
 use Rattle.format.proofs.Ascii.{ascii}
 use Rattle.format.specs.TextLen.{textLen}
 
--- an empty line ends the header, the first too; an `@` alone is a line; a CR at the end of the last line stays in it; an alignment line is none of its lines
+-- an empty line ends the header, even the first; just an `@` is a line; a CR at the end of the last line stays in it; an alignment line is not one of its lines
 unfoldable pub corners : List (List ℕ × ℕ)
 unfolding ascii
 corners =

@@ -16,12 +16,12 @@ use Rattle.byte_slices.proofs.First.{lines-first}
 use Rattle.byte_slices.proofs.Lines.{lines-none}
 use Rattle.byte_slices.proofs.Stands.{each-map, lines-stand}
 use Rattle.accepted.specs.Admits.{strictly}
-use Rattle.accepted.proofs.Bools.{never}
-use Rattle.accepted.proofs.Pairs.{pairs-left}
+use Rattle.lists.proofs.Bools.{never}
+use Rattle.lists.proofs.Pairs.{pairs-left}
 use Rattle.accepted.proofs.Text.{text-lines}
 use Rattle.format.specs.TextLen.{headed, otherLine, textLen}
 use Rattle.text_len.specs.Laws.{AcceptedIsHeader, AllHeaded, CutBehind, AcceptedIsCut, Within}
-use Rattle.text_len.proofs.Turn.{headed-first}
+use Rattle.text_len.proofs.HeaderLines.{headed-first}
 use Rattle.text_len.proofs.Behind.{lines-behind}
 
 -- ---- lines that start with `@`

@@ -1,4 +1,4 @@
-pub mod Turn
+pub mod HeaderLines
 pub mod Behind
 pub mod Laws
 pub mod Cases

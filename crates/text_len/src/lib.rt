@@ -2,7 +2,7 @@
 ghost use mathlib.Core.Path.{_≡_};
 ghost use Rattle.format.specs.TextLen.{textLen};
 
-// How many bytes at the front of `bytes` are lines that start with `@`, their endings included. It judges nothing else and never refuses.
+// How many bytes at the front of `bytes` are lines that start with `@`, including their endings. Nothing else is judged, and the call never refuses.
 pub fn text_len(bytes: &[u8]) -> usize
     ensures { λ r. ⌜ r ≡ textLen (now (bytes .entry)) ⌝ }
 {

@@ -1,4 +1,4 @@
--- Tidying once the text is accepted.
+-- Tidying of a text that is accepted.
 use Prim.Native.Nat.{ℕ}
 use mathlib.Core.Bool.{Bool}
 use mathlib.Core.List.{List}
@@ -7,7 +7,7 @@ use Rattle.format.specs.Calls.{Answer, writing}
 use Rattle.accepted.specs.Read.{recordsOf}
 use Rattle.tidy_text.specs.Sifted.{isMarked, sifted}
 
--- the tidy text of its records is written, or why not: 24, 1, 20
+-- the tidy text of its records is written, or the refusal: 24, 1, 20
 abbrev pub writingTidy : List ℕ → ℕ → Answer (List ℕ)
 writingTidy t room = writing room (unwritable 0 (recordsOf t)) (tidy (recordsOf t))
 

@@ -1,4 +1,4 @@
-// Tidying: the text of the same records with the keys first, one LF after each line, kind by kind.
+// Tidying: writes the same records with the keys first and one LF after each line, kind by kind.
 use format::LineNo;
 use read::CountAnswer;
 use read_judge::Judged;
@@ -7,18 +7,19 @@ ghost use mathlib.Core.Path.{_≡_};
 ghost use mathlib.Core.Bool.{true};
 ghost use lib.ListN.{length};
 ghost use Rattle.format.specs.Lines.{lines};
-ghost use Rattle.format.specs.Reading.{announced, isStrict, readText};
+ghost use Rattle.format.specs.Reading.{readText};
+ghost use Rattle.accepted_rule.specs.Rule.{ReadsBy};
 ghost use Rattle.format.specs.Calls.{tidying};
 ghost use Rattle.format.specs.Work.{allZeros};
 ghost use Rattle.accepted.specs.Read.{isAccepted};
-ghost use Rattle.read_judge.specs.Judged.{judgedOf};
+ghost use Rattle.read_judge.specs.Judged.{judgement};
 ghost use Rattle.read.specs.Answers.{answerOf, outputOf};
 ghost use Rattle.tidy.specs.Written.{writingTidy, writingMarked};
 
-// Writes the tidy text of an accepted text without the programs whose mark is false: 24, then 1, then 20.
+// Writes the tidy text of an accepted text without the programs whose mark is false, or refuses with 24, then 1, then 20.
 pub fn write_marked(text: &[u8], strict: bool, marks: &[bool], out: &mut [u8]) -> CountAnswer
     requires { ⌜ isAccepted (readText (now text)) ≡ true ⌝ }
-    requires { ⌜ strict ≡ isStrict (announced (lines (now text))) ⌝ }
+    requires { ⌜ ReadsBy strict (now text) ⌝ }
     ensures answer { λ r. ⌜ r ≡ answerOf (writingMarked (now (text .entry)) (now (marks .entry)) (length (now (out .entry)))) ⌝ }
     ensures wrote { λ _. ⌜ now (out .exit) ≡ outputOf
         (writingMarked (now (text .entry)) (now (marks .entry)) (length (now (out .entry))))
@@ -40,10 +41,10 @@ pub fn write_marked(text: &[u8], strict: bool, marks: &[bool], out: &mut [u8]) -
     }
 }
 
-// Writes the tidy text of an accepted text: 24, then 1, then 20.
+// Writes the tidy text of an accepted text, or refuses with 24, then 1, then 20.
 pub fn write_accepted(text: &[u8], strict: bool, out: &mut [u8]) -> CountAnswer
     requires { ⌜ isAccepted (readText (now text)) ≡ true ⌝ }
-    requires { ⌜ strict ≡ isStrict (announced (lines (now text))) ⌝ }
+    requires { ⌜ ReadsBy strict (now text) ⌝ }
     ensures answer { λ r. ⌜ r ≡ answerOf (writingTidy (now (text .entry)) (length (now (out .entry)))) ⌝ }
     ensures wrote { λ _. ⌜ now (out .exit) ≡ outputOf (writingTidy (now (text .entry)) (length (now (out .entry)))) (now (out .entry)) ⌝ }
 {
@@ -52,17 +53,17 @@ pub fn write_accepted(text: &[u8], strict: bool, out: &mut [u8]) -> CountAnswer
 
 // Tidies a text that has been judged.
 fn tidy_judged(text: &[u8], judged: Judged, out: &mut [u8]) -> CountAnswer
-    requires { ⌜ judged ≡ judgedOf (readText (now text)) ⌝ }
+    requires { ⌜ judged ≡ judgement (now text) ⌝ }
     ensures answer { λ r. ⌜ r ≡ answerOf (tidying (now (text .entry)) (length (now (out .entry)))) ⌝ }
     ensures wrote { λ _. ⌜ now (out .exit) ≡ outputOf (tidying (now (text .entry)) (length (now (out .entry)))) (now (out .entry)) ⌝ }
 {
     match judged {
         Judged::Refused(n, line) => CountAnswer::Refused(n, line),
-        Judged::Accepted(_) => write_accepted(text, read_repeat_rule::is_strict(text), out),
+        Judged::Accepted(_, once) => write_accepted(text, once, out),
     }
 }
 
-// Tidies `text` into the front of `out`, or answers the first refusal, which changes nothing.
+// Tidies `text` into the front of `out`, or answers the first refusal and changes nothing.
 pub fn tidy(text: &[u8], out: &mut [u8]) -> CountAnswer
     ensures answer { λ r. ⌜ r ≡ answerOf (tidying (now (text .entry)) (length (now (out .entry)))) ⌝ }
     ensures wrote { λ _. ⌜ now (out .exit) ≡ outputOf (tidying (now (text .entry)) (length (now (out .entry)))) (now (out .entry)) ⌝ }
@@ -70,7 +71,7 @@ pub fn tidy(text: &[u8], out: &mut [u8]) -> CountAnswer
     tidy_judged(text, read_judge::judge(text), out)
 }
 
-// The same with a lent work area, which is all zeros afterwards.
+// The same as `tidy`, with a lent work area, which is all zeros afterwards.
 pub fn tidy_with(text: &[u8], out: &mut [u8], work: &mut [u32]) -> CountAnswer
     ensures answer { λ r. ⌜ r ≡ answerOf (tidying (now (text .entry)) (length (now (out .entry)))) ⌝ }
     ensures wrote { λ _. ⌜ now (out .exit) ≡ outputOf (tidying (now (text .entry)) (length (now (out .entry)))) (now (out .entry)) ⌝ }

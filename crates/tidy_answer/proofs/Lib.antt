@@ -1,3 +1,3 @@
 pub mod Refusal
-pub mod Told
+pub mod ProgramOutput
 pub mod Example

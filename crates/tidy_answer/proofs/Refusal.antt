@@ -25,7 +25,7 @@ refusal-size n l =
 pub refusal-fits : (n l room : ℕ) → 55 ≤ room → length (refusal n l) ≤ room
 refusal-fits n l room h = omega (arith, refusal-size n l, written-short n, written-short l)
 
--- the word, the number, the word, the line and the LF, each written behind the one before
+-- the word, the number, the word, the line and the LF, each written after the one before
 module _ (out : List ℕ) (n l : ℕ) (room : length (refusal n l) ≤ length out) where
   pub refusal-wrote : (a b c d : List ℕ) (p q : ℕ) → Wrote out 0 a 8 spelledRefused → Wrote a 8 b p (written n) → Wrote b p c (p + 6) spelledLine → Wrote c (p + 6) d q (written l) → length d ≡ length out
       → Wrote out 0 (set d q 10) (q + 1) (refusal n l)

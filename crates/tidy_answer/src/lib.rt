@@ -7,7 +7,7 @@ ghost use lib.ListN.{length};
 ghost use Rattle.byte_slices.specs.Over.{over};
 ghost use Rattle.format.specs.Program.{refusal, program};
 
-// Writes `refused N line L` and LF to the front of `out`, and answers how many bytes that is.
+// Writes `refused N line L` and LF to the front of `out`, and answers how many bytes it wrote.
 fn put_refusal(out: &mut [u8], n: u32, line: LineNo) -> usize
     requires { ⌜ length (refusal n (line .0)) ≤ length (now out) ⌝ }
     ensures next { λ r. ⌜ r ≡ length (refusal n (line .0)) ⌝ }
@@ -21,7 +21,7 @@ fn put_refusal(out: &mut [u8], n: u32, line: LineNo) -> usize
     at + 1
 }
 
-// Writes to the front of `out` what the program says to the input `text`, and answers how many bytes that is.
+// Writes the program's answer for the input `text` to the front of `out`, and answers how many bytes it wrote.
 pub fn answer(text: &[u8], out: &mut [u8; 65536]) -> usize
     ensures next { λ r. ⌜ r ≡ length (program (now (text .entry))) ⌝ }
     ensures wrote { λ _. ⌜ now (out .exit) ≡ over (now (out .entry)) 0 (program (now (text .entry))) ⌝ }

@@ -11,12 +11,12 @@ use Rattle.format.specs.Tidy.{fieldText, fieldsText}
 use Rattle.format.specs.declared.Kind.{Kind}
 use Rattle.byte_slices.specs.Upto.{upto}
 use Rattle.format.specs.Keys.{isKey}
-use Rattle.accepted.proofs.Bools.{never, and-left, and-right}
+use Rattle.lists.proofs.Bools.{never, and-left, and-right}
 use Rattle.record_tags.specs.Others.{unkeyed, firsts}
 use Rattle.record_tags.proofs.Firsts.{settled-firsts}
 use Rattle.accepted_line.specs.Run.{fieldsOf, fieldsTo, fieldsFrom, AtField}
 use Rattle.accepted_line.specs.Next.{isFirst, keptAt}
-use Rattle.accepted_line.specs.declared.fields.Value.{Value}
+use Rattle.record.specs.declared.Stretch.{Stretch}
 use Rattle.accepted_line.proofs.fields.Here.{ended}
 use Rattle.accepted_line.proofs.fields.Walked.{Taken}
 use Rattle.accepted_line.proofs.fields.Place.{passed-at, taken-at}
@@ -48,7 +48,7 @@ module _ (once : Bool) (at : ℕ) (line : List ℕ) (k : Kind) (i : ℕ) (h : At
       turn false false e = refl
 
   -- one that is
-  module _ (t : not (isKey k (getD line (i + 1) 0) (getD line (i + 2) 0)) && isFirst at line i ≡ true) (v : Value) (e : v ≡ keptAt at line i end) where
+  module _ (t : not (isKey k (getD line (i + 1) 0) (getD line (i + 2) 0)) && isFirst at line i ≡ true) (v : Stretch) (e : v ≡ keptAt at line i end) where
     taken : Taken at line k i end v
     taken =
         let n = isKey k (getD line (i + 1) 0) (getD line (i + 2) 0) in
@@ -61,7 +61,7 @@ module _ (once : Bool) (at : ℕ) (line : List ℕ) (k : Kind) (i : ℕ) (h : At
     pub rest-size : length (restText k at line i) ≡ 4 + v .len + length (restText k at line end)
     rest-size = ap (λ l. length (fieldsText l)) (taken .first) ∙ omega (arith, one-more (taken .field) (firsts k (fieldsTo at line end) (fieldsFrom at line end)), taken .size)
 
-    -- its value stands in the line
+    -- its value is in the line
     pub value-inside : (at ≤ v .at) × (v .at - at + v .len ≤ length line)
     value-inside = (omega (arith, taken .stands .from, taken .place), omega (arith, taken .stands .within, taken .stands .from, taken .place, taken .size))
 

@@ -1,4 +1,4 @@
--- The fields of an accepted line that are no keys, as the tidy text has them.
+-- The fields of an accepted line other than its keys, as the tidy text has them.
 use Prim.Native.Nat.{ℕ}
 use mathlib.Core.List.{List, []}
 use Rattle.format.specs.Tidy.{fieldsText}

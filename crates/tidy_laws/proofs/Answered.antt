@@ -12,7 +12,7 @@ use Rattle.format.specs.Records.{Record}
 use Rattle.format.specs.Reading.{Reading, refusedText, accept, readText, longest}
 use Rattle.format.specs.Catalogue.{catalogue}
 use Rattle.format.specs.Calls.{Answer, refused, yes, then, readAnswer, records, current, fresh, untangled, fitting, writing, reading}
-use Rattle.accepted.proofs.Bools.{never}
+use Rattle.lists.proofs.Bools.{never}
 
 -- the answer of the first call, and of what goes on with it
 pub record Gave {A B : Type 0} (a : Answer A) (f : A → Answer B) (y : B) : Type 0 where

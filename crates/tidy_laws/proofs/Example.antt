@@ -1,4 +1,4 @@
--- Document 01's example: a text of which all that is demanded holds, and its tidy text.
+-- Document 01's example: a text for which all the laws hold, and its tidy text.
 use Prim.Native.Nat.{ℕ}
 use mathlib.Core.Path.{_≡_, refl}
 use mathlib.Core.List.{List, [], _∷_}

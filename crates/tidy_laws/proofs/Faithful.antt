@@ -1,4 +1,4 @@
--- The tidy text is what is demanded of it.
+-- The tidy text satisfies its laws.
 use Prim.Native.Nat.{ℕ, _≤_}
 use mathlib.Core.Path.{_≡_, refl, sym, ap, _∙_}
 use mathlib.Core.List.{List}

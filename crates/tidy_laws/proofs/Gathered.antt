@@ -10,7 +10,7 @@ use Rattle.format.specs.Records.{Record, read, breaks, line}
 use Rattle.format.specs.Reading.{accept, readText}
 use Rattle.format.specs.declared.Kind.{Kind}
 use Rattle.byte_slices.specs.Stands.{Each}
-use Rattle.accepted.specs.Pieces.{Pairs}
+use Rattle.lists.specs.Pairs.{Pairs}
 use Rattle.accepted.specs.Sound.{Sound}
 use Rattle.accepted.specs.Spelled as sp
 use Rattle.accepted.specs.Spelled.{Made, AcceptedLine}

@@ -14,7 +14,7 @@ use Rattle.format.specs.Tidy.{fieldsText}
 use Rattle.format.specs.Version.{grow, sides, both, numbered, version}
 use Rattle.format.specs.declared.Version.{Version}
 use Rattle.decimal.proofs.ReadBack.{written-fewest}
-use Rattle.accepted.proofs.Bools.{never, and-left}
+use Rattle.lists.proofs.Bools.{never, and-left}
 
 -- ---- fields
 

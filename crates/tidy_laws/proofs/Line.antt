@@ -21,7 +21,7 @@ use Rattle.byte_slices.proofs.Stands.{each-map}
 use Rattle.decimal.proofs.ReadBack.{reads-back}
 use Rattle.accepted.specs.Sound.{kind, FitsRecord, KeyIsValue, Other, Sound}
 use Rattle.format.specs.Keys.{isKey}
-use Rattle.accepted.proofs.Bools.{or-left, or-right}
+use Rattle.lists.proofs.Bools.{or-left, or-right}
 use Rattle.tidy_laws.specs.Bare.{bareBytes, bare}
 use Rattle.tidy_laws.specs.Line.{own, keys, recordLine, pieceText, put-at, located, Unbroken}
 use Rattle.tidy_laws.proofs.Once.{tags-located, repeats-located, bare-located}
@@ -153,7 +153,7 @@ module _ (strict : Bool) (at : ℕ) where
         same = refl;
       }
 
--- whatever the rule for repeated tags, and wherever the line stands
+-- whatever the rule for repeated tags, and wherever the line is
 pub line-back : (strict : Bool) (at : ℕ) (r : Record) → Sound r → Unbroken r → Reads strict at (recordLine r) r
 line-back strict at (header v fs) s u = line-header strict at v fs s
 line-back strict at (reference p n fs) s u = line-reference strict at p n fs s

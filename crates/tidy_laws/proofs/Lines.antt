@@ -11,11 +11,11 @@ use Rattle.format.specs.Lines.{onto, broken, chomp, linesFrom}
 use Rattle.format.specs.Records.{Record, breaks}
 use Rattle.format.specs.Tidy.{recordText}
 use Rattle.accepted.specs.Sound.{Sound}
-use Rattle.accepted.proofs.Bools.{or-left, or-right}
+use Rattle.lists.proofs.Bools.{or-left, or-right}
 use Rattle.tidy_laws.specs.Line.{recordLine, Unbroken}
 use Rattle.tidy_laws.proofs.Line.{record-line, line-unbroken}
 
--- a byte that is neither LF nor CR, and bytes behind it that are neither
+-- a byte that is neither LF nor CR, and bytes after it that are neither
 record Unbreaking (b : ℕ) (s : List ℕ) : Type 0 where
   no-lf : eqb b 10 ≡ false
   no-cr : eqb b 13 ≡ false

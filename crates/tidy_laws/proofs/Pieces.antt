@@ -15,12 +15,12 @@ use Rattle.format.specs.Tidy.{fieldsText}
 use Rattle.format.specs.declared.Kind.{Kind}
 use Rattle.byte_slices.specs.Stands.{Each}
 use Rattle.utf8.specs.Shown.{shown}
-use Rattle.accepted.proofs.Bools.{and-left, and-right, any-append}
+use Rattle.lists.proofs.Bools.{and-left, and-right, any-append}
 use Rattle.tidy_laws.specs.Line.{pieceText, put-at, located}
 
 -- ---- bytes
 
--- a byte from 32 on is no tab, LF or CR
+-- a byte from 32 on is not a tab, LF or CR
 shown-no-tab : (b : ℕ) → shown b ≡ true → eqb b 9 ≡ false
 unfolding shown
 shown-no-tab b h = ne-eqb b 9 (λ e. let l : 32 ≤ b = leb-true 32 b (and-left (leb 32 b) (not (eqb b 127)) h) in omega arith)
@@ -39,7 +39,7 @@ shown-unbroken (b ∷ s) h =
 
 -- ---- a cut line
 
--- a piece with no tab in it, and the tab behind it
+-- a piece with no tab in it, and the tab after it
 cut-piece : (p s : List ℕ) → all shown p ≡ true → cut 9 (p ++ (9 ∷ s)) ≡ p ∷ cut 9 s
 unfolding all cut onto
 cut-piece [] s h = refl
@@ -51,7 +51,7 @@ unfolding all cut onto
 cut-end [] h = refl
 cut-end (b ∷ p) h = rw (shown-no-tab b (and-left (shown b) (all shown p) h), cut-end p (and-right (shown b) (all shown p) h)) refl
 
--- a field that is read where it stands in a line of kind `k`
+-- a field that is read where it is in a line of kind `k`
 pub record Fine (k : Kind) (f : Field) : Type 0 where
   pub bytes : all shown (pieceText f) ≡ true
   pub reads : (at : ℕ) → field k at (pieceText f) ≡ good (put-at (at + 3) f)

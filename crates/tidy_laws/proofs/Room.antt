@@ -1,4 +1,4 @@
--- How much room outputs need: the catalogue of an accepted text is at most three times as long as the text, and one byte more.
+-- How much room outputs need: the catalogue of an accepted text is at most three times as long as the text plus one byte.
 use Prim.Native.Nat.{ℕ, _+_, _*_, _≤_}
 use mathlib.Core.Path.{_≡_}
 use mathlib.Core.Bool.{Bool, true, false, cond, false≢true}

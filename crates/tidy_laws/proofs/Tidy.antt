@@ -1,4 +1,4 @@
--- The tidy text of records that a text can hold: it reads back as the records in order, has itself for tidy text, and tells headers apart.
+-- The tidy text of records that a text can hold: it reads back as the records in order, it is its own tidy text, and different headers have different ones.
 use Prim.Native.Nat.{ℕ, _+_, _≤_}
 use mathlib.Core.Path.{_≡_, refl, sym, ap, _∙_}
 use mathlib.Core.Bool.{Bool, true, false, cond}
@@ -10,7 +10,7 @@ use Rattle.format.specs.Reading.{accept, readText}
 use Rattle.format.specs.Tidy.{inOrder, tidy, isWritable, unwritable}
 use Rattle.byte_slices.specs.Stands.{Each}
 use Rattle.accepted.specs.Sound.{Sound}
-use Rattle.accepted.proofs.Bools.{never}
+use Rattle.lists.proofs.Bools.{never}
 use Rattle.tidy_laws.specs.Bare.{bareBytes, bare, Equal}
 use Rattle.tidy_laws.specs.Line.{Unbroken}
 use Rattle.tidy_laws.specs.Writable.{Writable}

@@ -26,12 +26,12 @@ use Rattle.byte_slices.proofs.Lines.{lines-none}
 use Rattle.byte_slices.proofs.First.{first-whole, first-more, first-le, first-within, first-some, first-before, lines-first}
 use Rattle.byte_slices.proofs.Stands.{by-parts}
 use Rattle.decimal.proofs.ReadBack.{written-fewest}
-use Rattle.accepted.specs.Pieces.{Pairs}
+use Rattle.lists.specs.Pairs.{Pairs}
 use Rattle.accepted.specs.Spelled as sp
 use Rattle.accepted.specs.Spelled.{LengthInRange, Good, Made, Spelled, AcceptedLine}
-use Rattle.accepted.proofs.Bools.{and-left}
+use Rattle.lists.proofs.Bools.{and-left}
 use Rattle.accepted.proofs.Fields.{Of, lastOf-of}
-use Rattle.accepted.proofs.Pairs.{pairs-right, each-all}
+use Rattle.lists.proofs.Pairs.{pairs-right, each-all}
 use Rattle.accepted.proofs.Spelled.{line-accepted}
 use Rattle.tidy_laws.specs.Line.{own, keys, recordLine}
 use Rattle.tidy_laws.specs.Gathered as ga
@@ -130,7 +130,7 @@ accepted-length strict at s r (sp.of-fields a) = spelled-length strict at s r a
 
 -- ---- all lines
 
--- lines, and one byte more for each
+-- lines, and one more byte for each
 ended : List Piece → ℕ
 ended [] = 0
 ended (p ∷ ps) = suc (length (p .bytes)) + ended ps

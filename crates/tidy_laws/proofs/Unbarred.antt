@@ -12,7 +12,7 @@ use Rattle.format.specs.Bytes.{any, none?}
 use Rattle.format.specs.Records.{Record, code}
 use Rattle.format.specs.Reading.{clash, ofKind, barred}
 use Rattle.format.specs.Tidy.{inOrder}
-use Rattle.accepted.proofs.Bools.{never, eqb-sym}
+use Rattle.lists.proofs.Bools.{never, eqb-sym}
 use Rattle.accepted.proofs.OfKind.{ofKind-append}
 use Rattle.accepted.proofs.Admits.{barred-clear}
 use Rattle.accepted.specs.Admits.{Unbarred, MayFollow}
@@ -78,7 +78,7 @@ barred-kind a b r s h =
         rw q n
     few false e n = refl
 
--- ---- a record more
+-- ---- one more record
 
 -- once there is a record, HD may not follow
 stand-on : (k : ℕ) (a b : List Record) (r : Record) → ofKind k (a ++ (r ∷ [])) ≡ ofKind k b → Stand k (a ++ (r ∷ [])) b
@@ -122,7 +122,7 @@ stand-none : (k : ℕ) (b : List Record) → (k ≡ 1 → ⊥) → ofKind k b �
 unfolding ofKind
 stand-none k b h e = record { kinds = sym e; first = λ q. absurd (h q) }
 
--- the records of one kind more
+-- the records of one more kind
 module _ (rs : List Record) (h : Unbarred [] rs) where
   unbarred-more : (k : ℕ) (b : List Record) → (k ≡ 1 → ⊥) → ofKind k b ≡ [] → Unbarred [] b → Unbarred [] (b ++ ofKind k rs)
   unbarred-more k b n e a = unbarred-append [] b (ofKind k rs) a (unbarred-kind k [] b rs (stand-none k b n e) h)

@@ -1,4 +1,4 @@
--- Equal records and equal headers. Where a key, a value or a comment stood in the text doesn't count.
+-- Equal records and equal headers. Where a key, a value or a comment was in the text doesn't count.
 use Prim.Native.Nat.{ℕ}
 use mathlib.Core.Path.{_≡_}
 use mathlib.Core.List.{List, map}
@@ -7,7 +7,7 @@ use Rattle.format.specs.Fields.{Field}
 use Rattle.format.specs.Records.{Record, header, reference, group, program, comment}
 use Rattle.format.specs.Reading.{ofKind}
 
--- bytes at no place
+-- bytes without a place
 unfoldable pub bareBytes : List ℕ → Piece
 bareBytes s = record { at = 0; bytes = s }
 

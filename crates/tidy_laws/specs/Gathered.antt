@@ -1,5 +1,5 @@
--- Records that lines of a text are, where some lines may be passed over, and each of which may follow those before it. The records of an
--- accepted text are such records, and so are those that carrying on keeps; what is demanded of a tidy text rests on this alone.
+-- Records of some of the lines of a text, in order, where each may follow those before it. The records of an accepted text and those that carrying on
+-- keeps are such records. The laws of the tidy text need only this.
 use Prim.Native.Nat.{ℕ}
 use mathlib.Core.Path.{_≡_}
 use mathlib.Core.Bool.{Bool}
@@ -8,7 +8,7 @@ use Rattle.format.specs.Lines.{Piece, lines}
 use Rattle.format.specs.Records.{Record, read, line}
 use Rattle.accepted.specs.Admits.{Unbarred}
 
--- `rs` are records of lines of `ps`, in order
+-- `rs` are records of lines of `ps`, in order; lines may be passed over
 pub data From : List Piece → List Record → Type 0 where
   end : From [] []
   passed : {p : Piece} {ps : List Piece} {rs : List Record} → From ps rs → From (p ∷ ps) rs

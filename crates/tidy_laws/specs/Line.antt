@@ -11,7 +11,7 @@ use Rattle.format.specs.Records.{Record, header, reference, group, program, com
 use Rattle.format.specs.Tidy.{fieldsText}
 use Rattle.tidy_laws.specs.Bare.{bareBytes}
 
--- a field with its value at no place
+-- a field whose value has no place in a text
 unfoldable pub own : ℕ → ℕ → List ℕ → Field
 unfolding bareBytes
 own a b v = record { tag₀ = a; tag₁ = b; value = bareBytes v }
@@ -33,15 +33,15 @@ recordLine (group p fs) = 64 ∷ 82 ∷ 71 ∷ fieldsText (keys (group p fs) ++ 
 recordLine (program p fs) = 64 ∷ 80 ∷ 71 ∷ fieldsText (keys (program p fs) ++ fs)
 recordLine (comment p) = 64 ∷ 67 ∷ 79 ∷ 9 ∷ p .bytes
 
--- what stands between two tabs: a tag, a colon, a value
+-- what is between two tabs: a tag, a colon, a value
 unfoldable pub pieceText : Field → List ℕ
 pieceText f = f .tag₀ ∷ f .tag₁ ∷ 58 ∷ f .value .bytes
 
--- a field whose value stands at `at`
+-- a field whose value is at `at`
 unfoldable pub put-at : ℕ → Field → Field
 put-at at f = record { tag₀ = f .tag₀; tag₁ = f .tag₁; value = record { at = at; bytes = f .value .bytes } }
 
--- fields one after another, a tab between two, where the first starts at `at`
+-- fields one after another with a tab between them, where the first starts at `at`
 unfoldable pub located : ℕ → List Field → List Field
 unfolding put-at pieceText
 located at [] = []

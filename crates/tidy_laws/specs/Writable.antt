@@ -1,6 +1,6 @@
--- Records that a text can hold: each may follow those before it, each has what its kind needs, and no comment holds an LF or a CR. What is
--- demanded of a tidy text rests on this alone: those of an accepted text, those that carrying on keeps, those of a header with programs
--- added, and those of one with programs dropped are such records.
+-- Records that a text can hold: each may follow those before it, each has what its kind needs, and no comment holds an LF or a CR. The laws of the
+-- tidy text need only this. The records of an accepted text, those that carrying on keeps, those of a header with programs added, and those of a
+-- header with programs dropped are all such records.
 use mathlib.Core.List.{List, []}
 use Rattle.format.specs.Records.{Record}
 use Rattle.byte_slices.specs.Stands.{Each}

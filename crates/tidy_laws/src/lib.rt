@@ -1,1 +1,1 @@
-// Laws of the tidy text: it reads back, tidying again changes nothing, and it tells headers apart. There is no code here.
+// Laws of the tidy text: it reads back, tidying it again changes nothing, and different headers have different tidy texts. This crate has no code.

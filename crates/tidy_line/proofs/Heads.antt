@@ -1,4 +1,4 @@
--- The head of an accepted line of fields tells the record's text.
+-- The head of an accepted line of fields determines the record's text.
 use Prim.Native.Nat.{ℕ}
 use mathlib.Core.Path.{_≡_, refl, sym, ap, subst, _∙_}
 use mathlib.Core.Bool.{Bool, true, false}
@@ -16,7 +16,7 @@ use Rattle.accepted.specs.Sound.{kind}
 use Rattle.accepted.specs.Spelled as sp
 use Rattle.accepted.specs.Spelled.{Spelled, AcceptedLine, kind₀, kind₁}
 use Rattle.accepted.specs.Read.{isRead}
-use Rattle.accepted.proofs.Bools.{never}
+use Rattle.lists.proofs.Bools.{never}
 use Rattle.accepted.proofs.Spelled.{line-accepted}
 use Rattle.accepted.proofs.Stands.{line-stand}
 use Rattle.record.specs.Head.{stretchOf, recordHead, headOf}
@@ -60,7 +60,7 @@ module _ (at : ℕ) (s : List ℕ) where
     stand : Each (Stands s at) (pieces r)
     stand = line-stand false (record { at = at; bytes = s }) r e
 
-    -- the rest of a record's text, behind any front
+    -- the rest of a record's text, after any front
     behind : isComment (kind r) ≡ false → (front : List ℕ) → front ++ fieldsText (others r) ++ (10 ∷ []) ≡ front ++ (othersText (kind r) at s ++ (10 ∷ []))
     unfolding othersText
     behind n front =

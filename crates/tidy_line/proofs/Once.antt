@@ -1,4 +1,4 @@
--- A line in which no tag stands twice: its fields but the keys are its record's other fields, byte for byte.
+-- A line in which no tag is repeated: its fields but the keys are its record's other fields, byte for byte.
 use Prim.Native.Nat.{ℕ, _+_}
 use mathlib.Core.Path.{_≡_, refl, sym, ap, ap₂, subst, _∙_}
 use mathlib.Core.Bool.{Bool, true, false, _&&_, _||_, cond}
@@ -18,7 +18,7 @@ use Rattle.accepted.specs.Read.{isRead}
 use Rattle.accepted.specs.Sound.{kind}
 use Rattle.accepted.specs.Spelled as sp
 use Rattle.accepted.specs.Spelled.{Made, Spelled, AcceptedLine}
-use Rattle.accepted.proofs.Bools.{never, or-left, or-right, and-left, and-right}
+use Rattle.lists.proofs.Bools.{never, or-left, or-right, and-left, and-right}
 use Rattle.accepted.proofs.Sound.{made-kind}
 use Rattle.accepted.proofs.Spelled.{line-accepted}
 use Rattle.accepted_line.specs.Run.{fieldsOf, fieldsFrom, AtField}

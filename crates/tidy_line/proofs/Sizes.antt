@@ -29,7 +29,7 @@ kindOfHead (ReadGroup p n) = kind.ReadGroup
 kindOfHead (Program p n) = kind.Program
 kindOfHead (Comment p) = kind.Comment
 
--- two runs behind a front, the last of them the end of a record
+-- two runs after a front, the last of them the end of a record
 ends : (xs ys zs : List ℕ) → length (xs ++ ys ++ (zs ++ (10 ∷ []))) ≡ length xs + length ys + length zs + 1
 ends xs ys zs = omega (arith, length-append (xs ++ ys) (zs ++ (10 ∷ [])), length-append xs ys, length-append zs (10 ∷ []))
 

@@ -13,7 +13,7 @@ use Rattle.accepted.specs.Read.{isRead}
 use Rattle.accepted.specs.Spelled as sp
 use Rattle.accepted.specs.Spelled.{Made, Spelled, AcceptedLine}
 use Rattle.accepted.specs.Sound.{kind}
-use Rattle.accepted.proofs.Bools.{never}
+use Rattle.lists.proofs.Bools.{never}
 use Rattle.accepted.proofs.Spelled.{line-accepted}
 use Rattle.accepted_line.specs.Run.{fieldsOf, fieldsFrom, AtField}
 use Rattle.accepted_line.proofs.fields.Start.{accepted-fields}
@@ -23,7 +23,7 @@ use Rattle.tidy_line.specs.Neat.{neat}
 use Rattle.tidy_line.proofs.already.Text.{neat-text}
 use Rattle.tidy_line.specs.Line.{lineText, lineWritable}
 
--- where no tag stands twice, the line is accepted where that is forbidden
+-- where no tag is repeated, the line is accepted where that is forbidden
 pub once-spelled : (at : ℕ) (s : List ℕ) (r : Record) → Spelled false at s r → AtField true at s 3 → Spelled true at s r
 unfolding fieldsOf
 once-spelled at s r a h = record {

@@ -1,4 +1,4 @@
--- What an accepted line `s` of fields at the offset `at` says by its head: the record's text, how long it is, and where its key stands.
+-- What an accepted line `s` of fields at the offset `at` says through its head: the text of the record, its length, and where its key is.
 use Prim.Native.Nat.{ℕ, _+_}
 use mathlib.Core.Bool.{Bool, true}
 use mathlib.Core.List.{List, []}
@@ -13,7 +13,7 @@ use Rattle.accepted_line.specs.declared.KeyValues.{KeyValues}
 use Rattle.tidy_parts.specs.Parts.{versionText}
 use Rattle.tidy_line.specs.Texts.{InsideLine, placeText, headerText, sequenceText, mapText}
 
--- neither a refusal nor a comment is written part by part
+-- the text of the record; a refusal or a comment is never written part by part
 unfoldable pub headText : ℕ → List ℕ → Head → List ℕ
 unfolding headerText sequenceText mapText
 headText at s (Refused n) = []
@@ -32,7 +32,7 @@ headWritable at s (ReadGroup p n) = true
 headWritable at s (Program p n) = true
 headWritable at s (Comment p) = true
 
--- its key is bytes of the line
+-- its key lies within the line
 unfoldable pub KeyInLine : ℕ → List ℕ → Head → Type 0
 KeyInLine at s (Refused n) = ⊥
 KeyInLine at s (Header v n) = Unit
@@ -50,7 +50,7 @@ placeLength (ReadGroup p n) = p .len
 placeLength (Program p n) = p .len
 placeLength (Comment p) = 0
 
--- how long the text is, where the other fields have `others` bytes
+-- how long the text is if the other fields take `others` bytes
 unfoldable pub headLength : Head → ℕ → ℕ
 unfolding versionText written
 headLength (Refused n) others = 0
@@ -60,7 +60,7 @@ headLength (ReadGroup p n) others = 8 + p .len + others
 headLength (Program p n) others = 8 + p .len + others
 headLength (Comment p) others = 0
 
--- how long the fields of a kind's keys are in their line
+-- how long the key fields of a line of this kind are
 abbrev pub keysLength : Kind → KeyValues → ℕ
 keysLength kind.Header ks = 4 + ks .key .len
 keysLength kind.ReferenceSequence ks = 8 + ks .key .len + ks .number .len

@@ -1,4 +1,4 @@
--- What the tidy text has of one line: the record's text, and whether its name can be written.
+-- What the tidy text has for one line: the text of the record, and whether its name can be written.
 use Prim.Native.Nat.{ℕ}
 use mathlib.Core.Bool.{Bool, true, false, cond}
 use mathlib.Core.List.{List, []}

@@ -1,4 +1,4 @@
--- A line's bytes say that its keys come first and its LN has no leading zero.
+-- When the bytes of a line show that its keys come first and its LN has no leading zero.
 use Prim.Native.Nat.{ℕ, _+_, _-_}
 use mathlib.Core.Bool.{Bool, true, false, not, _&&_}
 use mathlib.Core.List.{List}
@@ -8,16 +8,16 @@ use Rattle.format.specs.declared.Kind.{Kind}
 use Rattle.format.specs.declared.Kind.the-variants.{Header, ReferenceSequence, ReadGroup, Program, Comment}
 use Rattle.byte_slices.specs.Upto.{upto}
 
--- three bytes and more from `i` on, the second and third of them the tag `a`, `b`
+-- there are three bytes or more from `i` on, and the second and third are the tag `a`, `b`
 unfoldable pub hasTag : List ℕ → ℕ → ℕ → ℕ → Bool
 hasTag s i a b = not (ltb (length s - i) 3) && (eqb (getD s (i + 1) 0) a && eqb (getD s (i + 2) 0) b)
 
--- LN from `i` on, and its value starts with no zero
+-- there is an LN from `i` on, and its value does not start with a zero
 unfoldable pub plainLength : List ℕ → ℕ → Bool
 unfolding hasTag
 plainLength s i = hasTag s i 76 78 && (not (ltb (length s - i) 5) && not (eqb (getD s (i + 4) 0) 48))
 
--- the keys come first: SN and LN, or ID; of an HD it is not asked, and a comment has none
+-- the keys come first: SN and LN, or ID; this is never asked for an HD, and a comment has no keys
 unfoldable pub neat : Kind → List ℕ → Bool
 unfolding hasTag plainLength upto
 neat Header s = false

@@ -1,4 +1,4 @@
--- A record's text by its head and its accepted line `s`, which stands at the offset `at`.
+-- The text of a record, from its head and its accepted line `s`, which is at the offset `at`.
 use Prim.Native.Nat.{ℕ, _+_, _-_, _≤_}
 use mathlib.Core.List.{List, [], _∷_, _++_}
 use lib.ListN.{length, take, drop}
@@ -11,7 +11,7 @@ use Rattle.record.specs.declared.Stretch.{Stretch}
 use Rattle.tidy_parts.specs.Parts.{prefixText, versionText}
 use Rattle.tidy_fields.specs.Others.{othersText}
 
--- `p` is bytes of the line
+-- `p` lies within the line
 pub record InsideLine (at : ℕ) (s : List ℕ) (p : Stretch) : Type 0 where
   pub from : at ≤ p .at
   pub within : p .at - at + p .len ≤ length s

@@ -1,11 +1,11 @@
-// Accepted lines that are tidy already: the record's text is the line and its LF.
+// Accepted lines that are tidy already: the text of the record is the line and an LF.
 use format::Kind;
 ghost use mathlib.Core.Path.{_≡_};
 ghost use Prim.Native.Nat.{_≤_, _<_, _+_};
 ghost use lib.ListN.{length};
 ghost use Rattle.tidy_line.specs.Neat.{hasTag, plainLength, neat};
 
-// Whether a tab stands at `i`, as is known, and the tag `a`, `b` behind it.
+// Whether the tag `a`, `b` comes after `i`, where a tab is known to be.
 fn has_tag(src: &[u8], i: usize, a: u8, b: u8) -> bool
     requires { ⌜ i ≤ length (now src) ⌝ }
     ensures { λ r. ⌜ r ≡ hasTag (now (src .entry)) i a b ⌝ }
@@ -19,7 +19,7 @@ fn has_tag(src: &[u8], i: usize, a: u8, b: u8) -> bool
     false
 }
 
-// Whether the field from the tab at `i` is LN with no leading zero.
+// Whether the field from the tab at `i` on is an LN with no leading zero.
 fn is_plain_length(src: &[u8], i: usize) -> bool
     requires { ⌜ i ≤ length (now src) ⌝ }
     ensures { λ r. ⌜ r ≡ plainLength (now (src .entry)) i ⌝ }
@@ -44,7 +44,7 @@ fn is_reference_sequence(src: &[u8]) -> bool
     is_plain_length(src, 4 + byte_slices::upto(&src[4..], b'\t'))
 }
 
-// Whether an accepted line of `kind`, in which no tag stands twice, has its keys first and no leading zeros; of an HD it is not asked.
+// Whether an accepted line of `kind` that repeats no tag has its keys first and no leading zeros. It is never asked for an HD.
 pub fn is_neat(kind: Kind, src: &[u8]) -> bool
     requires { ⌜ 3 ≤ length (now src) ⌝ }
     ensures { λ r. ⌜ r ≡ neat kind (now (src .entry)) ⌝ }

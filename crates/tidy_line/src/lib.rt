@@ -1,4 +1,4 @@
-// One record of the tidy text: written from its accepted line, or measured.
+// One record of the tidy text: writes it from its accepted line, or measures it.
 pub mod already;
 
 use accepted_line::Form;
@@ -25,23 +25,27 @@ ghost use Rattle.tidy_fields.specs.Others.{othersText};
 ghost use Rattle.tidy_line.specs.Heads.{placeLength, headLength, keysLength};
 ghost use Rattle.tidy_line.specs.Texts.{InsideLine, headerText, sequenceText, mapText};
 
-// How many bytes a record has, if it can be written.
+// How many bytes a record takes, if it can be written.
 pub enum Size {
     Unwritable,
     Is(usize),
 }
 
+// The keys of an SQ: where its name is in the text, and its length.
+struct SequenceKeys {
+    name: Stretch,
+    ln: u64,
+}
+
+// The key of an RG or a PG: which of both it is, and where its ID is in the text.
+struct MapKey {
+    kind: Kind,
+    id: Stretch,
+}
+
 // Writes an HD: its version, then the other fields of its line.
-fn put_header(
-    out: &mut [u8],
-    o: usize,
-    v: Version,
-    line: &[u8],
-    at: usize,
-    once: bool,
-    tables: &[u32],
-) -> usize
-    requires { ⌜ Walkable once at (now line) (now tables) ⌝ }
+fn put_header(out: &mut [u8], o: usize, v: Version, line: &[u8], at: usize, tables: &[u32]) -> usize
+    requires { ⌜ Walkable at (now line) (now tables) ⌝ }
     requires { ⌜ at + length (now line) ≤ 16777216 ⌝ }
     requires { ⌜ o + length (headerText v at (now line)) ≤ length (now out) ⌝ }
     ensures next { λ r. ⌜ r ≡ o + length (headerText v at (now (line .entry))) ⌝ }
@@ -50,88 +54,76 @@ fn put_header(
     let n = tidy_parts::put_prefix(out, o, Kind::Header);
     let n = tidy_parts::put_tag(out, n, b'V', b'N');
     let n = tidy_parts::put_version(out, n, v);
-    tidy_fields::put_rest(out, n, Kind::Header, line, at, once, tables)
+    tidy_fields::put_rest(out, n, Kind::Header, line, at, tables)
 }
 
-// Writes an SQ: the name that stands in its line, its length, then the other fields.
+// Writes an SQ: the name from its line, its length, then the other fields.
 fn put_reference_sequence(
     out: &mut [u8],
     o: usize,
-    name: Stretch,
-    ln: u64,
+    keys: SequenceKeys,
     line: &[u8],
     at: usize,
-    once: bool,
     tables: &[u32],
 ) -> usize
-    requires { ⌜ Walkable once at (now line) (now tables) ⌝ }
+    requires { ⌜ Walkable at (now line) (now tables) ⌝ }
     requires { ⌜ at + length (now line) ≤ 16777216 ⌝ }
-    requires { ⌜ InsideLine at (now line) name ⌝ }
-    requires { ⌜ o + length (sequenceText name ln at (now line)) ≤ length (now out) ⌝ }
-    ensures next { λ r. ⌜ r ≡ o + length (sequenceText name ln at (now (line .entry))) ⌝ }
-    ensures wrote { λ _. ⌜ now (out .exit) ≡ over (now (out .entry)) o (sequenceText name ln at (now (line .entry))) ⌝ }
+    requires { ⌜ InsideLine at (now line) (keys .name) ⌝ }
+    requires { ⌜ o + length (sequenceText (keys .name) (keys .ln) at (now line)) ≤ length (now out) ⌝ }
+    ensures next { λ r. ⌜ r ≡ o + length (sequenceText (keys .name) (keys .ln) at (now (line .entry))) ⌝ }
+    ensures wrote { λ _. ⌜ now (out .exit) ≡ over (now (out .entry)) o (sequenceText (keys .name) (keys .ln) at (now (line .entry))) ⌝ }
 {
-    let from = name.at - at;
-    let len = name.len;
+    let from = keys.name.at - at;
+    let len = keys.name.len;
     let n = tidy_parts::put_prefix(out, o, Kind::ReferenceSequence);
     let n = tidy_parts::put_field(out, n, b'S', b'N', line, from, len);
     let n = tidy_parts::put_tag(out, n, b'L', b'N');
-    let n = decimal::write_u64(out, n, ln);
-    tidy_fields::put_rest(out, n, Kind::ReferenceSequence, line, at, once, tables)
+    let n = decimal::write_u64(out, n, keys.ln);
+    tidy_fields::put_rest(out, n, Kind::ReferenceSequence, line, at, tables)
 }
 
-// Writes an RG or a PG: the ID that stands in its line, then the other fields.
-fn put_map(
-    out: &mut [u8],
-    o: usize,
-    kind: Kind,
-    id: Stretch,
-    line: &[u8],
-    at: usize,
-    once: bool,
-    tables: &[u32],
-) -> usize
-    requires { ⌜ Walkable once at (now line) (now tables) ⌝ }
+// Writes an RG or a PG: the ID from its line, then the other fields.
+fn put_map(out: &mut [u8], o: usize, key: MapKey, line: &[u8], at: usize, tables: &[u32]) -> usize
+    requires { ⌜ Walkable at (now line) (now tables) ⌝ }
     requires { ⌜ at + length (now line) ≤ 16777216 ⌝ }
-    requires { ⌜ InsideLine at (now line) id ⌝ }
-    requires { ⌜ o + length (mapText kind id at (now line)) ≤ length (now out) ⌝ }
-    ensures next { λ r. ⌜ r ≡ o + length (mapText kind id at (now (line .entry))) ⌝ }
-    ensures wrote { λ _. ⌜ now (out .exit) ≡ over (now (out .entry)) o (mapText kind id at (now (line .entry))) ⌝ }
+    requires { ⌜ InsideLine at (now line) (key .id) ⌝ }
+    requires { ⌜ o + length (mapText (key .kind) (key .id) at (now line)) ≤ length (now out) ⌝ }
+    ensures next { λ r. ⌜ r ≡ o + length (mapText (key .kind) (key .id) at (now (line .entry))) ⌝ }
+    ensures wrote { λ _. ⌜ now (out .exit) ≡ over (now (out .entry)) o (mapText (key .kind) (key .id) at (now (line .entry))) ⌝ }
 {
-    let from = id.at - at;
-    let len = id.len;
+    let kind = key.kind;
+    let from = key.id.at - at;
+    let len = key.id.len;
     let n = tidy_parts::put_prefix(out, o, kind);
     let n = tidy_parts::put_field(out, n, b'I', b'D', line, from, len);
-    tidy_fields::put_rest(out, n, kind, line, at, once, tables)
+    tidy_fields::put_rest(out, n, kind, line, at, tables)
 }
 
 // Writes the record of an accepted line of fields part by part.
-fn put_parts(
-    out: &mut [u8],
-    o: usize,
-    kind: Kind,
-    src: &[u8],
-    at: usize,
-    once: bool,
-    tables: &[u32],
-) -> usize
+fn put_parts(out: &mut [u8], o: usize, kind: Kind, src: &[u8], at: usize, tables: &[u32]) -> usize
     requires { ⌜ LineOf kind at (now src) ⌝ }
     requires { ⌜ isComment kind ≡ false ⌝ }
-    requires { ⌜ Walkable once at (now src) (now tables) ⌝ }
+    requires { ⌜ Walkable at (now src) (now tables) ⌝ }
     requires { ⌜ o + length (lineText (line false (record { at = at; bytes = now src }))) ≤ length (now out) ⌝ }
     ensures next { λ r. ⌜ r ≡ o + length (lineText (line false (record { at = at; bytes = now (src .entry) }))) ⌝ }
     ensures wrote { λ _. ⌜ now (out .exit) ≡ over (now (out .entry)) o (lineText (line false (record { at = at; bytes = now (src .entry) }))) ⌝ }
 {
-    let keys = accepted_line::find_keys(kind, src, at, once, tables);
+    let keys = accepted_line::find_keys(kind, src, at, tables);
     let head = accepted_line::head_of(kind, src, at, keys);
     match head {
         Head::Refused(_) => o,
-        Head::Header(v, _) => put_header(out, o, v, src, at, once, tables),
-        Head::ReferenceSequence(p, n, _) => {
-            put_reference_sequence(out, o, p, n, src, at, once, tables)
+        Head::Header(v, _) => put_header(out, o, v, src, at, tables),
+        Head::ReferenceSequence(name, ln, _) => {
+            put_reference_sequence(out, o, SequenceKeys { name, ln }, src, at, tables)
         }
-        Head::ReadGroup(p, _) => put_map(out, o, Kind::ReadGroup, p, src, at, once, tables),
-        Head::Program(p, _) => put_map(out, o, Kind::Program, p, src, at, once, tables),
+        Head::ReadGroup(id, _) => {
+            let kind = Kind::ReadGroup;
+            put_map(out, o, MapKey { kind, id }, src, at, tables)
+        }
+        Head::Program(id, _) => {
+            let kind = Kind::Program;
+            put_map(out, o, MapKey { kind, id }, src, at, tables)
+        }
         Head::Comment(_) => o,
     }
 }
@@ -148,7 +140,7 @@ fn put_whole(out: &mut [u8], o: usize, line: &[u8]) -> usize
     n + 1
 }
 
-// Writes the record of a line in which no tag stands twice: the line itself, where that is tidy.
+// Writes the record of a line that repeats no tag: the line as it is, if that is tidy.
 fn put_once(out: &mut [u8], o: usize, kind: Kind, src: &[u8], at: usize) -> usize
     requires { ⌜ LineOf kind at (now src) ⌝ }
     requires { ⌜ isComment kind ≡ false ⌝ }
@@ -160,10 +152,10 @@ fn put_once(out: &mut [u8], o: usize, kind: Kind, src: &[u8], at: usize) -> usiz
     if already::is_neat(kind, src) {
         return put_whole(out, o, src);
     }
-    put_parts(out, o, kind, src, at, true, &[])
+    put_parts(out, o, kind, src, at, &[])
 }
 
-// Writes the record of an accepted line, which stands at the offset `at` without its ending, and answers the place after it.
+// Writes the record of an accepted line, which starts at the offset `at` and is given without its ending. Returns the place after the record.
 pub fn put_record(out: &mut [u8], o: usize, src: &[u8], at: usize, strict: bool) -> usize
     requires { ⌜ isRead (line strict (record { at = at; bytes = now src })) ≡ true ⌝ }
     requires { ⌜ at + length (now src) ≤ 16777216 ⌝ }
@@ -177,12 +169,12 @@ pub fn put_record(out: &mut [u8], o: usize, src: &[u8], at: usize, strict: bool)
         Form::Repeating(kind) => {
             let mut tables = [0u32; 6448];
             accepted_line::fields::note_tags(src, at, &mut tables);
-            put_parts(out, o, kind, src, at, false, &tables)
+            put_parts(out, o, kind, src, at, &tables)
         }
     }
 }
 
-// How many bytes the fields of a kind's keys have in their line: four before each value.
+// How many bytes the key fields of a line of this kind take: four before each value.
 fn keys_len(kind: Kind, keys: KeyValues) -> usize
     requires { ⌜ keysLength kind keys ≤ 16777216 ⌝ }
     ensures { λ r. ⌜ r ≡ keysLength kind keys ⌝ }
@@ -198,7 +190,7 @@ fn keys_len(kind: Kind, keys: KeyValues) -> usize
     }
 }
 
-// How many bytes the record with this head has, whose other fields have `others`: a prefix of three, four before each value, and the LF.
+// How many bytes the record with this head takes if its other fields take `others`: a prefix of three, four before each value, and the LF.
 fn head_len(head: Head, others: usize) -> usize
     requires { ⌜ (others ≤ 16777216) × (placeLength head ≤ 16777216) ⌝ }
     ensures { λ r. ⌜ r ≡ headLength head others ⌝ }
@@ -223,15 +215,15 @@ fn head_len(head: Head, others: usize) -> usize
 }
 
 // Whether the record of an accepted line of fields can be written: an SQ only if its name follows the specification's rule.
-fn is_writable(kind: Kind, src: &[u8], at: usize, once: bool, tables: &[u32]) -> bool
+fn is_writable(kind: Kind, src: &[u8], at: usize, tables: &[u32]) -> bool
     requires { ⌜ LineOf kind at (now src) ⌝ }
     requires { ⌜ isComment kind ≡ false ⌝ }
-    requires { ⌜ Walkable once at (now src) (now tables) ⌝ }
+    requires { ⌜ Walkable at (now src) (now tables) ⌝ }
     ensures { λ r. ⌜ r ≡ lineWritable (line false (record { at = at; bytes = now (src .entry) })) ⌝ }
 {
     match kind {
         Kind::ReferenceSequence => {
-            let name = accepted_line::fields::find_value(src, at, b'S', b'N', once, tables);
+            let name = accepted_line::fields::find_value(src, at, b'S', b'N', tables);
             let from = name.at - at;
             let len = name.len;
             tidy_name::is_name(&src[from..from + len])
@@ -240,7 +232,7 @@ fn is_writable(kind: Kind, src: &[u8], at: usize, once: bool, tables: &[u32]) ->
     }
 }
 
-// How many bytes the record of an accepted line of fields has, whose other fields have `others`.
+// How many bytes the record of an accepted line of fields takes if its other fields take `others`.
 fn parts_len(kind: Kind, src: &[u8], at: usize, keys: KeyValues, others: usize) -> usize
     requires { ⌜ LineOf kind at (now src) ⌝ }
     requires { ⌜ isComment kind ≡ false ⌝ }
@@ -251,25 +243,25 @@ fn parts_len(kind: Kind, src: &[u8], at: usize, keys: KeyValues, others: usize) 
     head_len(accepted_line::head_of(kind, src, at, keys), others)
 }
 
-// How many bytes the record of a line in which no tag stands twice has: none of its fields but the keys is looked at.
+// How many bytes the record of a line that repeats no tag takes. Only the key fields are looked at.
 fn once_size(kind: Kind, src: &[u8], at: usize) -> Size
     requires { ⌜ LineOf kind at (now src) ⌝ }
     requires { ⌜ isComment kind ≡ false ⌝ }
     requires { ⌜ AtField true at (now src) 3 ⌝ }
     ensures { λ r. ⌜ r ≡ lineSize (line false (record { at = at; bytes = now (src .entry) })) ⌝ }
 {
-    if !is_writable(kind, src, at, true, &[]) {
+    if !is_writable(kind, src, at, &[]) {
         return Size::Unwritable;
     }
     if already::is_neat(kind, src) {
         return Size::Is(src.len() + 1);
     }
-    let keys = accepted_line::find_keys(kind, src, at, true, &[]);
+    let keys = accepted_line::find_keys(kind, src, at, &[]);
     let others = src.len() - 3 - keys_len(kind, keys);
     Size::Is(parts_len(kind, src, at, keys, others))
 }
 
-// How many bytes the record of a line in which a tag may stand twice has: its tables are made first.
+// How many bytes the record of a line that may repeat a tag takes. Its tables are made first.
 fn noted_size(kind: Kind, src: &[u8], at: usize) -> Size
     requires { ⌜ LineOf kind at (now src) ⌝ }
     requires { ⌜ isComment kind ≡ false ⌝ }
@@ -277,16 +269,16 @@ fn noted_size(kind: Kind, src: &[u8], at: usize) -> Size
 {
     let mut tables = [0u32; 6448];
     accepted_line::fields::note_tags(src, at, &mut tables);
-    if !is_writable(kind, src, at, false, &tables) {
+    if !is_writable(kind, src, at, &tables) {
         return Size::Unwritable;
     }
-    let keys = accepted_line::find_keys(kind, src, at, false, &tables);
+    let keys = accepted_line::find_keys(kind, src, at, &tables);
     let others = tidy_fields::other_fields_len(kind, src, at, &tables);
     Size::Is(parts_len(kind, src, at, keys, others))
 }
 
-// How many bytes the record of an accepted line has, or that it can't be written, in one look.
-pub fn record_size(src: &[u8], at: usize, strict: bool) -> Size
+// How many bytes the record of an accepted line takes, or that it can't be written.
+pub fn line_size(src: &[u8], at: usize, strict: bool) -> Size
     requires { ⌜ isRead (line strict (record { at = at; bytes = now src })) ≡ true ⌝ }
     requires { ⌜ at + length (now src) ≤ 16777216 ⌝ }
     ensures { λ r. ⌜ r ≡ lineSize (line strict (record { at = at; bytes = now (src .entry) })) ⌝ }

@@ -1,14 +1,14 @@
-// Reference names that can be written: the reader takes any value as a name, the writer only those that follow the specification's rule.
+// Reference names that can be written. The reader takes any value as a name; the writer takes only those that follow the specification's rule.
 ghost use mathlib.Core.Path.{_≡_};
 ghost use Rattle.format.specs.Tidy.{nameFirst, nameLater, isName};
 ghost use Rattle.tidy_name.specs.Classes.{classOf};
 
-// The class of a byte that no name has, and of one that may stand anywhere; between them that of a byte that may only follow.
+// The classes of bytes: 0 for a byte that no name has, 2 for one that may be anywhere in a name, and 1 for one that may be anywhere but at the start.
 const NEVER: u8 = 0;
 
 const ANYWHERE: u8 = 2;
 
-// The class of each byte, from 0 on; beside it the byte that a name may have.
+// The class of each byte, from 0 on. A comment shows each byte that a name may have.
 const CLASSES: [u8; 256] = [
     0,
     0,
@@ -268,28 +268,28 @@ const CLASSES: [u8; 256] = [
     0,
 ];
 
-// The class of a byte, by the table.
+// The class of a byte, from the table.
 fn class_of(b: u8) -> u8
     ensures { λ r. ⌜ r ≡ classOf b ⌝ }
 {
     CLASSES[b as usize]
 }
 
-// Whether a name may start with `b`: a digit, a letter or one of the marks.
-pub fn is_first(b: u8) -> bool
+// Whether a name may start with `b`: a digit, a letter or one of certain other characters.
+pub fn is_first_byte(b: u8) -> bool
     ensures { λ r. ⌜ r ≡ nameFirst b ⌝ }
 {
     class_of(b) == ANYWHERE
 }
 
-// Whether `b` may follow in a name: also `*` and `=`.
-pub fn is_later(b: u8) -> bool
+// Whether `b` may come later in a name: these, and `*` and `=`.
+pub fn is_later_byte(b: u8) -> bool
     ensures { λ r. ⌜ r ≡ nameLater b ⌝ }
 {
     class_of(b) != NEVER
 }
 
-// Whether `s` can be written as a reference name. The table is laid down once for all of its bytes.
+// Whether `s` can be written as a reference name. The table is put on the stack once for all bytes.
 pub fn is_name(s: &[u8]) -> bool
     ensures { λ r. ⌜ r ≡ isName (now (s .entry)) ⌝ }
 {

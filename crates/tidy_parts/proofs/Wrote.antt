@@ -1,4 +1,4 @@
--- Writes one behind the other are one.
+-- Writes one after another are one.
 use Prim.Native.Nat.{ℕ, _+_, _≤_, _<_}
 use mathlib.Core.Path.{_≡_, sym, ap, _∙_}
 use mathlib.Core.List.{List, [], _∷_, _++_}
@@ -9,7 +9,7 @@ use lib.Seq.{sets-eq}
 use Rattle.byte_slices.specs.Over.{over}
 use Rattle.byte_slices.proofs.Over.{over-over}
 
--- what a writer leaves of `out`, and the place that it answers: `xs` stands from `at` on
+-- what a writer leaves of `out`, and the place that it answers: `xs` is from `at` on
 abbrev pub Wrote : List ℕ → ℕ → List ℕ → ℕ → List ℕ → Type 0
 Wrote out at last next xs = (next ≡ at + length xs) × (last ≡ over out at xs)
 
@@ -19,7 +19,7 @@ wrote-then out at mid n last m xs ys (e, w) (f, v) h =
     let l : length (xs ++ ys) ≡ length xs + length ys = length-append xs ys in
     (omega arith, v ∙ ap (λ k. over mid k ys) e ∙ ap (λ l. over l (at + length xs) ys) w ∙ over-over out at xs ys (omega arith))
 
--- what is still to come, written behind it
+-- what is still to come, written after it
 pub wrote-onward : (out last : List ℕ) (n m : ℕ) (all xs ys : List ℕ) → all ≡ xs ++ ys → Wrote out n last m xs → n + length xs + length ys ≤ length out → over last m ys ≡ over out n all
 wrote-onward out last n m all xs ys e w h =
     ap (λ k. over last k ys) (w .0) ∙ ap (λ l. over l (n + length xs) ys) (w .1) ∙ over-over out n xs ys h ∙ ap (over out n) (sym e)

@@ -1,4 +1,4 @@
--- The parts of a record's line that do not stand in its text as they are.
+-- The parts of a record's line that the text does not have as they are.
 use mathlib.Core.List.{List, [], _∷_, _++_}
 use Prim.Native.Nat.{ℕ}
 use Rattle.format.specs.Decimal.{written}

@@ -23,7 +23,7 @@ pub fn kind_first(kind: Kind) -> u8
     }
 }
 
-// The second.
+// The second byte of a kind.
 pub fn kind_second(kind: Kind) -> u8
     ensures { λ r. ⌜ r ≡ kind₁ kind ⌝ }
 {
@@ -48,7 +48,7 @@ pub fn put_prefix(out: &mut [u8], o: usize, kind: Kind) -> usize
     o + 3
 }
 
-// Writes what stands before a value: a tab, a tag, a colon.
+// Writes what comes before a value: a tab, a tag, a colon.
 pub fn put_tag(out: &mut [u8], o: usize, a: u8, b: u8) -> usize
     requires { ⌜ o + 4 ≤ length (now out) ⌝ }
     ensures next { λ r. ⌜ r ≡ o + 4 ⌝ }
@@ -81,7 +81,7 @@ pub fn put_field(
     n + len
 }
 
-// Writes the two numbers of a version, and the dot between.
+// Writes the two numbers of a version with a dot between them.
 pub fn put_version(out: &mut [u8], o: usize, v: Version) -> usize
     requires { ⌜ o + length (versionText v) ≤ length (now out) ⌝ }
     ensures next { λ r. ⌜ r ≡ o + length (versionText v) ⌝ }
@@ -94,7 +94,7 @@ pub fn put_version(out: &mut [u8], o: usize, v: Version) -> usize
     decimal::write_u32(out, n + 1, minor)
 }
 
-// How many bytes the two numbers of a version have, with the dot between.
+// How many bytes the two numbers of a version take with the dot between them.
 pub fn version_len(v: Version) -> usize
     ensures { λ r. ⌜ r ≡ length (versionText v) ⌝ }
 {

@@ -1,6 +1,6 @@
 // Reads a header from standard input and writes its tidy text, or `refused N line L` and LF.
 //
-// The buffer holds one byte more than is taken, so that an input that is too long shows as one.
+// The buffer holds one byte more than the longest input that is taken, so that a longer input is noticed.
 use libc::STDIN_FILENO;
 use libc::STDOUT_FILENO;
 

@@ -1,5 +1,4 @@
-// Runs files as the program `tidy` runs its standard input: a line with the file's name, then what
-// `answer` gives for its bytes.
+// Runs files as the program `tidy` runs its standard input: writes a line with the name of the file, and then what `answer` gives for its bytes.
 //
 // The arguments name the files. `example` is document 01's own text, `crlf`, `no_last_lf` and `empty`
 // are its variants, and `repeats` and `longest_ln` are corners of it. `refused_2` to `refused_27` have

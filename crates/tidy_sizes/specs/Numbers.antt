@@ -1,4 +1,4 @@
--- A kind by its number, and a number for each kind: how many bytes its records have, or where they start.
+-- A number for each kind, and one number per kind: how many bytes its records take, or where they start.
 use Prim.Native.Nat.{ℕ, _+_}
 use mathlib.Core.Bool.{cond}
 use lib.Dec.{eqb}
@@ -6,7 +6,7 @@ use Rattle.format.specs.declared.Kind.{Kind}
 use Rattle.format.specs.declared.Kind.the-variants.{Header, ReferenceSequence, ReadGroup, Program, Comment}
 use Rattle.tidy_sizes.specs.declared.PerKind.{PerKind}
 
--- as `code` numbers the records
+-- the number that `code` gives the records of the kind
 unfoldable pub kindNumber : Kind → ℕ
 kindNumber Header = 1
 kindNumber ReferenceSequence = 2
@@ -14,7 +14,7 @@ kindNumber ReadGroup = 3
 kindNumber Program = 4
 kindNumber Comment = 5
 
--- the same function of every kind
+-- the values of a function on the kinds
 abbrev pub each : (Kind → ℕ) → PerKind
 each f = record { hd = f Header; sq = f ReferenceSequence; rg = f ReadGroup; pg = f Program; co = f Comment }
 
@@ -28,7 +28,7 @@ get Comment s = s .co
 unfoldable pub noBytes : PerKind
 noBytes = each (λ k. 0)
 
--- `n` more for the kind `j`
+-- with `n` added for the kind `j`
 unfoldable pub plus : Kind → ℕ → PerKind → PerKind
 unfolding get kindNumber
 plus j n s = each (λ k. cond (eqb (kindNumber j) (kindNumber k)) (get k s + n) (get k s))
@@ -40,7 +40,7 @@ unfoldable pub total : PerKind → ℕ
 unfolding front
 total s = front s + s .co
 
--- one kind behind the other, and `gap` bytes before the comments
+-- each kind starts after the one before it, with `gap` bytes before the comments
 unfoldable pub kindStarts : ℕ → PerKind → PerKind
 unfolding front
 kindStarts gap s = record { hd = 0; sq = s .hd; rg = s .hd + s .sq; pg = s .hd + s .sq + s .rg; co = front s + gap }

@@ -1,10 +1,10 @@
-// A number for each kind of record.
+// One number per kind of record.
 use format::Kind;
 ghost use mathlib.Core.Path.{_≡_};
 ghost use Prim.Native.Nat.{_≤_, _+_};
 ghost use Rattle.tidy_sizes.specs.Numbers.{noBytes, get, plus, front, total, kindStarts};
 
-// A number for each kind of record: how many bytes its records have, or where its next one goes.
+// One number per kind of record: how many bytes the records of the kind take, or where the next one goes.
 pub struct PerKind {
     pub hd: usize,
     pub sq: usize,
@@ -39,7 +39,7 @@ impl PerKind {
         }
     }
 
-    // With `n` more for a kind.
+    // The same numbers with `n` added for a kind.
     pub fn plus(self, kind: Kind, n: usize) -> PerKind
         requires { ⌜ get kind self + n ≤ 18446744073709551615 ⌝ }
         ensures { λ r. ⌜ r ≡ plus kind n self ⌝ }
@@ -65,7 +65,7 @@ impl PerKind {
         next
     }
 
-    // Of all kinds but the comments.
+    // The sum for all kinds but the comments.
     pub fn front(self) -> usize
         requires { ⌜ front self ≤ 18446744073709551615 ⌝ }
         ensures { λ r. ⌜ r ≡ front self ⌝ }
@@ -73,7 +73,7 @@ impl PerKind {
         self.hd + self.sq + self.rg + self.pg
     }
 
-    // Of all kinds.
+    // The sum for all kinds.
     pub fn total(self) -> usize
         requires { ⌜ total self ≤ 18446744073709551615 ⌝ }
         ensures { λ r. ⌜ r ≡ total self ⌝ }

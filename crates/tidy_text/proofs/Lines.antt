@@ -1,4 +1,4 @@
--- An accepted text, line by line: each line is read, and a turn takes the first line of what is left.
+-- An accepted text, line by line: each line is read, and a step takes the first line of what is left.
 use Prim.Native.Nat.{ℕ, _+_, _-_, _≤_, _<_}
 use mathlib.Core.Path.{_≡_, refl, sym, ap, _∙_}
 use mathlib.Core.Bool.{Bool, true}
@@ -6,14 +6,15 @@ use mathlib.Core.List.{List, [], _∷_}
 use lib.ListN.{length, take, drop}
 use Rattle.format.specs.Lines.{Piece, lines}
 use Rattle.format.specs.Records.{Record, read, line}
-use Rattle.format.specs.Reading.{Reading, refusedText, accept, announced, isStrict, readText}
+use Rattle.format.specs.Reading.{Reading, refusedText, accept, readText}
 use Rattle.byte_slices.specs.First.{firstLine}
 use Rattle.byte_slices.specs.declared.Cut.{Cut}
-use Rattle.accepted.specs.Admits.{strictly}
-use Rattle.accepted.specs.Pieces.{Pairs}
+use Rattle.lists.specs.Pairs.{Pairs}
 use Rattle.accepted.specs.Read.{isAccepted, isRead, recordsOf}
-use Rattle.accepted.proofs.Bools.{never, and-left, and-right}
-use Rattle.accepted.proofs.Text.{text-fits, text-lines}
+use Rattle.lists.proofs.Bools.{never, and-left, and-right}
+use Rattle.accepted.proofs.Text.{text-fits}
+use Rattle.accepted_rule.specs.Rule.{ReadsBy}
+use Rattle.accepted_rule.proofs.Rule.{lines-by}
 use Rattle.accepted.proofs.Read.{accepted-reads}
 use Rattle.accepted.proofs.Ahead.{lent, ahead, ahead-turn, ahead-none}
 use Rattle.tidy_text.specs.Accepted.{withRecord, lineRecords, allRead, recordsFrom}
@@ -29,21 +30,21 @@ pairs-records strict (p ∷ ps) (r ∷ rs) h =
     let i = pairs-records strict ps rs (h .1) in
     (rw (h .0) (ap (λ l. r ∷ l) (i .0)), rw (h .0) (i .1))
 
--- before the first turn
+-- before the first step
 pub record Opened (strict : Bool) (t : List ℕ) : Type 0 where
   pub fits : length t ≤ 16777216
   pub reads : readText t ≡ accept (recordsOf t)
   pub records : recordsFrom strict t 0 ≡ recordsOf t
   pub lines : allRead strict (ahead t 0) ≡ true
 
-pub opened : (strict : Bool) (t : List ℕ) → isAccepted (readText t) ≡ true → strict ≡ isStrict (announced (lines t)) → Opened strict t
-unfolding lines strictly
+pub opened : (strict : Bool) (t : List ℕ) → isAccepted (readText t) ≡ true → ReadsBy strict t → Opened strict t
+unfolding lines
 opened strict t h s =
     let e = accepted-reads t h in
-    let p = pairs-records (strictly t) (lines t) (recordsOf t) (text-lines t (recordsOf t) e) in
-    rw s (record { fits = text-fits t (recordsOf t) e; reads = e; records = p .0; lines = p .1 })
+    let p = pairs-records strict (lines t) (recordsOf t) (lines-by strict t (recordsOf t) e s) in
+    record { fits = text-fits t (recordsOf t) e; reads = e; records = p .0; lines = p .1 }
 
--- ---- one turn
+-- ---- one step
 
 -- the first line of what is left, at `at`, was cut to `c`
 pub record Turn (strict : Bool) (t : List ℕ) (at : ℕ) (c : Cut) : Type 0 where

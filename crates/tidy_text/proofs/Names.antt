@@ -1,4 +1,4 @@
--- The first SQ whose name can't be written, a line further.
+-- The first SQ whose name can't be written, one line further.
 use Prim.Native.Nat.{ℕ, _+_, _≤_}
 use mathlib.Core.Path.{_≡_, refl, ap, _∙_}
 use mathlib.Core.Bool.{Bool, true, false, cond}
@@ -7,7 +7,7 @@ use mathlib.Core.Option.{none, some}
 use lib.ListN.{length}
 use Rattle.format.specs.Records.{Record, Line, refusedLine, read, line}
 use Rattle.format.specs.Tidy.{unwritable}
-use Rattle.accepted.proofs.Bools.{never}
+use Rattle.lists.proofs.Bools.{never}
 use Rattle.accepted.proofs.Ahead.{lent}
 use Rattle.tidy_line.specs.Line.{lineText, lineWritable, lineSize}
 use Rattle.tidy_line.specs.declared.Size.the-variants.{Unwritable, Is}

@@ -1,4 +1,4 @@
--- The second byte of an accepted line tells its record's kind, and so to which kind's text the line goes.
+-- The second byte of an accepted line determines its record's kind, and so to which kind's text the line goes.
 use Prim.Native.Nat.{ℕ, _≤_}
 use mathlib.Core.Path.{_≡_, refl, sym, ap, _∙_}
 use mathlib.Core.Bool.{Bool, true, false, cond}
@@ -14,7 +14,7 @@ use Rattle.format.specs.declared.Kind.the-variants.{Header, ReferenceSequence, 
 use Rattle.accepted.specs.Sound.{kind}
 use Rattle.accepted.specs.Spelled as sp
 use Rattle.accepted.specs.Spelled.{AcceptedLine, kind₀, kind₁}
-use Rattle.accepted.proofs.Bools.{never}
+use Rattle.lists.proofs.Bools.{never}
 use Rattle.accepted.proofs.Sound.{made-kind}
 use Rattle.accepted.proofs.Spelled.{line-accepted}
 use Rattle.accepted.specs.Read.{isRead}
@@ -65,7 +65,7 @@ module _ (strict : Bool) (at : ℕ) (s : List ℕ) (h : isRead (line strict (rec
   front-number : (r : Record) → Front s r → kindNumber (kindBy (getD s 1 0)) ≡ code r
   front-number r f = ap (λ l. kindNumber (kindBy (getD l 1 0))) (f .spells) ∙ ap kindNumber (first-byte (kind r)) ∙ kind-number r
 
-  -- the line's text goes to the kind that its second byte tells
+  -- the line's text goes to the kind that its second byte gives
   pub line-kind : (k : Kind) → kindText k (line strict (record { at = at; bytes = s })) ≡ only (kindBy (getD s 1 0)) (lineText (line strict (record { at = at; bytes = s }))) k
   unfolding kindText lineText
   line-kind k = by-record (λ l. kindText k l ≡ only (kindBy (getD s 1 0)) (lineText l) k) (λ r f. ap (λ n. cond (eqb n (kindNumber k)) (recordText r) []) (sym (front-number r f)))

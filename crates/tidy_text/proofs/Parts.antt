@@ -23,7 +23,7 @@ use Rattle.tidy_text.proofs.Sizes.{size-none, front-size}
 use Rattle.tidy_text.proofs.Total.{front-sizes, tidy-sizes, tidy-kinds}
 use Rattle.tidy_text.proofs.Placed.{over-apart, Split, split}
 
--- ---- a turn
+-- ---- a step
 
 -- a text for each kind at the kind's place
 abbrev spread : PerKind → (Kind → List ℕ) → List Part
@@ -37,7 +37,7 @@ part k c rs = record { at = get k c; bytes = textOfKind k rs }
 spread-same : (c : PerKind) (f g : Kind → List ℕ) → ((k : Kind) → f k ≡ g k) → spread c f ≡ spread c g
 spread-same c f g h = rw (h Header, h ReferenceSequence, h ReadGroup, h Program, h Comment) refl
 
--- `xs` of the kind `j` comes first: it is written, and what is left stands behind it
+-- `xs` of the kind `j` comes first: it is written, and what is left comes after it
 split-kind : (j : Kind) (out xs : List ℕ) (n : ℕ) (c : PerKind) (rs : List Record) → n ≤ length out
     → Apart (spread c (λ k. only j xs k ++ textOfKind k rs)) n
     → Split out n (get j c) xs (spread c (λ k. only j xs k ++ textOfKind k rs)) (parts (plus j (length xs) c) rs)
@@ -105,7 +105,7 @@ around-none out rs h =
     ∙ over-over out 0 a b (omega (arith, h, ap length (tidy-kinds rs), length-append a b))
     ∙ ap (over out 0) (sym (tidy-kinds rs))
 
--- with a gap that is filled, what fills it stands before the comments
+-- with a gap that is filled, what fills it comes before the comments
 pub around-filled : (out new : List ℕ) (rs : List Record) → length (tidy rs) + length new ≤ length out
     → over (over (over out 0 (frontText rs)) (length (frontText rs) + length new) (textOfKind Comment rs)) (length (frontText rs)) new
     ≡ over out 0 (frontText rs ++ new ++ textOfKind Comment rs)

@@ -25,7 +25,7 @@ sets-sets out a [] b ys h = refl
 sets-sets out a (x ∷ xs) b ys h =
     sets-sets (set out a x) (suc a) xs b ys (omega arith) ∙ ap (λ l. sets l (suc a) xs) (set-sets out a x b ys (omega arith))
 
--- the one that stands before the other may come first or last
+-- the one that comes before the other may come first or last
 pub over-apart : (out : List ℕ) (a : ℕ) (xs : List ℕ) (b : ℕ) (ys : List ℕ) → a + length xs ≤ b → b + length ys ≤ length out
     → over (over out a xs) b ys ≡ over (over out b ys) a xs
 over-apart out a xs b ys h k =

@@ -1,4 +1,4 @@
--- A line further, by whether its record stays; and the text of the records that stay.
+-- One line further, by whether its record stays; and the text of the records that stay.
 use Prim.Native.Nat.{ℕ, zero, suc, _+_, _≤_, _<_}
 use mathlib.Core.Path.{_≡_, refl, sym, ap, ap₂, subst, _∙_}
 use mathlib.Core.Bool.{Bool, true, false, cond, false≢true}
@@ -13,7 +13,7 @@ use Rattle.format.specs.declared.Kind.{Kind}
 use Rattle.format.specs.declared.Kind.the-variants.{Program}
 use Rattle.byte_slices.specs.Over.{over}
 use Rattle.accepted.specs.Read.{isRead}
-use Rattle.accepted.proofs.Bools.{never, split}
+use Rattle.lists.proofs.Bools.{never, split}
 use Rattle.accepted_line.specs.Found.{kindBy}
 use Rattle.tidy_line.specs.Line.{lineText, lineWritable}
 use Rattle.tidy_sizes.specs.Numbers.{kindNumber, get, plus}
@@ -61,7 +61,7 @@ same-choice true false xs h e = absurd (omega (arith, h, ap (λ l. getD l 0 0) e
 same-choice false true xs h e = absurd (omega (arith, h, ap (λ l. getD l 0 0) e))
 same-choice false false xs h e = refl
 
--- its second byte tells it
+-- its second byte determines it
 pub line-pg : (strict : Bool) (at : ℕ) (s : List ℕ) → isRead (line strict (record { at = at; bytes = s })) ≡ true → is-pg (line strict (record { at = at; bytes = s })) ≡ isProgramLine s
 unfolding is-pg kindText lineText kindNumber isRead
 line-pg strict at s h = go (line strict (record { at = at; bytes = s })) h (line-kind strict at s h Program) ∙ kind-pg (getD s 1 0)
@@ -79,7 +79,7 @@ mark-at [] k h = absurd (omega arith)
 mark-at (m ∷ marks) zero h = refl
 mark-at (m ∷ marks) (suc k) h = mark-at marks k (omega arith)
 
--- ---- a line further
+-- ---- one line further
 
 -- what does not stay can be written
 stays-or-writes : (marks : List Bool) (k : ℕ) (l : Line) → isRead l ≡ true → (s : Stay) → s ≡ stayBy (is-pg l) marks k → s .stays ≡ false → lineWritable l ≡ true

@@ -1,4 +1,4 @@
--- The sizes of the kinds, a line further.
+-- The sizes of the kinds, one line further.
 use Prim.Native.Nat.{ℕ, _+_, _≤_}
 use mathlib.Core.Path.{_≡_, refl, sym, ap, _∙_}
 use mathlib.Core.Bool.{Bool, true, false, cond}

@@ -66,7 +66,7 @@ pub tidy-total : (rs : List Record) → length (tidy rs) ≡ length (text rs)
 unfolding tidy
 tidy-total rs = order-length rs
 
--- ---- a turn
+-- ---- a step
 
 abbrev lineAt : Bool → List ℕ → ℕ → Cut → Line
 lineAt strict t at c = line strict (record { at = at; bytes = lent t at (c .len) })
@@ -83,7 +83,7 @@ pub text-ended : (strict : Bool) (t : List ℕ) (at : ℕ) → length t ≤ at �
 unfolding text
 text-ended strict t at h = ap (λ rs. length (text rs)) (ended strict t at h)
 
--- the whole, a byte longer than the text at most
+-- the whole, one byte longer than the text at most
 pub tidy-small : (strict : Bool) (t : List ℕ) → Opened strict t
     → (length (text (recordsFrom strict t 0)) ≡ length (tidy (recordsOf t))) × (length (tidy (recordsOf t)) ≤ 16777217)
 tidy-small strict t o = (

@@ -1,4 +1,4 @@
--- The records of an accepted text, from its reading and line by line, and which of its names can't be written.
+-- The records of an accepted text, from reading it and line by line, and the names that can't be written.
 use Prim.Native.Nat.{ℕ}
 use mathlib.Core.Path.{_≡_}
 use mathlib.Core.Bool.{Bool, true, false, _&&_}
@@ -18,18 +18,18 @@ unfoldable pub measuredOf : Option ℕ → PerKind → Measured
 measuredOf none n = measured.Is n
 measuredOf (some l) n = measured.Unwritable (record { 0 = l })
 
--- what each is: 24 on the line of that SQ, or the sizes
+-- what each answer says: 24 on the line of that SQ, or the sizes
 unfoldable pub measuredAnswer : Measured → Answer PerKind
 measuredAnswer (measured.Unwritable l) = refused 24 (l .0)
 measuredAnswer (measured.Is n) = yes n
 
--- the sizes of a text are answered by `r`, and `o` is the line of its first SQ that can't be written: where that is a refusal, writing is refused with it
+-- `r` answers with the sizes of a text, and `o` is the line of its first SQ that can't be written: if `r` is a refusal, writing is refused with it
 abbrev pub MeasuredTold : Option ℕ → Measured → Type 0
 MeasuredTold o r = (room n l : ℕ) (t : List ℕ) → measuredAnswer r ≡ refused n l → writing room o t ≡ refused n l
 
 -- ---- line by line
 
--- a line's record before those of the lines after it
+-- the record of a line before those of the lines after it
 unfoldable pub withRecord : Line → List Record → List Record
 withRecord (refusedLine n) rs = rs
 withRecord (read r) rs = r ∷ rs
@@ -44,6 +44,6 @@ unfolding isRead line
 allRead strict [] = true
 allRead strict (p ∷ ps) = isRead (line strict p) && allRead strict ps
 
--- the records of the lines from the place `at` of the text `t` on
+-- the records of the lines from the offset `at` of the text `t` on
 abbrev pub recordsFrom : Bool → List ℕ → ℕ → List Record
 recordsFrom strict t at = lineRecords strict (linesFrom at (drop at t))

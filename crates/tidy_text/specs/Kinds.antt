@@ -1,4 +1,4 @@
--- A line's kind and its text, and the text of a kind.
+-- The kind and the text of a line, and the text of a kind.
 use Prim.Native.Nat.{ℕ}
 use mathlib.Core.Bool.{Bool, cond}
 use mathlib.Core.List.{List, [], _++_}
@@ -17,7 +17,7 @@ use Rattle.tidy_sizes.specs.Numbers.{kindNumber}
 abbrev pub lineKind : List ℕ → Kind
 lineKind s = kindBy (getD s 1 0)
 
--- what the tidy text has of the line `s` at the offset `at`
+-- what the tidy text has for the line `s` at the offset `at`
 abbrev pub tidyLine : Bool → ℕ → List ℕ → List ℕ
 tidyLine strict at s = lineText (line strict (record { at = at; bytes = s }))
 

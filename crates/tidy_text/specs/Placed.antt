@@ -38,6 +38,6 @@ parts c rs =
     let part : Kind → Part = λ k. record { at = get k c; bytes = textOfKind k rs } in
     part Header ∷ part ReferenceSequence ∷ part ReadGroup ∷ part Program ∷ part Comment ∷ []
 
--- the tidy text of records over `out`, but for `gap` bytes before the comments, which stay as they are
+-- the tidy text of records written over `out`, with `gap` bytes before the comments left as they were
 abbrev pub withGap : List ℕ → ℕ → List Record → List ℕ
 withGap out gap rs = over (over out 0 (frontText rs)) (length (frontText rs) + gap) (textOfKind Comment rs)

@@ -1,4 +1,4 @@
--- The records of a text without the programs whose mark is false, and how a line goes by its kind.
+-- The records of a text without the programs whose mark is false, and what happens to a line according to its kind.
 use Prim.Native.Nat.{ℕ, _+_}
 use mathlib.Core.Bool.{Bool, true, false, cond}
 use mathlib.Core.List.{List, [], _∷_}
@@ -14,11 +14,11 @@ use Rattle.tidy_text.specs.declared.Grown.{Grown}
 use Rattle.tidy_text.specs.declared.Grown.the-variants as grown
 use Rattle.tidy_text.specs.declared.Stay.{Stay}
 
--- is the program `k` marked? One past the last mark is
+-- is the program `k` marked? A program after the last mark is
 unfoldable pub isMarked : List Bool → ℕ → Bool
 isMarked marks k = getD marks k true
 
--- all records but the programs whose ordinals, counted from `k`, do not pass
+-- all records but the programs whose ordinals, counted from `k`, are dropped
 unfoldable pub sifted : (ℕ → Bool) → ℕ → List Record → List Record
 unfolding code
 sifted p k [] = []
@@ -27,12 +27,12 @@ sifted p k (r ∷ rs) =
     (cond (p k) (r ∷ sifted p (k + 1) rs) (sifted p (k + 1) rs))
     (r ∷ sifted p k rs)
 
--- does the record of a line stay, and which ordinal has the next program? `pg` says that the line is a program's
+-- does the record of a line stay, and which ordinal has the next program? `pg` says whether the line is a program
 unfoldable pub stayBy : Bool → List Bool → ℕ → Stay
 unfolding isMarked
 stayBy pg marks k = cond pg (record { stays = isMarked marks k; next = k + 1 }) (record { stays = true; next = k })
 
--- by the second byte of an accepted line
+-- the same, from the second byte of an accepted line
 abbrev pub isProgramLine : List ℕ → Bool
 isProgramLine s = eqb (getD s 1 0) 80
 
@@ -41,7 +41,7 @@ unfoldable pub grownIf : Bool → Kind → Line → PerKind → Grown
 unfolding grownBy
 grownIf stays j l s = cond stays (grownBy j l s) (grown.Is s)
 
--- the places after a text of the kind `j`, and what is written, if it stays
+-- the places after a text of the kind `j`, and what is written, if the line stays
 unfoldable pub placesIf : Bool → Kind → List ℕ → PerKind → PerKind
 unfolding plus
 placesIf stays j xs c = cond stays (plus j (length xs) c) c

@@ -1,6 +1,6 @@
-// The tidy text of an accepted text: HD, then all SQ, RG, PG, CO, each kind in text order. One pass measures each kind, and one
-// puts each record at its kind's own place. Marks can be given, one for each program in text order: a program whose mark is false is left
-// out, and a program past the last mark stays, so that no marks leave all in.
+// The tidy text of an accepted text: HD, then all SQ, RG, PG and CO, each kind in text order. One pass measures each kind, and one puts each record
+// at the place of its kind. Marks can be given, one per program in text order: a program whose mark is false is left out. A program after the last
+// mark stays, so with no marks all programs stay.
 use format::LineNo;
 use tidy_line::Size;
 use tidy_sizes::PerKind;
@@ -8,9 +8,9 @@ ghost use mathlib.Core.Path.{_≡_};
 ghost use mathlib.Core.Bool.{true};
 ghost use Prim.Native.Nat.{_≤_, _<_, _+_};
 ghost use lib.ListN.{length};
-ghost use Rattle.format.specs.Lines.{lines};
 ghost use Rattle.format.specs.Records.{line};
-ghost use Rattle.format.specs.Reading.{announced, isStrict, readText};
+ghost use Rattle.format.specs.Reading.{readText};
+ghost use Rattle.accepted_rule.specs.Rule.{ReadsBy};
 ghost use Rattle.format.specs.Tidy.{tidy, unwritable};
 ghost use Rattle.byte_slices.specs.Over.{over};
 ghost use Rattle.accepted.specs.Read.{isAccepted, isRead, recordsOf};
@@ -21,25 +21,25 @@ ghost use Rattle.tidy_text.specs.Sizes.{grownBy, sizesOf};
 ghost use Rattle.tidy_text.specs.Placed.{withParts, parts, Apart, withGap};
 ghost use Rattle.tidy_text.specs.Sifted.{isMarked, sifted, stayBy, isProgramLine, grownIf, placesIf, writtenIf};
 
-// How many bytes each kind has in the tidy text, or the line of the first SQ whose name can't be written.
+// How many bytes each kind takes in the tidy text, or the line of the first SQ whose name can't be written.
 pub enum Measured {
     Unwritable(LineNo),
     Is(PerKind),
 }
 
-// The same of the lines so far.
+// The sizes of the lines so far, or that a name can't be written.
 pub enum Grown {
     Unwritable,
     Is(PerKind),
 }
 
-// Whether a line's record stays, and the ordinal of the next program.
+// Whether the record of a line stays, and the ordinal of the next program.
 struct Stay {
     stays: bool,
     next: usize,
 }
 
-// Whether the record of an accepted line stays, where the next program is the one with the ordinal `k`.
+// Whether the record of an accepted line stays, if the next program has the ordinal `k`.
 fn stay_of(src: &[u8], marks: &[bool], k: usize) -> Stay
     requires { ⌜ 3 ≤ length (now src) ⌝ }
     requires { ⌜ k < 18446744073709551615 ⌝ }
@@ -61,7 +61,7 @@ fn stay_of(src: &[u8], marks: &[bool], k: usize) -> Stay
     }
 }
 
-// The sizes with one accepted line more, if its record stays and can be written.
+// The sizes with one more accepted line, if its record stays and can be written.
 fn with_line_if(sizes: PerKind, src: &[u8], at: usize, strict: bool, stays: bool) -> Grown
     requires { ⌜ isRead (line strict (record { at = at; bytes = now src })) ≡ true ⌝ }
     requires { ⌜ at + length (now src) ≤ 16777216 ⌝ }
@@ -71,14 +71,14 @@ fn with_line_if(sizes: PerKind, src: &[u8], at: usize, strict: bool, stays: bool
     if !stays {
         return Grown::Is(sizes);
     }
-    let size = tidy_line::record_size(src, at, strict);
+    let size = tidy_line::line_size(src, at, strict);
     let Size::Is(n) = size else {
         return Grown::Unwritable;
     };
     Grown::Is(sizes.plus(accepted_line::kind_of(src), n))
 }
 
-// The same of a line that stays.
+// The same for a line that stays.
 pub fn with_line(sizes: PerKind, src: &[u8], at: usize, strict: bool) -> Grown
     requires { ⌜ isRead (line strict (record { at = at; bytes = now src })) ≡ true ⌝ }
     requires { ⌜ at + length (now src) ≤ 16777216 ⌝ }
@@ -89,10 +89,10 @@ pub fn with_line(sizes: PerKind, src: &[u8], at: usize, strict: bool) -> Grown
 }
 
 // How many bytes the records of each kind that stay have in the tidy text, or the line of the first SQ whose name can't be written, in one
-// pass over an accepted text. `strict` is what the text says of repeated tags.
+// pass over an accepted text. `strict` is the rule for repeated tags that its lines are read by.
 pub fn measure_marked(text: &[u8], strict: bool, marks: &[bool]) -> Measured
     requires { ⌜ isAccepted (readText (now text)) ≡ true ⌝ }
-    requires { ⌜ strict ≡ isStrict (announced (lines (now text))) ⌝ }
+    requires { ⌜ ReadsBy strict (now text) ⌝ }
     ensures is { λ r. ⌜ r ≡ measuredOf (unwritable 0 (recordsOf (now (text .entry))))
         (sizesOf (sifted (isMarked (now (marks .entry))) 0 (recordsOf (now (text .entry))))) ⌝ }
     ensures refusal { λ r. ⌜ MeasuredTold (unwritable 0 (recordsOf (now (text .entry)))) r ⌝ }
@@ -116,18 +116,18 @@ pub fn measure_marked(text: &[u8], strict: bool, marks: &[bool]) -> Measured
     Measured::Is(sizes)
 }
 
-// How many bytes the records of each kind have in the tidy text, or the line of the first SQ whose name can't be written.
+// How many bytes the records of each kind take in the tidy text, or the line of the first SQ whose name can't be written.
 pub fn measure(text: &[u8], strict: bool) -> Measured
     requires { ⌜ isAccepted (readText (now text)) ≡ true ⌝ }
-    requires { ⌜ strict ≡ isStrict (announced (lines (now text))) ⌝ }
+    requires { ⌜ ReadsBy strict (now text) ⌝ }
     ensures is { λ r. ⌜ r ≡ measuredOf (unwritable 0 (recordsOf (now (text .entry)))) (sizesOf (recordsOf (now (text .entry)))) ⌝ }
     ensures refusal { λ r. ⌜ MeasuredTold (unwritable 0 (recordsOf (now (text .entry)))) r ⌝ }
 {
     measure_marked(text, strict, &[])
 }
 
-// Writes the record of an accepted line at its kind's place, if it stays, and answers the places after it.
-fn put_line_if(
+// Writes the record of an accepted line at the place of its kind, if it stays. Returns the places after it.
+fn put_at_kind_if(
     out: &mut [u8],
     places: PerKind,
     src: &[u8],
@@ -150,21 +150,21 @@ fn put_line_if(
     places.plus(kind, n - o)
 }
 
-// The same of a line that stays.
-pub fn put_line(out: &mut [u8], places: PerKind, src: &[u8], at: usize, strict: bool) -> PerKind
+// The same for a line that stays.
+pub fn put_at_kind(out: &mut [u8], places: PerKind, src: &[u8], at: usize, strict: bool) -> PerKind
     requires { ⌜ isRead (line strict (record { at = at; bytes = now src })) ≡ true ⌝ }
     requires { ⌜ at + length (now src) ≤ 16777216 ⌝ }
     requires { ⌜ get (lineKind (now src)) places + length (tidyLine strict at (now src)) ≤ length (now out) ⌝ }
     ensures next { λ r. ⌜ r ≡ plus (lineKind (now (src .entry))) (length (tidyLine strict at (now (src .entry)))) places ⌝ }
     ensures wrote { λ _. ⌜ now (out .exit) ≡ over (now (out .entry)) (get (lineKind (now (src .entry))) places) (tidyLine strict at (now (src .entry))) ⌝ }
 {
-    put_line_if(out, places, src, at, strict, true)
+    put_at_kind_if(out, places, src, at, strict, true)
 }
 
-// Writes the records of each kind that stay, in text order, from the kind's place on, in one pass.
+// Writes the records that stay, each kind in text order from its place on, in one pass.
 fn put_lines(text: &[u8], strict: bool, marks: &[bool], places: PerKind, out: &mut [u8])
     requires { ⌜ isAccepted (readText (now text)) ≡ true ⌝ }
-    requires { ⌜ strict ≡ isStrict (announced (lines (now text))) ⌝ }
+    requires { ⌜ ReadsBy strict (now text) ⌝ }
     requires { ⌜ Apart (parts places (sifted (isMarked (now marks)) 0 (recordsOf (now text)))) (length (now out)) ⌝ }
     ensures { λ _. ⌜ now (out .exit) ≡ withParts (now (out .entry))
         (parts places (sifted (isMarked (now (marks .entry))) 0 (recordsOf (now (text .entry))))) ⌝ }
@@ -175,17 +175,17 @@ fn put_lines(text: &[u8], strict: bool, marks: &[bool], places: PerKind, out: &m
     while at < text.len() {
         let cut = byte_slices::first_line(&text[at..]);
         let s = stay_of(&text[at..at + cut.len], marks, k);
-        next = put_line_if(out, next, &text[at..at + cut.len], at, strict, s.stays);
+        next = put_at_kind_if(out, next, &text[at..at + cut.len], at, strict, s.stays);
         k = s.next;
         at += cut.next;
     }
 }
 
-// Writes the tidy text but for `gap` bytes before the comments, which stay as they are: other records go there.
-// `sizes` are those that measuring gives.
+// Writes the tidy text with a gap of `gap` bytes before the comments, which are left as they were: other records go there. `sizes` are those that
+// measuring gives.
 pub fn put_around(text: &[u8], strict: bool, sizes: PerKind, gap: usize, out: &mut [u8])
     requires { ⌜ isAccepted (readText (now text)) ≡ true ⌝ }
-    requires { ⌜ strict ≡ isStrict (announced (lines (now text))) ⌝ }
+    requires { ⌜ ReadsBy strict (now text) ⌝ }
     requires { ⌜ sizes ≡ sizesOf (recordsOf (now text)) ⌝ }
     requires { ⌜ gap ≤ 16777216 ⌝ }
     requires { ⌜ length (tidy (recordsOf (now text))) + gap ≤ length (now out) ⌝ }
@@ -194,7 +194,7 @@ pub fn put_around(text: &[u8], strict: bool, sizes: PerKind, gap: usize, out: &m
     put_lines(text, strict, &[], sizes.starts(gap), out);
 }
 
-// Writes the tidy text of the records that stay, and answers its length. `sizes` are those that measuring by the same marks gives.
+// Writes the tidy text of the records that stay, and answers its length. `sizes` are those that measuring with the same marks gives.
 pub fn put_marked(
     text: &[u8],
     strict: bool,
@@ -203,7 +203,7 @@ pub fn put_marked(
     out: &mut [u8],
 ) -> usize
     requires { ⌜ isAccepted (readText (now text)) ≡ true ⌝ }
-    requires { ⌜ strict ≡ isStrict (announced (lines (now text))) ⌝ }
+    requires { ⌜ ReadsBy strict (now text) ⌝ }
     requires { ⌜ sizes ≡ sizesOf (sifted (isMarked (now marks)) 0 (recordsOf (now text))) ⌝ }
     requires { ⌜ length (tidy (sifted (isMarked (now marks)) 0 (recordsOf (now text)))) ≤ length (now out) ⌝ }
     ensures next { λ r. ⌜ r ≡ length (tidy (sifted (isMarked (now (marks .entry))) 0 (recordsOf (now (text .entry))))) ⌝ }
@@ -216,7 +216,7 @@ pub fn put_marked(
 // Writes the tidy text of an accepted text, and answers its length. `sizes` are those that measuring gives.
 pub fn put_tidy(text: &[u8], strict: bool, sizes: PerKind, out: &mut [u8]) -> usize
     requires { ⌜ isAccepted (readText (now text)) ≡ true ⌝ }
-    requires { ⌜ strict ≡ isStrict (announced (lines (now text))) ⌝ }
+    requires { ⌜ ReadsBy strict (now text) ⌝ }
     requires { ⌜ sizes ≡ sizesOf (recordsOf (now text)) ⌝ }
     requires { ⌜ length (tidy (recordsOf (now text))) ≤ length (now out) ⌝ }
     ensures next { λ r. ⌜ r ≡ length (tidy (recordsOf (now (text .entry)))) ⌝ }

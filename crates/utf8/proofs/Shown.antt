@@ -13,7 +13,7 @@ use Rattle.utf8.proofs.Step.{never-whole}
 
 -- ---- ranges
 
--- a range all of whose bytes are shown: it starts behind 127, has no byte, or ends before 127
+-- a range all of whose bytes are shown: it starts after 127, is empty, or ends before 127
 unfoldable isSafe : ℕ × ℕ → Bool
 isSafe r = leb 128 (r .0) || (ltb (r .1) (r .0) || (leb 32 (r .0) && leb (r .1) 126))
 

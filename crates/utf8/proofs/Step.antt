@@ -1,4 +1,4 @@
--- One byte of a character after another: what is due before it and what is due behind it, in ranges and in plain numbers.
+-- One byte of a character after another: what is due before it and what is due after it, in ranges and in plain numbers.
 use Prim.Native.Nat.{ℕ, zero, suc, _-_, _≤_, _<_}
 use mathlib.Core.Path.{_≡_, refl, sym, ap, _∙_}
 use mathlib.Core.Bool.{Bool, true, false, _&&_, cond, and-false}
@@ -66,7 +66,7 @@ unfolding pendingOf trails
 trails-pending zero = refl
 trails-pending (suc n) = rw (trails-length n) refl
 
--- ranges that the numbers tell
+-- the ranges that the numbers mean
 unfoldable Told : List (ℕ × ℕ) → Type 0
 Told rs = dueOf (pendingOf rs) ≡ rs
 
@@ -92,7 +92,7 @@ after-told p b = go (p .left)
     go zero = due-told b
     go (suc n) = next-told (within (p .lo, p .hi) b) n
 
--- one byte more
+-- one more byte
 pub step : (p : Pending) (b : ℕ) (s : List ℕ) → characters (dueOf p) (b ∷ s) ≡ characters (dueOf (pendingOf (dueAfter (dueOf p) b))) s
 unfolding Told
 step p b s = characters-after (dueOf p) b s ∙ ap (λ rs. characters rs s) (sym (after-told p b))

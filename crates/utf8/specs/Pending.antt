@@ -1,4 +1,4 @@
--- What is due of a character that is begun, in plain numbers: how many bytes, and the range of the next. The ranges behind it are `trail`.
+-- What the current character still needs, in plain numbers: how many bytes, and the range of the next. The ranges after it are `trail`.
 use Prim.Native.Nat.{ℕ, zero, suc}
 use mathlib.Core.Bool.{cond}
 use mathlib.Core.List.{List, [], _∷_}
@@ -25,7 +25,7 @@ unfoldable pub dueOf : Pending → List (ℕ × ℕ)
 unfolding ranges
 dueOf p = ranges (p .left) (p .lo) (p .hi)
 
--- what is due after one byte more, where `rs` were: a range that no byte is in, if it does not fit
+-- what is needed after one more byte, if `rs` was needed before: an empty range if the byte does not fit
 unfoldable pub dueAfter : List (ℕ × ℕ) → ℕ → List (ℕ × ℕ)
 unfolding due forms within
 dueAfter [] b = due b forms

@@ -1,10 +1,11 @@
-// Characters in UTF-8, by the table of RFC 3629, without 127 and those below 32: byte by byte, with what is due of the one that is begun.
+// Characters in UTF-8, by the table of RFC 3629, without 127 and those below 32. Bytes are read one by one, keeping what the current character still
+// needs.
 ghost use mathlib.Core.Path.{_≡_};
 ghost use mathlib.Core.List.{[]};
 ghost use Rattle.format.specs.Utf8.{due, forms, characters};
 ghost use Rattle.utf8.specs.Pending.{pendingOf, dueOf, dueAfter};
 
-// What is due of a character that is begun: `left` bytes, the next of them from `lo` to `hi`.
+// What the current character still needs: `left` bytes, the next of them from `lo` to `hi`.
 struct Pending {
     left: u8,
     lo: u8,
@@ -18,7 +19,7 @@ impl Pending {
         Pending { left, lo, hi }
     }
 
-    // What follows the first byte `b`; where no character starts with it, a byte that there is not.
+    // What must follow the first byte `b`. If no character starts with `b`, it is a byte from an empty range, so nothing can follow.
     fn first(b: u8) -> Self
         ensures { λ r. ⌜ r ≡ pendingOf (due b forms) ⌝ }
     {
@@ -55,7 +56,7 @@ impl Pending {
         Pending::new(1, 1, 0)
     }
 
-    // After the byte `b`: the first of a character, or the next one of that which is begun.
+    // What is still needed after the byte `b`: the first byte of a character, or the next byte of the current one.
     fn with(self, b: u8) -> Self
         ensures { λ r. ⌜ r ≡ pendingOf (dueAfter (dueOf self) b) ⌝ }
     {
@@ -72,7 +73,7 @@ impl Pending {
     }
 }
 
-// Whether `s` is whole characters.
+// Whether `s` consists of whole characters.
 pub fn is_whole(s: &[u8]) -> bool
     ensures { λ r. ⌜ r ≡ characters [] (now (s .entry)) ⌝ }
 {

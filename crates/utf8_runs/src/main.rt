@@ -1,16 +1,15 @@
-// Runs sequences of bytes as DS of an SQ through `read::read`, and writes what each is answered: 0 where the text is
-// accepted, or the refusal's number.
+// Reads sequences of bytes as DS of an SQ with `read::read`, and writes the answer for each: 0 if the text is accepted, or the number of the refusal.
 //
-// First every sequence of up to 2 bytes. A line has the first byte in hex, its answer alone, and then the answers with each second
-// byte from 0 on, as many in a row as are equal: `128x10` is 128 times 10. Then the sequences of the input, one to a line in hex, an
-// answer to a line: those of 3 and 4 bytes around each edge of the table of RFC 3629, and some cut short by a tab. What is expected
-// was made by `oracle/characters`, with python's decoder: none of it by this program.
+// First come all sequences of up to 2 bytes. A line has the first byte in hex, its answer by itself, and then the answers with each second byte from
+// 0 on, where equal answers in a row are written as `128x10`: 128 times 10. Then come the sequences of the input, one per line in hex, with one
+// answer per line: those of 3 and 4 bytes around each edge of the table of RFC 3629, and some that a tab cuts short. The expected output was made by
+// `oracle/characters` with Python's decoder, not by this program.
 use libc::STDOUT_FILENO;
 use read::CountAnswer;
 ghost use Prim.Native.Nat.{_≤_};
 ghost use lib.ListN.{length};
 
-// What is answered where DS is `value`.
+// The answer if DS is `value`.
 fn ask(value: &[u8]) -> u8
     requires { ⌜ length (now value) ≤ 64 ⌝ }
 {
@@ -41,7 +40,7 @@ fn print_run(run: u64, answer: u8) {
     io::print_decimal(STDOUT_FILENO, answer as u64);
 }
 
-// The sequences that start with `first` and have one byte more.
+// The sequences that start with `first` and have one more byte.
 fn seconds(first: u8) {
     let mut answer = ask_two(first, 0);
     let mut run: u64 = 1;

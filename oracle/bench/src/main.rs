@@ -13,17 +13,23 @@
 //! bench seal [--rounds N] [FOLDER]     seals (`sealed.rs`), where the archive has the calls
 //! bench references [--rounds N]        the ninth table (`found.rs`), where the archive has references and find
 //! bench faults [--rounds N]            faults (`faulty.rs`), where the archive has the call
+//! bench lines [--rounds N]             ns for each line against the number of lines (`lines.rs`)
+//! bench first [--rounds N]             the first reading in a fresh process or thread, and the second (`first.rs`)
+//! bench all [--rounds N] [FOLDER]      every table above, one after the other
 //!
 //! FOLDER has real headers, `*.sam` (default ../shared/headers beside the repository).
 //!
-//! A row of the first table is a text: its name and bytes, then library/crate for each call, the library's time for a line of
-//! reading and of tidying in ns, and how often all ran. Both sides take the same bytes in the same process, one after the other, and the best
-//! time of each counts: of N times (default 100), of fewer where ten seconds are over, but of three at least.
+//! A row of the first table is a text: its name and bytes, then library/crate for each call, library/htslib for reading and tidying (`-` where
+//! htslib is not there), the library's time for a line of reading and of tidying in ns, and how often all ran. All sides take the same bytes in the
+//! same process, one after the other, and the best time of each counts: of N times (default 100), of fewer where ten seconds are over, but of three
+//! at least.
 //!
 //!   read, check, count    against the crate's whole-text parser; here and below dropping its header is not timed
 //!   leaves                against its parser and its leaves
 //!   add                   against its parser, its add and its writer, into a buffer that is reused; its fields are read before
 //!   tidy                  against its parser and its writer
+//!   read/hts, tidy/hts    against sam_hdr_parse of htslib, which fills its tables, and against that and sam_hdr_str, which writes the lines again as they
+//!                         were and in their order, HD first
 //!
 //! A call that the library refuses is not timed: the refusal's number stands there in brackets. The library's outputs are reused
 //! and not cleared, and hold the bytes that the crate wrote.
@@ -43,12 +49,15 @@ mod area;
 mod calls;
 #[cfg(feature = "carry_on")]
 mod carried;
-#[cfg(feature = "lens")]
-mod lens;
 #[cfg(feature = "faults")]
 mod faulty;
+mod first;
 #[cfg(feature = "found")]
 mod found;
+mod htslib;
+#[cfg(feature = "lens")]
+mod lens;
+mod lines;
 #[cfg(feature = "judge_merge")]
 mod merged;
 #[cfg(feature = "names")]
@@ -89,6 +98,10 @@ struct Theirs {
 }
 
 impl Theirs {
+    fn new() -> Self {
+        Self { fields: oracle::program_fields(FIELDS).expect("in form"), written: Vec::new() }
+    }
+
     fn parse(&mut self, text: &str) -> Header {
         text.parse().expect("accepted by the crate")
     }
@@ -133,12 +146,13 @@ fn row(name: &str, bytes: &[u8], given: &[u8], rounds: usize) {
         return println!("{name}: not UTF-8, which the crate's whole-text parser needs");
     };
     let mut room = Room::new();
-    let mut theirs = Theirs { fields: oracle::program_fields(FIELDS).expect("in form"), written: Vec::new() };
+    let mut theirs = Theirs::new();
     let first = CALLS.map(|(_, ours)| ours(bytes, &mut room));
     if let Err(r) = first[0] {
         return println!("{name}: refused {} line {}", r.number, r.line);
     }
     let mut best = [(Duration::MAX, Duration::MAX); CALLS.len()];
+    let mut hts = [Duration::MAX; 2];
     let (mut ran, began) = (0, Instant::now());
     while ran < rounds && (ran < 3 || began.elapsed() < ENOUGH) {
         ran += 1;
@@ -150,6 +164,9 @@ fn row(name: &str, bytes: &[u8], given: &[u8], rounds: usize) {
             let n = timed(&mut best[i].0, || ours(black_box(bytes), &mut room)).expect("accepted as before");
             assert!(!writes || bytes != given || room.out[..n as usize] == theirs.written[..], "both wrote the same");
         }
+        for (best, theirs) in hts.iter_mut().zip([htslib::read, htslib::tidy]) {
+            drop(timed(best, || theirs(black_box(bytes))));
+        }
     }
     print!("{name:<27}{:>10}", bytes.len());
     for (answer, (ours, crates)) in first.iter().zip(best) {
@@ -158,8 +175,13 @@ fn row(name: &str, bytes: &[u8], given: &[u8], rounds: usize) {
             Err(r) => print!("{:>9}", format!("({})", r.number)),
         }
     }
+    let [read, tidy] = [best[0].0, best[CALLS.len() - 1].0];
+    let takes = htslib::tidy(bytes).is_some();
+    for (ours, theirs) in [read, tidy].into_iter().zip(hts) {
+        if takes { print!("{:>9.2}", ours.as_secs_f64() / theirs.as_secs_f64()) } else { print!("{:>9}", "-") }
+    }
     let lines = oracle::spans(bytes).count().max(1) as f64;
-    for (ours, _) in [best[0], best[CALLS.len() - 1]] {
+    for ours in [read, tidy] {
         print!("{:>9.0}", ours.as_nanos() as f64 / lines);
     }
     println!("{ran:>9}");
@@ -176,103 +198,13 @@ fn processor() -> String {
     format!("{} ({})", told.or_else(asked).unwrap_or("a processor that is not told".into()), std::env::consts::ARCH)
 }
 
-fn main() -> ExitCode {
-    let args: Vec<String> = std::env::args().skip(1).collect();
-    let args: Vec<&str> = args.iter().map(String::as_str).collect();
-    let (call, args) = match args[..] {
-        [
-            call @ ("names" | "carry_on" | "leaves_by_table" | "prune" | "judge_merge" | "read_with" | "lens" | "seal" | "references"
-            | "faults"),
-            ref rest @ ..,
-        ] => (call, rest),
-        _ => ("", &args[..]),
-    };
-    let (rounds, folder) = match *args {
-        _ if call == "names" && !cfg!(feature = "names")
-            || call == "carry_on" && !cfg!(feature = "carry_on")
-            || call == "leaves_by_table" && !cfg!(feature = "table")
-            || call == "prune" && !cfg!(feature = "prune")
-            || call == "judge_merge" && !cfg!(feature = "judge_merge")
-            || call == "read_with" && !cfg!(feature = "work")
-            || call == "lens" && !cfg!(feature = "lens")
-            || call == "seal" && !cfg!(feature = "seal")
-            || call == "references" && !cfg!(feature = "found")
-            || call == "faults" && !cfg!(feature = "faults") =>
-        {
-            eprintln!("the archive has no sam_header_{call}");
-            return ExitCode::from(2);
-        }
-        ["worst"] | ["worst", _] if call.is_empty() => (0, None),
-        [] | ["rows", _] => (100, Some(HEADERS)),
-        [folder] if !folder.starts_with('-') => (100, Some(folder)),
-        ["--rounds", n] if n.parse::<usize>().is_ok() => (n.parse().unwrap(), Some(HEADERS)),
-        ["--rounds", n, folder] if n.parse::<usize>().is_ok() => (n.parse().unwrap(), Some(folder)),
-        _ => {
-            eprintln!("usage: see the top of oracle/bench/src/main.rs");
-            return ExitCode::from(2);
-        }
-    };
-    println!("processor: {}\narchive: {}\n", processor(), library::LINKED.trim());
-    let Some(folder) = folder else {
-        worst::table(args.get(1).copied().unwrap_or(""));
-        return ExitCode::SUCCESS;
-    };
-    #[cfg(feature = "names")]
-    if call == "names" {
-        names::table(rounds, Path::new(folder));
-        return ExitCode::SUCCESS;
-    }
-    #[cfg(feature = "carry_on")]
-    if call == "carry_on" {
-        carried::table(rounds);
-        return ExitCode::SUCCESS;
-    }
-    #[cfg(feature = "table")]
-    if call == "leaves_by_table" {
-        table::table(rounds);
-        return ExitCode::SUCCESS;
-    }
-    #[cfg(feature = "prune")]
-    if call == "prune" {
-        pruned::table(rounds);
-        return ExitCode::SUCCESS;
-    }
-    #[cfg(feature = "found")]
-    if call == "references" {
-        found::table(rounds);
-        return ExitCode::SUCCESS;
-    }
-    #[cfg(feature = "faults")]
-    if call == "faults" {
-        faulty::table(rounds);
-        return ExitCode::SUCCESS;
-    }
-    #[cfg(feature = "work")]
-    if call == "read_with" {
-        area::table(rounds);
-        return ExitCode::SUCCESS;
-    }
-    #[cfg(feature = "lens")]
-    if call == "lens" {
-        lens::table(rounds);
-        return ExitCode::SUCCESS;
-    }
-    #[cfg(feature = "seal")]
-    if call == "seal" {
-        sealed::table(rounds, Path::new(folder));
-        return ExitCode::SUCCESS;
-    }
-    #[cfg(feature = "judge_merge")]
-    if call == "judge_merge" {
-        merged::table(rounds);
-        return ExitCode::SUCCESS;
-    }
+/// The first table, or its rows that have a word in their names.
+fn rows(rounds: usize, folder: &Path, word: &str) {
     print!("{:<27}{:>10}", "library/crate", "bytes");
     for (call, _) in CALLS {
         print!("{call:>9}");
     }
-    println!("{:>9}{:>9}{:>9}", "ns read", "ns tidy", "best of");
-    let word = if let ["rows", word] = *args { word } else { "" };
+    println!("{:>9}{:>9}{:>9}{:>9}{:>9}", "read/hts", "tidy/hts", "ns read", "ns tidy", "best of");
     let asked = |name: &str, text: &[u8], given: &[u8]| {
         if name.contains(word) {
             row(name, text, given, rounds);
@@ -282,6 +214,86 @@ fn main() -> ExitCode {
     let [plain, accented] = texts::commands(500);
     asked("500 PG, long CL", plain.as_bytes(), plain.as_bytes());
     asked("500 PG, accented CL", accented.as_bytes(), plain.as_bytes());
-    texts::found(Path::new(folder), &mut |name, text| asked(name, text, text));
+    texts::found(folder, &mut |name, text| asked(name, text, text));
+}
+
+/// What prints a table, of so many rounds and with the real headers of a folder.
+type Table = fn(usize, &Path);
+
+/// The table, if the archive has its calls.
+macro_rules! where_built {
+    ($feature:tt, $table:expr) => {{
+        #[cfg(feature = $feature)]
+        let table: Option<Table> = Some($table);
+        #[cfg(not(feature = $feature))]
+        let table: Option<Table> = None;
+        table
+    }};
+}
+
+/// Each table by its word.
+const TABLES: [(&str, Option<Table>); 14] = [
+    ("", Some(|rounds, folder| rows(rounds, folder, ""))),
+    ("lines", Some(|rounds, _| lines::table(rounds))),
+    ("first", Some(|rounds, _| first::table(rounds))),
+    ("worst", Some(|_, _| worst::table(""))),
+    ("names", where_built!("names", names::table)),
+    ("carry_on", where_built!("carry_on", |rounds, _| carried::table(rounds))),
+    ("faults", where_built!("faults", |rounds, _| faulty::table(rounds))),
+    ("leaves_by_table", where_built!("table", |rounds, _| table::table(rounds))),
+    ("prune", where_built!("prune", |rounds, _| pruned::table(rounds))),
+    ("judge_merge", where_built!("judge_merge", |rounds, _| merged::table(rounds))),
+    ("read_with", where_built!("work", |rounds, _| area::table(rounds))),
+    ("lens", where_built!("lens", |rounds, _| lens::table(rounds))),
+    ("seal", where_built!("seal", sealed::table)),
+    ("references", where_built!("found", |rounds, _| found::table(rounds))),
+];
+
+fn main() -> ExitCode {
+    let args: Vec<String> = std::env::args().skip(1).collect();
+    let args: Vec<&str> = args.iter().map(String::as_str).collect();
+    if let ["fresh", side, lines] = args[..] {
+        first::fresh(side, lines.parse().expect("a number of lines"));
+        return ExitCode::SUCCESS;
+    }
+    let named = |word: &str| word == "all" || TABLES.iter().any(|(name, _)| *name == word);
+    let (call, rest) = match args[..] {
+        [word, ref rest @ ..] if named(word) => (word, rest),
+        _ => ("", &args[..]),
+    };
+    let (rounds, folder) = match *rest {
+        [] => (100, HEADERS),
+        ["rows", _] if call.is_empty() => (100, HEADERS),
+        [_] if call == "worst" => (100, HEADERS),
+        [folder] if !folder.starts_with('-') => (100, folder),
+        ["--rounds", n] if n.parse::<usize>().is_ok() => (n.parse().unwrap(), HEADERS),
+        ["--rounds", n, folder] if n.parse::<usize>().is_ok() => (n.parse().unwrap(), folder),
+        _ => {
+            eprintln!("usage: see the top of oracle/bench/src/main.rs");
+            return ExitCode::from(2);
+        }
+    };
+    println!("processor: {}\narchive: {}", processor(), library::LINKED.trim());
+    println!("htslib: {}", htslib::version().unwrap_or("not there".into()));
+    match *rest {
+        ["rows", word] if call.is_empty() => {
+            println!();
+            rows(rounds, Path::new(folder), word);
+        }
+        [word] if call == "worst" => {
+            println!();
+            worst::table(word);
+        }
+        _ => {
+            for (name, table) in TABLES.iter().filter(|(name, _)| call == "all" || call == *name) {
+                let Some(table) = table else {
+                    eprintln!("the archive has no sam_header_{name}");
+                    return ExitCode::from(2);
+                };
+                println!();
+                table(rounds, Path::new(folder));
+            }
+        }
+    }
     ExitCode::SUCCESS
 }

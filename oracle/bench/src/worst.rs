@@ -11,7 +11,8 @@
 //!   long IDs, chained     1,024 programs, each after the one before, their IDs as long as fit and alike but for the end
 //!   long IDs, leaves      512 programs without PP, the IDs such that the text with one more after each fits
 //!   comment               one comment
-//!   one number, N RG      lines whose IDs all differ and have one and the same number in the index of keys
+//!   one number, N RG      lines whose IDs all differ and have one and the same plain number in the index of keys
+//!   one number, all SQ    the same with SQ, whose names can be written, and with SQ and RG in turn, each kind with a number of its own
 
 use std::{
     io::{Write, stdout},
@@ -102,29 +103,37 @@ fn step(sum: u32) -> u32 {
     (p as u32).wrapping_add((p >> 32) as u32)
 }
 
-/// A key's number in the index, by its kind (2 SQ, 3 RG, 4 PG) and name: `hash` of crates/key_hash. crates/key_look looks for a key from the
-/// slot number * slots / 2^32 on. What changes there changes here.
+/// A key's plain number in the index, by its kind (2 SQ, 3 RG, 4 PG) and name: `hash` of crates/key_look, which looks for a key from the slot
+/// number % slots on. What changes there changes here.
 fn key_hash(kind: u32, name: &[u8]) -> u32 {
     let (fours, rest) = name.as_chunks::<4>();
     let words = fours.iter().map(|&w| u32::from_le_bytes(w)).chain(rest.iter().map(|&b| b.into()));
     words.fold(kind, |h, w| step(h.wrapping_add(w)))
 }
 
-/// Lines whose IDs have eight bytes and one number: the last four bytes are what brings the last sum to one and the same. The slots
-/// are then one and the same too, however many there are.
-fn one_number(most: usize) -> Vec<u8> {
+/// Names of twelve of these bytes that have one number: the last four bytes are what brings the last sum to one and the same. The slots are then
+/// one and the same too, however many there are.
+fn one_number(kind: u32, bytes: &'static [u8]) -> impl Iterator<Item = Vec<u8>> {
     const SUM: u32 = 1;
-    let ids = words(VALUE, VALUE, 4).filter_map(|first| {
-        let last = SUM.wrapping_sub(key_hash(3, &first)).to_le_bytes();
-        last.iter().all(|b| (32..=126).contains(b)).then(|| [&first[..], &last].concat())
-    });
-    filled(
-        MOST,
-        ids.take(most).map(|id| {
-            assert_eq!(key_hash(3, &id), step(SUM));
-            [b"@RG\tID:", &id[..], b"\n"].concat()
-        }),
-    )
+    [b"aaaa", b"bbbb", b"cccc", b"dddd"].into_iter().flat_map(move |lead| {
+        words(bytes, bytes, 4).filter_map(move |word| {
+            let front = [&lead[..], &word].concat();
+            let last = SUM.wrapping_sub(key_hash(kind, &front)).to_le_bytes();
+            last.iter().all(|b| bytes.contains(b)).then(|| {
+                let name = [&front[..], &last].concat();
+                assert_eq!(key_hash(kind, &name), step(SUM));
+                name
+            })
+        })
+    })
+}
+
+fn groups() -> impl Iterator<Item = Vec<u8>> {
+    one_number(3, VALUE).map(|id| [b"@RG\tID:", &id[..], b"\n"].concat())
+}
+
+fn references() -> impl Iterator<Item = Vec<u8>> {
+    one_number(2, FIRST).map(|name| [b"@SQ\tSN:", &name[..], b"\tLN:1\n"].concat())
 }
 
 fn row(name: &str, text: &[u8]) {
@@ -152,7 +161,7 @@ pub fn table(word: &str) {
     }
     println!();
     let ids = |n: usize, parts: usize| (MOST - n * 64) / (n * parts);
-    let rows: [(&str, &dyn Fn() -> Vec<u8>); 12] = [
+    let rows: [(&str, &dyn Fn() -> Vec<u8>); 14] = [
         ("shortest SQ", &|| shortest(b"@SQ\tSN:", FIRST, LATER, b"\tLN:1\n")),
         ("shortest RG", &|| shortest(b"@RG\tID:", VALUE, VALUE, b"\n")),
         ("all tags, VN:1.6", &|| all_tags(b"@HD\tVN:1.6\n@RG")),
@@ -162,9 +171,11 @@ pub fn table(word: &str) {
         ("long IDs, chained", &|| programs(PROGRAMS, ids(PROGRAMS, 2), true)),
         ("long IDs, leaves", &|| programs(PROGRAMS / 2, ids(PROGRAMS / 2, 3), false)),
         ("comment", &|| [b"@CO\t", &vec![b'c'; MOST - 4][..]].concat()),
-        ("one number, 10000 RG", &|| one_number(10_000)),
-        ("one number, 100000 RG", &|| one_number(100_000)),
-        ("one number, all RG", &|| one_number(usize::MAX)),
+        ("one number, 10000 RG", &|| filled(MOST, groups().take(10_000))),
+        ("one number, 100000 RG", &|| filled(MOST, groups().take(100_000))),
+        ("one number, all RG", &|| filled(MOST, groups())),
+        ("one number, all SQ", &|| filled(MOST, references())),
+        ("one number, SQ and RG", &|| filled(MOST, references().zip(groups()).map(|(sq, rg)| [sq, rg].concat()))),
     ];
     for (name, text) in rows.iter().filter(|(name, _)| name.contains(word)) {
         row(name, &text());

@@ -1,8 +1,8 @@
 //! Each call of `include/sam_header.h`, over lent slices, with its answer taken apart. Nothing is allocated here, and everything else in this crate
-//! stands on these functions. The header file says what each call answers, and README how much room its outputs need.
+//! uses these functions. The header file says what each call answers, and README how much room its outputs need.
 //!
 //! This is the one module with `unsafe` in it. What C asks of its pointers is what a slice of Rust is: not null, aligned, and where it is written, no
-//! other slice's. An array of 32 bytes is a pointer alone.
+//! other slice's. An array of 32 bytes is just a pointer.
 #![allow(unsafe_code)]
 use crate::{BinaryLen, Kind, Node, Refusal, Unmerged, Which};
 
@@ -130,8 +130,8 @@ pub fn tidy_with(text: &[u8], out: &mut [u8], work: &mut [u32]) -> Answer<usize>
     count_of(ask!(sam_header_tidy_with, [text], [mut out], [mut work]))
 }
 
-/// Writes the tidy text of the lines that are not refused: how many lines were skipped, and how many bytes written. Two numbers for each skipped line in
-/// `table`: the line and the refusal's number.
+/// Writes the tidy text of the lines that are not refused: how many lines were skipped, and how many bytes written. `table` gets two numbers per skipped
+/// line: the line and the refusal's number.
 pub fn carry_on(text: &[u8], out: &mut [u8], table: &mut [u32]) -> Answer<(usize, usize)> {
     halves(ask!(sam_header_carry_on, [text], [mut out], [mut table]))
 }
@@ -141,7 +141,7 @@ pub fn carry_on_with(text: &[u8], out: &mut [u8], table: &mut [u32], work: &mut 
     halves(ask!(sam_header_carry_on_with, [text], [mut out], [mut table], [mut work]))
 }
 
-/// How many lines are faulty; two numbers for each in `table`: the line and the refusal's number.
+/// How many lines are faulty; `table` gets two numbers per faulty line: the line and the refusal's number.
 pub fn faults(text: &[u8], table: &mut [u32]) -> Answer<usize> {
     count_of(ask!(sam_header_faults, [text], [mut table]))
 }
@@ -151,7 +151,7 @@ pub fn text_len(bytes: &[u8]) -> usize {
     ask!(sam_header_text_len, [bytes]) as usize
 }
 
-/// How long the binary header at the front is, or how many bytes are needed to say more; 28 where there is none whatever follows.
+/// How long the binary header at the front is, or how many bytes are needed to say more; 28 if there is none, whatever follows.
 pub fn binary_len(bytes: &[u8]) -> Answer<BinaryLen> {
     let answer = word(ask!(sam_header_binary_len, [bytes]))?;
     let bytes = (answer & !(1 << 62)) as usize;
@@ -180,7 +180,7 @@ pub fn key(text: &[u8], catalogue: &[u8], kind: Kind, ordinal: u32) -> Answer<(u
     halves(ask!(sam_header_key, [text], [catalogue], kind, ordinal))
 }
 
-/// The line on which a record stands, from 0.
+/// The line of a record, from 0.
 pub fn line(text: &[u8], catalogue: &[u8], kind: Kind, ordinal: u32) -> Answer<u32> {
     let kind = kind as u8;
     word(ask!(sam_header_line, [text], [catalogue], kind, ordinal)).map(|n| n as u32)
@@ -194,7 +194,7 @@ pub fn length(text: &[u8], catalogue: &[u8], ordinal: u32) -> Answer<u64> {
     Ok(length)
 }
 
-/// The offset and length of a field's value; None where the record has none with this tag, or anything is amiss.
+/// The offset and length of a field's value; None if the record has no field with this tag, and for any refusal.
 pub fn field(text: &[u8], catalogue: &[u8], kind: Kind, ordinal: u32, [a, b]: [u8; 2]) -> Option<(usize, usize)> {
     let kind = kind as u8;
     match ask!(sam_header_field, [text], [catalogue], kind, ordinal, a, b) {
@@ -209,7 +209,7 @@ pub fn find(text: &[u8], catalogue: &[u8], kind: Kind, key: &[u8]) -> Answer<u32
     word(ask!(sam_header_find, [text], [catalogue], kind, [key])).map(|n| n as u32)
 }
 
-/// How many SQ there are; for each three numbers in `table`: the offset and length of its name, and LN.
+/// How many SQ there are; `table` gets three numbers per SQ: the offset and length of its name, and LN.
 pub fn references(text: &[u8], catalogue: &[u8], table: &mut [u32]) -> Answer<usize> {
     count_of(ask!(sam_header_references, [text], [catalogue], [mut table]))
 }

@@ -33,7 +33,7 @@ fn number(entry: &[u8], at: usize) -> u32 {
     entry.get(at..at + 4).and_then(|bytes| bytes.try_into().ok()).map_or(0, u32::from_le_bytes)
 }
 
-/// The part of the text whose offset and length stand in an entry.
+/// The part of the text whose offset and length are in an entry.
 fn part<'h>(text: &'h [u8], entry: &[u8], at: usize) -> &'h [u8] {
     let from = number(entry, at) as usize;
     text.get(from..from + number(entry, at + 4) as usize).unwrap_or_default()
@@ -68,12 +68,12 @@ pub struct Chains {
     pub nodes: Vec<Node>,
     /// The programs that no PP names, in the order in which adding takes them.
     pub leaves: Vec<ProgramNo>,
-    /// The parent links from every program to its root, summed.
+    /// The sum of the numbers of parent links from every program to its root.
     pub hops: u32,
 }
 
 impl Chains {
-    /// The programs whose PP names this one, in order; of None the roots.
+    /// The programs whose PP names this one, in order; the roots for None.
     pub fn children(&self, of: Option<ProgramNo>) -> impl Iterator<Item = ProgramNo> + '_ {
         (0..).zip(&self.nodes).filter(move |(_, node)| node.parent() == of).map(|(i, _)| ProgramNo(i))
     }
@@ -87,14 +87,14 @@ impl<'a> Header<'a> {
         Ok(Header { text, starts: starts_of(&catalogue), catalogue })
     }
 
-    /// The text with a catalogue that was kept: 21 where it is not this text's. It holds no bytes of names: [`Header::from_sealed`] sees an edit of
-    /// those too.
+    /// The text with a catalogue that was kept: 21 if it is not this text's. A catalogue holds no bytes of names: [`Header::from_sealed`] also
+    /// notices when those were edited.
     pub fn from_kept(text: &'a [u8], catalogue: Vec<u8>) -> Result<Self, Refusal> {
         calls::check_with(text, &catalogue, &mut work_area(text))?;
         Ok(Header { text, starts: starts_of(&catalogue), catalogue })
     }
 
-    /// The text with a catalogue and a seal that were kept: 33 where the seal is another header's.
+    /// The text with a catalogue and a seal that were kept: 33 if the seal is another header's.
     ///
     /// ```
     /// use sam_header::Header;
@@ -225,7 +225,7 @@ impl<'a> Header<'a> {
         self.chains().map(|chains| (chains.leaves, chains.hops))
     }
 
-    /// The programs as a forest: each one's parent and depth besides the leaves.
+    /// The programs as a forest: the parent and depth of each, and the leaves.
     ///
     /// ```
     /// use sam_header::{Header, ProgramNo};
@@ -254,7 +254,7 @@ impl<'a> Header<'a> {
         crate::binary_out(self.text)
     }
 
-    /// The SHA-256 of the tidy text: what a plan keeps beside the catalogue.
+    /// The SHA-256 of the tidy text, which a plan keeps together with the catalogue.
     pub fn seal(&self) -> Result<Seal, Refusal> {
         let mut seal = Seal([0; 32]);
         calls::seal(self.text, &mut vec![0; room(self.text, 1, 1)], &mut seal.0)?;
@@ -287,7 +287,7 @@ impl<'a> Header<'a> {
     }
 }
 
-/// One record: its line, and its fields beside the keys. [`Reference`], [`ReadGroup`], [`Program`], [`Comment`] and [`HeaderLine`] add what each kind has.
+/// One record: its line, and its fields other than the keys. [`Reference`], [`ReadGroup`], [`Program`], [`Comment`] and [`HeaderLine`] add what each kind has.
 #[derive(Clone, Copy, Debug)]
 pub struct Record<'h> {
     kind: Kind,
@@ -313,7 +313,7 @@ impl<'h> Record<'h> {
         LineNo(number(self.entries, SIZES[self.kind as usize] - 4))
     }
 
-    /// SN or ID; of a comment what it says, and of an HD nothing.
+    /// SN or ID; the text of a comment; nothing for an HD.
     pub fn key(&self) -> &'h [u8] {
         if self.kind == Kind::Header {
             &[]
@@ -322,7 +322,7 @@ impl<'h> Record<'h> {
         }
     }
 
-    /// The fields beside the keys, in order: tag and value.
+    /// The fields other than the keys, in order: tag and value.
     pub fn fields(&self) -> impl Iterator<Item = ([u8; 2], &'h [u8])> {
         let text = self.text;
         let behind = self.entries.get(SIZES[self.kind as usize]..).unwrap_or_default();
@@ -332,7 +332,7 @@ impl<'h> Record<'h> {
             .map(move |entry| ([entry[1], entry[2]], part(text, entry, 3)))
     }
 
-    /// The value of a field. A key (VN of HD, SN and LN of SQ, ID of RG and PG) is no field.
+    /// The value of a field. A key (VN of HD, SN and LN of SQ, ID of RG and PG) is not a field.
     pub fn get(&self, tag: &[u8; 2]) -> Option<&'h [u8]> {
         self.fields().find(|field| field.0 == *tag).map(|field| field.1)
     }

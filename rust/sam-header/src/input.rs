@@ -1,8 +1,8 @@
-//! Headers out of files as they come. The proved library says where a header ends; nothing behind it is judged.
+//! Cuts headers out of files. The proved library says where a header ends; nothing after it is judged.
 use crate::{calls, BinaryLen, Header, Refusal, TEXT_LIMIT};
 use std::io::{self, Read};
 
-/// More bytes than any header that is accepted has in front of its alignment records.
+/// More bytes than any accepted header has before its alignment records.
 const MOST: usize = 4 * TEXT_LIMIT;
 
 /// What a header was found in.
@@ -30,7 +30,7 @@ impl Found {
         self.form
     }
 
-    /// The text as it stands in the file; of a binary header without the zero bytes at its end.
+    /// The text as it is in the file; for a binary header without the zero bytes at its end.
     pub fn text(&self) -> &[u8] {
         if self.form != Form::Bam {
             return &self.bytes;
@@ -41,7 +41,7 @@ impl Found {
         &text[..end]
     }
 
-    /// The header, read. Of a BAM file the whole binary header must be in order, its reference list too (29).
+    /// Reads the header. In a BAM file the whole binary header must be in order, including its reference list (29).
     pub fn read(&self) -> Result<Header<'_>, Refusal> {
         self.check_list()?;
         Header::read(self.text())
@@ -70,7 +70,7 @@ impl Found {
 /// Cuts the header out of a SAM, BAM or CRAM file, also one in gzip or BGZF (with the feature `flate2`). It reads somewhat further than the header goes.
 ///
 /// In a SAM file the header ends before the first alignment record: a line that does not start with `@` and has eleven fields or more. Another line
-/// in its place is left in, so that it is refused (3) and not passed over, and the header goes on behind it if `@` comes next. In a BAM file the
+/// in its place is left in, so that it is refused (3) and not passed over, and the header goes on after it if `@` comes next. In a BAM file the
 /// proved `binary_len` says where the header ends, and what can be no binary header is an error that holds refusal 28. Of CRAM, versions 2 and 3 are
 /// taken, whose header block is plain or in gzip.
 ///
@@ -163,7 +163,7 @@ impl<R: Read> Front<R> {
         }
     }
 
-    /// Where the line begins that may go on behind what was read.
+    /// Where the line begins that may go on after what was read.
     fn line_start(&self, end: usize) -> usize {
         self.bytes[..end].iter().rposition(|&b| b == b'\n').map_or(0, |lf| lf + 1)
     }
@@ -216,7 +216,7 @@ fn cram(mut from: impl Read) -> io::Result<Vec<u8>> {
     }
 }
 
-/// A header block is the text's length and the text; what is behind it is room to grow.
+/// A header block is the text's length and the text; the bytes after it are room to grow.
 fn cram_text(mut block: impl Read) -> io::Result<Vec<u8>> {
     let length = u32::from_le_bytes(bytes(&mut block)?) as usize;
     let mut text = Vec::new();

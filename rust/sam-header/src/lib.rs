@@ -14,8 +14,8 @@
 //!
 //! # What is proved, and what is not
 //! Reading, checking, tidying, the program chains, names, adding, pruning, the binary header, faults, seals and merges are calls of the proved
-//! library ([`calls`]). A [`Header`] is made by such a call alone, so that its catalogue is this text's; its iterators walk that catalogue and are
-//! plain Rust, which the tests hold to the proved calls. Cutting a header out of a file asks the proved library where it ends ([`read_header`]);
+//! library ([`calls`]). A [`Header`] is made only by such a call, so that its catalogue is this text's; its iterators walk that catalogue and are
+//! plain Rust, which the tests compare with the proved calls. Cutting a header out of a file asks the proved library where it ends ([`read_header`]);
 //! decompression is flate2's.
 //!
 //! # Stack
@@ -51,9 +51,9 @@ pub use input::{read_header, Form, Found};
 pub use refusal::{LineNo, ProgramNo, Refusal};
 pub use texts::{binary_in, binary_out, carry_on, faults, judge_merge, tidy};
 
-/// As many bytes as a text has at most.
+/// The greatest number of bytes in a text.
 pub const TEXT_LIMIT: usize = 16_777_216;
-/// As many programs as a header has at most.
+/// The greatest number of programs in a header.
 pub const PROGRAM_LIMIT: usize = 1_024;
 
 /// The kinds of records, by their numbers in the catalogue.
@@ -105,7 +105,7 @@ impl Node {
     }
 }
 
-/// How long a binary header is, of whose stream the front is known.
+/// How long a binary header is, from the front of its stream.
 #[derive(Clone, Copy, Debug, Eq, PartialEq)]
 pub enum BinaryLen {
     /// So many bytes.

@@ -11,7 +11,7 @@ impl fmt::Display for LineNo {
     }
 }
 
-/// A program's ordinal, from 0 among the programs alone: never a line.
+/// A program's ordinal: only programs count, from 0. It is never a line.
 #[derive(Clone, Copy, Debug, Eq, Hash, Ord, PartialEq, PartialOrd)]
 #[cfg_attr(feature = "serde", derive(serde::Serialize, serde::Deserialize))]
 pub struct ProgramNo(pub u32);
@@ -44,7 +44,7 @@ impl Refusal {
         Refusal { number: number as u8, line: Some(LineNo(line)) }
     }
 
-    /// A refusal by its number, to be explained: None where no refusal has it.
+    /// The refusal with a number, to explain it; None if there is none.
     pub fn from_number(number: u8) -> Option<Refusal> {
         (number > 0 && usize::from(number) < WORDS.len()).then_some(Refusal { number, line: None })
     }

@@ -34,7 +34,7 @@ fn number_of(text: &[u8]) -> u8 {
     calls::read(text, &mut []).err().map_or(0, |refusal| refusal.number)
 }
 
-/// The field that ends the shortest front of the line which gets the same refusal: where it starts, behind its tab, and where it ends.
+/// The field that ends the shortest front of the line which gets the same refusal: where it starts, after its tab, and where it ends.
 fn field(line: &[u8], number: u8) -> Option<(usize, usize)> {
     let ends: Vec<usize> = (4..line.len()).filter(|&i| line[i] == b'\t').chain([line.len()]).collect();
     let is_refused = |end: usize| match number {
@@ -59,7 +59,7 @@ fn value(line: &[u8], tag: &[u8; 3]) -> Option<(usize, usize)> {
     fields.skip(1).filter(|(_, field)| field.starts_with(tag)).last().map(|(at, field)| (at + 3, at + field.len()))
 }
 
-/// The first byte of a value that may not stand there.
+/// The first byte of a value that may not be in it.
 fn wrong_byte(tag: &[u8], value: &[u8]) -> Option<usize> {
     let control = |b: &u8| *b < 32 || *b == 127;
     match std::str::from_utf8(value) {

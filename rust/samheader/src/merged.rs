@@ -5,7 +5,7 @@ use sam_header::{judge_merge, Chains, Found, Header, Program, Unmerged, Which};
 use std::fmt::Write;
 use std::path::Path;
 
-/// As many tries as a search takes at most.
+/// How many tries a search makes at most.
 const TRIES: usize = 100_000;
 
 type Lists = [Vec<u32>; 2];
@@ -15,7 +15,7 @@ struct Programs<'h> {
     all: Vec<Program<'h>>,
     shapes: Vec<Vec<([u8; 2], &'h [u8])>>,
     parents: Vec<Option<u32>>,
-    /// Each program behind its parent.
+    /// Each program comes after its parent.
     order: Vec<usize>,
 }
 
@@ -38,7 +38,7 @@ struct Search<'s, 'h> {
     /// How many programs of A and of B each merged program is the image of.
     hits: Vec<[bool; 2]>,
     tries: usize,
-    /// How many merged programs have fields that none of A and B has: with any of them no list is accepted, and the others are placed to tell so.
+    /// How many merged programs have fields that none of A and B has: with any of them no list is accepted, and the others are placed to show this.
     extra: usize,
     /// The furthest that it came, and what could not be placed there.
     furthest: (usize, usize, usize),
@@ -105,7 +105,7 @@ pub fn run(files: [&Path; 3], lists: Option<&Path>) -> Done {
         let lists = given(file)?;
         return judge(&lists).map_or_else(|why| Err(refused(files, &found, why)), |()| accepted(None));
     }
-    // A text that is refused, or references that do not go together, are told before any list is looked at.
+    // A text that is refused, or references that do not fit together, are reported before any list is looked at.
     if let Err(why @ (Unmerged::Text(..) | Unmerged::Together(..))) = judge(&Lists::default()) {
         if !matches!(why, Unmerged::Together(refusal) if refusal.number == 31) {
             return Err(refused(files, &found, why));

@@ -33,7 +33,7 @@ pub fn read(file: &Path) -> Result<Vec<u8>, Stop> {
     done.map(|()| bytes).map_err(|why| Stop::on(file, why))
 }
 
-/// Writes to standard output, or to a file: beside it first, so that it is never half written, and then renamed.
+/// Writes to standard output, or to a file: to a new file next to it, so that it is never half written, which is then renamed.
 pub fn put(bytes: &[u8], to: Option<&Path>) -> Result<(), Stop> {
     match to.filter(|to| *to != Path::new("-")) {
         None => {

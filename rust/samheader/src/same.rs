@@ -5,7 +5,7 @@ use sam_header::{Header, Kind, LineNo};
 use std::collections::HashSet;
 use std::path::Path;
 
-/// As many differences are told.
+/// How many differences are reported at most.
 const MOST: usize = 10;
 
 /// The lines of the tidy text, each with the line of the text that it came from: kind by kind, each in its order.

@@ -1,4 +1,4 @@
-//! What the SAM specification says of values, and document 01 leaves alone. Nothing here is proved.
+//! What the SAM specification says of values, and document 01 does not judge. Nothing here is proved.
 use crate::output::shown;
 use sam_header::{Header, LineNo, Record};
 
@@ -25,7 +25,7 @@ const PLATFORMS: &[&str] = &[
     "ULTIMA",
 ];
 
-/// Of a header that reading accepts; of another none.
+/// The warnings for a header that reading accepts; none for another.
 pub fn warnings(text: &[u8]) -> Vec<Warning> {
     let Ok(header) = Header::read(text) else { return Vec::new() };
     let mut found = Vec::new();

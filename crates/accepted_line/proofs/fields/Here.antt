@@ -1,4 +1,4 @@
--- The field at a place of a line: its bytes, the place after it, and what stands before and after that.
+-- The field at a place of a line: its bytes, the place after it, and what comes before and after that.
 use Prim.Native.Nat.{ℕ, suc, _+_, _-_, _≤_, _<_}
 use mathlib.Core.Path.{_≡_, refl, sym, ap, subst, _∙_}
 use mathlib.Core.Bool.{Bool, true, false, _&&_, cond}
@@ -131,6 +131,6 @@ module _ (strict : Bool) (at : ℕ) (line : List ℕ) (pos : ℕ) (h : AtField s
   unfolding fieldsOf
   ended l = ap (fieldsOf (at + pos)) (drop-of-length-le line l)
 
-  -- where no tag stands twice, repeats may as well be allowed
+  -- where no tag is repeated, repeats may as well be allowed
   pub laxly : AtField false at line pos
   laxly = record { from = h .from; within = h .within; done = h .done; rest = h .rest; once = refl }

@@ -1,4 +1,4 @@
--- The tables of a line: where each tag stands first, and last.
+-- The tables of a line: where each tag comes first, and last.
 use Prim.Native.Nat.{ℕ, _+_, _-_, _<_, _≤_}
 use mathlib.Core.Path.{_≡_, refl, sym, ap, subst, _∙_}
 use mathlib.Core.Bool.{Bool, true, false, not, _||_, cond}
@@ -18,15 +18,15 @@ use Rattle.byte_slices.specs.Upto.{upto}
 use Rattle.byte_slices.specs.Stands.{Each}
 use Rattle.accepted_line.specs.Number.{tagNumber}
 use Rattle.accepted_line.proofs.tag_number.Apart.{tag-below, tag-apart}
-use Rattle.accepted.proofs.Bools.{never, or-left, or-right, split}
+use Rattle.lists.proofs.Bools.{never, or-left, or-right, split}
 use Rattle.accepted.proofs.Tags.{later-assoc}
 use Rattle.accepted_line.specs.Run.{fieldsOf, Runs, fieldsTo, fieldsFrom, AtField}
 use Rattle.accepted_line.specs.Next.{isFirst, valueOfPiece, orValue, noValue, lastIn, valueAt, keptAt, fieldLength}
 use Rattle.accepted_line.specs.Tables.{fieldNumber, HasTag, marked, noted, Blank, Noted}
-use Rattle.accepted_line.specs.declared.fields.Value.{Value}
+use Rattle.record.specs.declared.Stretch.{Stretch}
 use Rattle.accepted_line.proofs.fields.Runs.{bytesOf, runs-append}
 use Rattle.accepted_line.proofs.fields.Here.{Here, here, Found, found}
-use Rattle.accepted_line.proofs.fields.Turn.{first-here, last-same, last-other, own}
+use Rattle.accepted_line.proofs.fields.NextField.{first-here, last-same, last-other, own}
 use Rattle.accepted_line.proofs.fields.Spread.{same-number}
 
 -- ---- one field in the tables
@@ -140,7 +140,7 @@ module _ (a b : ℕ) (tag : isTag a b ≡ true) where
       (first-other t (fieldNumber d) p number small (other-number d (h .0) (or-left (tagged a b d) (any (tagged a b) ds) n)) ∙ z)
       (or-right (tagged a b d) (any (tagged a b) ds) n)
 
-  -- one has it: its place is none after them
+  -- one has it: its place is not after them
   first-some : (t : List ℕ) (p : ℕ) (ds : List Field) → Each HasTag ds → length t ≡ 6448 → 0 < p → getD t number 0 ≡ 0 → any (tagged a b) ds ≡ true
       → (0 < getD (noted t p ds) number 0) × (getD (noted t p ds) number 0 < p + length (fieldsText ds))
   unfolding noted any Each number fieldLength fieldText
@@ -163,15 +163,15 @@ module _ (a b : ℕ) (tag : isTag a b ≡ true) where
 
   -- ---- the last place
 
-  -- from the place `from` of the line on, the tag stands last at a place that `p` tells
+  -- from the place `from` of the line on, the tag comes last at a place that `p` gives
   record LastAt (at : ℕ) (line : List ℕ) (from p : ℕ) : Type 0 where
     pub place : ℕ
     pub is : p ≡ at + place
     pub here : AtField false at line place
     pub within : place < length line
-    pub value : (v : Value) → orValue v (lastOf a b (fieldsFrom at line from)) ≡ valueAt at place (place + 1 + upto 9 (drop (place + 1) line))
+    pub value : (v : Stretch) → orValue v (lastOf a b (fieldsFrom at line from)) ≡ valueAt at place (place + 1 + upto 9 (drop (place + 1) line))
 
-  -- or nowhere, and `p` is what stood in the tables before
+  -- or nowhere, and `p` is what was in the tables before
   data Last (at : ℕ) (line : List ℕ) (from before p : ℕ) : Type 0 where
     absent : lastOf a b (fieldsFrom at line from) ≡ none → p ≡ before → Last at line from before p
     present : LastAt at line from p → Last at line from before p
@@ -236,7 +236,7 @@ lastOf-append a b (d ∷ ds) gs =
     ap (later o) (lastOf-append a b ds gs) ∙ later-assoc o (lastOf a b ds) (lastOf a b gs)
 
 -- a value that comes later is the last one
-or-last : (v : Value) (o q : Option Piece) (p : Piece) → orValue v (later o (later (some p) q)) ≡ orValue (valueOfPiece p) q
+or-last : (v : Stretch) (o q : Option Piece) (p : Piece) → orValue v (later o (later (some p) q)) ≡ orValue (valueOfPiece p) q
 unfolding orValue later
 or-last v none none p = refl
 or-last v (some x) none p = refl
@@ -312,7 +312,7 @@ module _ (once : Bool) (at : ℕ) (line : List ℕ) (i : ℕ) (h : AtField once 
           let k : getD t m 0 ≡ at + i = ap (λ l. getD l m 0) split-noted ∙ first-after (f .tag₀) (f .tag₁) (g .1) (marked mid m (at + i)) (at + i + fieldLength f) (fieldsFrom at line (i + fieldLength f)) (λ q. omega (arith, s, h .from)) ∙ s in
           eq-eqb (getD t m 0) (at + i) k
 
-      -- the tables tell whether it stands at its tag's first place
+      -- the tables say whether it is at its tag's first place
       pub first-noted : eqb (getD t (fieldNumber f) 0) (at + i) ≡ isFirst at line i
       first-noted = tells (any (tagged (f .tag₀) (f .tag₁)) (fieldsTo at line i)) refl ∙ sym (first-here once at line i h f w)
 
@@ -321,7 +321,7 @@ module _ (once : Bool) (at : ℕ) (line : List ℕ) (i : ℕ) (h : AtField once 
 pub tables-size : (at : ℕ) (line t : List ℕ) → Noted at line t → length t ≡ 6448
 tables-size at line t n = ap length (n .is) ∙ noted-length (n .blank) (at + 3) (fieldsFrom at line 3) ∙ n .start .size
 
--- a field starts at the place that the tables tell, and has the tag's last value
+-- a field starts at the place that the tables say, and has the tag's last value
 pub record There (at : ℕ) (line : List ℕ) (a b p : ℕ) : Type 0 where
   pub from : at ≤ p
   pub here : AtField false at line (p - at)

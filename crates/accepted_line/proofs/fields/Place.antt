@@ -1,4 +1,4 @@
--- A turn of a walk over a line, as its bytes say it: from the tab at `i` to the end of the field there.
+-- A step of a walk over a line, as its bytes say it: from the tab at `i` to the end of the field there.
 use Prim.Native.Nat.{ℕ, _+_, _%_, _≤_, _<_}
 use mathlib.Core.Path.{_≡_, refl, sym, ap, ap₂, subst, _∙_}
 use mathlib.Core.Bool.{Bool, true, false, not, _&&_, _||_, cond}
@@ -16,9 +16,9 @@ use Rattle.record_tags.specs.Others.{firsts}
 use Rattle.accepted_line.specs.Run.{fieldsTo, fieldsFrom, AtField}
 use Rattle.accepted_line.specs.Next.{isFirst, orValue, lastIn, valueAt, keptAt, fieldLength}
 use Rattle.accepted_line.specs.Tables.{fieldNumber, HasTag, spread, marked, noted, Noted}
-use Rattle.accepted_line.specs.declared.fields.Value.{Value}
+use Rattle.record.specs.declared.Stretch.{Stretch}
 use Rattle.accepted_line.proofs.fields.Here.{Found, found}
-use Rattle.accepted_line.proofs.fields.Turn.{first-once, last-same, last-other, kept-own}
+use Rattle.accepted_line.proofs.fields.NextField.{first-once, last-same, last-other, kept-own}
 use Rattle.accepted_line.proofs.fields.Walked.{Taken, taken, passed}
 use Rattle.accepted_line.proofs.fields.Noted.{number-below, tags-here, first-noted, kept-last}
 
@@ -43,18 +43,18 @@ module _ (strict : Bool) (at : ℕ) (line : List ℕ) (i : ℕ) (h : AtField str
       → firsts k (fieldsTo at line i) (fieldsFrom at line i) ≡ firsts k (fieldsTo at line end) (fieldsFrom at line end)
   passed-at k n = rw ends (passed strict at line i h (own .field) (own .here) k n)
 
-  pub taken-at : (k : Kind) (v : Value) → isKey k (getD line (i + 1) 0) (getD line (i + 2) 0) ≡ false → isFirst at line i ≡ true → v ≡ keptAt at line i end → Taken at line k i end v
+  pub taken-at : (k : Kind) (v : Stretch) → isKey k (getD line (i + 1) 0) (getD line (i + 2) 0) ≡ false → isFirst at line i ≡ true → v ≡ keptAt at line i end → Taken at line k i end v
   taken-at k v n t q = rw (q, ends) (taken strict at line i h (own .field) (own .here) k n t)
 
   tag : (a b : ℕ) → tagged a b (own .field) ≡ eqb (getD line (i + 1) 0) a && eqb (getD line (i + 2) 0) b
   unfolding tagged
   tag a b = rw (own .here .tag-0, own .here .tag-1) refl
 
-  pub same-at : (a b : ℕ) (v : Value) → eqb (getD line (i + 1) 0) a && eqb (getD line (i + 2) 0) b ≡ true
+  pub same-at : (a b : ℕ) (v : Stretch) → eqb (getD line (i + 1) 0) a && eqb (getD line (i + 2) 0) b ≡ true
       → orValue v (lastOf a b (fieldsFrom at line i)) ≡ orValue (valueAt at i end) (lastOf a b (fieldsFrom at line end))
   same-at a b v t = rw ends (last-same strict at line i h (own .field) (own .here) a b v (tag a b ∙ t))
 
-  pub other-at : (a b : ℕ) (v : Value) → eqb (getD line (i + 1) 0) a && eqb (getD line (i + 2) 0) b ≡ false
+  pub other-at : (a b : ℕ) (v : Stretch) → eqb (getD line (i + 1) 0) a && eqb (getD line (i + 2) 0) b ≡ false
       → orValue v (lastOf a b (fieldsFrom at line i)) ≡ orValue v (lastOf a b (fieldsFrom at line end))
   other-at a b v t = rw ends (last-other strict at line i h (own .field) (own .here) a b v (tag a b ∙ t))
 

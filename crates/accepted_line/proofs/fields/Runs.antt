@@ -46,7 +46,7 @@ cut-past (c ∷ w) s h = go (eqb c 9) h (cut-past w s)
 abbrev pub bytesOf : Field → List ℕ
 bytesOf f = fieldText (f .tag₀) (f .tag₁) (f .value .bytes)
 
--- what stands between a field's tab and the next
+-- what is between a field's tab and the next
 abbrev pub piece : Field → List ℕ
 piece f = f .tag₀ ∷ f .tag₁ ∷ 58 ∷ f .value .bytes
 
@@ -54,7 +54,7 @@ pub piece-free : (f : Field) → Clean f → upto 9 (piece f) ≡ length (piece 
 unfolding upto
 piece-free f k = rw (ne-eqb _ _ (k .first), ne-eqb _ _ (k .second), k .value) refl
 
--- `f` as it stands at the offset `at`
+-- `f` as it is at the offset `at`
 abbrev pub seated : ℕ → Field → Field
 seated at f = record { tag₀ = f .tag₀; tag₁ = f .tag₁; value = record { at = at + 4; bytes = f .value .bytes } }
 
@@ -68,7 +68,7 @@ fields-more at f (g ∷ gs) k =
     let e : at + 1 + suc (suc (suc n)) + 1 ≡ at + suc (suc (suc (suc n))) + 1 = omega arith in
     rw (cut-past (piece f) (g .tag₀ ∷ g .tag₁ ∷ 58 ∷ g .value .bytes ++ fieldsText gs) (piece-free f k), q, e) refl
 
--- the first field of a run stands at its start, and the others after it
+-- the first field of a run is at its start, and the others after it
 pub record Opened (at : ℕ) (f : Field) (fs : List Field) : Type 0 where
   pub clean : Clean f
   pub place : f .value .at ≡ at + 4
@@ -112,7 +112,7 @@ runs-append at s t (f ∷ fs) gs r q =
     rw (r .spells, append-assoc v (fieldsText fs) t)
     (runs-more at f (fieldsText fs ++ t) (fs ++ gs) (o .clean) (o .place) (runs-append (at + fieldLength f) (fieldsText fs) t fs gs (o .tail) (subst (λ n. Runs n t gs) p q)))
 
--- the values of a run stand in it
+-- the values of a run are in it
 pub runs-stand : (at : ℕ) (s : List ℕ) (fs : List Field) → Runs at s fs → Each (λ f. Stands s at (f .value)) fs
 unfolding Each fieldsText fieldText fieldLength
 runs-stand at s [] r = tt

@@ -1,4 +1,4 @@
--- Fields that all take different marks: no tag stands twice among them.
+-- Fields that all take different marks: no tag is repeated among them.
 use Prim.Native.Nat.{ℕ, _%_, _<_}
 use mathlib.Core.Path.{_≡_, refl, sym, ap, ap₂, _∙_}
 use mathlib.Core.Bool.{Bool, true, false, _&&_, _||_, cond}
@@ -12,7 +12,7 @@ use borrow.Author.Tests.{eqb-true}
 use Rattle.format.specs.Bytes.{any}
 use Rattle.format.specs.Fields.{Field, tagged, repeats}
 use Rattle.accepted_line.specs.Number.{tagNumber}
-use Rattle.accepted.proofs.Bools.{never, and-left, and-right}
+use Rattle.lists.proofs.Bools.{never, and-left, and-right}
 use Rattle.accepted_line.specs.Tables.{fieldNumber, spread}
 
 -- the mark that a field takes

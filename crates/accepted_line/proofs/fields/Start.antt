@@ -7,6 +7,7 @@ use native.Mathlib.Omega.{arith}
 use lib.ListN.{length, drop, getD, replicate, length-replicate, getD-replicate, List·getD-eq-default}
 use lib.Dec.{eqb, ltb}
 use borrow.Author.Tests.{eqb-true, eqb-false, ltb-true, ltb-false}
+use Rattle.format.specs.Bytes.{none?}
 use Rattle.format.specs.Lines.{Piece, onto, cut, placed}
 use Rattle.format.specs.Fields.{Field, tagged, repeats, settled, without}
 use Rattle.format.specs.Records.{Record, others}
@@ -16,22 +17,23 @@ use Rattle.format.specs.declared.Kind.the-variants.{Header, ReferenceSequence, 
 use Rattle.byte_slices.specs.Upto.{upto}
 use Rattle.byte_slices.specs.Stands.{Each}
 use Rattle.byte_slices.proofs.Stands.{pieces-free}
-use Rattle.accepted.specs.Pieces.{Pairs}
+use Rattle.lists.specs.Pairs.{Pairs}
 use Rattle.accepted.specs.Sound.{kind}
 use Rattle.format.specs.Keys.{isKey}
 use Rattle.accepted.specs.Spelled as sp
 use Rattle.accepted.specs.Spelled.{Good, Made, Spelled}
-use Rattle.accepted.proofs.Bools.{never, split, or-split}
-use Rattle.accepted.proofs.Pairs.{pairs-right}
+use Rattle.lists.proofs.Bools.{never, split, or-split}
+use Rattle.lists.proofs.Pairs.{pairs-right}
 use Rattle.accepted.proofs.Sound.{made-kind}
 use Rattle.record_tags.specs.Others.{unkeyed, firsts}
 use Rattle.record_tags.proofs.Firsts.{settled-firsts}
 use Rattle.record_tags.proofs.Region.{Clean}
 use Rattle.accepted_line.specs.Run.{fieldOf, fieldsOf, Runs, fieldsTo, fieldsFrom, AtField}
-use Rattle.accepted_line.specs.Tables.{HasTag, spread, noted, Blank, Walkable}
+use Rattle.accepted_line.specs.Tables.{HasTag, spread, noted, Blank, Noted, Walkable}
 use Rattle.accepted_line.proofs.fields.Runs.{runs-none}
 use Rattle.accepted_line.proofs.fields.Here.{laxly}
 use Rattle.accepted_line.proofs.fields.Spread.{spread-once}
+use Rattle.accepted_line.proofs.fields.Noted.{tables-size}
 
 -- ---- the pieces of a line are its fields
 
@@ -112,7 +114,7 @@ made-others fs k r (sp.of-program p e) = ap settled (unkeyed-one Program 73 68 (
 
 -- ---- an accepted line of fields
 
--- no field stands before the first
+-- no field comes before the first
 pub start-none : (at : ℕ) (s : List ℕ) → fieldsTo at s 3 ≡ []
 unfolding fieldsOf
 start-none at s = refl
@@ -161,7 +163,7 @@ module _ (strict : Bool) (at : ℕ) (s : List ℕ) (r : Record) (a : Spelled str
 
 -- ---- what a walk is lent
 
--- no tag stands twice: it is forbidden, or the marks tell
+-- no tag is repeated: it is forbidden, or the marks show it
 pub once-start : (strict : Bool) (at : ℕ) (s : List ℕ) → AtField strict at s 3 → strict || spread (replicate 112 false) (fieldsFrom at s 3) ≡ true → AtField true at s 3
 unfolding fieldsOf
 once-start strict at s h t = record {
@@ -175,8 +177,9 @@ once-start strict at s h t = record {
       (spread-once (replicate 112 false) (fieldsFrom at s 3) (length-replicate 112 false));
 }
 
-pub once-walkable : (at : ℕ) (s t : List ℕ) → AtField true at s 3 → Walkable true at s t
-once-walkable at s t h = record { start = h; tables = λ e. absurd (never (cc)) }
+pub once-walkable : (at : ℕ) (s : List ℕ) → AtField true at s 3 → Walkable at s []
+unfolding none?
+once-walkable at s h = record { start = h; tables = λ e. absurd (never (cc)) }
 
 -- an array of zeros
 pub blank-tables : Blank (replicate 6448 0)
@@ -185,5 +188,13 @@ blank-tables = record {
   zero = λ n. split (ltb n 6448) (λ l. getD-replicate {A = ℕ} 6448 n 0 0 (ltb-true n 6448 l)) (λ l. List·getD-eq-default {A = ℕ} (replicate 6448 0) 0 {n = n} (omega (arith, ltb-false n 6448 l, length-replicate {A = ℕ} 6448 0)));
 }
 
-pub noted-walkable : (strict : Bool) (at : ℕ) (s blank t : List ℕ) → AtField strict at s 3 → Each HasTag (fieldsFrom at s 3) → Blank blank → t ≡ noted blank (at + 3) (fieldsFrom at s 3) → Walkable false at s t
-noted-walkable strict at s blank t h g b e = record { start = laxly strict at s 3 h; tables = λ z. record { blank = blank; start = b; tags = g; is = e } }
+-- tables are not none
+some-tables : (t : List ℕ) → length t ≡ 6448 → none? t ≡ false
+unfolding none?
+some-tables [] e = absurd (omega (arith, e))
+some-tables (x ∷ t) e = refl
+
+pub noted-walkable : (strict : Bool) (at : ℕ) (s blank t : List ℕ) → AtField strict at s 3 → Each HasTag (fieldsFrom at s 3) → Blank blank → t ≡ noted blank (at + 3) (fieldsFrom at s 3) → Walkable at s t
+noted-walkable strict at s blank t h g b e =
+    let n : Noted at s t = record { blank = blank; start = b; tags = g; is = e } in
+    record { start = rw (some-tables t (tables-size at s t n)) (laxly strict at s 3 h); tables = λ z. n }

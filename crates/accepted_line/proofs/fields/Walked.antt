@@ -13,18 +13,18 @@ use Rattle.format.specs.declared.Kind.{Kind}
 use Rattle.byte_slices.specs.Stands.{Stands, Each}
 use Rattle.byte_slices.proofs.Stands.{each-map, stands-onward}
 use Rattle.format.specs.Keys.{isKey}
-use Rattle.accepted.proofs.Bools.{or-true}
+use Rattle.lists.proofs.Bools.{or-true}
 use Rattle.accepted.proofs.Fields.{Of, lastOf-of}
 use Rattle.record_tags.specs.Others.{orLast, latest, firsts}
 use Rattle.accepted_line.specs.Run.{fieldsTo, fieldsFrom, AtField}
 use Rattle.accepted_line.specs.Next.{isFirst, keptAt, fieldLength}
-use Rattle.accepted_line.specs.declared.fields.Value.{Value}
+use Rattle.record.specs.declared.Stretch.{Stretch}
 use Rattle.accepted_line.proofs.fields.Runs.{runs-stand}
 use Rattle.accepted_line.proofs.fields.Here.{Here}
-use Rattle.accepted_line.proofs.fields.Turn.{first-here, further, kept-latest}
+use Rattle.accepted_line.proofs.fields.NextField.{first-here, further, kept-latest}
 
--- the field from `i` up to `end` is the next of the other fields that are still to come, with the value that stands at `v`
-pub record Taken (at : ℕ) (line : List ℕ) (k : Kind) (i end : ℕ) (v : Value) : Type 0 where
+-- the field from `i` up to `end` is the next of the other fields that are still to come, with the value that is at `v`
+pub record Taken (at : ℕ) (line : List ℕ) (k : Kind) (i end : ℕ) (v : Stretch) : Type 0 where
   pub field : Field
   pub tag-0 : field .tag₀ ≡ getD line (i + 1) 0
   pub tag-1 : field .tag₁ ≡ getD line (i + 2) 0
@@ -34,7 +34,7 @@ pub record Taken (at : ℕ) (line : List ℕ) (k : Kind) (i end : ℕ) (v : Valu
   pub bytes : field .value .bytes ≡ take (v .len) (drop (v .at - at) line)
   pub first : firsts k (fieldsTo at line i) (fieldsFrom at line i) ≡ field ∷ firsts k (fieldsTo at line end) (fieldsFrom at line end)
 
--- the values of the fields from a place on stand in the line
+-- the values of the fields from a place on are in the line
 values-stand : (strict : Bool) (at : ℕ) (line : List ℕ) (pos : ℕ) → AtField strict at line pos → Each (λ f. Stands line at (f .value)) (fieldsFrom at line pos)
 values-stand strict at line pos h =
     each-map (λ f. Stands (drop pos line) (at + pos) (f .value)) (λ f. Stands line at (f .value))
@@ -50,7 +50,7 @@ latest-stands line at f fs s h = go (lastOf (f .tag₀) (f .tag₁) fs) refl
     go (some p) e = let o : Of (λ f. Stands line at (f .value)) (f .tag₀) (f .tag₁) p = lastOf-of (λ f. Stands line at (f .value)) (f .tag₀) (f .tag₁) fs p h e in subst (Stands line at) (o .value) (o .holds)
 
 module _ (strict : Bool) (at : ℕ) (line : List ℕ) (pos : ℕ) (h : AtField strict at line pos) (f : Field) (e : Here strict at line pos f) (k : Kind) where
-  -- no key, and its tag stands nowhere before
+  -- not a key, and its tag comes nowhere before
   pub taken : isKey k (getD line (pos + 1) 0) (getD line (pos + 2) 0) ≡ false → isFirst at line pos ≡ true → Taken at line k pos (pos + fieldLength f) (keptAt at line pos (pos + fieldLength f))
   unfolding latest Each
   taken n t =
@@ -71,7 +71,7 @@ module _ (strict : Bool) (at : ℕ) (line : List ℕ) (pos : ℕ) (h : AtField s
         first = further strict at line pos h f e k ∙ rw (key, alone) refl;
       })
 
-  -- a key, or its tag stands before
+  -- a key, or its tag comes before
   pub passed : isKey k (getD line (pos + 1) 0) (getD line (pos + 2) 0) || not (isFirst at line pos) ≡ true
       → firsts k (fieldsTo at line pos) (fieldsFrom at line pos) ≡ firsts k (fieldsTo at line (pos + fieldLength f)) (fieldsFrom at line (pos + fieldLength f))
   passed n =

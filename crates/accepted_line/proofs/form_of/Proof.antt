@@ -18,7 +18,7 @@ use Rattle.accepted_line.proofs.Finds.{comment-is, three, fielded}
 use Rattle.accepted_line.proofs.form_of.Statement.{statement}
 use Rattle.accepted_line.proofs.form_of.Tie as tie
 
--- ---- which form is told
+-- ---- which form is answered
 
 module _ (strict : Bool) (at : ℕ) (s : List ℕ) (k : Kind) (e : k ≡ kindBy (getD s 1 0)) where
   form-comment : isComment k ≡ true → form.Comment ≡ formOf strict at s
@@ -33,7 +33,7 @@ module _ (strict : Bool) (at : ℕ) (s : List ℕ) (k : Kind) (e : k ≡ kindBy 
   unfolding formOf
   form-repeating c o = rw (← e, c, o) refl
 
--- ---- that it is told rightly
+-- ---- that the answer is right
 
 -- the line is of the kind `k`
 of : (s : tie.Start) (k : Kind) → (let a = s .args in kindBy (getD (a .src .now) 1 0) ≡ k → LineOf k (a .at) (a .src .now))

@@ -8,7 +8,7 @@ use lib.ListN.{length}
 use Rattle.format.specs.Fields.{lastOf}
 use Rattle.format.specs.Records.{line}
 use Rattle.format.specs.declared.Kind.the-variants.{Header, ReferenceSequence, ReadGroup, Program, Comment}
-use Rattle.accepted.proofs.Bools.{never}
+use Rattle.lists.proofs.Bools.{never}
 use Rattle.record.specs.Head.{stretchOf, headOf}
 use Rattle.record.specs.declared.Head.the-variants as head
 use Rattle.accepted_line.specs.Run.{fieldsFrom}
@@ -41,7 +41,7 @@ value : (s : tie.Start) → (let a = s .args in a .version ≡ orValue noValue (
 unfolding keysIn keysFrom lastKey
 value s = s .pre .1
 
--- VN stands in the line
+-- VN is in the line
 within : (s : tie.Start) → (let a = s .args in let v = a .version in (a .at ≤ v .at) × (v .at - a .at + v .len ≤ length (a .src .now)))
 within s = let a = s .args in value-within (a .at) (a .src .now) 86 78 (kept s .piece) (kept s .has) (a .version) (value s)
 

@@ -1,4 +1,4 @@
--- `accepted_line::sequence_of` meets its contract: SN stands in the line, and LN spells the number.
+-- `accepted_line::sequence_of` meets its contract: SN is in the line, and LN spells the number.
 use Prim.Native.Nat.{ℕ, _+_, _-_, _≤_, _^_}
 use mathlib.Core.Path.{_≡_, refl, sym, ap, ap₂, _∙_}
 use mathlib.Core.Bool.{false}
@@ -8,7 +8,7 @@ use lib.ListN.{length}
 use Rattle.format.specs.Fields.{lastOf}
 use Rattle.format.specs.Records.{line}
 use Rattle.format.specs.declared.Kind.the-variants.{Header, ReferenceSequence, ReadGroup, Program, Comment}
-use Rattle.accepted.proofs.Bools.{never}
+use Rattle.lists.proofs.Bools.{never}
 use Rattle.record.specs.Head.{stretchOf, headOf}
 use Rattle.record.specs.declared.Head.the-variants as head
 use Rattle.accepted_line.specs.Run.{fieldsFrom}
@@ -40,7 +40,7 @@ number : (s : tie.Start) → (let a = s .args in a .keys .number ≡ orValue noV
 unfolding keysIn keysFrom lastNumber
 number s = ap (λ k. k .number) (s .pre .1)
 
--- LN stands in the line
+-- LN is in the line
 within : (s : tie.Start) → (let a = s .args in let v = a .keys .number in (a .at ≤ v .at) × (v .at - a .at + v .len ≤ length (a .src .now)))
 within s = let a = s .args in value-within (a .at) (a .src .now) 76 78 (kept s .size) (kept s .has-size) (a .keys .number) (number s)
 

@@ -7,7 +7,7 @@ use lib.Dec.{ltb}
 use borrow.Author.Tests.{lt-ltb, le-ltb, le-leb, lt-leb}
 use Rattle.format.specs.Bytes.{between, letter, digit}
 use Rattle.format.specs.Fields.{isTag}
-use Rattle.accepted.proofs.Bools.{and-left, and-right, or-split}
+use Rattle.lists.proofs.Bools.{and-left, and-right, or-split}
 use Rattle.accepted.proofs.Clean.{between-bounds}
 use Rattle.accepted_line.specs.Number.{byteNumber, tagNumber}
 
@@ -58,7 +58,7 @@ module _ (a b : ℕ) (h : isTag a b ≡ true) where
   unfolding tagNumber
   tag-below = omega (arith, first .0, second .0)
 
--- the number tells the tag
+-- the number determines the tag
 pub tag-apart : (a b c d : ℕ) → isTag a b ≡ true → isTag c d ≡ true → tagNumber a b ≡ tagNumber c d → (a ≡ c) × (b ≡ d)
 unfolding tagNumber
 tag-apart a b c d h k e =

@@ -1,259 +1,55 @@
--- `add::add` meets its contract: reading, 21, 26, 22, 23, and then what is left once the leaves are known.
-use Prim.Native.Nat.{ℕ, _<_}
-use mathlib.Core.Path.{_≡_, refl, sym, ap, _∙_}
-use mathlib.Core.Bool.{true, false}
-use mathlib.Core.List.{List}
-use native.Mathlib.Omega.{arith}
-use lib.ListN.{length, take}
+-- `add::add` meets its contract: the check of the catalogue, then what is added to a text that is fresh.
+use mathlib.Core.Path.{_≡_}
+use lib.ListN.{length}
 use borrow.Author.Needs.{needs}
-use borrow.Author.Tests.{not-true, not-false}
-use Rattle.format.specs.Fields.{lastOf}
-use Rattle.format.specs.Reading.{readText}
-use Rattle.format.specs.Catalogue.{catalogue}
-use Rattle.format.specs.Programs.{Program, programs, links, leaves, tangled}
-use Rattle.format.specs.Adding.{given, misformed}
 use Rattle.format.specs.Calls.{adding}
-use Rattle.accepted.specs.Read.{isAccepted, recordsOf}
-use Rattle.program_chains.specs.Parents.{inArray}
-use Rattle.program_chains.proofs.Arrays.{front, front-count, front-inside}
-use Rattle.catalogue_entries.specs.Entries.{entriesIn}
-use Rattle.program_places.specs.declared.Programs.{Programs}
-use Rattle.program_places.specs.Gathered.{notedIn, programsIn, gatheredOf}
-use Rattle.program_ids.specs.Places.{idsAt}
-use Rattle.program_ids.specs.Search.{idsOf}
-use Rattle.program_parents.specs.Parents.{graphOf}
-use Rattle.program_parents.proofs.Own.{own-count, own-ats, own-lens, ats-inside, lens-inside, own-placed, own-ids}
-use Rattle.program_parents.proofs.Road.{graph-refusal, graph-list, graph-count, some-leaf}
-use Rattle.read.specs.Answers.{answerOf, outputOf}
-use Rattle.read.proofs.Told.{refused-answer}
-use Rattle.read.proofs.Fresh.{Current, refused-by, fresh-by}
-use Rattle.program_parents.proofs.Opened.{Opened, opened}
-use Rattle.add_input.proofs.InForm.{in-form}
-use Rattle.add.specs.Added.{isNothing, stray, leavesOf, addingOn}
-use Rattle.add.proofs.Prior.{nothing-none}
-use Rattle.add.proofs.Adding.{add-refused, add-misformed, add-stray, add-tangled, add-on}
+use Rattle.read.proofs.AnswerCases.{refused-answer}
+use Rattle.read.proofs.Fresh.{text-refused-by, text-fresh-by, rule-by}
+use Rattle.add.proofs.Adding.{add-refused}
 use Rattle.add.proofs.add.Statement.{statement}
 use Rattle.add.proofs.add.Tie as tie
 
--- the catalogue is the text's own
-own : (c : tie.After-enum-told) → let a = c .before .before .before .before .before .before .before .before .args in Current (a .text .now) (a .catalogue .now)
-own c = let a = c .before .before .before .before .before .before .before .before .args in fresh-by (a .text .now) (a .catalogue .now) (c .before .before .check .ensures) (c .enum-told .given .1)
-
-opens : (c : tie.After-enum-told) → let a = c .before .before .before .before .before .before .before .before .args in Opened (a .text .now) (a .catalogue .now)
-opens c = let a = c .before .before .before .before .before .before .before .before .args in opened (a .text .now) (a .catalogue .now) (own c .reads) (own c .own)
-
--- what is given is in form
-formed : (c : tie.Else1) → let a = c .before .before .before .before .before .before .before .before .before .before .args in misformed (a .prefix .now) (given (a .fields .now)) ≡ false
-formed c = not-true _ (sym (c .before .is-in-form .ensures) ∙ not-false (c .before .is-in-form .result) (c .if1 .left))
-
--- ---- what is gathered
-
-abbrev text : tie.After-gather → List ℕ
-text c = c .before .before .before .before .before .before .before .before .before .before .before .before .before .before .before .before .args .text .now
-
-accepted : (c : tie.After-gather) → isAccepted (readText (text c)) ≡ true
-accepted c = opens (c .before .before .before .before .before .before .before .before) .accepted
-
-abbrev held : tie.After-gather → Programs
-held c = programsIn (c .gather .last .1 .0) (c .gather .last .1 .1 .0) (c .gather .last .1 .1 .1 .0) (c .gather .last .1 .1 .1 .1 .0) (c .gather .result)
-
-gathers : (c : tie.After-gather) → held c ≡ gatheredOf (notedIn (entriesIn (catalogue (recordsOf (text c)))))
-gathers c = opens (c .before .before .before .before .before .before .before .before) .gathers (held c) (c .gather .ensures)
-
--- the IDs that are lent
-ids-are : (c : tie.After-gather) → idsAt (text c) (take (held c .count) (held c .id .at)) (take (held c .count) (held c .id .len)) ≡ idsOf (programs (recordsOf (text c)))
-ids-are c = own-ids (text c) (accepted c) (held c) (gathers c)
-
--- a given PP that is no ID
-prior : (c : tie.After-is-stray) → let g = c .before .before .before in stray (idsOf (programs (recordsOf (text g)))) (lastOf 80 80 (given (g .before .before .before .before .before .before .before .before .before .before .before .before .before .before .before .before .args .fields .now) .fields)) ≡ c .is-stray .result
-prior c = let g = c .before .before .before in sym (c .is-stray .ensures ∙ ap (λ ids. stray ids (lastOf 80 80 (given (g .before .before .before .before .before .before .before .before .before .before .before .before .before .before .before .before .args .fields .now) .fields))) (ids-are g))
-
--- ---- what is found
-
-abbrev ps : tie.After-find-leaves → List Program
-ps c = programs (recordsOf (c .before .before .before .before .before .before .before .before .before .before .before .before .before .before .before .before .before .before .before .before .before .before .args .text .now))
-
-graph-is : (c : tie.After-find-leaves) → c .find-leaves .result ≡ graphOf (links (ps c))
-graph-is c = c .find-leaves .ensures (ps c) (opens (c .before .before .before .before .before .before .before .before .before .before .before .before .before .before) .few) (c .before .parents-of .ensures)
-
-module _ (c : tie.Else3) where
-  abbrev asked : tie.After-find-leaves
-  asked = c .before .before
-
-  abbrev xs : List ℕ
-  xs = leaves (links (ps asked))
-
-  untangled : tangled (links (ps asked)) ≡ 0
-  untangled = sym (graph-refusal (links (ps asked)) (asked .find-leaves .result) (graph-is asked)) ∙ c .if3 .left
-
-  listed : asked .find-leaves .result .leaves .list ≡ inArray xs
-  listed = graph-list (links (ps asked)) (asked .find-leaves .result) (graph-is asked) (c .if3 .left)
-
-  counted : asked .find-leaves .result .leaves .count ≡ length xs
-  counted = graph-count (links (ps asked)) (asked .find-leaves .result) (graph-is asked) (c .if3 .left)
-
-  -- they are the leaves of the records, and there are some where there are programs
-  leaves-are : take (asked .find-leaves .result .leaves .count) (asked .find-leaves .result .leaves .list) ≡ leavesOf (recordsOf (c .before .before .before .before .before .before .before .before .before .before .before .before .before .before .before .before .before .before .before .before .before .before .before .before .args .text .now))
-  unfolding leavesOf
-  leaves-are = front xs (asked .find-leaves .result .leaves .list) (asked .find-leaves .result .leaves .count) listed counted
-
-  abbrev gathered : tie.After-gather
-  gathered = c .before .before .before .before .before .before .before .before
-
-  some : 0 < length (take (held gathered .count) (held gathered .id .at)) → 0 < length (take (asked .find-leaves .result .leaves .count) (asked .find-leaves .result .leaves .list))
-  some h =
-      let t = text gathered in
-      let p = held gathered in
-      let few = opens (gathered .before .before .before .before .before .before .before .before) .few in
-      let n = own-count t (accepted gathered) p (gathers gathered) in
-      let m = own-ats t (accepted gathered) p (gathers gathered) in
-      omega (arith, some-leaf (ps asked) few untangled (omega (arith, h, n, m)), ap length leaves-are, counted, front-count xs (asked .find-leaves .result .leaves .list) (asked .find-leaves .result .leaves .count) listed counted)
-
-check-requires : tie.Need-check-requires
-check-requires c κs = search needs
+check-text-requires : tie.Need-check-text-requires
+check-text-requires c κs = search needs
 
 enum-known-n : tie.Need-enum-known-n
 enum-known-n c = search needs
 
-enum-told : tie.Need-enum-told
-enum-told c = search needs
+enum-known-once : tie.Need-enum-known-once
+enum-known-once c = search needs
 
-is-in-form-requires : tie.Need-is-in-form-requires
-is-in-form-requires c κs = search needs
+add-fresh-requires : tie.Need-add-fresh-requires
+add-fresh-requires c κs =
+    let o = c .before .before in
+    let k = o .before .before in
+    let a = k .before .before .before .before .before .before .args in
+    let t = a .text .now in
+    let g = o .once .given in
+    (text-fresh-by t (a .catalogue .now) (k .check-text .ensures) (g .0 .0) (g .1) .says, rule-by t (a .catalogue .now) (k .check-text .ensures) (g .0 .0) (g .1))
 
 returns : tie.Need-returns
 returns c =
-    let a = c .before .before .before .before .before .before .before .before .before .before .args in
-    let room = length (a .out .now) in
-    refused-answer (adding (a .text .now) (a .catalogue .now) (a .prefix .now) (a .fields .now) room) (a .out .now) 26 (record { 0 = 0 })
-    (add-misformed (a .text .now) (a .catalogue .now) (own (c .before .before)) (a .prefix .now) (a .fields .now) room (not-false _ (sym (c .before .is-in-form .ensures) ∙ not-true (c .before .is-in-form .result) (c .if1 .taken))))
-
-find-previous-requires : tie.Need-find-previous-requires
-find-previous-requires c κs = let a = c .before .before .before .before .before .before .before .before .before .before .args in in-form (a .prefix .now) (given (a .fields .now)) (formed c) .stop
-
-gather-requires : tie.Need-gather-requires
-gather-requires c κs = (opens (c .before .before .before .before .before .before .before) .entries, (refl, refl, refl, refl))
-
-array-share-prefix-at : tie.Need-array-share-prefix-at
-array-share-prefix-at c = let g = c in ats-inside (text g) (accepted g) (held g) (gathers g)
-
-slice-aggregate-ats : tie.Need-slice-aggregate-ats
-slice-aggregate-ats c = let g = c .before in sym (own-ats (text g) (accepted g) (held g) (gathers g))
-
-array-share-prefix-len : tie.Need-array-share-prefix-len
-array-share-prefix-len c = let g = c .before in lens-inside (text g) (accepted g) (held g) (gathers g)
-
-slice-aggregate-lens : tie.Need-slice-aggregate-lens
-slice-aggregate-lens c = let g = c .before .before in sym (own-lens (text g) (accepted g) (held g) (gathers g))
-
-is-stray-requires : tie.Need-is-stray-requires
-is-stray-requires c κs = let g = c .before .before in (own-placed (text g) (accepted g) (held g) (gathers g), g .before .before .before .before .before .find-previous .ensures)
-
-returns-2 : tie.Need-returns-2
-returns-2 c =
-    let p = c .before .before .before .before .before .before .before .before .before in
-    let a = c .before .before .before .before .before .before .before .before .before .before .before .before .before .before .before .before .before .before .before .before .args in
-    let room = length (a .out .now) in
-    refused-answer (adding (a .text .now) (a .catalogue .now) (a .prefix .now) (a .fields .now) room) (a .out .now) 22 (record { 0 = 0 })
-    (add-stray (a .text .now) (a .catalogue .now) (own (p .before .before .before)) (a .prefix .now) (a .fields .now) room (formed (p .before)) (prior (c .before) ∙ c .if2 .taken))
-
-parents-of-requires : tie.Need-parents-of-requires
-parents-of-requires c κs = let e = c .before .before .before .before .before .before .before .before .before .before .before .before in (opens e .accepted, own e .own)
-
-find-leaves-requires : tie.Need-find-leaves-requires
-find-leaves-requires c κs = record {
-  ps = programs (recordsOf (c .before .before .before .before .before .before .before .before .before .before .before .before .before .before .before .before .before .before .before .before .before .args .text .now));
-  few = opens (c .before .before .before .before .before .before .before .before .before .before .before .before .before) .few;
-  is = c .parents-of .ensures;
-}
-
-returns-3 : tie.Need-returns-3
-returns-3 c =
-    let f = c .before .before in
-    let e = f .before .before in
-    let p = e .before .before .before .before .before .before .before .before .before in
-    let a = c .before .before .before .before .before .before .before .before .before .before .before .before .before .before .before .before .before .before .before .before .before .before .before .before .args in
-    let room = length (a .out .now) in
-    let n = f .find-leaves .result .refusal in
-    refused-answer (adding (a .text .now) (a .catalogue .now) (a .prefix .now) (a .fields .now) room) (a .out .now) n (record { 0 = 0 })
-    (add-tangled (a .text .now) (a .catalogue .now) (own (p .before .before .before)) (a .prefix .now) (a .fields .now) room (formed (p .before)) (prior (e .before) ∙ e .if2 .left) n (graph-refusal (links (ps f)) (f .find-leaves .result) (graph-is f)) (c .if3 .taken))
-
-array-share-prefix-list : tie.Need-array-share-prefix-list
-array-share-prefix-list c = let e = c .before .before in front-inside (xs e) (asked e .find-leaves .result .leaves .list) (asked e .find-leaves .result .leaves .count) (listed e) (counted e)
-
-slice-aggregate-leaves : tie.Need-slice-aggregate-leaves
-slice-aggregate-leaves c = let e = c .before .before .before in front-count (xs e) (asked e .find-leaves .result .leaves .list) (asked e .find-leaves .result .leaves .count) (listed e) (counted e)
-
-is-linked-requires : tie.Need-is-linked-requires
-is-linked-requires c κs = search needs
-
-add-after-requires : tie.Need-add-after-requires
-add-after-requires c κs =
-    let e = c .before .before .before .before .before in
-    let g = gathered e in
-    let p = g .before .before .before .before .before in
-    let a = p .before .before .before .before .before .before .before .before .before .before .before .args in (
-      accepted g,
-      (
-        (own-placed (text g) (accepted g) (held g) (gathers g), ids-are g),
-        (
-          (
-            in-form (a .prefix .now) (given (a .fields .now)) (formed (p .before)) .stop,
-            c .before .is-linked .ensures ∙ ap isNothing (p .find-previous .ensures) ∙ nothing-none (lastOf 80 80 (given (a .fields .now) .fields)),
-          ),
-          (leaves-are e, some e),
-        ),
-      ),
-    )
-
-returns-4 : tie.Need-returns-4
-returns-4 c =
     let k = c .before .before .before in
     let a = k .before .before .before .before .before .before .args in
     let g = c .before .n .given in
     let room = length (a .out .now) in
     refused-answer (adding (a .text .now) (a .catalogue .now) (a .prefix .now) (a .fields .now) room) (a .out .now) (g .0 .0) (g .0 .1 .0)
-    (add-refused (a .text .now) (a .catalogue .now) (a .prefix .now) (a .fields .now) room (g .0 .0) (g .0 .1 .0 .0) (refused-by (a .text .now) (a .catalogue .now) (k .check .ensures) (g .0 .0) (g .0 .1 .0) (g .1)))
+    (add-refused (a .text .now) (a .catalogue .now) (a .prefix .now) (a .fields .now) room (g .0 .0) (g .0 .1 .0 .0) (text-refused-by (a .text .now) (a .catalogue .now) (k .check-text .ensures) (g .0 .0) (g .0 .1 .0) (g .1)))
 
 same-length : tie.Need-same-length
 same-length c = search needs
 
-returns-5 : tie.Need-returns-5
-returns-5 c =
-    let w = c .before .before in
-    let l = w .before .before .before .before .before .before in
-    let e = l .before .before .before .before in
-    let p = e .before .before .before .before .before .before .before .before .before in
-    let a = p .before .before .before .before .before .before .before .before .before .before .before .args in
-    let room = length (a .out .now) in
-    let on : addingOn (recordsOf (a .text .now)) (a .prefix .now) (given (a .fields .now) .fields) room ≡ adding (a .text .now) (a .catalogue .now) (a .prefix .now) (a .fields .now) room =
-    sym (add-on (a .text .now) (a .catalogue .now) (own (p .before .before .before)) (a .prefix .now) (a .fields .now) room (formed (p .before)) (prior (e .before) ∙ e .if2 .left) (untangled l)) in
-    (w .add-after .ensures .0 ∙ ap answerOf on, w .add-after .ensures .1 ∙ ap (λ x. outputOf x (a .out .now)) on)
+returns-2 : tie.Need-returns-2
+returns-2 c = search needs
 
 pub add-spec : {M : Type 1} → statement M
 add-spec =
     tie.close
     (tie.spec
-    check-requires
+    check-text-requires
     enum-known-n
-    enum-told
-    is-in-form-requires
+    enum-known-once
+    add-fresh-requires
     returns
-    find-previous-requires
-    gather-requires
-    array-share-prefix-at
-    slice-aggregate-ats
-    array-share-prefix-len
-    slice-aggregate-lens
-    is-stray-requires
-    returns-2
-    parents-of-requires
-    find-leaves-requires
-    returns-3
-    array-share-prefix-list
-    slice-aggregate-leaves
-    is-linked-requires
-    add-after-requires
-    returns-4
     same-length
-    returns-5)
+    returns-2)

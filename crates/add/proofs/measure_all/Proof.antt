@@ -6,12 +6,10 @@ use mathlib.Core.Option.{none}
 use native.Mathlib.Omega.{arith}
 use lib.ListN.{length}
 use borrow.Author.Tests.{ltb-true, ltb-false}
-use Rattle.format.specs.Lines.{lines}
 use Rattle.format.specs.Records.{Record}
-use Rattle.format.specs.Reading.{announced, isStrict}
 use Rattle.format.specs.Tidy.{tidy, unwritable}
 use Rattle.accepted.specs.Read.{recordsOf}
-use Rattle.program_ids.specs.Places.{idsAt}
+use Rattle.program_ids.specs.Ids.{idsAt}
 use Rattle.tidy_sizes.specs.Numbers.{total}
 use Rattle.tidy_text.specs.Sizes.{sizesOf}
 use Rattle.tidy_text.proofs.Lines.{opened}
@@ -32,18 +30,18 @@ abbrev records : tie.Start → List Record
 records s = recordsOf (s .args .text .now)
 
 abbrev new : tie.Start → List ℕ
-new s = let a = s .args in addedText (idsAt (a .text .now) (a .ats .now) (a .lens .now)) (a .shape .empty) (a .shape .alone) (a .shape .linked) (a .prefix .now) (a .fields .now) (a .leaves .now)
+new s = let a = s .args in addedText (idsAt (a .text .now) (a .ids .now)) (a .ways .shape .empty) (a .ways .shape .alone) (a .ways .shape .linked) (a .prefix .now) (a .fields .now) (a .leaves .now)
 
 abbrev whole : tie.Start → List ℕ
 whole s = withAdded (records s) (new s)
 
 -- what is measured
 abbrev sound : tie.Start → Plan
-sound s = record { strict = isStrict (announced (lines (s .args .text .now))); sizes = sizesOf (records s); more = length (new s) }
+sound s = record { ways = s .args .ways; sizes = sizesOf (records s); more = length (new s) }
 
 -- what was measured before the call
 abbrev start : tie.After-sizes → tie.Start
-start z = z .before .before .before .before .before .before .before .before .before .before
+start z = z .before .before .before .before .before .before .before .before
 
 -- every name can be written, and the sizes are those of the tidy text
 measured : (z : tie.After-sizes) → let rs = records (start z) in (unwritable 0 rs ≡ none) × (sizesOf rs ≡ z .sizes .given .0 .0)
@@ -56,8 +54,7 @@ measured z =
 sum : (z : tie.After-sizes) → (total (z .sizes .given .0 .0) ≡ length (tidy (records (start z)))) × (length (tidy (records (start z))) ≤ 16777217)
 sum z =
     let s = start z in
-    let k = z .before .before .before in
-    (ap total (sym (measured z .1)) ∙ total-size (records s), tidy-small (k .is-strict .result) (s .args .text .now) (opened (k .is-strict .result) (s .args .text .now) (s .pre .0) (k .is-strict .ensures)) .1)
+    (ap total (sym (measured z .1)) ∙ total-size (records s), tidy-small (s .args .ways .strict) (s .args .text .now) (opened (s .args .ways .strict) (s .args .text .now) (s .pre .0) (s .pre .1 .0)) .1)
 
 counted : (c : tie.After-total) → length (tidy (records (start (c .before .before)))) ≡ c .total .result
 counted c = sym (c .total .ensures ∙ sum (c .before .before) .0)
@@ -72,9 +69,6 @@ size c =
 -- and no longer than a text may be
 short : (c : tie.Else2) → length (whole (start (c .before .before .before .before .before .before .before))) ≤ 16777216
 short c = let o = c .before in omega (arith, size (o .before), ltb-false 16777216 (o .before .before .before .before .total .result + o .before .added-len .result) (sym (o .is-over .ensures) ∙ c .if2 .left))
-
-is-strict-requires : tie.Need-is-strict-requires
-is-strict-requires c κs = search needs
 
 measure-requires : tie.Need-measure-requires
 measure-requires c κs = search needs
@@ -98,16 +92,15 @@ returns c =
     let s = start z in
     let a = s .args in
     let room = a .room in
-    let long = added-long (idsAt (a .text .now) (a .ats .now) (a .lens .now)) (a .shape .linked) (a .prefix .now) (a .fields .now) (a .shape .empty) (a .shape .alone) (a .leaves .now) (s .pre .1 .1 .1) (sym (c .before .is-too-long .ensures) ∙ c .if1 .taken) in
+    let long = added-long (idsAt (a .text .now) (a .ids .now)) (a .ways .shape .linked) (a .prefix .now) (a .fields .now) (a .ways .shape .empty) (a .ways .shape .alone) (a .leaves .now) (s .pre .1 .1 .1 .1) (sym (c .before .is-too-long .ensures) ∙ c .if1 .taken) in
     sym (ap (plannedOf (sound s)) (write-long room (unwritable 0 (records s)) (whole s) (measured z .0) (omega (arith, with-size (records s) (new s), long))))
 
 added-len-requires : tie.Need-added-len-requires
 added-len-requires c κs =
     let z = c .before .before .before .before in
     let s = start z in
-    let k = z .before .before .before in
     let b = both-short (s .args .prefix .now) (s .args .fields .now) (sym (c .before .is-too-long .ensures) ∙ c .if1 .left) in
-    (s .pre .1 .0, (opened (k .is-strict .result) (s .args .text .now) (s .pre .0) (k .is-strict .ensures) .fits, b .0, b .1, s .pre .1 .1 .0))
+    (s .pre .1 .1 .0, (opened (s .args .ways .strict) (s .args .text .now) (s .pre .0) (s .pre .1 .0) .fits, b .0, b .1, s .pre .1 .1 .1 .0))
 
 is-over-requires : tie.Need-is-over-requires
 is-over-requires c κs = search needs
@@ -140,7 +133,7 @@ returns-4 : tie.Need-returns-4
 unfolding plannedOf
 returns-4 c =
     let m = c .before .before .before in
-    let s = c .before .before .before .before .before .before .before .before .before .before .before in
+    let s = c .before .before .before .before .before .before .before .before .before in
     let room = s .args .room in
     let l = c .before .line .given .0 .0 in
     sym (ap (plannedOf (sound s)) (write-bad room (unwritable 0 (records s)) (whole s) (l .0) (measured-bad (unwritable 0 (records s)) (sizesOf (records s)) l (sym (m .measure .ensures .0) ∙ c .before .line .given .1))))
@@ -151,18 +144,15 @@ returns-5 c =
     let l = c .before .before .before in
     let z = l .before .before .before .before .before in
     let s = start z in
-    let k = z .before .before .before in
     let p = sound s in
-    ap (λ b. Is (record { strict = b; sizes = z .sizes .given .0 .0; more = l .added-len .result })) (k .is-strict .ensures)
-    ∙ ap (λ n. Is (record { strict = p .strict; sizes = n; more = l .added-len .result })) (sym (measured z .1))
-    ∙ ap (λ n. Is (record { strict = p .strict; sizes = p .sizes; more = n })) (l .added-len .ensures)
+    ap (λ n. Is (record { ways = p .ways; sizes = n; more = l .added-len .result })) (sym (measured z .1))
+    ∙ ap (λ n. Is (record { ways = p .ways; sizes = p .sizes; more = n })) (l .added-len .ensures)
     ∙ sym (ap (plannedOf p) (write-fits (s .args .room) (unwritable 0 (records s)) (whole s) (measured z .0) (short (c .before)) (omega (arith, size l, c .if3 .left))))
 
 pub measure-all-spec : {M : Type 1} → statement M
 measure-all-spec =
     tie.close
     (tie.spec
-    is-strict-requires
     measure-requires
     enum-known-line
     enum-known-sizes

@@ -5,26 +5,26 @@ use mathlib.Core.Bool.{Bool, true, false, _||_}
 use native.Mathlib.Omega.{arith}
 use borrow.Author.Needs.{needs}
 use lib.ListN.{length, drop}
-use Rattle.program_ids.specs.Places.{idsAt}
+use Rattle.program_ids.specs.Ids.{idsAt}
 use Rattle.add_ids.specs.Taken.{joined, isAmong, taken}
 use Rattle.add_ids.proofs.Search.{taken-end, taken-step}
 use Rattle.add_ids.proofs.is_taken.Statement.{statement}
 use Rattle.add_ids.proofs.is_taken.Tie as tie
 
 abbrev Inv-loop : tie.InvT-loop
-Inv-loop text ats lens prefix leaves i₀ i = taken (idsAt text ats lens) prefix leaves ≡ taken (idsAt text ats lens) prefix (drop i leaves)
+Inv-loop text ids prefix leaves i₀ i = taken (idsAt text ids) prefix leaves ≡ taken (idsAt text ids) prefix (drop i leaves)
 
 abbrev μ-loop : tie.MeasureT-loop
-μ-loop text ats lens prefix leaves i₀ i = length leaves - i
+μ-loop text ids prefix leaves i₀ i = length leaves - i
 
 loop-holds : tie.Need-loop-holds Inv-loop μ-loop
 loop-holds c = refl
 
-mul-t8 : tie.Need-mul-t8 Inv-loop μ-loop
-mul-t8 c = omega arith
+mul-t7 : tie.Need-mul-t7 Inv-loop μ-loop
+mul-t7 c = omega arith
 
-shared-slice-read-t11 : tie.Need-shared-slice-read-t11 Inv-loop μ-loop
-shared-slice-read-t11 c = omega arith
+shared-slice-read-t10 : tie.Need-shared-slice-read-t10 Inv-loop μ-loop
+shared-slice-read-t10 c = omega arith
 
 find-id-requires : tie.Need-find-id-requires Inv-loop μ-loop
 find-id-requires c κs = search needs
@@ -34,13 +34,13 @@ is-known-requires c κs = search needs
 
 -- the answer, by the made ID that was looked for
 step : (c : tie.After-is-known Inv-loop μ-loop) (b : Bool) → c .is-known .result ≡ b
-    → let a = c .before .before .before .before .before .before .before .before .before .before .args in
-    let ids = idsAt (a .text .now) (a .ats .now) (a .lens .now) in
+    → let a = c .before .before .before .before .before .before .before .before .before .args in
+    let ids = idsAt (a .text .now) (a .ids .now) in
     taken ids (a .prefix .now) (a .leaves .now) ≡ b || taken ids (a .prefix .now) (drop (c .before .before .before .before .loop .i + 1) (a .leaves .now))
 step c b e =
-    let a = c .before .before .before .before .before .before .before .before .before .before .args in
+    let a = c .before .before .before .before .before .before .before .before .before .args in
     let l = c .before .before .before .before .loop in
-    let ids = idsAt (a .text .now) (a .ats .now) (a .lens .now) in
+    let ids = idsAt (a .text .now) (a .ids .now) in
     l .inv ∙ taken-step ids (a .prefix .now) (a .leaves .now) (l .i) (omega arith)
     ∙ ap (λ b. b || taken ids (a .prefix .now) (drop (l .i + 1) (a .leaves .now))) (sym (c .is-known .ensures ∙ ap (λ id. isAmong (joined (a .prefix .now) id) ids) (c .before .find-id .ensures .0)) ∙ e)
 
@@ -58,9 +58,9 @@ loop-again c = step (c .before) false (c .if1 .left)
 
 returns-2 : tie.Need-returns-2 Inv-loop μ-loop
 returns-2 c =
-    let a = c .before .before .before .before .before .before .before .args in
+    let a = c .before .before .before .before .before .before .args in
     let l = c .before .loop in
-    sym (l .inv ∙ taken-end (idsAt (a .text .now) (a .ats .now) (a .lens .now)) (a .prefix .now) (a .leaves .now) (l .i) (omega arith))
+    sym (l .inv ∙ taken-end (idsAt (a .text .now) (a .ids .now)) (a .prefix .now) (a .leaves .now) (l .i) (omega arith))
 
 pub is-taken-spec : {M : Type 1} → statement M
 is-taken-spec =
@@ -69,8 +69,8 @@ is-taken-spec =
     Inv-loop
     μ-loop
     loop-holds
-    mul-t8
-    shared-slice-read-t11
+    mul-t7
+    shared-slice-read-t10
     find-id-requires
     is-known-requires
     returns

@@ -16,7 +16,7 @@ Inv-loop fields last₀ pos₀ last pos = Seeking fields last pos
 abbrev μ-loop : tie.MeasureT-loop
 μ-loop fields last₀ pos₀ last pos = length fields - pos
 
--- where the field of a turn ends
+-- where the field of a step ends
 end : (c : tie.After-upto Inv-loop μ-loop)
     → let l = c .before .before .before in
     l .loop .pos + 1 + c .upto .result ≡ l .loop .pos + 1 + upto 9 (drop (l .loop .pos + 1) (l .before .before .args .fields .now))

@@ -1,4 +1,4 @@
--- `add_lines::put_joining` meets its contract: nothing, or `-` and the ID behind it.
+-- `add_lines::put_joining` meets its contract: nothing, or `-` and the ID after it.
 use Prim.Native.Nat.{_+_, _≤_}
 use mathlib.Core.Path.{refl, sym, ap, subst}
 use mathlib.Core.List.{[], _∷_}

@@ -1,4 +1,4 @@
--- `binary_in::binary_in` meets its contract: the parts, the judgement of the text and the comparison of the lists decide in turn.
+-- `binary_in::binary_in` meets its contract: the parts, the judgement of the text and the comparison of the lists decide one after another.
 use Prim.Native.Nat.{ℕ, _+_, _-_, _≤_}
 use mathlib.Core.Path.{_≡_, sym, ap, _∙_}
 use mathlib.Core.List.{List}
@@ -12,9 +12,9 @@ use Rattle.format.specs.References.{sqList, sameReferences}
 use Rattle.format.specs.Binary.{takeList, unpadded, binaryIn}
 use Rattle.binary_parts.specs.Parts.{listed}
 use Rattle.binary_references.proofs.Next.{sq-all}
-use Rattle.read_judge.proofs.Whole.{text-refused, text-accepted}
+use Rattle.read_judge.proofs.Whole.{Told, text-refused, text-accepted}
 use Rattle.read.specs.Answers.{answerOf, outputOf}
-use Rattle.read.proofs.Told.{refused-answer}
+use Rattle.read.proofs.AnswerCases.{refused-answer}
 use Rattle.binary_in.proofs.Kept.{kept-within, kept-is}
 use Rattle.binary_in.proofs.Reading.{in-none, in-refused, in-other, in-same}
 use borrow.Author.Needs.{needs}
@@ -45,11 +45,14 @@ module _ (c : tie.After-unpadded-len) where
 
 -- ---- once it is accepted
 
-module _ (c : tie.After-enum-told) where
-  accepted : readText (textOf (c .before .before .before .before)) ≡ accept (recordsOf (textOf (c .before .before .before .before)))
-  accepted =
+module _ (c : tie.After-once) where
+  told : Told (textOf (c .before .before .before .before)) (c .once .given .0 .0) (c .once .given .0 .1 .0)
+  told =
       let j = c .before .before in
-      text-accepted (textOf (j .before .before)) (c .enum-told .given .0 .0) (sym (j .judge .ensures) ∙ c .enum-told .given .1) .0
+      text-accepted (textOf (j .before .before)) (c .once .given .0 .0) (c .once .given .0 .1 .0) (sym (j .judge .ensures) ∙ c .once .given .1)
+
+  accepted : readText (textOf (c .before .before .before .before)) ≡ accept (recordsOf (textOf (c .before .before .before .before)))
+  accepted = told .reads
 
 -- whether the reference list is the SQ list
 alike : (c : tie.After-is-sq-list)
@@ -58,14 +61,13 @@ alike : (c : tie.After-is-sq-list)
     let q = p .parts .result in
     c .is-sq-list .result ≡ sameReferences (listed (takeList (q .count) (drop (q .list) (p .before .before .before .args .bytes .now)))) (sqList (recordsOf (textOf u)))
 alike c =
-    let s = c .before in
-    let e = s .before in
+    let e = c .before .before in
     let u = e .before .before .before .before in
     let p = u .before .before .before .before .before in
     let q = p .parts .result in
     c .is-sq-list .ensures
     ∙ ap (sameReferences (listed (takeList (q .count) (drop (q .list) (p .before .before .before .args .bytes .now)))))
-    (sq-all (s .is-strict .result) (textOf u) (recordsOf (textOf u)) (accepted e) (s .is-strict .ensures))
+    (sq-all (e .once .given .0 .1 .0) (textOf u) (recordsOf (textOf u)) (accepted e) (told e .rule))
 
 parts-requires : tie.Need-parts-requires
 parts-requires c κs = search needs
@@ -124,12 +126,8 @@ enum-known-n : tie.Need-enum-known-n
 enum-known-n c = search needs
 
 -- src/lib.rt:26:17
-enum-told : tie.Need-enum-told
-enum-told c = search needs
-
--- src/lib.rt:26:17
-is-strict-requires : tie.Need-is-strict-requires
-is-strict-requires c κs = search needs
+enum-known-once : tie.Need-enum-known-once
+enum-known-once c = search needs
 
 -- src/lib.rt:27:17
 is-sq-list-requires : tie.Need-is-sq-list-requires
@@ -157,8 +155,8 @@ returns-2 c =
 write-accepted-requires : tie.Need-write-accepted-requires
 unfolding isAccepted
 write-accepted-requires c κs =
-    let s = c .before .before .before in
-    (ap isAccepted (accepted (s .before)), s .is-strict .ensures)
+    let e = c .before .before .before .before in
+    (ap isAccepted (accepted e), told e .rule)
 
 -- src/lib.rt:11:1
 returns-3 : tie.Need-returns-3
@@ -209,8 +207,7 @@ binary-in-spec =
     part-text-end
     judge-requires
     enum-known-n
-    enum-told
-    is-strict-requires
+    enum-known-once
     is-sq-list-requires
     returns-2
     write-accepted-requires

@@ -9,7 +9,7 @@ use borrow.Author.Needs.{needs}
 use Rattle.format.specs.Bytes.{starts}
 use Rattle.format.specs.Binary.{magic}
 use Rattle.binary_len.specs.BinaryLen.{numberAt, referencesAt}
-use Rattle.binary_len.proofs.Turn.{start-cut, start-other, text-length-cut, text-cut, count-cut, list-at}
+use Rattle.binary_len.proofs.PartByPart.{start-cut, start-other, text-length-cut, text-cut, count-cut, list-at}
 use Rattle.binary_len.proofs.Grown.{longer}
 use Rattle.binary_len.specs.Step.{told, lenFrom, Resumes}
 use Rattle.binary_len.proofs.Resume.{from-start, from-cut, from-at, list-longer, resumes-as}

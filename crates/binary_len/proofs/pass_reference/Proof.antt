@@ -4,7 +4,7 @@ use mathlib.Core.Path.{refl, sym, _∙_}
 use native.Mathlib.Omega.{arith}
 use borrow.Author.Needs.{needs}
 use Rattle.binary_len.specs.BinaryLen.{numberAt}
-use Rattle.binary_len.proofs.Turn.{part-there, part-cut, length-cut, name-none, name-cut, name-open, name-closed}
+use Rattle.binary_len.proofs.PartByPart.{part-there, part-cut, length-cut, name-none, name-cut, name-open, name-closed}
 use Rattle.binary_len.proofs.pass_reference.Statement.{statement}
 use Rattle.binary_len.proofs.pass_reference.Tie as tie
 

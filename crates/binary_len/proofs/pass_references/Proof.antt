@@ -6,7 +6,7 @@ use native.Mathlib.Omega.{arith}
 use lib.ListN.{length}
 use borrow.Author.Needs.{needs}
 use Rattle.binary_len.specs.BinaryLen.{referencesAt, onward}
-use Rattle.binary_len.proofs.Turn.{references-on, reference-within}
+use Rattle.binary_len.proofs.PartByPart.{references-on, reference-within}
 use Rattle.binary_len.specs.Step.{told, Resumes}
 use Rattle.binary_len.proofs.Resume.{passed-longer, from-here}
 use Rattle.binary_len.proofs.pass_references.Statement.{statement}

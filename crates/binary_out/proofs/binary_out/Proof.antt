@@ -6,19 +6,22 @@ use Rattle.format.specs.Reading.{readText}
 use Rattle.format.specs.Binary.{binaryOut}
 use Rattle.accepted.specs.Read.{isAccepted}
 use Rattle.read.specs.Answers.{answerOf, outputOf}
-use Rattle.read_judge.proofs.Whole.{text-refused, text-accepted}
-use Rattle.read.proofs.Told.{refused-answer}
+use Rattle.read_judge.proofs.Whole.{Told, text-refused, text-accepted}
+use Rattle.read.proofs.AnswerCases.{refused-answer}
 use Rattle.binary_out.proofs.Whole.{out-refused, out-accepted}
 use borrow.Author.Needs.{needs}
 use Rattle.binary_out.proofs.binary_out.Statement.{statement}
 use Rattle.binary_out.proofs.binary_out.Tie as tie
 
 -- the text is accepted
-accepted : (c : tie.After-enum-told) → isAccepted (readText (c .before .before .before .before .before .args .text .now)) ≡ true
-unfolding isAccepted
-accepted c =
+told : (c : tie.After-once) → Told (c .before .before .before .before .before .args .text .now) (c .once .given .0 .0) (c .once .given .0 .1 .0)
+told c =
     let j = c .before .before in
-    ap isAccepted (text-accepted (j .before .before .before .args .text .now) (c .enum-told .given .0 .0) (sym (j .judge .ensures) ∙ c .enum-told .given .1) .0)
+    text-accepted (j .before .before .before .args .text .now) (c .once .given .0 .0) (c .once .given .0 .1 .0) (sym (j .judge .ensures) ∙ c .once .given .1)
+
+accepted : (c : tie.After-once) → isAccepted (readText (c .before .before .before .before .before .args .text .now)) ≡ true
+unfolding isAccepted
+accepted c = ap isAccepted (told c .reads)
 
 judge-requires : tie.Need-judge-requires
 judge-requires c κs = search needs
@@ -26,14 +29,11 @@ judge-requires c κs = search needs
 enum-known-n : tie.Need-enum-known-n
 enum-known-n c = search needs
 
-enum-told : tie.Need-enum-told
-enum-told c = search needs
-
-is-strict-requires : tie.Need-is-strict-requires
-is-strict-requires c κs = search needs
+enum-known-once : tie.Need-enum-known-once
+enum-known-once c = search needs
 
 write-accepted-requires : tie.Need-write-accepted-requires
-write-accepted-requires c κs = (accepted (c .before .before), c .before .is-strict .ensures)
+write-accepted-requires c κs = (accepted (c .before .before), told (c .before .before) .rule)
 
 returns : tie.Need-returns
 returns c =
@@ -57,4 +57,4 @@ returns-2 c =
 
 pub binary-out-spec : {M : Type 1} → statement M
 binary-out-spec =
-    tie.close (tie.spec judge-requires enum-known-n enum-told is-strict-requires write-accepted-requires returns same-length returns-2)
+    tie.close (tie.spec judge-requires enum-known-n enum-known-once write-accepted-requires returns same-length returns-2)

@@ -1,4 +1,4 @@
--- `binary_out::put_binary` meets its contract: the parts of the binary header stand one behind the other.
+-- `binary_out::put_binary` meets its contract: the parts of the binary header come one after another.
 use Prim.Native.Nat.{_+_, _≤_}
 use mathlib.Core.Path.{_≡_, ap, _∙_}
 use native.Mathlib.Omega.{arith}

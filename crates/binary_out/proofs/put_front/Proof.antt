@@ -1,4 +1,4 @@
--- `binary_out::put_front` meets its contract: the length stands behind the magic bytes.
+-- `binary_out::put_front` meets its contract: the length comes after the magic bytes.
 use mathlib.Core.Path.{ap, _∙_}
 use native.Mathlib.Omega.{arith}
 use Rattle.format.specs.Catalogue.{little}

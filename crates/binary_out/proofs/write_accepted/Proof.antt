@@ -17,7 +17,7 @@ use Rattle.tidy_text.specs.Sizes.{sizesOf}
 use Rattle.tidy_text.proofs.Lines.{opened}
 use Rattle.tidy_text.proofs.Total.{tidy-small}
 use Rattle.tidy_text.proofs.Sizes.{total-size}
-use Rattle.read.proofs.Told.{refused-answer, written-answer}
+use Rattle.read.proofs.AnswerCases.{refused-answer, written-answer}
 use Rattle.tidy.proofs.Writing.{measured-bad, measured-is}
 use Rattle.binary_out.specs.Written.{binaryOf, writingBinary}
 use Rattle.binary_out.proofs.Whole.{binary-length, out-bad, out-long, out-short, out-written}

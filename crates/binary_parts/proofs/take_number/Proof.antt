@@ -1,4 +1,4 @@
--- `binary_parts::take_number` meets its contract: fewer than four bytes are left, or the number stands in them.
+-- `binary_parts::take_number` meets its contract: fewer than four bytes are left, or the number is in them.
 use Prim.Native.Nat.{_+_}
 use mathlib.Core.Path.{sym, ap, _∙_}
 use mathlib.Core.Option.{some}

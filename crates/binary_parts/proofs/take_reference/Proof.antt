@@ -1,4 +1,4 @@
--- `binary_parts::take_reference` meets its contract: the name is there, a zero byte closes it, and the length stands behind.
+-- `binary_parts::take_reference` meets its contract: the name is there, a zero byte closes it, and the length comes after.
 use Prim.Native.Nat.{_+_, _-_}
 use mathlib.Core.Path.{_≡_, sym, ap, _∙_}
 use native.Mathlib.Omega.{arith}

@@ -1,4 +1,4 @@
--- `binary_parts::unpadded_len` meets its contract: behind `n` are only zero bytes.
+-- `binary_parts::unpadded_len` meets its contract: there are only zero bytes after `n`.
 use Prim.Native.Nat.{_≤_}
 use mathlib.Core.Path.{_≡_, sym, ap, _∙_}
 use native.Mathlib.Omega.{arith}

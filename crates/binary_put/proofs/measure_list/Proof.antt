@@ -1,4 +1,4 @@
--- `binary_put::measure_list` meets its contract: what was counted, and the list from the line at hand on, make up the whole list.
+-- `binary_put::measure_list` meets its contract: what was counted, and the list from the current line on, make up the whole list.
 use Prim.Native.Nat.{ℕ, _+_, _-_, _*_, _≤_}
 use mathlib.Core.Path.{_≡_, refl, ap, _∙_}
 use mathlib.Core.List.{[], _∷_}

@@ -1,4 +1,4 @@
--- `binary_put::put_list` meets its contract: what was written, and the list from the line at hand on, make up the whole list.
+-- `binary_put::put_list` meets its contract: what was written, and the list from the current line on, make up the whole list.
 use Prim.Native.Nat.{ℕ, _+_, _-_, _≤_}
 use mathlib.Core.Path.{_≡_, refl, sym, ap, _∙_}
 use mathlib.Core.List.{List, [], _++_, append-assoc, append-nil}
@@ -27,7 +27,7 @@ Inv-loop text strict out₀ start o₀ at₀ out o at =
 abbrev μ-loop : tie.MeasureT-loop
 μ-loop text strict out₀ start o₀ at₀ out o at = length text - at
 
--- the reference of a turn stands before the rest of the list
+-- the reference of a step comes before the rest of the list
 listed : (e : tie.Else1 Inv-loop μ-loop)
     → let n = e .before .before in
     let l = n .before in

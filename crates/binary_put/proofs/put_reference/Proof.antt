@@ -1,4 +1,4 @@
--- `binary_put::put_reference` meets its contract: the parts of a reference stand one behind the other.
+-- `binary_put::put_reference` meets its contract: the parts of a reference come one after another.
 use Prim.Native.Nat.{_+_}
 use mathlib.Core.Path.{refl, ap, _∙_}
 use native.Mathlib.Omega.{arith}

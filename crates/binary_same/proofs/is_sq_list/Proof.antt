@@ -9,7 +9,7 @@ use Rattle.format.specs.References.{sameReference}
 use Rattle.format.specs.Binary.{takeList}
 use Rattle.binary_parts.specs.Parts.{referenceIn, isWhole}
 use Rattle.binary_references.specs.Next.{toldReference}
-use Rattle.binary_same.proofs.Turn.{alikeFrom, list-ends, still-whole, text-ends, one-differs, one-alike}
+use Rattle.binary_same.proofs.NextReference.{alikeFrom, list-ends, still-whole, text-ends, one-differs, one-alike}
 use Rattle.binary_same.proofs.is_sq_list.Statement.{statement}
 use Rattle.binary_same.proofs.is_sq_list.Tie as tie
 

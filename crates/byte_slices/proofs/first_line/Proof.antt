@@ -1,4 +1,4 @@
--- `byte_slices::first_line` meets its contract: each return is a case of where the first LF stands, and of the byte before it.
+-- `byte_slices::first_line` meets its contract: each return is a case of where the first LF is, and of the byte before it.
 use Prim.Native.Nat.{ℕ, suc, _+_, _-_, _<_}
 use mathlib.Core.Path.{_≡_, refl, sym, ap, _∙_}
 use mathlib.Core.List.{List}

@@ -1,4 +1,4 @@
--- `byte_slices::put_bytes` meets its contract: after i turns the first i bytes are pasted. Assumes nothing.
+-- `byte_slices::put_bytes` meets its contract: after i steps the first i bytes are pasted. Assumes nothing.
 use Prim.Native.Nat.{ℕ, _+_, _-_, _≤_}
 use mathlib.Core.Path.{_≡_, refl, sym, ap, _∙_}
 use mathlib.Core.List.{List}

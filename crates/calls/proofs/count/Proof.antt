@@ -3,7 +3,7 @@ use mathlib.Core.Path.{sym, ap, _∙_}
 use Rattle.read.specs.declared.CountAnswer.the-variants.{Count}
 use Rattle.calls.specs.Answers.{countOf}
 use Rattle.read.proofs.Fresh.{refused-by, fresh-by}
-use Rattle.calls.proofs.Told.{count-refused, count-below, count-above, count-served}
+use Rattle.calls.proofs.OwnCatalogue.{count-refused, count-below, count-above, count-served}
 use borrow.Author.Needs.{needs}
 use Rattle.calls.proofs.count.Statement.{statement}
 use Rattle.calls.proofs.count.Tie as tie

@@ -7,7 +7,7 @@ use lib.ListN.{take, drop}
 use Rattle.format.specs.Calls.{valuing}
 use Rattle.calls.specs.declared.ValuePlace.the-variants.{At}
 use Rattle.calls.specs.Answers.{valuePlaceOf}
-use Rattle.calls.proofs.Told.{place-inside, stood, valued-at}
+use Rattle.calls.proofs.OwnCatalogue.{place-inside, stood, valued-at}
 use borrow.Author.Needs.{needs}
 use Rattle.calls.proofs.field.Statement.{statement}
 use Rattle.calls.proofs.field.Tie as tie

@@ -2,7 +2,7 @@
 use mathlib.Core.Path.{sym, ap, _∙_}
 use Rattle.calls.specs.Answers.{keyAnswerOf}
 use Rattle.read.proofs.Fresh.{refused-by, fresh-by}
-use Rattle.calls.proofs.Told.{key-refused, key-none, key-found}
+use Rattle.calls.proofs.OwnCatalogue.{key-refused, key-none, key-found}
 use borrow.Author.Needs.{needs}
 use Rattle.calls.proofs.key.Statement.{statement}
 use Rattle.calls.proofs.key.Tie as tie

@@ -2,7 +2,7 @@
 use mathlib.Core.Path.{sym, ap, _∙_}
 use Rattle.calls.specs.Answers.{lengthAnswerOf}
 use Rattle.read.proofs.Fresh.{refused-by, fresh-by}
-use Rattle.calls.proofs.Told.{length-refused, length-none, length-found}
+use Rattle.calls.proofs.OwnCatalogue.{length-refused, length-none, length-found}
 use borrow.Author.Needs.{needs}
 use Rattle.calls.proofs.length.Statement.{statement}
 use Rattle.calls.proofs.length.Tie as tie

@@ -2,7 +2,7 @@
 use mathlib.Core.Path.{sym, ap, _∙_}
 use Rattle.calls.specs.Answers.{lineAnswerOf}
 use Rattle.read.proofs.Fresh.{refused-by, fresh-by}
-use Rattle.calls.proofs.Told.{line-refused, line-none, line-found}
+use Rattle.calls.proofs.OwnCatalogue.{line-refused, line-none, line-found}
 use borrow.Author.Needs.{needs}
 use Rattle.calls.proofs.line.Statement.{statement}
 use Rattle.calls.proofs.line.Tie as tie

@@ -2,7 +2,7 @@
 use mathlib.Core.Path.{sym, ap, _∙_}
 use Rattle.calls.specs.Answers.{valuePlaceOf}
 use Rattle.read.proofs.Fresh.{refused-by, fresh-by}
-use Rattle.calls.proofs.Told.{field-refused, field-none, field-found}
+use Rattle.calls.proofs.OwnCatalogue.{field-refused, field-none, field-found}
 use borrow.Author.Needs.{needs}
 use Rattle.calls.proofs.place.Statement.{statement}
 use Rattle.calls.proofs.place.Tie as tie

@@ -36,7 +36,7 @@ Inv-loop text at₀ line₀ strict₀ at line strict = Left text at line strict
 abbrev μ-loop : tie.MeasureT-loop
 μ-loop text at₀ line₀ strict₀ at line strict = length text - at
 
--- the next line starts behind this one
+-- the next line starts after this one
 onward : (j : tie.After-judge-early Inv-loop μ-loop) → (let l = j .before .before in (l .loop .at < j .judge-early .result .next) × (j .judge-early .result .next ≤ length (l .before .before .args .text .now)))
 onward j =
     let l = j .before .before in

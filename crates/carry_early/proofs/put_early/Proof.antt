@@ -38,7 +38,7 @@ more c =
 judge-early-requires : tie.Need-judge-early-requires Inv-loop μ-loop
 judge-early-requires c κs = (c .before .before .before .before .pre .0, more c)
 
--- the line is skipped, and the next one starts behind it
+-- the line is skipped, and the next one starts after it
 skipped : (j : tie.After-judge-early Inv-loop μ-loop)
     → (let l = j .before .before in let t = l .before .before .before .args .text .now in let r = j .judge-early .result in
     (earlyFrom (l .loop .strict) (ahead t (l .loop .at)) .refusals ≡ r .refusal ∷ earlyFrom (r .strict) (ahead t (r .next)) .refusals) × ((l .loop .at < r .next) × (r .next ≤ length t)))

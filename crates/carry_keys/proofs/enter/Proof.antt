@@ -10,9 +10,9 @@ use Rattle.byte_slices.specs.First.{firstLine}
 use Rattle.accepted.specs.First.{firstAt}
 use Rattle.accepted.proofs.Ahead.{next-more, next-within}
 use Rattle.record.specs.Head.{headOf}
-use Rattle.key_index.specs.Told.{afterMeeting}
+use Rattle.key_index.specs.KeySlots.{afterEntering}
 use Rattle.key_index.specs.Keyed.{KeyInText}
-use Rattle.key_index.proofs.HeldKeys.{meeting-length}
+use Rattle.key_index.proofs.HeldKeys.{entering-length}
 use Rattle.carry_keys.specs.Blocks.{headKeys, keyedFront, afterKeyed, entered}
 use Rattle.carry_keys.proofs.Walk.{keys-most, after-end, after-none, after-on, entered-end, entered-none, entered-on, placed-at}
 use borrow.Author.Needs.{needs}
@@ -22,15 +22,15 @@ use Rattle.carry_keys.proofs.enter.Reads as reads
 use Rattle.carry_keys.proofs.enter.Lts as lts
 use Rattle.carry_keys.proofs.keys_in.Reads as keys-in-reads
 use Rattle.carry_keys.proofs.parse_at.Reads as parse-at-reads
-use Rattle.key_index.proofs.meet.Reads as meet-reads
+use Rattle.key_index.proofs.find_or_enter.Reads as find-or-enter-reads
 
 abbrev Inv-loop : tie.InvT-loop
-Inv-loop text strict area₀ at many end₀ n₀ area end n =
+Inv-loop text seed strict area₀ at many end₀ n₀ area end n =
     (n ≤ many) × (end ≤ length text) × (length area ≡ length area₀) × (afterKeyed strict many at text ≡ afterKeyed strict (many - n) end text)
-    × (entered strict text area₀ (keyedFront strict many (linesFrom at (drop at text))) ≡ entered strict text area (keyedFront strict (many - n) (linesFrom end (drop end text))))
+    × (entered seed strict text area₀ (keyedFront strict many (linesFrom at (drop at text))) ≡ entered seed strict text area (keyedFront strict (many - n) (linesFrom end (drop end text))))
 
 abbrev μ-loop : tie.MeasureT-loop
-μ-loop text strict area₀ at many end₀ n₀ area end n = length text - end
+μ-loop text seed strict area₀ at many end₀ n₀ area end n = length text - end
 
 -- there is a line ahead
 ahead : (c : tie.Else1 Inv-loop μ-loop) → c .before .before .loop .end < length (c .before .before .before .before .before .args .text .now)
@@ -40,7 +40,7 @@ loop-holds : tie.Need-loop-holds Inv-loop μ-loop
 loop-holds c =
     let a = c .before .before .args in
     let z : a .many ≡ a .many - 0 = omega arith in
-    (omega arith, c .before .before .pre .1 .1, refl, ap (λ m. afterKeyed (a .strict) m (a .at) (a .text .now)) z, ap (λ m. entered (a .strict) (a .text .now) (a .area .now) (keyedFront (a .strict) m (linesFrom (a .at) (drop (a .at) (a .text .now))))) z)
+    (omega arith, c .before .before .pre .1 .1, refl, ap (λ m. afterKeyed (a .strict) m (a .at) (a .text .now)) z, ap (λ m. entered (a .seed) (a .strict) (a .text .now) (a .area .now) (keyedFront (a .strict) m (linesFrom (a .at) (drop (a .at) (a .text .now))))) z)
 
 same-length : tie.Need-same-length Inv-loop μ-loop
 same-length c = c .before .before .loop .inv .2
@@ -52,13 +52,13 @@ returns c =
     let v = l .loop .inv in
     let left : ℕ = a .many - l .loop .n in
     let e : l .loop .end ≡ length (a .text .now) = omega (arith, c .if1 .taken) in
-    (sym (v .3 ∙ after-end (a .text .now) (l .loop .end) (a .strict) left e), sym (v .4 ∙ entered-end (a .text .now) (l .loop .end) (a .strict) (l .loop .area) left (omega (arith, e))))
+    (sym (v .3 ∙ after-end (a .seed) (a .text .now) (l .loop .end) (a .strict) left e), sym (v .4 ∙ entered-end (a .seed) (a .text .now) (l .loop .end) (a .strict) (l .loop .area) left (omega (arith, e))))
 
 parse-at-requires : tie.Need-parse-at-requires Inv-loop μ-loop
 parse-at-requires c κs = (c .before .before .before .before .before .pre .0, ahead c)
 
-meet-requires : tie.Need-meet-requires Inv-loop μ-loop
-meet-requires c κs =
+find-or-enter-requires : tie.Need-find-or-enter-requires Inv-loop μ-loop
+find-or-enter-requires c κs =
     let p = c .before in
     let l = p .before .before .before in
     let s = l .before .before .before in
@@ -103,12 +103,12 @@ loop-again c =
     let n : c .keys-in .result ≡ headKeys (headOf (line (a .strict) (firstAt at t))) = c .keys-in .ensures ∙ ap headKeys (p .parse-at .ensures .0) in
     let e : left - headKeys (headOf (line (a .strict) (firstAt at t))) ≡ k = omega (arith, n) in
     let next : at + firstLine (drop at t) .next ≡ p .parse-at .result .next = sym (p .parse-at .ensures .1) in
-    let area : afterMeeting true t (l .loop .area) (headOf (line (a .strict) (firstAt at t))) ≡ m .meet .last .1 .0 = ap (afterMeeting true t (l .loop .area)) (sym (p .parse-at .ensures .0)) ∙ sym (m .meet .ensures .1) in (
+    let area : afterEntering (a .seed) true t (l .loop .area) (headOf (line (a .strict) (firstAt at t))) ≡ m .find-or-enter .last .1 .0 = ap (afterEntering (a .seed) true t (l .loop .area)) (sym (p .parse-at .ensures .0)) ∙ sym (m .find-or-enter .ensures .1 .1) in (
       within c,
       omega (arith, sym next, next-within t at h),
-      ap length (m .meet .ensures .1) ∙ meeting-length true t (l .loop .area) x ∙ v .2,
-      v .3 ∙ after-on t at (a .strict) left k some e h ∙ ap (λ i. afterKeyed (a .strict) k i t) next,
-      v .4 ∙ entered-on t at (a .strict) (l .loop .area) left k some e h ∙ ap₂ (λ s i. entered (a .strict) t s (keyedFront (a .strict) k (linesFrom i (drop i t)))) area next,
+      ap length (m .find-or-enter .ensures .1 .1) ∙ entering-length (a .seed) true t (l .loop .area) x ∙ v .2,
+      v .3 ∙ after-on (a .seed) t at (a .strict) left k some e h ∙ ap (λ i. afterKeyed (a .strict) k i t) next,
+      v .4 ∙ entered-on (a .seed) t at (a .strict) (l .loop .area) left k some e h ∙ ap₂ (λ s i. entered (a .seed) (a .strict) t s (keyedFront (a .strict) k (linesFrom i (drop i t)))) area next,
     )
 
 same-length-2 : tie.Need-same-length-2 Inv-loop μ-loop
@@ -120,7 +120,7 @@ returns-2 c =
     let a = l .before .before .before .args in
     let v = l .loop .inv in
     let z : a .many - l .loop .n ≡ 0 = omega (arith, c .loop-test .left) in
-    (sym (v .3 ∙ after-none (a .text .now) (l .loop .end) (a .strict) (a .many - l .loop .n) z (v .1)), sym (v .4 ∙ entered-none (a .text .now) (l .loop .end) (a .strict) (l .loop .area) (a .many - l .loop .n) z))
+    (sym (v .3 ∙ after-none (a .seed) (a .text .now) (l .loop .end) (a .strict) (a .many - l .loop .n) z (v .1)), sym (v .4 ∙ entered-none (a .seed) (a .text .now) (l .loop .end) (a .strict) (l .loop .area) (a .many - l .loop .n) z))
 
 pub enter-spec : {M : Type 1} → statement M
 enter-spec =
@@ -132,7 +132,7 @@ enter-spec =
     same-length
     returns
     parse-at-requires
-    meet-requires
+    find-or-enter-requires
     keys-in-requires
     add-n
     loop-less

@@ -9,7 +9,7 @@ use Rattle.byte_slices.specs.First.{firstLine}
 use Rattle.accepted.specs.First.{firstAt}
 use Rattle.accepted.proofs.Ahead.{next-more}
 use Rattle.record.specs.Head.{headOf}
-use Rattle.key_index.specs.Told.{afterPointing}
+use Rattle.key_index.specs.KeySlots.{afterPointing}
 use Rattle.key_index.specs.Keyed.{KeyInText}
 use Rattle.key_index.proofs.HeldKeys.{pointing-length}
 use Rattle.carry_keys.specs.Blocks.{earlier, pointedBack}
@@ -19,14 +19,14 @@ use Rattle.carry_keys.proofs.point_back.Tie as tie
 use Rattle.carry_keys.proofs.point_back.Reads as reads
 use Rattle.carry_keys.proofs.point_back.Lts as lts
 use Rattle.carry_keys.proofs.parse_at.Reads as parse-at-reads
-use Rattle.key_index.proofs.point.Reads as point-reads
+use Rattle.key_index.proofs.point_to_head.Reads as point-to-head-reads
 
 abbrev Inv-loop : tie.InvT-loop
-Inv-loop text strict area₀ from to at₀ area at =
-    (length area ≡ length area₀) × (pointedBack strict text area₀ (earlier to (linesFrom from (drop from text))) ≡ pointedBack strict text area (earlier to (linesFrom at (drop at text))))
+Inv-loop text seed strict area₀ from to at₀ area at =
+    (length area ≡ length area₀) × (pointedBack seed strict text area₀ (earlier to (linesFrom from (drop from text))) ≡ pointedBack seed strict text area (earlier to (linesFrom at (drop at text))))
 
 abbrev μ-loop : tie.MeasureT-loop
-μ-loop text strict area₀ from to at₀ area at = length text - at
+μ-loop text seed strict area₀ from to at₀ area at = length text - at
 
 -- there is a line ahead
 ahead : (c : tie.In-loop Inv-loop μ-loop) → c .before .loop .at < length (c .before .before .before .before .args .text .now)
@@ -38,8 +38,8 @@ loop-holds c = (refl, refl)
 parse-at-requires : tie.Need-parse-at-requires Inv-loop μ-loop
 parse-at-requires c κs = (c .before .before .before .before .pre .0, ahead c)
 
-point-requires : tie.Need-point-requires Inv-loop μ-loop
-point-requires c κs =
+point-to-head-requires : tie.Need-point-to-head-requires Inv-loop μ-loop
+point-to-head-requires c κs =
     let p = c .before in
     let l = p .before .before in
     let s = l .before .before .before in
@@ -63,9 +63,9 @@ loop-again c =
     let v = l .loop .inv in
     let at : ℕ = l .loop .at in
     let next : at + firstLine (drop at t) .next ≡ p .parse-at .result .next = sym (p .parse-at .ensures .1) in
-    let area : afterPointing t (l .loop .area) (headOf (line (a .strict) (firstAt at t))) ≡ m .point .last .1 .0 = ap (afterPointing t (l .loop .area)) (sym (p .parse-at .ensures .0)) ∙ sym (m .point .ensures) in (
-      ap length (m .point .ensures) ∙ pointing-length t (l .loop .area) (p .parse-at .result .head) ∙ v .0,
-      v .1 ∙ pointed-on (a .to) t at (a .strict) (l .loop .area) (p .before .loop-test .taken) (ahead (p .before)) ∙ ap₂ (λ s k. pointedBack (a .strict) t s (earlier (a .to) (linesFrom k (drop k t)))) area next,
+    let area : afterPointing (a .seed) t (l .loop .area) (headOf (line (a .strict) (firstAt at t))) ≡ m .point-to-head .last .1 .0 = ap (afterPointing (a .seed) t (l .loop .area)) (sym (p .parse-at .ensures .0)) ∙ sym (m .point-to-head .ensures .1) in (
+      ap length (m .point-to-head .ensures .1) ∙ pointing-length (a .seed) t (l .loop .area) (p .parse-at .result .head) ∙ v .0,
+      v .1 ∙ pointed-on (a .seed) (a .to) t at (a .strict) (l .loop .area) (p .before .loop-test .taken) (ahead (p .before)) ∙ ap₂ (λ s k. pointedBack (a .seed) (a .strict) t s (earlier (a .to) (linesFrom k (drop k t)))) area next,
     )
 
 same-length : tie.Need-same-length Inv-loop μ-loop
@@ -75,7 +75,7 @@ returns : tie.Need-returns Inv-loop μ-loop
 returns c =
     let l = c .before in
     let a = l .before .before .before .args in
-    sym (l .loop .inv .1 ∙ pointed-end (a .to) (a .text .now) (l .loop .at) (a .strict) (l .loop .area) (c .loop-test .left))
+    sym (l .loop .inv .1 ∙ pointed-end (a .seed) (a .to) (a .text .now) (l .loop .at) (a .strict) (l .loop .area) (c .loop-test .left))
 
 pub point-back-spec : {M : Type 1} → statement M
 point-back-spec =
@@ -85,7 +85,7 @@ point-back-spec =
     μ-loop
     loop-holds
     parse-at-requires
-    point-requires
+    point-to-head-requires
     loop-less
     loop-again
     same-length

@@ -1,4 +1,4 @@
--- `carry_lines::next_line` meets its contract: the line is judged by what the slots tell of its key, and judging stands after it.
+-- `carry_lines::next_line` meets its contract: the line is judged by what the slots say of its key, and the cursor is after it.
 use Prim.Native.Nat.{_+_, _-_, _≤_}
 use mathlib.Core.Path.{_≡_, refl, sym, ap, ap₂, subst, _∙_}
 use native.Mathlib.Omega.{arith}
@@ -26,12 +26,12 @@ use Rattle.carry_lines.proofs.next_line.Lts as lts
 use Rattle.read_admission.proofs.barred.Reads as barred-reads
 use Rattle.carry_lines.proofs.advance.Reads as advance-reads
 use Rattle.carry_lines.proofs.is_used.Reads as is-used-reads
-use Rattle.carry_lines.proofs.turn.Reads as turn-reads
+use Rattle.carry_lines.proofs.fill_at_block_end.Reads as fill-at-block-end-reads
 use Rattle.record_parser.proofs.parse_record.Reads as parse-record-reads
 use Rattle.byte_slices.proofs.first_line.Reads as first-line-reads
 
-turn-requires : tie.Need-turn-requires
-turn-requires c κs = search needs
+fill-at-block-end-requires : tie.Need-fill-at-block-end-requires
+fill-at-block-end-requires c κs = search needs
 
 sub-first-line : tie.Need-sub-first-line
 sub-first-line c = search needs
@@ -74,11 +74,11 @@ placed-head p =
     subst (KeyInText (length (a .text .now))) (sym (head-is p)) (head-placed (a .strict) (a .text .now) (a .c .at) (s .pre .0) (ahead-stands (a .text .now) (a .c .at) (s .pre .1 .1)))
 
 -- the area, filled for its block
-long : (w : tie.After-turn) → length (w .turn .last .1 .1 .1 .0) ≡ length (w .before .before .before .before .before .args .area .now)
+long : (w : tie.After-fill-at-block-end) → length (w .fill-at-block-end .last .1 .1 .1 .0) ≡ length (w .before .before .before .before .before .args .area .now)
 long w =
     let s = w .before .before .before .before .before in
     let a = s .args in
-    ap length (w .turn .ensures .1) ∙ filled-long (a .strict) (a .text .now) (a .from) (a .area .now) (a .ids .now) (a .c) (s .pre .0) (s .pre .1 .0) (s .pre .1 .1)
+    ap length (w .fill-at-block-end .ensures .1 .1) ∙ filled-long (a .strict) (a .text .now) (a .from) (a .area .now) (a .ids .now) (a .c) (s .pre .0) (s .pre .1 .0) (s .pre .1 .1) (w .fill-at-block-end .result .seed) (w .fill-at-block-end .ensures .1 .0)
 
 add-end : tie.Need-add-end
 add-end c = omega (arith, inside (c .before))
@@ -101,7 +101,7 @@ parse-record-requires c κs =
 
 is-used-requires : tie.Need-is-used-requires
 is-used-requires c κs =
-    let p = c .before .before in
+    let p = c .before .before .before in
     let s = p .before .before .before .before .before .before .before .before .before .before .before .before in
     let g = s .pre .1 .0 in
     (s .pre .0, ((omega (arith, long (p .before .before .before .before .before .before .before), g .some), omega (arith, g .room)), placed-head p))
@@ -110,11 +110,11 @@ barred-requires : tie.Need-barred-requires
 barred-requires c κs = search needs
 
 add-advance : tie.Need-add-advance
-add-advance c = omega (arith, inside (c .before .before .before .before .before .before .before .before .before .before))
+add-advance c = omega (arith, inside (c .before .before .before .before .before .before .before .before .before .before .before))
 
 advance-requires : tie.Need-advance-requires
 advance-requires c κs =
-    let s = c .before .before .before .before .before .before .before .before .before .before .before .before .before .before .before .before .before .before .before in
+    let s = c .before .before .before .before .before .before .before .before .before .before .before .before .before .before .before .before .before .before .before .before in
     let a = s .args in
     let g = s .pre .1 .0 in
     let most = kept-lines (a .strict) (a .text .now) (a .from) (a .area .now) (a .ids .now) (a .c) (s .pre .0) g (s .pre .1 .1) in
@@ -130,23 +130,29 @@ returns : tie.Need-returns
 returns c =
     let b = c .before .before in
     let u = c .before .before .before .before .before in
-    let p = c .before .before .before .before .before .before .before .before in
-    let f = c .before .before .before .before .before .before .before .before .before .before .before in
-    let w = c .before .before .before .before .before .before .before .before .before .before .before .before .before .before .before in
-    let s = c .before .before .before .before .before .before .before .before .before .before .before .before .before .before .before .before .before .before .before .before in
+    let p = c .before .before .before .before .before .before .before .before .before in
+    let f = c .before .before .before .before .before .before .before .before .before .before .before .before in
+    let w = c .before .before .before .before .before .before .before .before .before .before .before .before .before .before .before .before in
+    let s = c .before .before .before .before .before .before .before .before .before .before .before .before .before .before .before .before .before .before .before .before .before in
     let a = s .args in
     let t = a .text .now in
     let n = b .barred .result in
+    let seed = w .fill-at-block-end .result .seed in
+    let keeps = w .fill-at-block-end .ensures .1 .0 in
     let at-next : a .c .at + f .first-line .result .next ≡ a .c .at + firstLine (drop (a .c .at) t) .next = ap (λ x. a .c .at + x .next) (cut f) in
-    let used : u .is-used .result ≡ usedBy t (filledAt (a .strict) t (a .from) (a .area .now) (a .c .at) (a .c .until)) (a .ids .now) (headOf (line (a .strict) (firstAt (a .c .at) t))) =
-    u .is-used .ensures .0 ∙ ap₂ (λ s x. usedBy t s (a .ids .now) x) (w .turn .ensures .1) (head-is p) in
+    let used : u .is-used .result ≡ usedBy seed t (filledAt seed (a .strict) t (a .from) (a .area .now) (a .c .at) (a .c .until)) (a .ids .now) (headOf (line (a .strict) (firstAt (a .c .at) t))) =
+    u .is-used .ensures .0 ∙ ap₂ (λ s x. usedBy seed t s (a .ids .now) x) (w .fill-at-block-end .ensures .1 .1) (head-is p) in
     let refusal : n ≡ lineRefusal (admitted (a .strict) (before (a .strict) t (a .from) (a .area .now) (a .ids .now) (a .c) (s .pre .0) (s .pre .1 .0) (s .pre .1 .1)) (firstAt (a .c .at) t)) =
     b .barred .ensures ∙ ap₂ (λ d x. barring d (a .c .kept) (a .c .programs) x) used (head-is p)
-    ∙ judged (a .strict) t (a .from) (a .area .now) (a .ids .now) (a .c) (s .pre .0) (s .pre .1 .0) (s .pre .1 .1) in
-    let after : c .advance .result ≡ advanced (a .c) (a .c .at + firstLine (drop (a .c .at) t) .next) (untilAt (a .strict) t (length (a .area .now)) (a .c .at) (a .c .until)) (headOf (line (a .strict) (firstAt (a .c .at) t))) n =
-    c .advance .ensures ∙ rw (at-next, w .turn .ensures .0, head-is p) refl in
-    let to = advanced-to (a .c) (a .c .at + firstLine (drop (a .c .at) t) .next) (untilAt (a .strict) t (length (a .area .now)) (a .c .at) (a .c .until)) (headOf (line (a .strict) (firstAt (a .c .at) t))) n in
-    let ids : u .is-used .last .1 .1 .0 ≡ idsAfter (ltb (a .c .programs) 1024) t (a .ids .now) (headOf (line (a .strict) (firstAt (a .c .at) t))) =
+    ∙ judged (a .strict) t (a .from) (a .area .now) (a .ids .now) (a .c) (s .pre .0) (s .pre .1 .0) (s .pre .1 .1) seed keeps in
+    let after : c .advance .result ≡ advanced (a .c) (a .c .at + firstLine (drop (a .c .at) t) .next) (untilAt (a .strict) t (length (a .area .now)) (a .c .at) (a .c .until)) seed (headOf (line (a .strict) (firstAt (a .c .at) t))) n =
+    c .advance .ensures ∙ rw (at-next, w .fill-at-block-end .ensures .0, head-is p) refl in
+    let to = advanced-to (a .c) (a .c .at + firstLine (drop (a .c .at) t) .next) (untilAt (a .strict) t (length (a .area .now)) (a .c .at) (a .c .until)) seed (headOf (line (a .strict) (firstAt (a .c .at) t))) n in
+    let last : c .advance .result .seed ≡ seed = ap (λ x. x .seed) after ∙ to .2 in
+    let there = after
+    ∙ ap (λ s. advanced (a .c) (a .c .at + firstLine (drop (a .c .at) t) .next) (untilAt (a .strict) t (length (a .area .now)) (a .c .at) (a .c .until)) s (headOf (line (a .strict) (firstAt (a .c .at) t))) n) (sym last) in
+    let filled = w .fill-at-block-end .ensures .1 .1 ∙ ap (λ s. filledAt s (a .strict) t (a .from) (a .area .now) (a .c .at) (a .c .until)) (sym last) in
+    let ids : u .is-used .last .1 .1 .1 .0 ≡ idsAfter (ltb (a .c .programs) 1024) t (a .ids .now) (headOf (line (a .strict) (firstAt (a .c .at) t))) =
     u .is-used .ensures .1 ∙ ap (idsAfter (ltb (a .c .programs) 1024) t (a .ids .now)) (head-is p) in (
       ap (λ x. a .c .at + x .len) (cut f),
       (
@@ -156,12 +162,12 @@ returns c =
           (
             ap (λ x. x .line) after ∙ to .1,
             (
-              rw (after, ids, w .turn .ensures .1) (going-on (a .strict) t (a .from) (a .area .now) (a .ids .now) (a .c) (s .pre .0) (s .pre .1 .0) (s .pre .1 .1) n refusal),
+              rw (after, ids, w .fill-at-block-end .ensures .1 .1) (going-on (a .strict) t (a .from) (a .area .now) (a .ids .now) (a .c) (s .pre .0) (s .pre .1 .0) (s .pre .1 .1) seed keeps n refusal),
               (
                 long w,
                 (
-                  ap length ids ∙ ids-length (a .strict) t (a .from) (a .area .now) (a .ids .now) (a .c) (s .pre .0) (s .pre .1 .0) (s .pre .1 .1) (ltb (a .c .programs) 1024) (headOf (line (a .strict) (firstAt (a .c .at) t))),
-                  (after, (w .turn .ensures .1, ids)),
+                  ap length ids ∙ ids-length (a .strict) t (a .from) (a .area .now) (a .ids .now) (a .c) (s .pre .0) (s .pre .1 .0) (s .pre .1 .1) seed keeps (ltb (a .c .programs) 1024) (headOf (line (a .strict) (firstAt (a .c .at) t))),
+                  (there, (filled, ids)),
                 ),
               ),
             ),
@@ -174,7 +180,7 @@ pub next-line-spec : {M : Type 1} → statement M
 next-line-spec =
     tie.close
     (tie.spec
-    turn-requires
+    fill-at-block-end-requires
     sub-first-line
     part-first-line-start
     part-first-line-end

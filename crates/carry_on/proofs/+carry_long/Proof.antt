@@ -4,7 +4,7 @@ use mathlib.Core.Path.{sym, _∙_}
 use native.Mathlib.Omega.{arith}
 use borrow.Author.Needs.{needs}
 use borrow.Fn.Kinds.{In}
-use Rattle.carry_on.proofs.Told.{zeros-long}
+use Rattle.carry_on.proofs.AnswerCases.{zeros-long}
 use borrow.Fn.PlainCycle.{Measures, is, falls, and}
 use Rattle.carry_on.proofs.carry_long.Reads as carry-long
 use Rattle.carry_on.proofs.carry_long.Kinds as carry-long-kinds

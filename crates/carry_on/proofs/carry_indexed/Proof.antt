@@ -1,7 +1,7 @@
 -- `carry_on::carry_indexed` meets its contract: the first line that is kept is found, the lines from there on are measured, then written.
 use native.Mathlib.Omega.{arith}
 use borrow.Author.Needs.{needs}
-use Rattle.carry_on.proofs.Told.{zeros-long}
+use Rattle.carry_on.proofs.AnswerCases.{zeros-long}
 use Rattle.carry_on.proofs.carry_indexed.Statement.{statement}
 use Rattle.carry_on.proofs.carry_indexed.Tie as tie
 use Rattle.carry_on.proofs.carry_indexed.Reads as reads

@@ -1,23 +1,35 @@
--- `carry_on::carry_on` meets its contract: 1 first, then by the text's length.
-use lib.ListN.{length}
-use Rattle.format.specs.Carrying.{carrying}
-use Rattle.carry_on.proofs.Told.{told-long, refused-all}
+-- `carry_on::carry_on` meets its contract: by what reading says of the text.
+use mathlib.Core.Path.{sym, ap, _∙_}
+use Rattle.accepted.specs.Read.{isAccepted}
+use Rattle.read_judge.proofs.Whole.{text-accepted}
 use borrow.Author.Needs.{needs}
 use Rattle.carry_on.proofs.carry_on.Statement.{statement}
 use Rattle.carry_on.proofs.carry_on.Tie as tie
 use Rattle.carry_on.proofs.carry_on.Reads as reads
 use Rattle.carry_on.proofs.carry_on.Lts as lts
-use Rattle.carry_on.proofs.carry_lines.Reads as carry-lines-reads
+use Rattle.carry_on.proofs.carry_accepted.Reads as carry-accepted-reads
+use Rattle.carry_on.proofs.carry_refused.Reads as carry-refused-reads
+use Rattle.read_judge.proofs.judge.Reads as judge-reads
 
-returns : tie.Need-returns
-returns c =
-    let a = c .before .before .before .before .args in
-    let t = a .text .now in
-    refused-all (carrying t (length (a .out .now)) (length (a .table .now))) (a .out .now) (a .table .now) 1 (record { 0 = 0 })
-    (told-long t (length (a .out .now)) (length (a .table .now)) (c .if1 .taken))
+judge-requires : tie.Need-judge-requires
+judge-requires c κs = search needs
 
-carry-lines-requires : tie.Need-carry-lines-requires
-carry-lines-requires c κs = search needs
+enum-told : tie.Need-enum-told
+enum-told c = search needs
+
+carry-refused-requires : tie.Need-carry-refused-requires
+carry-refused-requires c κs = search needs
+
+enum-known-once : tie.Need-enum-known-once
+enum-known-once c = search needs
+
+carry-accepted-requires : tie.Need-carry-accepted-requires
+unfolding isAccepted
+carry-accepted-requires c κs =
+    let j = c .before .before .before .before .before in
+    let g = c .before .before .before .once .given in
+    let told = text-accepted (j .before .before .before .before .args .text .now) (g .0 .0) (g .0 .1 .0) (sym (j .judge .ensures) ∙ g .1) in
+    (ap isAccepted (told .reads), told .rule)
 
 same-length : tie.Need-same-length
 same-length c = search needs
@@ -25,8 +37,30 @@ same-length c = search needs
 same-length-2 : tie.Need-same-length-2
 same-length-2 c = search needs
 
+returns : tie.Need-returns
+returns c = search needs
+
+same-length-3 : tie.Need-same-length-3
+same-length-3 c = search needs
+
+same-length-4 : tie.Need-same-length-4
+same-length-4 c = search needs
+
 returns-2 : tie.Need-returns-2
 returns-2 c = search needs
 
 pub carry-on-spec : {M : Type 1} → statement M
-carry-on-spec = tie.close (tie.spec returns carry-lines-requires same-length same-length-2 returns-2)
+carry-on-spec =
+    tie.close
+    (tie.spec
+    judge-requires
+    enum-told
+    carry-refused-requires
+    enum-known-once
+    carry-accepted-requires
+    same-length
+    same-length-2
+    returns
+    same-length-3
+    same-length-4
+    returns-2)

@@ -12,7 +12,7 @@ use Rattle.format.specs.Carrying.{keptOf, carriedLines, skips, rows, unwritable
 use Rattle.carry_early.specs.Early.{earlyOf, rowsFrom}
 use Rattle.carry_passes.specs.From.{keptFrom, rowsOf}
 use Rattle.carry_passes.proofs.Split.{first-kept, first-small, first-count, skips-few, first-rows, early-rows}
-use Rattle.carry_on.proofs.Told.{told-refused, told-short, told-fits, refused-all, written-all}
+use Rattle.carry_on.proofs.AnswerCases.{told-refused, told-short, told-fits, refused-all, written-all}
 use borrow.Author.Needs.{needs}
 use Rattle.carry_on.proofs.write_kept.Statement.{statement}
 use Rattle.carry_on.proofs.write_kept.Tie as tie
@@ -21,7 +21,7 @@ use Rattle.carry_on.proofs.write_kept.Tie as tie
 abbrev kept : List ℕ → List ℕ
 kept t = tidy (keptOf (carriedLines t))
 
--- the sum of the sizes is its length, a byte more than the text's at most
+-- the sum of the sizes is its length, at most one byte more than the text's
 sum : (c : tie.Start) → (let a = c .args in (total (a .sizes) ≡ length (kept (a .text .now))) × (length (kept (a .text .now)) ≤ 16777217))
 sum c =
     let a = c .args in
@@ -89,8 +89,8 @@ starts-requires : tie.Need-starts-requires
 unfolding total front
 starts-requires c κs = let s = c .before .before .before .before .before .before .before .before .before .before in omega (arith, sum s)
 
-put-all-requires : tie.Need-put-all-requires
-put-all-requires c κs =
+put-kept-and-table-requires : tie.Need-put-kept-and-table-requires
+put-kept-and-table-requires c κs =
     let s = c .before .before .before .before .before .before .before .before .before .before .before .before .before in
     let a = s .args in
     let f = s .pre .1 .0 in
@@ -126,7 +126,7 @@ returns-4 c =
     let a = s .args in
     let t = a .text .now in
     let n = c .before .before .before .before .before .before .before .before .before .before .before .before .before .before .before .total .ensures in
-    let w = c .before .before .before .before .before .before .put-all .ensures in
+    let w = c .before .before .before .before .before .before .put-kept-and-table .ensures in
     let half : a .b .line + a .skipped ≡ length (rows (skips 0 (carriedLines t))) / 2 = omega (arith, count s) in
     written-all (carrying t (length (a .out .now)) (length (a .table .now))) (a .out .now) (a .table .now) (kept t) (rows (skips 0 (carriedLines t))) _ _ _ _
     (told-fits t (length (a .out .now)) (length (a .table .now)) (s .pre .0) (kept t)
@@ -146,7 +146,7 @@ write-kept-spec =
     mul-if3
     returns-3
     starts-requires
-    put-all-requires
+    put-kept-and-table-requires
     same-length
     same-length-2
     same-length-3

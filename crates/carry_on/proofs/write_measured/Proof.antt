@@ -8,7 +8,7 @@ use Rattle.format.specs.Carrying.{keptOf, carriedLines, unwritableLine, carryin
 use Rattle.carry_passes.specs.From.{keptFrom, skippedFrom, unwritableFrom}
 use Rattle.carry_passes.proofs.Split.{first-names}
 use Rattle.carry_passes.proofs.MeasuredSizes.{measured-bad, measured-is}
-use Rattle.carry_on.proofs.Told.{told-refused, refused-all}
+use Rattle.carry_on.proofs.AnswerCases.{told-refused, refused-all}
 use borrow.Author.Needs.{needs}
 use Rattle.carry_on.proofs.write_measured.Statement.{statement}
 use Rattle.carry_on.proofs.write_measured.Tie as tie

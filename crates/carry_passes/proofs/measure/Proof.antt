@@ -5,7 +5,8 @@ use lib.ListN.{replicate}
 use Rattle.format.specs.Work.{allZeros}
 use borrow.Author.Needs.{needs}
 use Rattle.format.proofs.Slots.{held-none}
-use Rattle.key_index.specs.Told.{start}
+use Rattle.key_look.specs.Seed.{plainSeed}
+use Rattle.key_index.specs.KeySlots.{start}
 use Rattle.carry_passes.proofs.MeasuredSizes.{kept-told}
 use Rattle.carry_passes.proofs.measure.Statement.{statement}
 use Rattle.carry_passes.proofs.measure.Tie as tie
@@ -19,7 +20,7 @@ slice-aggregate-measure-lines c = search needs
 measure-lines-requires : tie.Need-measure-lines-requires
 measure-lines-requires c κs =
     let s = c .before .before .before .before in
-    (s .pre .0, (s .pre .1 .0, record { some = s .pre .1 .1; room = omega arith; held = held-none (start (s .args .text .now) 2048) 2048 }))
+    (s .pre .0, (s .pre .1 .0, record { some = s .pre .1 .1; room = omega arith; held = held-none (start plainSeed (s .args .text .now) 2048) 2048 }))
 
 clear-requires : tie.Need-clear-requires
 clear-requires c κs = search needs

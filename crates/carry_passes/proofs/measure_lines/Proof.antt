@@ -12,10 +12,10 @@ use Rattle.tidy_text.proofs.Sizes.{get-none, size-none, each-get}
 use Rattle.format.specs.Carrying.{keptOf, unwritableLine}
 use Rattle.carry_lines.specs.Going.{Going}
 use Rattle.carry_passes.specs.From.{linesKeptFrom, keptFrom, skippedFrom}
-use Rattle.carry_passes.specs.Turn.{Turn}
+use Rattle.carry_passes.specs.NextLine.{Turn}
 use Rattle.carry_passes.proofs.Split.{first-small}
 use Rattle.carry_passes.proofs.Begun.{begun}
-use Rattle.carry_passes.proofs.Turn.{turn, kept-le, none-left, all-count}
+use Rattle.carry_passes.proofs.NextLine.{turn, kept-le, none-left, all-count}
 use Rattle.carry_passes.proofs.Steps.{kindAt, turn-read}
 use Rattle.carry_passes.specs.Measured.{keptMeasured}
 use Rattle.carry_passes.specs.declared.KeptSizes.the-variants as measured
@@ -35,20 +35,20 @@ Inv-loop t b area₀ ids₀ sizes₀ c₀ area ids sizes c =
 abbrev μ-loop : tie.MeasureT-loop
 μ-loop t b area₀ ids₀ sizes₀ c₀ area ids sizes c = length t - c .at
 
--- the line of a turn
+-- the line of a step
 turned : (c : tie.After-next-line Inv-loop μ-loop)
-    → (let l = c .before .before .before .before .before in let a = c .before .before .before .before .before .before .before .before .before .before .args in
+    → (let l = c .before .before .before .before .before in let a = c .before .before .before .before .before .before .before .before .before .before .before .args in
     Turn (a .b .strict) (a .text .now) (a .b .at) (l .loop .c) (c .next-line .result .end) (c .next-line .result .refusal))
 turned c =
     let l = c .before .before .before .before .before .loop in
-    let a = c .before .before .before .before .before .before .before .before .before .before .args in
+    let a = c .before .before .before .before .before .before .before .before .before .before .before .args in
     turn (a .b .strict) (a .text .now) (a .b .at) (l .area) (l .ids) (l .c) (l .inv .0) (c .before .before .before .if1 .taken) (c .next-line .result .end) (c .next-line .result .refusal)
     (c .next-line .ensures .0) (c .next-line .ensures .1 .0)
 
 -- line numbers are small
-small : (c : tie.At-loop Inv-loop μ-loop) → (let s = c .before .before .before .before .before in (c .loop .c .kept ≤ c .loop .c .line) × (c .loop .c .line ≤ 16777216) × (s .args .b .line ≤ 16777216))
+small : (c : tie.At-loop Inv-loop μ-loop) → (let s = c .before .before .before .before .before .before in (c .loop .c .kept ≤ c .loop .c .line) × (c .loop .c .line ≤ 16777216) × (s .args .b .line ≤ 16777216))
 small c =
-    let s = c .before .before .before .before .before in
+    let s = c .before .before .before .before .before .before in
     let a = s .args in
     let l = c .loop in (
       kept-le (a .b .strict) (a .text .now) (a .b .at) (l .area) (l .ids) (l .c) (l .inv .0),
@@ -56,15 +56,18 @@ small c =
       omega (arith, s .pre .1 .0 .slow, s .pre .1 .0 .inside, s .pre .0),
     )
 
+plain-requires : tie.Need-plain-requires Inv-loop μ-loop
+plain-requires c κs = search needs
+
 new-requires : tie.Need-new-requires Inv-loop μ-loop
 new-requires c κs = tt
 
 loop-holds : tie.Need-loop-holds Inv-loop μ-loop
 unfolding keptFrom
 loop-holds c =
-    let s = c .before .before .before .before in
+    let s = c .before .before .before .before .before in
     let a = s .args in (
-      begun (a .text .now) (a .b) (a .area .now) (a .ids .now) (s .pre .1 .0) (s .pre .1 .1),
+      begun (a .text .now) (a .b) _ (a .area .now) (a .ids .now) (s .pre .1 .0) (s .pre .1 .1),
       ap (λ k. unwritableLine k (linesKeptFrom (a .text .now) (a .b))) (let z : a .b .line ≡ a .b .line + 0 = omega arith in z),
       (λ k. omega (arith, ap (get k) (c .new .ensures), get-none k)),
       refl,
@@ -72,7 +75,7 @@ loop-holds c =
     )
 
 next-line-requires : tie.Need-next-line-requires Inv-loop μ-loop
-next-line-requires c κs = (c .before .before .before .before .before .before .before .before .before .pre .0, (c .before .before .before .before .loop .inv .0, c .before .before .if1 .taken))
+next-line-requires c κs = (c .before .before .before .before .before .before .before .before .before .before .pre .0, (c .before .before .before .before .loop .inv .0, c .before .before .if1 .taken))
 
 sub-with-step : tie.Need-sub-with-step Inv-loop μ-loop
 sub-with-step c = turned (c .before .before .before .before) .start
@@ -85,7 +88,7 @@ part-with-step-end c = turned (c .before .before .before .before) .inside
 
 with-step-requires : tie.Need-with-step-requires Inv-loop μ-loop
 with-step-requires c κs =
-    let s = c .before .before .before .before .before .before .before .before .before .before .before .before .before .before .before in
+    let s = c .before .before .before .before .before .before .before .before .before .before .before .before .before .before .before .before in
     let a = s .args in
     let l = c .before .before .before .before .before .before .before .before .before .before .loop in
     let r = c .before .before .before .before .before .next-line .result in
@@ -105,11 +108,11 @@ enum-known-grown c = search needs
 enum-told : tie.Need-enum-told Inv-loop μ-loop
 enum-told c = search needs
 
-cast-t21 : tie.Need-cast-t21 Inv-loop μ-loop
-cast-t21 c = omega (arith, small (c .before .before .before .before .before .before .before .before .before .before .before .before .before .before))
+cast-t22 : tie.Need-cast-t22 Inv-loop μ-loop
+cast-t22 c = omega (arith, small (c .before .before .before .before .before .before .before .before .before .before .before .before .before .before))
 
-add-t22 : tie.Need-add-t22 Inv-loop μ-loop
-add-t22 c = omega (arith, small (c .before .before .before .before .before .before .before .before .before .before .before .before .before .before .before))
+add-t23 : tie.Need-add-t23 Inv-loop μ-loop
+add-t23 c = omega (arith, small (c .before .before .before .before .before .before .before .before .before .before .before .before .before .before .before))
 
 same-length : tie.Need-same-length Inv-loop μ-loop
 same-length c = c .before .before .before .before .before .before .before .before .before .before .next-line .ensures .1 .1 .1 .1 .1 .0 ∙ c .before .before .before .before .before .before .before .before .before .before .before .before .before .before .before .loop .inv .3
@@ -120,7 +123,7 @@ same-length-2 c = c .before .before .before .before .before .before .before .bef
 returns : tie.Need-returns Inv-loop μ-loop
 unfolding keptMeasured
 returns c =
-    let a = c .before .before .before .before .before .before .before .before .before .before .before .before .before .before .before .before .before .before .before .before .args in
+    let a = c .before .before .before .before .before .before .before .before .before .before .before .before .before .before .before .before .before .before .before .before .before .args in
     let l = c .before .before .before .before .before .before .before .before .before .before .before .before .before .before .before .loop in
     let r = c .before .before .before .before .before .before .before .before .before .before .next-line .result in
     let bad = names-bad (a .b .strict) (a .text .now) (a .b .at) (l .c) (r .end) (r .refusal) (turned (c .before .before .before .before .before .before .before .before .before .before)) (l .sizes) (sym (c .before .before .before .before .with-step .ensures) ∙ c .before .before .enum-told .given .1) (a .b .line + l .c .line) in (
@@ -133,7 +136,7 @@ loop-less c = omega (arith, c .before .before .before .before .before .before .b
 
 loop-again : tie.Need-loop-again Inv-loop μ-loop
 loop-again c =
-    let a = c .before .before .before .before .before .before .before .before .before .before .before .before .before .before .before .before .before .before .before .before .args in
+    let a = c .before .before .before .before .before .before .before .before .before .before .before .before .before .before .before .before .before .before .before .before .before .args in
     let b = a .b in
     let l = c .before .before .before .before .before .before .before .before .before .before .before .before .before .before .before .loop in
     let w = c .before .before .before .before .before .before .before .before .before .before .next-line in
@@ -152,8 +155,8 @@ loop-again c =
       w .ensures .1 .1 .1 .1 .1 .1 .0 ∙ l .inv .4,
     )
 
-sub-t24 : tie.Need-sub-t24 Inv-loop μ-loop
-sub-t24 c = small (c .before .before .before) .0
+sub-t25 : tie.Need-sub-t25 Inv-loop μ-loop
+sub-t25 c = small (c .before .before .before) .0
 
 same-length-3 : tie.Need-same-length-3 Inv-loop μ-loop
 same-length-3 c = c .before .before .before .loop .inv .3
@@ -164,7 +167,7 @@ same-length-4 c = c .before .before .before .loop .inv .4
 returns-2 : tie.Need-returns-2 Inv-loop μ-loop
 unfolding keptMeasured sizesOf keptOf unwritableLine
 returns-2 c =
-    let a = c .before .before .before .before .before .before .before .before .args in
+    let a = c .before .before .before .before .before .before .before .before .before .args in
     let l = c .before .before .before .loop in
     let rs = keptFrom (a .text .now) (a .b) in
     let left = c .before .if1 .left in
@@ -182,6 +185,7 @@ measure-lines-spec =
     (tie.spec
     Inv-loop
     μ-loop
+    plain-requires
     new-requires
     loop-holds
     next-line-requires
@@ -191,14 +195,14 @@ measure-lines-spec =
     with-step-requires
     enum-known-grown
     enum-told
-    cast-t21
-    add-t22
+    cast-t22
+    add-t23
     same-length
     same-length-2
     returns
     loop-less
     loop-again
-    sub-t24
+    sub-t25
     same-length-3
     same-length-4
     returns-2)

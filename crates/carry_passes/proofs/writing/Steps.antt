@@ -1,4 +1,4 @@
--- What a turn of writing adds: the output and the table, a line further.
+-- What a step of writing adds: the output and the table, one line further.
 use Prim.Native.Nat.{ℕ, zero, suc, _+_, _*_, _≤_, _<_}
 use mathlib.Core.Path.{_≡_, refl, sym, ap, subst, _∙_}
 use mathlib.Core.Bool.{Bool, true}
@@ -10,7 +10,7 @@ use Rattle.format.specs.declared.Kind.{Kind}
 use Rattle.byte_slices.specs.Over.{over}
 use Rattle.byte_slices.proofs.Over.{over-over}
 use Rattle.accepted.specs.Read.{isRead}
-use Rattle.accepted.proofs.Bools.{never}
+use Rattle.lists.proofs.Bools.{never}
 use Rattle.tidy_line.specs.Line.{lineText}
 use Rattle.tidy_sizes.specs.Numbers.{get, plus}
 use Rattle.tidy_sizes.specs.declared.PerKind.{PerKind}
@@ -18,7 +18,7 @@ use Rattle.tidy_text.specs.Placed.{withParts, parts, Apart}
 use Rattle.tidy_text.proofs.Parts.{split-turn}
 use Rattle.format.specs.Carrying.{keptOf, skips, rows}
 use Rattle.carry_lines.specs.declared.Cursor.{Cursor}
-use Rattle.carry_passes.specs.Turn.{Turn}
+use Rattle.carry_passes.specs.NextLine.{Turn}
 use Rattle.carry_passes.proofs.Steps as at
 use Rattle.carry_passes.proofs.Steps.{turn-read, goes, left-kept, left-skipped, records-kept, records-skipped}
 use Rattle.carry_passes.specs.Steps.{placesAt, outAt, tableAt}
@@ -63,7 +63,7 @@ module _ (n row number : ℕ) (table : List ℕ) where
       go zero h = absurd (h refl)
       go (suc n) h = refl
 
--- ---- a turn
+-- ---- a step
 
 read-unskipped : (k : ℕ) (l : Line) (ls : List Line) → isRead l ≡ true → skips k (l ∷ ls) ≡ skips (k + 1) ls
 unfolding skips isRead
@@ -121,7 +121,7 @@ module _ (strict : Bool) (t : List ℕ) (from : ℕ) (c : Cursor) (end : ℕ) wh
   pub row-fits : (n : ℕ) → Turn strict t from c end n → 0 < n → (k row : ℕ) (table : List ℕ) → row * 2 + length (rows (skips k left)) ≤ length table → row * 2 + 2 ≤ length table
   row-fits n u z k row table h = omega (arith, h, ap length (rows-skipped n u z k))
 
-  -- the rows to come stand behind it
+  -- the rows to come are after it
   pub table-more : (n : ℕ) → Turn strict t from c end n → (k row : ℕ) (table : List ℕ) → row * 2 + length (rows (skips k left)) ≤ length table
       → (row + skipped n) * 2 + length (rows (skips (k + 1) rest)) ≤ length table
   unfolding skipped

@@ -13,7 +13,7 @@ use Rattle.catalogue_entries.proofs.Walk.{no-kind, no-body}
 use Rattle.catalogue_entries.proofs.body_at.Statement.{statement}
 use Rattle.catalogue_entries.proofs.body_at.Tie as tie
 
--- the body is behind the byte of kind, and a line behind what else the body says
+-- the body is after the byte of kind, and a line after what else the body says
 module _ (at : ℕ) (s : List ℕ) where
   line-at : (n m : ℕ) → at + 1 + n ≡ at + m → lineFrom (drop n (drop (at + 1) s)) ≡ ofLittle (take 4 (drop (at + m) s))
   unfolding lineFrom

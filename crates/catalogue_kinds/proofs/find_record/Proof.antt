@@ -1,4 +1,4 @@
--- `catalogue_kinds::find_record` meets its contract: it stands behind those before it.
+-- `catalogue_kinds::find_record` meets its contract: it comes after those before it.
 use mathlib.Core.Path.{ap}
 use Rattle.catalogue_kinds.specs.Passing.{passing}
 use borrow.Author.Needs.{needs}

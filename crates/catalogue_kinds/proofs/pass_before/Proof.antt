@@ -75,7 +75,7 @@ Inv-loop catalogue kind ordinal at₀ count₀ at count = Onward catalogue kind 
 abbrev μ-loop : tie.MeasureT-loop
 μ-loop catalogue kind ordinal at₀ count₀ at count = length catalogue - at
 
--- ---- in a turn
+-- ---- in a step of the loop
 
 -- the entry at `at` is within the catalogue
 inside : (c : tie.Else1 Inv-loop μ-loop) → c .before .before .before .loop .at + c .before .size .result ≤ length (c .before .before .before .before .before .args .catalogue .now)

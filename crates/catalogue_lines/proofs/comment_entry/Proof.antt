@@ -5,7 +5,7 @@ use borrow.Author.Needs.{needs}
 use Rattle.accepted_line.specs.Next.{orValue}
 use Rattle.accepted_line.specs.Keys.{lastKey, lastNumber, keysFrom, keysIn}
 use Rattle.catalogue_entries.specs.Entries.{entryBytes}
-use Rattle.catalogue_lines.proofs.Told.{comment-bytes}
+use Rattle.catalogue_lines.proofs.LineEntries.{comment-bytes}
 use Rattle.catalogue_lines.proofs.comment_entry.Statement.{statement}
 use Rattle.catalogue_lines.proofs.comment_entry.Tie as tie
 

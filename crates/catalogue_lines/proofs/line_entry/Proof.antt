@@ -6,7 +6,7 @@ use Rattle.record.specs.Head.{headOf}
 use Rattle.catalogue_entries.specs.Entries.{FitsEntry}
 use Rattle.format.specs.Records.{line}
 use Rattle.catalogue_lines.specs.Parts.{ownEntry}
-use Rattle.catalogue_lines.proofs.Told.{own-uncounted, own-fits}
+use Rattle.catalogue_lines.proofs.LineEntries.{own-uncounted, own-fits}
 use Rattle.catalogue_lines.proofs.line_entry.Statement.{statement}
 use Rattle.catalogue_lines.proofs.line_entry.Tie as tie
 use mathlib.Core.Bool.{false}

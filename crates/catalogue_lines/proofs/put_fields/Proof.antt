@@ -5,6 +5,7 @@ use mathlib.Core.Bool.{not, _||_}
 use mathlib.Core.List.{_++_}
 use native.Mathlib.Omega.{arith}
 use lib.ListN.{length, getD}
+use Rattle.format.specs.Bytes.{none?}
 use Rattle.accepted_line.specs.Next.{isFirst}
 use Rattle.accepted_line.proofs.fields.Place.{bounds}
 use Rattle.catalogue_entries.specs.declared.Entry.the-variants as entry
@@ -14,27 +15,27 @@ use Rattle.byte_slices.specs.Over.{over}
 use Rattle.byte_slices.proofs.Over.{over-none}
 use Rattle.catalogue_lines.specs.Matched.{metIn}
 use Rattle.catalogue_lines.proofs.Entries.{entry-then, wrote}
-use Rattle.catalogue_lines.proofs.Turned.{Walked, walked-start, walked-end, walked-key, walked-past, same-bytes, Turned, turned}
+use Rattle.catalogue_lines.proofs.NextField.{Walked, walked-start, walked-end, walked-key, walked-past, same-bytes, Turned, turned}
 use Rattle.catalogue_lines.proofs.put_fields.Statement.{statement}
 use Rattle.catalogue_lines.proofs.put_fields.Tie as tie
 
 abbrev Inv-loop : tie.InvT-loop
-Inv-loop out₀ o kind src at once tables keys₀ next₀ i₀ out keys next i =
-    Walked once at src kind i keys
+Inv-loop out₀ o kind src at tables keys₀ next₀ i₀ out keys next i =
+    Walked (none? tables) at src kind i keys
     × (next + length (fieldBytes kind at src i) ≡ o + length (fieldBytes kind at src 3))
     × (over out next (fieldBytes kind at src i) ≡ over out₀ o (fieldBytes kind at src 3))
     × (length out ≡ length out₀)
 
 abbrev μ-loop : tie.MeasureT-loop
-μ-loop out₀ o kind src at once tables keys₀ next₀ i₀ out keys next i = length src - i
+μ-loop out₀ o kind src at tables keys₀ next₀ i₀ out keys next i = length src - i
 
--- the field of a turn ends in the line
+-- the field of a step ends in the line
 reach : (f : tie.After-field-end Inv-loop μ-loop)
     → (let l = f .before .before in let a = l .before .before .before .before .before .args in (l .loop .i + 4 ≤ f .field-end .result) × (f .field-end .result ≤ length (a .src .now)))
 reach f =
     let l = f .before .before in
     let a = l .before .before .before .before .before .args in
-    bounds (a .once) (a .at) (a .src .now) (l .loop .i) (l .loop .inv .0 .here) (omega arith) (f .field-end .result) (f .field-end .ensures)
+    bounds (none? (a .tables .now)) (a .at) (a .src .now) (l .loop .i) (l .loop .inv .0 .here) (omega arith) (f .field-end .result) (f .field-end .ensures)
 
 new-requires : tie.Need-new-requires Inv-loop μ-loop
 new-requires c κs = tt
@@ -43,7 +44,7 @@ loop-holds : tie.Need-loop-holds Inv-loop μ-loop
 loop-holds c =
     let s = c .before .before .before .before in
     let a = s .args in
-    (walked-start (a .once) (a .at) (a .src .now) (a .kind) (a .tables .now) (c .new .result) (s .pre .0) (c .new .ensures), refl, refl, refl)
+    (walked-start (a .at) (a .src .now) (a .kind) (a .tables .now) (c .new .result) (s .pre .0) (c .new .ensures), refl, refl, refl)
 
 field-end-requires : tie.Need-field-end-requires Inv-loop μ-loop
 field-end-requires c κs = omega arith
@@ -72,8 +73,8 @@ value-at-requires c κs =
 with-requires : tie.Need-with-requires Inv-loop μ-loop
 with-requires c κs = tt
 
-is-first-requires : tie.Need-is-first-requires Inv-loop μ-loop
-is-first-requires c κs =
+is-first-of-tag-requires : tie.Need-is-first-of-tag-requires Inv-loop μ-loop
+is-first-of-tag-requires c κs =
     let f = c .before .before .before .before in
     let l = f .before .before in
     let s = l .before .before .before .before .before in
@@ -97,8 +98,8 @@ field c =
     let l = f .before .before in
     let s = l .before .before .before .before .before in
     let a = s .args in
-    turned (a .once) (a .at) (a .src .now) (a .kind) (l .loop .i) (l .loop .keys) (l .loop .inv .0) (omega arith) (f .field-end .result) (f .field-end .ensures)
-    (s .pre .1 .0) (sym (e .before .is-key .ensures) ∙ e .if1 .left) (sym (t .before .is-first .ensures) ∙ t .if2 .taken) (c .kept-value .result) (c .kept-value .ensures)
+    turned (none? (a .tables .now)) (a .at) (a .src .now) (a .kind) (l .loop .i) (l .loop .keys) (l .loop .inv .0) (omega arith) (f .field-end .result) (f .field-end .ensures)
+    (s .pre .1 .0) (sym (e .before .is-key .ensures) ∙ e .if1 .left) (sym (t .before .is-first-of-tag .ensures) ∙ t .if2 .taken) (c .kept-value .result) (c .kept-value .ensures)
 
 narrow-requires : tie.Need-narrow-requires Inv-loop μ-loop
 narrow-requires c κs = field (c .before) .fits
@@ -155,8 +156,8 @@ loop-again c =
     let l = f .before .before in
     let a = l .before .before .before .before .before .args in
     let hit = sym (k .is-key .ensures) ∙ t .if1 .taken in
-    let p = passed f (same-bytes (a .once) (a .at) (a .src .now) (a .kind) (l .loop .i) (l .loop .keys) (l .loop .inv .0) (omega arith) (f .field-end .result) (f .field-end .ensures) (ap (λ t. t || not (isFirst (a .at) (a .src .now) (l .loop .i))) hit)) in (
-      walked-key (a .once) (a .at) (a .src .now) (a .kind) (l .loop .i) (l .loop .keys) (l .loop .inv .0) (omega arith) (f .field-end .result) (f .field-end .ensures) hit (v .value-at .result) (v .value-at .ensures) (c .with .result) (c .with .ensures),
+    let p = passed f (same-bytes (none? (a .tables .now)) (a .at) (a .src .now) (a .kind) (l .loop .i) (l .loop .keys) (l .loop .inv .0) (omega arith) (f .field-end .result) (f .field-end .ensures) (ap (λ t. t || not (isFirst (a .at) (a .src .now) (l .loop .i))) hit)) in (
+      walked-key (none? (a .tables .now)) (a .at) (a .src .now) (a .kind) (l .loop .i) (l .loop .keys) (l .loop .inv .0) (omega arith) (f .field-end .result) (f .field-end .ensures) hit (v .value-at .result) (v .value-at .ensures) (c .with .result) (c .with .ensures),
       p .0,
       p .1,
       l .loop .inv .3,
@@ -175,7 +176,7 @@ loop-again-2 c =
     let l = f .before .before in
     let a = l .before .before .before .before .before .args in
     let w = wrote (entry.Field _ _ (n .narrow .result)) _ _ (bytes n) (l .loop .out) (p .put-field .last .0) (l .loop .next) (l .loop .next + 11) (room l) refl (p .put-field .ensures) in (
-      walked-past (a .once) (a .at) (a .src .now) (a .kind) (l .loop .i) (l .loop .keys) (l .loop .inv .0) (omega arith) (f .field-end .result) (f .field-end .ensures) (sym (e .before .is-key .ensures) ∙ e .if1 .left),
+      walked-past (none? (a .tables .now)) (a .at) (a .src .now) (a .kind) (l .loop .i) (l .loop .keys) (l .loop .inv .0) (omega arith) (f .field-end .result) (f .field-end .ensures) (sym (e .before .is-key .ensures) ∙ e .if1 .left),
       w .0 ∙ l .loop .inv .1,
       w .1 ∙ l .loop .inv .2,
       w .2 ∙ l .loop .inv .3,
@@ -192,9 +193,9 @@ loop-again-3 c =
     let l = f .before .before in
     let a = l .before .before .before .before .before .args in
     let key = sym (k .is-key .ensures) ∙ e .if1 .left in
-    let later = ap₂ (λ t u. t || not u) key (sym (c .before .is-first .ensures) ∙ c .if2 .left) in
-    let p = passed f (same-bytes (a .once) (a .at) (a .src .now) (a .kind) (l .loop .i) (l .loop .keys) (l .loop .inv .0) (omega arith) (f .field-end .result) (f .field-end .ensures) later) in
-    (walked-past (a .once) (a .at) (a .src .now) (a .kind) (l .loop .i) (l .loop .keys) (l .loop .inv .0) (omega arith) (f .field-end .result) (f .field-end .ensures) key, p .0, p .1, l .loop .inv .3)
+    let later = ap₂ (λ t u. t || not u) key (sym (c .before .is-first-of-tag .ensures) ∙ c .if2 .left) in
+    let p = passed f (same-bytes (none? (a .tables .now)) (a .at) (a .src .now) (a .kind) (l .loop .i) (l .loop .keys) (l .loop .inv .0) (omega arith) (f .field-end .result) (f .field-end .ensures) later) in
+    (walked-past (none? (a .tables .now)) (a .at) (a .src .now) (a .kind) (l .loop .i) (l .loop .keys) (l .loop .inv .0) (omega arith) (f .field-end .result) (f .field-end .ensures) key, p .0, p .1, l .loop .inv .3)
 
 same-length : tie.Need-same-length Inv-loop μ-loop
 same-length c = c .before .loop .inv .3
@@ -204,7 +205,7 @@ unfolding metIn
 returns c =
     let l = c .before in
     let a = l .before .before .before .before .before .args in
-    let z = walked-end (a .once) (a .at) (a .src .now) (a .kind) (l .loop .i) (l .loop .keys) (l .loop .inv .0) (c .loop-test .left) in
+    let z = walked-end (none? (a .tables .now)) (a .at) (a .src .now) (a .kind) (l .loop .i) (l .loop .keys) (l .loop .inv .0) (c .loop-test .left) in
     let n : l .loop .next ≡ a .o + length (fieldBytes (a .kind) (a .at) (a .src .now) 3) = omega (arith, l .loop .inv .1, ap length (z .1)) in (
       ap₂ (λ n k. record { next = n; keys = k }) n (z .0),
       sym (over-none (l .loop .out) (l .loop .next)) ∙ ap (over (l .loop .out) (l .loop .next)) (sym (z .1)) ∙ l .loop .inv .2,
@@ -226,7 +227,7 @@ put-fields-spec =
     is-key-requires
     value-at-requires
     with-requires
-    is-first-requires
+    is-first-of-tag-requires
     kept-value-requires
     narrow-requires
     put-field-requires

@@ -43,17 +43,17 @@ put-entry-requires c κs =
 enum-known-kind : tie.Need-enum-known-kind
 enum-known-kind c = search needs
 
-slice-aggregate-put-line : tie.Need-slice-aggregate-put-line
-slice-aggregate-put-line c = search needs
+slice-aggregate-put-line-entries : tie.Need-slice-aggregate-put-line-entries
+slice-aggregate-put-line-entries c = search needs
 
-put-line-requires : tie.Need-put-line-requires
+put-line-entries-requires : tie.Need-put-line-entries-requires
 unfolding IsForm
-put-line-requires c κs =
+put-line-entries-requires c κs =
     let k = c .before .before .before in
     let f = k .before .before in
     let s = f .before .before .before in
     let i = formed f _ (k .kind .given .1) in
-    (i .0, (i .1, (once-walkable (s .args .at) (s .args .src .now) _ (i .2), room s)))
+    (i .0, (i .1, (once-walkable (s .args .at) (s .args .src .now) (i .2), room s)))
 
 enum-known-kind-2 : tie.Need-enum-known-kind-2
 enum-known-kind-2 c = search needs
@@ -70,12 +70,12 @@ note-tags-requires c κs =
     let i = formed f _ (k .kind2 .given .1) in
     noting (k .kind2 .given .0 .0) (a .at) (a .src .now) (i .0) (i .1)
 
-slice-aggregate-put-line-2 : tie.Need-slice-aggregate-put-line-2
-slice-aggregate-put-line-2 c = search needs
+slice-aggregate-put-line-entries-2 : tie.Need-slice-aggregate-put-line-entries-2
+slice-aggregate-put-line-entries-2 c = search needs
 
-put-line-requires-2 : tie.Need-put-line-requires-2
+put-line-entries-requires-2 : tie.Need-put-line-entries-requires-2
 unfolding IsForm
-put-line-requires-2 c κs =
+put-line-entries-requires-2 c κs =
     let n = c .before .before .before in
     let k = n .before .before .before in
     let f = k .before .before in
@@ -101,7 +101,7 @@ returns-2 : tie.Need-returns-2
 returns-2 c =
     let p = c .before .before in
     let s = p .before .before .before .before .before .before .before .before .before in
-    (p .put-line .ensures .0 ∙ ap (λ l. s .args .o + length l) (sym (same s)), p .put-line .ensures .1 ∙ ap (over (s .args .out .now) (s .args .o)) (sym (same s)))
+    (p .put-line-entries .ensures .0 ∙ ap (λ l. s .args .o + length l) (sym (same s)), p .put-line-entries .ensures .1 ∙ ap (over (s .args .out .now) (s .args .o)) (sym (same s)))
 
 same-length-3 : tie.Need-same-length-3
 same-length-3 c = search needs
@@ -111,7 +111,7 @@ returns-3 c =
     let p = c .before .before in
     let n = p .before .before .before .before in
     let s = n .before .before .before .before .before .before .before .before in
-    (p .put-line2 .ensures .0 ∙ ap (λ l. s .args .o + length l) (sym (same s)), p .put-line2 .ensures .1 ∙ ap (over (s .args .out .now) (s .args .o)) (sym (same s)))
+    (p .put-line-entries2 .ensures .0 ∙ ap (λ l. s .args .o + length l) (sym (same s)), p .put-line-entries2 .ensures .1 ∙ ap (over (s .args .out .now) (s .args .o)) (sym (same s)))
 
 pub put-record-spec : {M : Type 1} → statement M
 put-record-spec =
@@ -122,13 +122,13 @@ put-record-spec =
     comment-entry-requires
     put-entry-requires
     enum-known-kind
-    slice-aggregate-put-line
-    put-line-requires
+    slice-aggregate-put-line-entries
+    put-line-entries-requires
     enum-known-kind-2
     slice-aggregate-note-tags
     note-tags-requires
-    slice-aggregate-put-line-2
-    put-line-requires-2
+    slice-aggregate-put-line-entries-2
+    put-line-entries-requires-2
     same-length
     returns
     same-length-2

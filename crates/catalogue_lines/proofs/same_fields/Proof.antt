@@ -6,6 +6,7 @@ use native.Mathlib.Omega.{arith}
 use lib.ListN.{length, drop, getD}
 use borrow.Author.Tests.{not-true, not-false}
 use Rattle.format.specs.Bytes.{starts}
+use Rattle.format.specs.Bytes.{none?}
 use Rattle.accepted_line.specs.Next.{isFirst}
 use Rattle.accepted_line.proofs.fields.Place.{bounds}
 use Rattle.catalogue_entries.specs.declared.Entry.the-variants as entry
@@ -17,27 +18,27 @@ use Rattle.catalogue_lines.specs.Matched.{metIn, comparedOf}
 use Rattle.catalogue_lines.specs.declared.Compared.the-variants.{Same}
 use Rattle.catalogue_lines.proofs.Starts.{match-within}
 use Rattle.catalogue_lines.proofs.Entries.{entry-then, compared}
-use Rattle.catalogue_lines.proofs.Turned.{Walked, walked-start, walked-end, walked-key, walked-past, same-bytes, Turned, turned}
+use Rattle.catalogue_lines.proofs.NextField.{Walked, walked-start, walked-end, walked-key, walked-past, same-bytes, Turned, turned}
 use Rattle.catalogue_lines.proofs.same_fields.Statement.{statement}
 use Rattle.catalogue_lines.proofs.same_fields.Tie as tie
 
 abbrev Inv-loop : tie.InvT-loop
-Inv-loop catalogue o kind src at once tables keys₀ next₀ i₀ keys next i =
-    Walked once at src kind i keys
+Inv-loop catalogue o kind src at tables keys₀ next₀ i₀ keys next i =
+    Walked (none? tables) at src kind i keys
     × (next ≤ length catalogue)
     × (next + length (fieldBytes kind at src i) ≡ o + length (fieldBytes kind at src 3))
     × (starts (fieldBytes kind at src 3) (drop o catalogue) ≡ starts (fieldBytes kind at src i) (drop next catalogue))
 
 abbrev μ-loop : tie.MeasureT-loop
-μ-loop catalogue o kind src at once tables keys₀ next₀ i₀ keys next i = length src - i
+μ-loop catalogue o kind src at tables keys₀ next₀ i₀ keys next i = length src - i
 
--- the field of a turn ends in the line
+-- the field of a step ends in the line
 reach : (f : tie.After-field-end Inv-loop μ-loop)
     → (let l = f .before .before in let a = l .before .before .before .before .before .args in (l .loop .i + 4 ≤ f .field-end .result) × (f .field-end .result ≤ length (a .src .now)))
 reach f =
     let l = f .before .before in
     let a = l .before .before .before .before .before .args in
-    bounds (a .once) (a .at) (a .src .now) (l .loop .i) (l .loop .inv .0 .here) (omega arith) (f .field-end .result) (f .field-end .ensures)
+    bounds (none? (a .tables .now)) (a .at) (a .src .now) (l .loop .i) (l .loop .inv .0 .here) (omega arith) (f .field-end .result) (f .field-end .ensures)
 
 new-requires : tie.Need-new-requires Inv-loop μ-loop
 new-requires c κs = tt
@@ -46,7 +47,7 @@ loop-holds : tie.Need-loop-holds Inv-loop μ-loop
 loop-holds c =
     let s = c .before .before .before .before in
     let a = s .args in
-    (walked-start (a .once) (a .at) (a .src .now) (a .kind) (a .tables .now) (c .new .result) (s .pre .0) (c .new .ensures), s .pre .1 .1, refl, refl)
+    (walked-start (a .at) (a .src .now) (a .kind) (a .tables .now) (c .new .result) (s .pre .0) (c .new .ensures), s .pre .1 .1, refl, refl)
 
 field-end-requires : tie.Need-field-end-requires Inv-loop μ-loop
 field-end-requires c κs = omega arith
@@ -75,8 +76,8 @@ value-at-requires c κs =
 with-requires : tie.Need-with-requires Inv-loop μ-loop
 with-requires c κs = tt
 
-is-first-requires : tie.Need-is-first-requires Inv-loop μ-loop
-is-first-requires c κs =
+is-first-of-tag-requires : tie.Need-is-first-of-tag-requires Inv-loop μ-loop
+is-first-of-tag-requires c κs =
     let f = c .before .before .before .before in
     let l = f .before .before in
     let s = l .before .before .before .before .before in
@@ -100,8 +101,8 @@ field c =
     let l = f .before .before in
     let s = l .before .before .before .before .before in
     let a = s .args in
-    turned (a .once) (a .at) (a .src .now) (a .kind) (l .loop .i) (l .loop .keys) (l .loop .inv .0) (omega arith) (f .field-end .result) (f .field-end .ensures)
-    (s .pre .1 .0) (sym (e .before .is-key .ensures) ∙ e .if1 .left) (sym (t .before .is-first .ensures) ∙ t .if2 .taken) (c .kept-value .result) (c .kept-value .ensures)
+    turned (none? (a .tables .now)) (a .at) (a .src .now) (a .kind) (l .loop .i) (l .loop .keys) (l .loop .inv .0) (omega arith) (f .field-end .result) (f .field-end .ensures)
+    (s .pre .1 .0) (sym (e .before .is-key .ensures) ∙ e .if1 .left) (sym (t .before .is-first-of-tag .ensures) ∙ t .if2 .taken) (c .kept-value .result) (c .kept-value .ensures)
 
 narrow-requires : tie.Need-narrow-requires Inv-loop μ-loop
 narrow-requires c κs = field c .fits
@@ -182,8 +183,8 @@ loop-again c =
     let l = f .before .before in
     let a = l .before .before .before .before .before .args in
     let hit = sym (k .is-key .ensures) ∙ t .if1 .taken in
-    let p = passed f (same-bytes (a .once) (a .at) (a .src .now) (a .kind) (l .loop .i) (l .loop .keys) (l .loop .inv .0) (omega arith) (f .field-end .result) (f .field-end .ensures) (ap (λ t. t || not (isFirst (a .at) (a .src .now) (l .loop .i))) hit)) in (
-      walked-key (a .once) (a .at) (a .src .now) (a .kind) (l .loop .i) (l .loop .keys) (l .loop .inv .0) (omega arith) (f .field-end .result) (f .field-end .ensures) hit (v .value-at .result) (v .value-at .ensures) (c .with .result) (c .with .ensures),
+    let p = passed f (same-bytes (none? (a .tables .now)) (a .at) (a .src .now) (a .kind) (l .loop .i) (l .loop .keys) (l .loop .inv .0) (omega arith) (f .field-end .result) (f .field-end .ensures) (ap (λ t. t || not (isFirst (a .at) (a .src .now) (l .loop .i))) hit)) in (
+      walked-key (none? (a .tables .now)) (a .at) (a .src .now) (a .kind) (l .loop .i) (l .loop .keys) (l .loop .inv .0) (omega arith) (f .field-end .result) (f .field-end .ensures) hit (v .value-at .result) (v .value-at .ensures) (c .with .result) (c .with .ensures),
       l .loop .inv .1,
       p .0,
       p .1,
@@ -199,7 +200,7 @@ loop-again-2 c =
     let f = e .before .before .before .before in
     let l = f .before .before in
     let a = l .before .before .before .before .before .args in (
-      walked-past (a .once) (a .at) (a .src .now) (a .kind) (l .loop .i) (l .loop .keys) (l .loop .inv .0) (omega arith) (f .field-end .result) (f .field-end .ensures) (sym (e .before .is-key .ensures) ∙ e .if1 .left),
+      walked-past (none? (a .tables .now)) (a .at) (a .src .now) (a .kind) (l .loop .i) (l .loop .keys) (l .loop .inv .0) (omega arith) (f .field-end .result) (f .field-end .ensures) (sym (e .before .is-key .ensures) ∙ e .if1 .left),
       here c,
       omega (arith, l .loop .inv .2, told t .1),
       l .loop .inv .3 ∙ told t .0 ∙ rw (not-false (t .same-field .result) (c .if3 .left)) refl,
@@ -216,16 +217,16 @@ loop-again-3 c =
     let l = f .before .before in
     let a = l .before .before .before .before .before .args in
     let key = sym (k .is-key .ensures) ∙ e .if1 .left in
-    let later = ap₂ (λ t u. t || not u) key (sym (c .before .is-first .ensures) ∙ c .if2 .left) in
-    let p = passed f (same-bytes (a .once) (a .at) (a .src .now) (a .kind) (l .loop .i) (l .loop .keys) (l .loop .inv .0) (omega arith) (f .field-end .result) (f .field-end .ensures) later) in
-    (walked-past (a .once) (a .at) (a .src .now) (a .kind) (l .loop .i) (l .loop .keys) (l .loop .inv .0) (omega arith) (f .field-end .result) (f .field-end .ensures) key, l .loop .inv .1, p .0, p .1)
+    let later = ap₂ (λ t u. t || not u) key (sym (c .before .is-first-of-tag .ensures) ∙ c .if2 .left) in
+    let p = passed f (same-bytes (none? (a .tables .now)) (a .at) (a .src .now) (a .kind) (l .loop .i) (l .loop .keys) (l .loop .inv .0) (omega arith) (f .field-end .result) (f .field-end .ensures) later) in
+    (walked-past (none? (a .tables .now)) (a .at) (a .src .now) (a .kind) (l .loop .i) (l .loop .keys) (l .loop .inv .0) (omega arith) (f .field-end .result) (f .field-end .ensures) key, l .loop .inv .1, p .0, p .1)
 
 returns-2 : tie.Need-returns-2 Inv-loop μ-loop
 unfolding metIn comparedOf
 returns-2 c =
     let l = c .before in
     let a = l .before .before .before .before .before .args in
-    let z = walked-end (a .once) (a .at) (a .src .now) (a .kind) (l .loop .i) (l .loop .keys) (l .loop .inv .0) (c .loop-test .left) in
+    let z = walked-end (none? (a .tables .now)) (a .at) (a .src .now) (a .kind) (l .loop .i) (l .loop .keys) (l .loop .inv .0) (c .loop-test .left) in
     let n : l .loop .next ≡ a .o + length (fieldBytes (a .kind) (a .at) (a .src .now) 3) = omega (arith, l .loop .inv .2, ap length (z .1)) in
     let t = l .loop .inv .3 ∙ ap (λ x. starts x (drop (l .loop .next) (a .catalogue .now))) (z .1) ∙ starts-none (a .catalogue .now) (l .loop .next) in
     ap₂ (λ n k. Same (record { next = n; keys = k })) n (z .0) ∙ sym (ap (λ b. comparedOf b (metIn (a .kind) (a .at) (a .src .now) (a .o))) t)
@@ -246,7 +247,7 @@ same-fields-spec =
     is-key-requires
     value-at-requires
     with-requires
-    is-first-requires
+    is-first-of-tag-requires
     kept-value-requires
     narrow-requires
     same-field-requires

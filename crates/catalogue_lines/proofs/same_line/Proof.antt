@@ -7,7 +7,7 @@ use native.Mathlib.Omega.{arith}
 use lib.ListN.{length, drop, length-drop}
 use borrow.Author.Needs.{needs}
 use Rattle.format.specs.Bytes.{starts}
-use Rattle.accepted.proofs.Bools.{never, split}
+use Rattle.lists.proofs.Bools.{never, split}
 use Rattle.catalogue_entries.specs.Entries.{entrySize, entryBytes}
 use Rattle.catalogue_same.proofs.Starts.{starts-short}
 use Rattle.catalogue_lines.specs.Line.{lineBytes}
@@ -15,7 +15,7 @@ use Rattle.catalogue_lines.specs.Parts.{fieldBytes}
 use Rattle.catalogue_lines.specs.Matched.{metIn, comparedOf}
 use Rattle.catalogue_lines.specs.declared.Met.{Met}
 use Rattle.catalogue_lines.specs.declared.Compared.the-variants as compare
-use Rattle.catalogue_lines.proofs.Told.{own, own-size, line-bytes}
+use Rattle.catalogue_lines.proofs.LineEntries.{own, own-size, line-bytes}
 use Rattle.catalogue_lines.proofs.Starts.{match-there, match-gone}
 use Rattle.catalogue_lines.proofs.Entries.{entry-then, compared}
 use Rattle.catalogue_lines.proofs.same_line.Statement.{statement}
@@ -33,25 +33,25 @@ differs-says true m e = absurd (never (cc))
 differs-says false m e = refl
 
 -- the entries of the line
-bytes : (s : tie.Start) → (let a = s .args in lineBytes false (a .number) (a .at) (a .src .now) ≡ entryBytes (own (a .number) (a .at) (a .src .now) (s .pre .0 .accepted)) ++ fieldBytes (a .kind) (a .at) (a .src .now) 3)
-bytes s = let a = s .args in line-bytes (a .number) (a .at) (a .src .now) (s .pre .0 .accepted) (a .kind) (s .pre .0 .kind) (s .pre .1 .0)
+bytes : (s : tie.Start) → (let a = s .args in lineBytes false (a .place .number) (a .place .at) (a .src .now) ≡ entryBytes (own (a .place .number) (a .place .at) (a .src .now) (s .pre .0 .accepted)) ++ fieldBytes (a .kind) (a .place .at) (a .src .now) 3)
+bytes s = let a = s .args in line-bytes (a .place .number) (a .place .at) (a .src .now) (s .pre .0 .accepted) (a .kind) (s .pre .0 .kind) (s .pre .1 .0)
 
 -- how long they are, and how they are compared
 module _ (c : tie.After-own-size) where
-  size : (let s = c .before .before .before .before in let a = s .args in c .own-size .result ≡ entrySize (own (a .number) (a .at) (a .src .now) (s .pre .0 .accepted)))
+  size : (let s = c .before .before .before .before in let a = s .args in c .own-size .result ≡ entrySize (own (a .place .number) (a .place .at) (a .src .now) (s .pre .0 .accepted)))
   size =
       let s = c .before .before .before .before in
-      c .own-size .ensures ∙ sym (own-size (s .args .number) (s .args .at) (s .args .src .now) (s .pre .0 .accepted) (s .args .kind) (s .pre .0 .kind))
+      c .own-size .ensures ∙ sym (own-size (s .args .place .number) (s .args .place .at) (s .args .src .now) (s .pre .0 .accepted) (s .args .kind) (s .pre .0 .kind))
 
-  long : (let a = c .before .before .before .before .args in length (lineBytes false (a .number) (a .at) (a .src .now)) ≡ c .own-size .result + length (fieldBytes (a .kind) (a .at) (a .src .now) 3))
+  long : (let a = c .before .before .before .before .args in length (lineBytes false (a .place .number) (a .place .at) (a .src .now)) ≡ c .own-size .result + length (fieldBytes (a .kind) (a .place .at) (a .src .now) 3))
   long =
       let s = c .before .before .before .before in
-      entry-then (own (s .args .number) (s .args .at) (s .args .src .now) (s .pre .0 .accepted)) _ _ (bytes s) ∙ ap (λ m. m + length (fieldBytes (s .args .kind) (s .args .at) (s .args .src .now) 3)) (sym size)
+      entry-then (own (s .args .place .number) (s .args .place .at) (s .args .src .now) (s .pre .0 .accepted)) _ _ (bytes s) ∙ ap (λ m. m + length (fieldBytes (s .args .kind) (s .args .place .at) (s .args .src .now) 3)) (sym size)
 
   told : (let s = c .before .before .before .before in let a = s .args in
-      starts (lineBytes false (a .number) (a .at) (a .src .now)) (drop (a .o) (a .catalogue .now))
-      ≡ (starts (entryBytes (own (a .number) (a .at) (a .src .now) (s .pre .0 .accepted))) (drop (a .o) (a .catalogue .now)) && starts (fieldBytes (a .kind) (a .at) (a .src .now) 3) (drop (a .o + c .own-size .result) (a .catalogue .now))))
-  told = let s = c .before .before .before .before in compared (own (s .args .number) (s .args .at) (s .args .src .now) (s .pre .0 .accepted)) _ _ (bytes s) (s .args .catalogue .now) (s .args .o) (c .own-size .result) size
+      starts (lineBytes false (a .place .number) (a .place .at) (a .src .now)) (drop (a .o) (a .catalogue .now))
+      ≡ (starts (entryBytes (own (a .place .number) (a .place .at) (a .src .now) (s .pre .0 .accepted))) (drop (a .o) (a .catalogue .now)) && starts (fieldBytes (a .kind) (a .place .at) (a .src .now) 3) (drop (a .o + c .own-size .result) (a .catalogue .now))))
+  told = let s = c .before .before .before .before in compared (own (s .args .place .number) (s .args .place .at) (s .args .src .now) (s .pre .0 .accepted)) _ _ (bytes s) (s .args .catalogue .now) (s .args .o) (c .own-size .result) size
 
 none-right : (t u : Bool) → u ≡ false → t && u ≡ false
 none-right true u e = e
@@ -91,12 +91,12 @@ returns-2 c =
     let s = o .before .before .before .before in
     let a = s .args in
     let e = differs-says _ _ (sym (f .same-fields .ensures) ∙ c .enum-told .given .1) in
-    match-gone (a .catalogue .now) (a .o) _ (told o ∙ none-right (starts (entryBytes (own (a .number) (a .at) (a .src .now) (s .pre .0 .accepted))) (drop (a .o) (a .catalogue .now))) (starts (fieldBytes (a .kind) (a .at) (a .src .now) 3) (drop (a .o + o .own-size .result) (a .catalogue .now))) e)
+    match-gone (a .catalogue .now) (a .o) _ (told o ∙ none-right (starts (entryBytes (own (a .place .number) (a .place .at) (a .src .now) (s .pre .0 .accepted))) (drop (a .o) (a .catalogue .now))) (starts (fieldBytes (a .kind) (a .place .at) (a .src .now) 3) (drop (a .o + o .own-size .result) (a .catalogue .now))) e)
 
 -- the entries of the other fields are there
 there : (k : tie.After-compared)
     → (let f = k .before .before in let a = f .before .before .before .before .before .before .args in let n = f .before .before .own-size .result in
-    (starts (fieldBytes (a .kind) (a .at) (a .src .now) 3) (drop (a .o + n) (a .catalogue .now)) ≡ true) × (metIn (a .kind) (a .at) (a .src .now) (a .o + n) ≡ k .compared .given .0 .0))
+    (starts (fieldBytes (a .kind) (a .place .at) (a .src .now) 3) (drop (a .o + n) (a .catalogue .now)) ≡ true) × (metIn (a .kind) (a .place .at) (a .src .now) (a .o + n) ≡ k .compared .given .0 .0))
 there k = let f = k .before .before in same-says _ _ (k .compared .given .0 .0) (sym (f .same-fields .ensures) ∙ k .compared .given .1)
 
 line-entry-requires : tie.Need-line-entry-requires
@@ -112,7 +112,7 @@ same-entry-requires c κs = c .before .before .before .before .before .before .b
 -- the own entry decides
 decides : (c : tie.After-same-entry)
     → (let a = c .before .before .before .before .before .before .before .before .before .before .before .args in
-    starts (lineBytes false (a .number) (a .at) (a .src .now)) (drop (a .o) (a .catalogue .now)) ≡ c .same-entry .result)
+    starts (lineBytes false (a .place .number) (a .place .at) (a .src .now)) (drop (a .o) (a .catalogue .now)) ≡ c .same-entry .result)
 decides c =
     let k = c .before .before .before in
     let o = k .before .before .before .before in

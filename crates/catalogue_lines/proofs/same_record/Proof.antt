@@ -14,7 +14,7 @@ use Rattle.accepted_line.proofs.Noting.{noting, noted-line}
 use Rattle.catalogue_lines.specs.Line.{recordBytes, lineBytes}
 use Rattle.catalogue_lines.specs.Matched.{matched}
 use Rattle.catalogue_lines.proofs.Starts.{match-there, match-gone}
-use Rattle.catalogue_lines.proofs.Told.{comment-long}
+use Rattle.catalogue_lines.proofs.LineEntries.{comment-long}
 use Rattle.catalogue_lines.proofs.same_record.Statement.{statement}
 use Rattle.catalogue_lines.proofs.same_record.Tie as tie
 
@@ -78,7 +78,7 @@ same-line-requires c κs =
     let f = k .before .before in
     let s = f .before .before .before in
     let i = formed f _ (k .kind .given .1) in
-    (i .0, (i .1, (once-walkable (s .args .at) (s .args .src .now) _ (i .2), s .pre .1 .1)))
+    (i .0, (i .1, (once-walkable (s .args .at) (s .args .src .now) (i .2), s .pre .1 .1)))
 
 enum-known-kind-2 : tie.Need-enum-known-kind-2
 enum-known-kind-2 c = search needs

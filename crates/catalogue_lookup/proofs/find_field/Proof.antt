@@ -1,4 +1,4 @@
--- `catalogue_lookup::find_field` meets its contract: the fields stand behind the entry that is found.
+-- `catalogue_lookup::find_field` meets its contract: the fields come after the entry that is found.
 use mathlib.Core.Path.{refl, ap, _∙_}
 use mathlib.Core.Logic.{⊎-elim}
 use native.Mathlib.Omega.{arith}
@@ -7,7 +7,7 @@ use borrow.Author.Tests.{lt-ltb, le-ltb}
 use Rattle.catalogue_entries.specs.Entries.{entrySize}
 use Rattle.catalogue_lookup.specs.Lookup.{valueIn, fieldIn}
 use Rattle.catalogue_lookup.proofs.Walks.{found-rest, found-within}
-use Rattle.catalogue_lookup.proofs.Told.{field-told}
+use Rattle.catalogue_lookup.proofs.CallAnswers.{field-told}
 use Rattle.catalogue_lookup.specs.declared.Found.the-variants.{Nothing}
 use Rattle.catalogue_lookup.proofs.find_field.Statement.{statement}
 use Rattle.catalogue_lookup.proofs.find_field.Tie as tie

@@ -3,7 +3,7 @@ use mathlib.Core.Path.{_∙_, ap}
 use borrow.Author.Needs.{needs}
 use Rattle.catalogue_lookup.specs.Lookup.{entryKey, keyIn}
 use Rattle.catalogue_lookup.proofs.Walks.{found-entry}
-use Rattle.catalogue_lookup.proofs.Told.{key-told}
+use Rattle.catalogue_lookup.proofs.CallAnswers.{key-told}
 use Rattle.catalogue_lookup.proofs.find_key.Statement.{statement}
 use Rattle.catalogue_lookup.proofs.find_key.Tie as tie
 

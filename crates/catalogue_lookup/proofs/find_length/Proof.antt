@@ -3,7 +3,7 @@ use mathlib.Core.Path.{_∙_, ap}
 use borrow.Author.Needs.{needs}
 use Rattle.catalogue_lookup.specs.Lookup.{entryLength, lengthIn}
 use Rattle.catalogue_lookup.proofs.Walks.{found-entry}
-use Rattle.catalogue_lookup.proofs.Told.{length-told}
+use Rattle.catalogue_lookup.proofs.CallAnswers.{length-told}
 use Rattle.catalogue_lookup.proofs.find_length.Statement.{statement}
 use Rattle.catalogue_lookup.proofs.find_length.Tie as tie
 

@@ -3,7 +3,7 @@ use mathlib.Core.Path.{_∙_, ap}
 use borrow.Author.Needs.{needs}
 use Rattle.catalogue_lookup.specs.Lookup.{entryLine, lineIn}
 use Rattle.catalogue_lookup.proofs.Walks.{found-entry}
-use Rattle.catalogue_lookup.proofs.Told.{line-told}
+use Rattle.catalogue_lookup.proofs.CallAnswers.{line-told}
 use Rattle.catalogue_lookup.proofs.find_line.Statement.{statement}
 use Rattle.catalogue_lookup.proofs.find_line.Tie as tie
 

@@ -1,4 +1,4 @@
--- `catalogue_put::put_field` meets its contract: three bytes, and two numbers behind them.
+-- `catalogue_put::put_field` meets its contract: three bytes, and two numbers after them.
 use mathlib.Core.Path.{_∙_}
 use mathlib.Core.List.{_++_}
 use native.Mathlib.Omega.{arith}

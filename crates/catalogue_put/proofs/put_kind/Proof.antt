@@ -1,4 +1,4 @@
--- `catalogue_put::put_kind` meets its contract: a byte, and two numbers behind it.
+-- `catalogue_put::put_kind` meets its contract: a byte, and two numbers after it.
 use mathlib.Core.Path.{_∙_}
 use mathlib.Core.List.{_++_}
 use native.Mathlib.Omega.{arith}

@@ -1,4 +1,4 @@
--- `catalogue_put::put_lined` meets its contract: the line stands behind the two numbers.
+-- `catalogue_put::put_lined` meets its contract: the line comes after the two numbers.
 use Prim.Native.Nat.{_+_}
 use mathlib.Core.Path.{ap, _∙_}
 use mathlib.Core.List.{_∷_, _++_}

@@ -1,4 +1,4 @@
--- `catalogue_put::put_numbers` meets its contract: the second number stands behind the first.
+-- `catalogue_put::put_numbers` meets its contract: the second number comes after the first.
 use Prim.Native.Nat.{_+_}
 use mathlib.Core.Path.{ap, _∙_}
 use native.Mathlib.Omega.{arith}

@@ -1,4 +1,4 @@
--- `catalogue_put::put_sequence` meets its contract: the LN stands behind the place of the name, and the line behind the LN.
+-- `catalogue_put::put_sequence` meets its contract: the LN comes after the place of the name, and the line after the LN.
 use Prim.Native.Nat.{_+_}
 use mathlib.Core.Path.{ap, _∙_}
 use mathlib.Core.List.{_∷_, _++_}

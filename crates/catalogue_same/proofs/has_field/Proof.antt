@@ -1,4 +1,4 @@
--- `catalogue_same::has_field` meets its contract: three bytes, and two numbers behind them.
+-- `catalogue_same::has_field` meets its contract: three bytes, and two numbers after them.
 use Prim.Native.Nat.{ℕ, _+_}
 use mathlib.Core.Path.{_≡_, refl, sym, ap, _∙_}
 use mathlib.Core.Bool.{true, _&&_}

@@ -1,4 +1,4 @@
--- `catalogue_same::has_lined` meets its contract: the byte of kind and two numbers, and the line behind them.
+-- `catalogue_same::has_lined` meets its contract: the byte of kind and two numbers, and the line after them.
 use Prim.Native.Nat.{_+_}
 use mathlib.Core.Path.{_≡_, refl, sym, ap, _∙_}
 use mathlib.Core.Bool.{_&&_}

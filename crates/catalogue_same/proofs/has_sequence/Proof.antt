@@ -1,4 +1,4 @@
--- `catalogue_same::has_sequence` meets its contract: the byte of kind and the name's place, the LN behind them, and the line.
+-- `catalogue_same::has_sequence` meets its contract: the byte of kind and the name's place, the LN after them, and the line.
 use Prim.Native.Nat.{ℕ, _+_, _<_}
 use mathlib.Core.Path.{_≡_, refl, sym, ap, ap₂, _∙_}
 use mathlib.Core.Bool.{true, _&&_}

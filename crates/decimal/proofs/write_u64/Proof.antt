@@ -1,4 +1,4 @@
--- `decimal::write_u64` meets its contract: what the whole leaves is what the digits still to come leave in what stands there now. Assumes nothing.
+-- `decimal::write_u64` meets its contract: what the whole leaves is what the digits still to come leave in what is there now. Assumes nothing.
 use Prim.Native.Nat.{ℕ, _≤_}
 use mathlib.Core.Path.{_≡_, refl, sym, ap, _∙_}
 use mathlib.Core.List.{[]}

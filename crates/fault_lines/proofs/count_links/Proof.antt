@@ -3,7 +3,7 @@ use Prim.Native.Nat.{_+_, _-_, _≤_, _<_}
 use mathlib.Core.Path.{_≡_, ap, _∙_}
 use native.Mathlib.Omega.{arith}
 use lib.ListN.{length}
-use Rattle.fault_programs.proofs.Turns.{one-le}
+use Rattle.fault_programs.proofs.KeptPrograms.{one-le}
 use Rattle.format.specs.Faults.{linkFault}
 use Rattle.fault_lines.specs.Links.{linksIn, linkCount}
 use Rattle.fault_lines.proofs.Links.{count-more, count-none, one-by}

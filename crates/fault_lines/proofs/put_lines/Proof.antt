@@ -12,12 +12,13 @@ use Rattle.carry_early.specs.declared.Begin.{Begin}
 use Rattle.carry_lines.specs.Going.{Going}
 use Rattle.carry_lines.specs.declared.Cursor.{Cursor}
 use Rattle.carry_passes.specs.From.{linesKeptFrom, keptFrom}
-use Rattle.carry_passes.specs.Turn.{Turn}
+use Rattle.carry_passes.specs.NextLine.{Turn}
 use Rattle.carry_passes.proofs.Begun.{begun}
-use Rattle.carry_passes.proofs.Turn.{turn, none-left}
+use Rattle.carry_passes.proofs.NextLine.{turn, none-left}
 use Rattle.carry_passes.proofs.Steps.{turn-read}
 use Rattle.format.specs.Faults.{ifFaulty, faultsFrom}
 use Rattle.fault_lines.specs.Links.{linksIn}
+use borrow.Author.Needs.{needs}
 use Rattle.fault_lines.proofs.Rows.{with-line, turn-rows, programs-within, row-none, row-one, row-over}
 use Rattle.fault_lines.proofs.put_lines.Statement.{statement}
 use Rattle.fault_lines.proofs.put_lines.Tie as tie
@@ -39,46 +40,49 @@ Inv-loop t b area₀ ids₀ parents table₀ row₀ c₀ area ids table row c =
 abbrev μ-loop : tie.MeasureT-loop
 μ-loop t b area₀ ids₀ parents table₀ row₀ c₀ area ids table row c = length t - c .at
 
--- the line of a turn
+-- the line of a step
 turned : (c : tie.After-next-line Inv-loop μ-loop)
-    → (let l = c .before .before .before .before .before .loop in let a = c .before .before .before .before .before .before .before .before .before .before .before .before .args in Turn (a .b .strict) (a .text .now) (a .b .at) (l .c) (c .next-line .result .end) (c .next-line .result .refusal))
+    → (let l = c .before .before .before .before .before .loop in let a = c .before .before .before .before .before .before .before .before .before .before .before .before .before .args in Turn (a .b .strict) (a .text .now) (a .b .at) (l .c) (c .next-line .result .end) (c .next-line .result .refusal))
 turned c =
     let l = c .before .before .before .before .before .loop in
-    let a = c .before .before .before .before .before .before .before .before .before .before .before .before .args in
+    let a = c .before .before .before .before .before .before .before .before .before .before .before .before .before .args in
     turn (a .b .strict) (a .text .now) (a .b .at) (l .area) (l .ids) (l .c) (l .inv .0) (c .before .before .before .if1 .taken) (c .next-line .result .end) (c .next-line .result .refusal)
     (c .next-line .ensures .0) (c .next-line .ensures .1 .0)
 
--- its rows, and those behind it
+-- its rows, and those after it
 come : (c : tie.After-step-fault Inv-loop μ-loop)
-    → (let l = c .before .before .before .before .before .before .before .before .before .before .before .before .before .before .before .loop in let a = c .before .before .before .before .before .before .before .before .before .before .before .before .before .before .before .before .before .before .before .before .before .before .args in let d = c .before .before .before .before .before .before .before .before .before .before .next-line .result .next in
+    → (let l = c .before .before .before .before .before .before .before .before .before .before .before .before .before .before .before .loop in let a = c .before .before .before .before .before .before .before .before .before .before .before .before .before .before .before .before .before .before .before .before .before .before .before .args in let d = c .before .before .before .before .before .before .before .before .before .before .next-line .result .next in
     toCome (a .text .now) (a .b) (a .parents .now) (l .c) ≡ rows (ifFaulty (a .b .line + l .c .line) (c .step-fault .result) (faultsFrom (linksIn (a .parents .now)) (a .b .line + d .line) (d .programs) (drop (d .line) (linesKeptFrom (a .text .now) (a .b))))))
 come c =
     let l = c .before .before .before .before .before .before .before .before .before .before .before .before .before .before .before .loop in
-    let a = c .before .before .before .before .before .before .before .before .before .before .before .before .before .before .before .before .before .before .before .before .before .before .args in
+    let a = c .before .before .before .before .before .before .before .before .before .before .before .before .before .before .before .before .before .before .before .before .before .before .before .args in
     let b = a .b in
     let w = c .before .before .before .before .before .before .before .before .before .before .next-line in
     turn-rows (b .strict) (a .text .now) (b .at) (l .area) (l .ids) (l .c) (l .inv .0) _ _ (w .result .next) (w .ensures .1 .1 .1 .1 .0) (w .ensures .1 .1 .1 .0) (w .result .end) (w .result .refusal) (turned (c .before .before .before .before .before .before .before .before .before .before))
     (linksIn (a .parents .now)) (b .line) (c .before .before .plain-fault .result) (c .step-fault .result) (c .before .before .plain-fault .ensures) (c .step-fault .ensures)
 
 -- line numbers are small
-small : (c : tie.At-loop Inv-loop μ-loop) → (let s = c .before .before .before .before .before .before .before in (c .loop .c .line ≤ 16777216) × (s .args .b .line ≤ 16777216))
+small : (c : tie.At-loop Inv-loop μ-loop) → (let s = c .before .before .before .before .before .before .before .before in (c .loop .c .line ≤ 16777216) × (s .args .b .line ≤ 16777216))
 small c =
-    let s = c .before .before .before .before .before .before .before in
+    let s = c .before .before .before .before .before .before .before .before in
     let l = c .loop in
     (omega (arith, l .inv .0 .slow, l .inv .0 .inside, s .pre .0), omega (arith, s .pre .1 .0 .slow, s .pre .1 .0 .inside, s .pre .0))
 
+plain-requires : tie.Need-plain-requires Inv-loop μ-loop
+plain-requires c κs = search needs
+
 cast-row : tie.Need-cast-row Inv-loop μ-loop
-cast-row c = let s = c .before .before .before .before .before .before in omega (arith, s .pre .1 .0 .slow, s .pre .1 .0 .inside, s .pre .0)
+cast-row c = let s = c .before .before .before .before .before .before .before in omega (arith, s .pre .1 .0 .slow, s .pre .1 .0 .inside, s .pre .0)
 
 loop-holds : tie.Need-loop-holds Inv-loop μ-loop
 loop-holds c =
-    let s = c .before .before .before .before .before .before in
+    let s = c .before .before .before .before .before .before .before in
     let a = s .args in
     let b = a .b in
     let ks = linksIn (a .parents .now) in
     let same : rows (faultsFrom ks (b .line + 0) 0 (linesKeptFrom (a .text .now) b)) ≡ rows (faultsFrom ks (b .line) 0 (linesKeptFrom (a .text .now) b)) =
     ap (λ k. rows (faultsFrom ks k 0 (linesKeptFrom (a .text .now) b))) (let z : b .line + 0 ≡ b .line = omega arith in z) in (
-      begun (a .text .now) b (a .area .now) (a .ids .now) (s .pre .1 .0) (s .pre .1 .1 .0),
+      begun (a .text .now) b _ (a .area .now) (a .ids .now) (s .pre .1 .0) (s .pre .1 .1 .0),
       omega (arith, s .pre .1 .1 .1 .1 .1, ap length same),
       ap (over (a .table .now) (b .line * 2)) same,
       omega arith,
@@ -88,7 +92,7 @@ loop-holds c =
     )
 
 next-line-requires : tie.Need-next-line-requires Inv-loop μ-loop
-next-line-requires c κs = (c .before .before .before .before .before .before .before .before .before .before .before .pre .0, (c .before .before .before .before .loop .inv .0, c .before .before .if1 .taken))
+next-line-requires c κs = (c .before .before .before .before .before .before .before .before .before .before .before .before .pre .0, (c .before .before .before .before .loop .inv .0, c .before .before .if1 .taken))
 
 cast-line : tie.Need-cast-line Inv-loop μ-loop
 cast-line c = omega (arith, small (c .before .before .before .before .before .before .before .before .before .before))
@@ -107,7 +111,7 @@ part-plain-fault-end c = turned (c .before .before .before .before .before .befo
 
 plain-fault-requires : tie.Need-plain-fault-requires Inv-loop μ-loop
 plain-fault-requires c κs =
-    let s = c .before .before .before .before .before .before .before .before .before .before .before .before .before .before .before .before .before .before .before in
+    let s = c .before .before .before .before .before .before .before .before .before .before .before .before .before .before .before .before .before .before .before .before in
     let a = s .args in
     let l = c .before .before .before .before .before .before .before .before .before .before .before .before .loop in
     let r = c .before .before .before .before .before .before .before .next-line .result in
@@ -117,7 +121,7 @@ plain-fault-requires c κs =
 step-fault-requires : tie.Need-step-fault-requires Inv-loop μ-loop
 unfolding keptFrom
 step-fault-requires c κs =
-    let s = c .before .before .before .before .before .before .before .before .before .before .before .before .before .before .before .before .before .before .before .before .before in
+    let s = c .before .before .before .before .before .before .before .before .before .before .before .before .before .before .before .before .before .before .before .before .before .before in
     let a = s .args in
     let b = a .b in
     let l = c .before .before .before .before .before .before .before .before .before .before .before .before .before .before .loop in
@@ -164,7 +168,7 @@ loop-again-2 : tie.Need-loop-again-2 Inv-loop μ-loop
 loop-again-2 c =
     let l = c .before .before .before .before .before .before .before .before .before .before .before .before .before .before .before .before .before .before .before .before .loop in
     let w = c .before .before .before .before .before .before .before .before .before .before .before .before .before .before .before .next-line in
-    let a = c .before .before .before .before .before .before .before .before .before .before .before .before .before .before .before .before .before .before .before .before .before .before .before .before .before .before .before .args in
+    let a = c .before .before .before .before .before .before .before .before .before .before .before .before .before .before .before .before .before .before .before .before .before .before .before .before .before .before .before .before .args in
     let p = c .before .before .put-row in
     let e = come (c .before .before .before .before .before) in
     let n = c .before .before .before .before .before .step-fault .result in
@@ -192,7 +196,7 @@ returns : tie.Need-returns Inv-loop μ-loop
 unfolding rows faultsFrom
 returns c =
     let l = c .before .before .loop in
-    let a = c .before .before .before .before .before .before .before .before .before .args in
+    let a = c .before .before .before .before .before .before .before .before .before .before .args in
     let b = a .b in
     let e = none-left (b .strict) (a .text .now) (b .at) (l .area) (l .ids) (l .c) (l .inv .0) (c .if1 .left) in
     sym (over-none (l .table) (l .row * 2)) ∙ ap (λ ls. over (l .table) (l .row * 2) (rows (faultsFrom (linksIn (a .parents .now)) (b .line + l .c .line) (l .c .programs) ls))) (sym e) ∙ l .inv .2
@@ -203,6 +207,7 @@ put-lines-spec =
     (tie.spec
     Inv-loop
     μ-loop
+    plain-requires
     cast-row
     loop-holds
     next-line-requires

@@ -16,12 +16,12 @@ use Rattle.program_lines.specs.Found.{notesOf}
 use Rattle.carry_early.specs.declared.Begin.{Begin}
 use Rattle.carry_lines.specs.Going.{Going}
 use Rattle.carry_passes.specs.From.{linesKeptFrom, keptFrom}
-use Rattle.carry_passes.specs.Turn.{lentTo, Turn}
+use Rattle.carry_passes.specs.NextLine.{lentTo, Turn}
 use Rattle.carry_passes.proofs.Begun.{begun}
-use Rattle.carry_passes.proofs.Turn.{turn, none-left}
+use Rattle.carry_passes.proofs.NextLine.{turn, none-left}
 use Rattle.carry_passes.proofs.Steps.{turn-read}
 use Rattle.fault_programs.specs.Plain.{plainCount, oneIf}
-use Rattle.fault_programs.proofs.Turns.{plain-judged, one-le, programsIn, programs-done, programs-same, programs-one, programs-more, programs-room, ReadProgram, is-program, line-says, turn-stands, Noting, noting-none, noting-more, noting-all, all-taken}
+use Rattle.fault_programs.proofs.KeptPrograms.{plain-judged, one-le, programsIn, programs-done, programs-same, programs-one, programs-more, programs-room, ReadProgram, is-program, line-says, turn-stands, Noting, noting-none, noting-more, noting-all, all-taken}
 use Rattle.fault_programs.proofs.gather.Statement.{statement}
 use Rattle.fault_programs.proofs.gather.Tie as tie
 
@@ -37,21 +37,24 @@ Inv-loop t b area₀ ids₀ ats₀ lens₀ from₀ widths₀ plain₀ c₀ area 
 abbrev μ-loop : tie.MeasureT-loop
 μ-loop t b area₀ ids₀ ats₀ lens₀ from₀ widths₀ plain₀ c₀ area ids ats lens from widths plain c = length t - c .at
 
--- the line of a turn
+-- the line of a step
 turned : (c : tie.After-next-line Inv-loop μ-loop)
-    → (let l = c .before .before .before .before .before .loop in let a = c .before .before .before .before .before .before .before .before .before .args in Turn (a .b .strict) (a .text .now) (a .b .at) (l .c) (c .next-line .result .end) (c .next-line .result .refusal))
+    → (let l = c .before .before .before .before .before .loop in let a = c .before .before .before .before .before .before .before .before .before .before .args in Turn (a .b .strict) (a .text .now) (a .b .at) (l .c) (c .next-line .result .end) (c .next-line .result .refusal))
 turned c =
     let l = c .before .before .before .before .before .loop in
-    let a = c .before .before .before .before .before .before .before .before .before .args in
+    let a = c .before .before .before .before .before .before .before .before .before .before .args in
     turn (a .b .strict) (a .text .now) (a .b .at) (l .area) (l .ids) (l .c) (l .inv .0) (c .before .before .before .if1 .taken) (c .next-line .result .end) (c .next-line .result .refusal)
     (c .next-line .ensures .0) (c .next-line .ensures .1 .0)
+
+plain-requires : tie.Need-plain-requires Inv-loop μ-loop
+plain-requires c κs = search needs
 
 loop-holds : tie.Need-loop-holds Inv-loop μ-loop
 unfolding programs keptOf ofKind
 loop-holds c =
-    let s = c .before .before .before in
+    let s = c .before .before .before .before in
     let a = s .args in (
-      begun (a .text .now) (a .b) (a .area .now) (a .ids .now) (s .pre .1 .0) (s .pre .1 .1),
+      begun (a .text .now) (a .b) _ (a .area .now) (a .ids .now) (s .pre .1 .0) (s .pre .1 .1),
       omega arith,
       omega arith,
       noting-none (a .text .now),
@@ -60,7 +63,7 @@ loop-holds c =
     )
 
 next-line-requires : tie.Need-next-line-requires Inv-loop μ-loop
-next-line-requires c κs = (c .before .before .before .before .before .before .before .before .pre .0, (c .before .before .before .before .loop .inv .0, c .before .before .if1 .taken))
+next-line-requires c κs = (c .before .before .before .before .before .before .before .before .before .pre .0, (c .before .before .before .before .loop .inv .0, c .before .before .if1 .taken))
 
 sub-plain-fault : tie.Need-sub-plain-fault Inv-loop μ-loop
 sub-plain-fault c = turned (c .before .before .before .before) .start
@@ -73,7 +76,7 @@ part-plain-fault-end c = turned (c .before .before .before .before) .inside
 
 plain-fault-requires : tie.Need-plain-fault-requires Inv-loop μ-loop
 plain-fault-requires c κs =
-    let s = c .before .before .before .before .before .before .before .before .before .before .before .before .before .before in
+    let s = c .before .before .before .before .before .before .before .before .before .before .before .before .before .before .before in
     let a = s .args in
     let l = c .before .before .before .before .before .before .before .before .before .before .loop in
     let r = c .before .before .before .before .before .next-line .result in
@@ -85,20 +88,20 @@ one-if-requires c κs = tt
 
 add-plain : tie.Need-add-plain Inv-loop μ-loop
 add-plain c =
-    let s = c .before .before .before .before .before .before .before .before .before .before .before .before .before .before .before .before in
+    let s = c .before .before .before .before .before .before .before .before .before .before .before .before .before .before .before .before .before in
     let l = c .before .before .before .before .before .before .before .before .before .before .before .before .loop in
     omega (arith, l .inv .2, l .inv .0 .slow, l .inv .0 .inside, s .pre .0, c .one-if .ensures, one-le (c .before .plain-fault .result))
 
 loop-less : tie.Need-loop-less Inv-loop μ-loop
 loop-less c = omega (arith, c .before .before .before .before .before .before .before .before .before .before .before .before .before .if1 .taken, turned (c .before .before .before .before .before .before .before .before .before .before) .onward, c .before .before .before .before .before .before .before .before .before .before .next-line .ensures .1 .1 .0)
 
--- the faults that are counted, a line further
+-- the faults that are counted, one line further
 counted : (c : tie.After-one-if Inv-loop μ-loop)
-    → (let l = c .before .before .before .before .before .before .before .before .before .before .before .before .loop in let a = c .before .before .before .before .before .before .before .before .before .before .before .before .before .before .before .before .args in let d = c .before .before .before .before .before .before .before .next-line .result .next in
+    → (let l = c .before .before .before .before .before .before .before .before .before .before .before .before .loop in let a = c .before .before .before .before .before .before .before .before .before .before .before .before .before .before .before .before .before .args in let d = c .before .before .before .before .before .before .before .next-line .result .next in
     (l .plain + c .one-if .result + plainCount (drop (d .line) (linesKeptFrom (a .text .now) (a .b))) ≡ plainCount (linesKeptFrom (a .text .now) (a .b))) × (l .plain + c .one-if .result ≤ d .line))
 counted c =
     let l = c .before .before .before .before .before .before .before .before .before .before .before .before .loop in
-    let a = c .before .before .before .before .before .before .before .before .before .before .before .before .before .before .before .before .args in
+    let a = c .before .before .before .before .before .before .before .before .before .before .before .before .before .before .before .before .before .args in
     let b = a .b in
     let w = c .before .before .before .before .before .before .before .next-line in
     let u = turned (c .before .before .before .before .before .before .before) in
@@ -118,7 +121,7 @@ counted c =
 loop-again : tie.Need-loop-again Inv-loop μ-loop
 loop-again c =
     let l = c .before .before .before .before .before .before .before .before .before .before .before .before .before .before .before .loop in
-    let a = c .before .before .before .before .before .before .before .before .before .before .before .before .before .before .before .before .before .before .before .args in
+    let a = c .before .before .before .before .before .before .before .before .before .before .before .before .before .before .before .before .before .before .before .before .args in
     let b = a .b in
     let w = c .before .before .before .before .before .before .before .before .before .before .next-line in
     let u = turned (c .before .before .before .before .before .before .before .before .before .before) in
@@ -142,11 +145,11 @@ part-places-of-start c = turned (c .before .before .before .before .before .befo
 part-places-of-end : tie.Need-part-places-of-end Inv-loop μ-loop
 part-places-of-end c = turned (c .before .before .before .before .before .before .before .before .before .before) .inside
 
--- the program of a turn
+-- the program of a step
 one : (c : tie.Else2 Inv-loop μ-loop) → ReadProgram (turned (c .before .before .before .before .before .before .before .before .before .before) .judged)
 one c =
     let l = c .before .before .before .before .before .before .before .before .before .before .before .before .before .before .before .loop in
-    let a = c .before .before .before .before .before .before .before .before .before .before .before .before .before .before .before .before .before .before .before .args in
+    let a = c .before .before .before .before .before .before .before .before .before .before .before .before .before .before .before .before .before .before .before .before .args in
     let b = a .b in
     let w = c .before .before .before .before .before .before .before .before .before .before .next-line in
     let u = turned (c .before .before .before .before .before .before .before .before .before .before) in
@@ -155,7 +158,7 @@ one c =
 room : (c : tie.Else2 Inv-loop μ-loop) → c .before .before .before .before .before .before .before .before .before .before .before .before .before .before .before .loop .c .programs < 1024
 room c =
     let l = c .before .before .before .before .before .before .before .before .before .before .before .before .before .before .before .loop in
-    let a = c .before .before .before .before .before .before .before .before .before .before .before .before .before .before .before .before .before .before .before .args in
+    let a = c .before .before .before .before .before .before .before .before .before .before .before .before .before .before .before .before .before .before .before .before .args in
     let b = a .b in
     let w = c .before .before .before .before .before .before .before .before .before .before .next-line in
     let u = turned (c .before .before .before .before .before .before .before .before .before .before) in
@@ -163,7 +166,7 @@ room c =
 
 places-of-requires : tie.Need-places-of-requires Inv-loop μ-loop
 places-of-requires c κs =
-    let s = c .before .before .before .before .before .before .before .before .before .before .before .before .before .before .before .before .before .before .before .before in
+    let s = c .before .before .before .before .before .before .before .before .before .before .before .before .before .before .before .before .before .before .before .before .before in
     let a = s .args in
     let l = c .before .before .before .before .before .before .before .before .before .before .before .before .before .before .before .before .loop in
     let w = c .before .before .before .before .before .before .before .before .before .before .before .next-line in
@@ -202,7 +205,7 @@ loop-again-2 : tie.Need-loop-again-2 Inv-loop μ-loop
 unfolding notesOf
 loop-again-2 c =
     let l = c .before .before .before .before .before .before .before .before .before .before .before .before .before .before .before .before .before .loop in
-    let a = c .before .before .before .before .before .before .before .before .before .before .before .before .before .before .before .before .before .before .before .before .before .args in
+    let a = c .before .before .before .before .before .before .before .before .before .before .before .before .before .before .before .before .before .before .before .before .before .before .args in
     let b = a .b in
     let t = a .text .now in
     let w = c .before .before .before .before .before .before .before .before .before .before .before .before .next-line in
@@ -233,7 +236,7 @@ returns : tie.Need-returns Inv-loop μ-loop
 unfolding keptFrom plainCount
 returns c =
     let l = c .before .before .loop in
-    let a = c .before .before .before .before .before .before .args in
+    let a = c .before .before .before .before .before .before .before .args in
     let b = a .b in
     let t = a .text .now in
     let ls = linesKeptFrom t b in
@@ -251,6 +254,7 @@ gather-spec =
     (tie.spec
     Inv-loop
     μ-loop
+    plain-requires
     loop-holds
     next-line-requires
     sub-plain-fault

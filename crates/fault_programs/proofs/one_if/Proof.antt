@@ -1,6 +1,6 @@
 -- `fault_programs::one_if` meets its contract.
 use mathlib.Core.Path.{sym}
-use Rattle.fault_programs.proofs.Turns.{one-none, one-some}
+use Rattle.fault_programs.proofs.KeptPrograms.{one-none, one-some}
 use Rattle.fault_programs.proofs.one_if.Statement.{statement}
 use Rattle.fault_programs.proofs.one_if.Tie as tie
 

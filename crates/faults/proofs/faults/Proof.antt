@@ -2,7 +2,7 @@
 use lib.ListN.{length}
 use borrow.Author.Needs.{needs}
 use Rattle.format.specs.Faults.{faulting}
-use Rattle.faults.proofs.Told.{told-long, refused-all}
+use Rattle.faults.proofs.AnswerCases.{told-long, refused-all}
 use Rattle.faults.proofs.faults.Statement.{statement}
 use Rattle.faults.proofs.faults.Tie as tie
 

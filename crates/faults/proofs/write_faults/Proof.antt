@@ -7,13 +7,14 @@ use borrow.Author.Needs.{needs}
 use Rattle.format.proofs.Slots.{held-none}
 use Rattle.byte_slices.specs.Over.{over}
 use Rattle.byte_slices.proofs.Over.{over-over}
-use Rattle.key_index.specs.Told.{start}
+use Rattle.key_look.specs.Seed.{plainSeed}
+use Rattle.key_index.specs.KeySlots.{start}
 use Rattle.format.specs.Carrying.{carriedLines, rows}
 use Rattle.carry_early.specs.Early.{earlyOf, rowsFrom}
 use Rattle.carry_passes.proofs.Split.{early-rows}
 use Rattle.format.specs.Faults.{faultsIn, faulting}
 use Rattle.fault_lines.specs.Links.{linksIn}
-use Rattle.faults.proofs.Told.{told-short, told-fits, refused-all, written-all, counts-small, left, all-rows, few, inside, count-length, front-length, within, left-is, all-count}
+use Rattle.faults.proofs.AnswerCases.{told-short, told-fits, refused-all, written-all, counts-small, left, all-rows, few, inside, count-length, front-length, within, left-is, all-count}
 use Rattle.faults.proofs.write_faults.Statement.{statement}
 use Rattle.faults.proofs.write_faults.Tie as tie
 use Rattle.faults.proofs.write_faults.Reads as reads
@@ -48,7 +49,7 @@ small c =
     counts-small (a .text .now) (a .b) (a .links) f (s .pre .1 .1 .1) (s .pre .0) (c .count-links .result) _ _ (c .count-links .ensures)
     (omega (arith, front-length (a .text .now) (a .b) f (a .links) (s .pre .1 .1 .1), few (a .text .now) (a .b) f))
 
--- two numbers for each faulty line
+-- two numbers per faulty line
 counted : (c : tie.After-count-links)
     → (let a = c .before .before .before .before .before .before .before .args in length (rows (faultsIn (carriedLines (a .text .now)))) ≡ (a .b .line + (a .links .plain + c .count-links .result)) * 2)
 counted c =
@@ -106,7 +107,7 @@ put-lines-requires c κs =
       (
         f,
         (
-          record { some = s .pre .1 .1 .0; room = omega arith; held = held-none (start t 2048) 2048 },
+          record { some = s .pre .1 .1 .0; room = omega arith; held = held-none (start plainSeed t 2048) 2048 },
           (
             within t (a .b) f (a .links) k,
             (front-length t (a .b) f (a .links) k, omega (arith, room (c .before .before .before .before .before .before .before .before), ap length (left-is t (a .b) f (a .links) k), c .before .before .before .before .before .before .put-early .kept)),

@@ -1,4 +1,4 @@
--- What taking a value tells: the bytes are one, or they are none.
+-- What taking a value says: the bytes are a value, or they are not.
 use Prim.Native.Nat.{ℕ}
 use mathlib.Core.Path.{_≡_, refl, sym, _∙_}
 use mathlib.Core.Bool.{Bool, true, false, cond, false≢true}

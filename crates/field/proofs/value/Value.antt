@@ -1,4 +1,4 @@
--- The laws of taking a value: what is left to do at a place, byte by byte, and over bytes that may all stand in a value.
+-- The laws of taking a value: what is left to do at a place, byte by byte, and over bytes that may all be in a value.
 use Prim.Native.Nat.{ℕ, zero, suc, _+_, _≤_, _<_}
 use mathlib.Core.Path.{_≡_, refl, sym, ap, _∙_}
 use mathlib.Core.Bool.{Bool, true, false, cond, false≢true}
@@ -43,7 +43,7 @@ pub tab-printable : (b : ℕ) → printable b ≡ true → b ≡ 9 → ⊥
 unfolding printable
 tab-printable b h e = false≢true (rw e at h)
 
--- bytes that may all stand in a value
+-- bytes that may all be in a value
 taken-run : (k n : ℕ) (s : List ℕ) → k ≤ run printable s → takenFrom n (before 9 s) ≡ takenFrom (n + k) (before 9 (drop k s))
 unfolding run
 taken-run zero n s h = ap (λ m. takenFrom m (before 9 s)) (sym (add-zero n))
@@ -83,7 +83,7 @@ module _ (s : List ℕ) (i : ℕ) where
     unfolding left
     at-next e = rw (drop-cons s i 0 h, before-pass 9 _ _ (ne-eqb _ _ (tab-printable _ e)), ← add-one i) (taken-next i _ _ e)
 
--- where bytes that may all stand in a value were passed
+-- where bytes that may all be in a value were passed
 pub left-run : (s : List ℕ) (i : ℕ) → i ≤ run printable s → takenOf isValue (before 9 s) ≡ left i s
 unfolding left
 left-run s i h = taken-start (before 9 s) ∙ taken-run i 0 s h ∙ ap (λ m. takenFrom m (before 9 (drop i s))) (zero-add i)

@@ -1,4 +1,4 @@
--- The laws of taking a value in UTF-8: bytes that may stand in any value are characters, and behind them is what is left to judge.
+-- The laws of taking a value in UTF-8: bytes that may be in any value are characters, and after them is what is left to judge.
 use Prim.Native.Nat.{ℕ, zero, suc, _+_, _≤_}
 use mathlib.Core.Path.{_≡_, refl, ap, _∙_}
 use mathlib.Core.Bool.{Bool, true, false, cond}
@@ -52,7 +52,7 @@ run-upto (b ∷ s) = go (printable b) refl (eqb b 9) refl (run-upto s)
     go true e false f ih = omega arith
     go false e u f ih = omega arith
 
--- where the first `i` bytes may all stand in any value
+-- where the first `i` bytes may all be in any value
 pub wide-left : (s : List ℕ) (i : ℕ) → i ≤ run printable s
     → takenOf isWideValue (before 9 s) ≡ cond (characters [] (before 9 (drop i s))) (i + upto 9 (drop i s)) 0
 wide-left s i h =

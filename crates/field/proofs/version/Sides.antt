@@ -1,4 +1,4 @@
--- The two sides of the first byte `d`: what stands before it, and what follows it.
+-- The two sides of the first byte `d`: what comes before it, and what follows it.
 use Prim.Native.Nat.{ℕ, suc, _+_, _<_, _^_}
 use mathlib.Core.Path.{_≡_, refl, ap}
 use mathlib.Core.Bool.{Bool, true, false, cond}

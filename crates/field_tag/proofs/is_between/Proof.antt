@@ -1,4 +1,4 @@
--- `field_tag::is_between` meets its contract: where the first test fails, it is the answer; else the second is.
+-- `field_tag::is_between` meets its contract: where the first test fails, it is the answer; otherwise the second is.
 use borrow.Author.Tests.{le-leb, lt-leb}
 use Rattle.format.specs.Bytes.{between}
 use Rattle.field_tag.proofs.is_between.Statement.{statement}

@@ -1,4 +1,4 @@
--- `field_tag::is_same_tag` meets its contract: where the first bytes differ, that is the answer; else the second bytes tell.
+-- `field_tag::is_same_tag` meets its contract: where the first bytes differ, that is the answer; otherwise the second bytes decide.
 use borrow.Author.Tests.{eq-eqb, ne-eqb}
 use Rattle.field_tag.proofs.is_same_tag.Statement.{statement}
 use Rattle.field_tag.proofs.is_same_tag.Tie as tie

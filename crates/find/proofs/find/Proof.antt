@@ -4,7 +4,7 @@ use native.Mathlib.Omega.{arith}
 use borrow.Author.Needs.{needs}
 use Rattle.read.proofs.Fresh.{Current, refused-by, fresh-by}
 use Rattle.find.specs.Answers.{findAnswerOf}
-use Rattle.find.proofs.Told.{find-refused, find-other, keys-told, find-none, find-some}
+use Rattle.find.proofs.OwnCatalogue.{find-refused, find-other, keys-told, find-none, find-some}
 use Rattle.find.proofs.find.Statement.{statement}
 use Rattle.find.proofs.find.Tie as tie
 

@@ -9,9 +9,9 @@ use lib.ListN.{length, take, drop}
 use Rattle.format.specs.Bytes.{same}
 use Rattle.catalogue_entries.specs.declared.Place.{Place}
 use Rattle.catalogue_entries.specs.Entries.{kindByte}
-use Rattle.program_ids.proofs.Search.{Front, front-all, front-none, front-other, front-on}
+use Rattle.find.proofs.Front.{Front, front-all, front-none, front-other, front-on}
 use Rattle.find.specs.Keys.{keyPlace, foundOf}
-use Rattle.find.proofs.Turns.{Ahead, ahead-all, search-end, turn-fits, key-inside, turn-kind, turn-few, turn-length, turn-here, turn-differs}
+use Rattle.find.proofs.SearchSteps.{Ahead, ahead-all, search-end, turn-fits, key-inside, turn-kind, turn-few, turn-length, turn-here, turn-differs}
 use Rattle.find.proofs.search.Statement.{statement}
 use Rattle.find.proofs.search.Tie as tie
 
@@ -42,7 +42,7 @@ kind-of-requires c κs = search needs
 key-place-requires : tie.Need-key-place-requires Inv-loop μ-loop Inv-search μ-search
 key-place-requires c κs = search needs
 
--- ---- in a turn
+-- ---- in a step of the loop
 
 abbrev start : tie.After-size Inv-loop μ-loop Inv-search μ-search → tie.Start Inv-loop μ-loop Inv-search μ-search
 start z = z .before .before .before .before .before .before

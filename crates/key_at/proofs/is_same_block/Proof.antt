@@ -1,4 +1,4 @@
--- `key_at::is_same_block` meets its contract: the flag says whether the bytes that were passed go on, and what is behind them decides.
+-- `key_at::is_same_block` meets its contract: the flag says whether the bytes that were passed go on, and what is after them decides.
 use Prim.Native.Nat.{ℕ, _+_, _-_, _≤_}
 use mathlib.Core.Path.{_≡_, sym, ap, ap₂, _∙_}
 use mathlib.Core.Bool.{Bool, true, false, _&&_}

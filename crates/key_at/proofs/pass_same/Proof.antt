@@ -1,4 +1,4 @@
--- `key_at::pass_same` meets its contract: what is behind the blocks that were passed decides.
+-- `key_at::pass_same` meets its contract: what is after the blocks that were passed decides.
 use Prim.Native.Nat.{ℕ, _+_, _-_, _≤_}
 use mathlib.Core.Path.{_≡_, sym, ap, _∙_}
 use mathlib.Core.Bool.{_&&_}

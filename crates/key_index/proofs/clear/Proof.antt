@@ -1,4 +1,4 @@
--- `key_index::clear` meets its contract: zeros before the place, and behind it what was there.
+-- `key_index::clear` meets its contract: zeros before the place, and after it what was there.
 use Prim.Native.Nat.{ℕ, zero, suc, _+_, _-_, _≤_, _<_}
 use mathlib.Core.Path.{_≡_, refl, sym, ap, _∙_}
 use mathlib.Core.List.{List, [], _∷_, _++_, append-nil}

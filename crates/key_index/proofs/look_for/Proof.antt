@@ -1,20 +1,27 @@
--- `key_index::look_for` meets its contract, head by head.
-use mathlib.Core.Path.{sym, ap, subst, _∙_}
+-- `key_index::look_for` meets its contract.
+use mathlib.Core.Path.{_≡_, sym, ap, subst, _∙_}
 use lib.ListN.{length}
-use Rattle.key_index.specs.Told.{soughtOf}
+use Rattle.key_index.specs.KeySlots.{soughtOf, looksOf}
 use Rattle.key_index.specs.Keyed.{KeyInText}
 use borrow.Author.Needs.{needs}
 use Rattle.key_index.proofs.look_for.Statement.{statement}
 use Rattle.key_index.proofs.look_for.Tie as tie
 use Rattle.key_index.proofs.look_for.Reads as reads
 use Rattle.key_index.proofs.look_for.Lts as lts
+use Rattle.key_index.proofs.none_looked.Reads as none-looked-reads
 use Rattle.key_look.proofs.look_at.Reads as look-at-reads
 
 enum-told : tie.Need-enum-told
 enum-told c = search needs
 
+none-looked-requires : tie.Need-none-looked-requires
+none-looked-requires c κs = search needs
+
 enum-told-2 : tie.Need-enum-told-2
 enum-told-2 c = search needs
+
+none-looked-requires-2 : tie.Need-none-looked-requires-2
+none-looked-requires-2 c κs = search needs
 
 enum-known-head : tie.Need-enum-known-head
 enum-known-head c = search needs
@@ -46,45 +53,62 @@ look-at-requires-3 c κs =
 enum-told-3 : tie.Need-enum-told-3
 enum-told-3 c = search needs
 
+none-looked-requires-3 : tie.Need-none-looked-requires-3
+none-looked-requires-3 c κs = search needs
+
 returns : tie.Need-returns
-unfolding soughtOf
-returns c = let a = c .before .before .before .before .args in sym (ap (soughtOf (a .text .now) (a .area .now)) (c .enum-told .given .1))
+unfolding soughtOf looksOf
+returns c =
+    let a = c .before .before .before .before .before .args in
+    let e = c .before .enum-told .given .1 in
+    (c .none-looked .ensures .0 ∙ sym (ap (soughtOf (a .seed) (a .text .now) (a .area .now)) e), c .none-looked .ensures .1 ∙ sym (ap (looksOf (a .seed) (a .text .now) (a .area .now)) e))
 
 returns-2 : tie.Need-returns-2
-unfolding soughtOf
-returns-2 c = let a = c .before .before .before .before .args in sym (ap (soughtOf (a .text .now) (a .area .now)) (c .enum-told2 .given .1))
+unfolding soughtOf looksOf
+returns-2 c =
+    let a = c .before .before .before .before .before .args in
+    let e = c .before .enum-told2 .given .1 in
+    (c .none-looked2 .ensures .0 ∙ sym (ap (soughtOf (a .seed) (a .text .now) (a .area .now)) e), c .none-looked2 .ensures .1 ∙ sym (ap (looksOf (a .seed) (a .text .now) (a .area .now)) e))
 
 returns-3 : tie.Need-returns-3
-unfolding soughtOf
+unfolding soughtOf looksOf
 returns-3 c =
     let h = c .before .before in
     let a = h .before .before .before .before .args in
-    c .look-at .ensures ∙ sym (ap (soughtOf (a .text .now) (a .area .now)) (h .head .given .1))
+    let e = h .head .given .1 in
+    (c .look-at .ensures .0 ∙ sym (ap (soughtOf (a .seed) (a .text .now) (a .area .now)) e), c .look-at .ensures .1 .0 ∙ sym (ap (looksOf (a .seed) (a .text .now) (a .area .now)) e))
 
 returns-4 : tie.Need-returns-4
-unfolding soughtOf
+unfolding soughtOf looksOf
 returns-4 c =
     let h = c .before .before in
     let a = h .before .before .before .before .args in
-    c .look-at2 .ensures ∙ sym (ap (soughtOf (a .text .now) (a .area .now)) (h .head2 .given .1))
+    let e = h .head2 .given .1 in
+    (c .look-at2 .ensures .0 ∙ sym (ap (soughtOf (a .seed) (a .text .now) (a .area .now)) e), c .look-at2 .ensures .1 .0 ∙ sym (ap (looksOf (a .seed) (a .text .now) (a .area .now)) e))
 
 returns-5 : tie.Need-returns-5
-unfolding soughtOf
+unfolding soughtOf looksOf
 returns-5 c =
     let h = c .before .before in
     let a = h .before .before .before .before .args in
-    c .look-at3 .ensures ∙ sym (ap (soughtOf (a .text .now) (a .area .now)) (h .head3 .given .1))
+    let e = h .head3 .given .1 in
+    (c .look-at3 .ensures .0 ∙ sym (ap (soughtOf (a .seed) (a .text .now) (a .area .now)) e), c .look-at3 .ensures .1 .0 ∙ sym (ap (looksOf (a .seed) (a .text .now) (a .area .now)) e))
 
 returns-6 : tie.Need-returns-6
-unfolding soughtOf
-returns-6 c = let a = c .before .before .before .before .args in sym (ap (soughtOf (a .text .now) (a .area .now)) (c .enum-told3 .given .1))
+unfolding soughtOf looksOf
+returns-6 c =
+    let a = c .before .before .before .before .before .args in
+    let e = c .before .enum-told3 .given .1 in
+    (c .none-looked3 .ensures .0 ∙ sym (ap (soughtOf (a .seed) (a .text .now) (a .area .now)) e), c .none-looked3 .ensures .1 ∙ sym (ap (looksOf (a .seed) (a .text .now) (a .area .now)) e))
 
 pub look-for-spec : {M : Type 1} → statement M
 look-for-spec =
     tie.close
     (tie.spec
     enum-told
+    none-looked-requires
     enum-told-2
+    none-looked-requires-2
     enum-known-head
     look-at-requires
     enum-known-head-2
@@ -92,6 +116,7 @@ look-for-spec =
     enum-known-head-3
     look-at-requires-3
     enum-told-3
+    none-looked-requires-3
     returns
     returns-2
     returns-3

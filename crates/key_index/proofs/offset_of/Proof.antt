@@ -1,6 +1,6 @@
 -- `key_index::offset_of` meets its contract, head by head.
 use mathlib.Core.Path.{sym, ap}
-use Rattle.key_index.specs.Told.{offsetOf}
+use Rattle.key_index.specs.KeySlots.{offsetOf}
 use borrow.Author.Needs.{needs}
 use Rattle.key_index.proofs.offset_of.Statement.{statement}
 use Rattle.key_index.proofs.offset_of.Tie as tie

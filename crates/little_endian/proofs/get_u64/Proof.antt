@@ -1,4 +1,4 @@
--- `little_endian::get_u64` meets its contract: the low half, and the high half behind it.
+-- `little_endian::get_u64` meets its contract: the low half, and the high half after it.
 use mathlib.Core.Path.{refl, sym, _∙_}
 use native.Mathlib.Omega.{arith}
 use borrow.Author.Needs.{needs}

@@ -6,27 +6,28 @@ use mathlib.Core.List.{List, [], _∷_}
 use native.Mathlib.Omega.{arith}
 use lib.ListN.{length, take, drop, getD}
 use borrow.Author.Tests.{not-true, not-false}
-use Rattle.accepted.proofs.Bools.{never}
+use Rattle.format.specs.Bytes.{none?}
+use Rattle.lists.proofs.Bools.{never}
 use Rattle.accepted_line.specs.Run.{AtField}
 use Rattle.accepted_line.proofs.fields.Place.{next-at, bounds}
 use Rattle.merge_fields.specs.Kept.{isPassed, keptFrom, toldField, toldFields, NextInLine}
-use Rattle.merge_fields.proofs.Turns.{kept-end, kept-later, kept-passed, kept-next}
+use Rattle.merge_fields.proofs.KeptFields.{kept-end, kept-later, kept-passed, kept-next}
 use Rattle.merge_fields.proofs.next_field.Statement.{statement}
 use Rattle.merge_fields.proofs.next_field.Tie as tie
 
 abbrev Inv-loop : tie.InvT-loop
-Inv-loop line at start once tables i₀ i = AtField once at line i × (start ≤ i) × (keptFrom at line start ≡ keptFrom at line i)
+Inv-loop line at start tables i₀ i = AtField (none? tables) at line i × (start ≤ i) × (keptFrom at line start ≡ keptFrom at line i)
 
 abbrev μ-loop : tie.MeasureT-loop
-μ-loop line at start once tables i₀ i = length line - i
+μ-loop line at start tables i₀ i = length line - i
 
--- the field of a turn ends in the line
+-- the field of a step ends in the line
 reach : (f : tie.After-field-end Inv-loop μ-loop)
     → (let l = f .before .before in let a = l .before .before .before .args in (l .loop .i + 4 ≤ f .field-end .result) × (f .field-end .result ≤ length (a .line .now)))
 reach f =
     let l = f .before .before in
     let a = l .before .before .before .args in
-    bounds (a .once) (a .at) (a .line .now) (l .loop .i) (l .loop .inv .0) (omega arith) (f .field-end .result) (f .field-end .ensures)
+    bounds (none? (a .tables .now)) (a .at) (a .line .now) (l .loop .i) (l .loop .inv .0) (omega arith) (f .field-end .result) (f .field-end .ensures)
 
 loop-holds : tie.Need-loop-holds Inv-loop μ-loop
 loop-holds c = (c .before .before .pre .1 .0, omega arith, refl)
@@ -49,8 +50,8 @@ shared-slice-read-second c = omega (arith, reach (c .before .before))
 is-passed-requires : tie.Need-is-passed-requires Inv-loop μ-loop
 is-passed-requires c κs = tt
 
-is-first-requires : tie.Need-is-first-requires Inv-loop μ-loop
-is-first-requires c κs =
+is-first-of-tag-requires : tie.Need-is-first-of-tag-requires Inv-loop μ-loop
+is-first-of-tag-requires c κs =
     let f = c .before .before .before .before in
     let l = f .before .before in
     let s = l .before .before .before in
@@ -75,11 +76,11 @@ field c =
     let f = p .before .before .before in
     let l = f .before .before in
     let a = l .before .before .before .args in
-    kept-next (a .once) (a .at) (a .line .now) (l .loop .i) (l .loop .inv .0) (omega arith) (f .field-end .result) (f .field-end .ensures)
-    (sym (p .is-passed .ensures) ∙ not-true (p .is-passed .result) (n .if1 .taken)) (sym (t .before .is-first .ensures) ∙ t .if2 .taken) (c .kept-value .result) (c .kept-value .ensures)
+    kept-next (none? (a .tables .now)) (a .at) (a .line .now) (l .loop .i) (l .loop .inv .0) (omega arith) (f .field-end .result) (f .field-end .ensures)
+    (sym (p .is-passed .ensures) ∙ not-true (p .is-passed .result) (n .if1 .taken)) (sym (t .before .is-first-of-tag .ensures) ∙ t .if2 .taken) (c .kept-value .result) (c .kept-value .ensures)
 
-sub-t18 : tie.Need-sub-t18 Inv-loop μ-loop
-sub-t18 c = omega (arith, field (c .before) .1)
+sub-t17 : tie.Need-sub-t17 Inv-loop μ-loop
+sub-t17 c = omega (arith, field (c .before) .1)
 
 returns : tie.Need-returns Inv-loop μ-loop
 unfolding toldFields toldField
@@ -93,7 +94,7 @@ returns c =
       l .loop .inv .2 ∙ field k .0 ∙ ap (λ n. record { tag₀ = getD (a .line .now) (l .loop .i + 1) 0; tag₁ = getD (a .line .now) (l .loop .i + 2) 0; value = record { at = n; bytes = take (v .len) (drop (v .at - a .at) (a .line .now)) } } ∷ keptFrom (a .at) (a .line .now) (f .field-end .result)) z,
       record {
         value = field k .2;
-        here = next-at (a .once) (a .at) (a .line .now) (l .loop .i) (l .loop .inv .0) (omega arith) (f .field-end .result) (f .field-end .ensures);
+        here = next-at (none? (a .tables .now)) (a .at) (a .line .now) (l .loop .i) (l .loop .inv .0) (omega arith) (f .field-end .result) (f .field-end .ensures);
         onward = λ e. omega (arith, reach f, l .loop .inv .1);
       },
     )
@@ -107,9 +108,9 @@ loop-again c =
     let f = n .before .before .before .before in
     let l = f .before .before in
     let a = l .before .before .before .args in (
-      next-at (a .once) (a .at) (a .line .now) (l .loop .i) (l .loop .inv .0) (omega arith) (f .field-end .result) (f .field-end .ensures),
+      next-at (none? (a .tables .now)) (a .at) (a .line .now) (l .loop .i) (l .loop .inv .0) (omega arith) (f .field-end .result) (f .field-end .ensures),
       omega (arith, reach f, l .loop .inv .1),
-      l .loop .inv .2 ∙ kept-later (a .once) (a .at) (a .line .now) (l .loop .i) (l .loop .inv .0) (omega arith) (f .field-end .result) (f .field-end .ensures) (sym (c .before .is-first .ensures) ∙ c .if2 .left),
+      l .loop .inv .2 ∙ kept-later (none? (a .tables .now)) (a .at) (a .line .now) (l .loop .i) (l .loop .inv .0) (omega arith) (f .field-end .result) (f .field-end .ensures) (sym (c .before .is-first-of-tag .ensures) ∙ c .if2 .left),
     )
 
 loop-less-2 : tie.Need-loop-less-2 Inv-loop μ-loop
@@ -121,9 +122,9 @@ loop-again-2 c =
     let f = p .before .before .before in
     let l = f .before .before in
     let a = l .before .before .before .args in (
-      next-at (a .once) (a .at) (a .line .now) (l .loop .i) (l .loop .inv .0) (omega arith) (f .field-end .result) (f .field-end .ensures),
+      next-at (none? (a .tables .now)) (a .at) (a .line .now) (l .loop .i) (l .loop .inv .0) (omega arith) (f .field-end .result) (f .field-end .ensures),
       omega (arith, reach f, l .loop .inv .1),
-      l .loop .inv .2 ∙ kept-passed (a .once) (a .at) (a .line .now) (l .loop .i) (l .loop .inv .0) (omega arith) (f .field-end .result) (f .field-end .ensures) (sym (p .is-passed .ensures) ∙ not-false (p .is-passed .result) (c .if1 .left)),
+      l .loop .inv .2 ∙ kept-passed (none? (a .tables .now)) (a .at) (a .line .now) (l .loop .i) (l .loop .inv .0) (omega arith) (f .field-end .result) (f .field-end .ensures) (sym (p .is-passed .ensures) ∙ not-false (p .is-passed .result) (c .if1 .left)),
     )
 
 returns-2 : tie.Need-returns-2 Inv-loop μ-loop
@@ -131,7 +132,7 @@ unfolding toldFields
 returns-2 c =
     let l = c .before in
     let a = l .before .before .before .args in (
-      l .loop .inv .2 ∙ kept-end (a .once) (a .at) (a .line .now) (l .loop .i) (l .loop .inv .0) (c .loop-test .left),
+      l .loop .inv .2 ∙ kept-end (none? (a .tables .now)) (a .at) (a .line .now) (l .loop .i) (l .loop .inv .0) (c .loop-test .left),
       record { value = omega arith; here = l .loop .inv .0; onward = λ e. absurd (never (cc)) },
     )
 
@@ -148,9 +149,9 @@ next-field-spec =
     add-second
     shared-slice-read-second
     is-passed-requires
-    is-first-requires
+    is-first-of-tag-requires
     kept-value-requires
-    sub-t18
+    sub-t17
     returns
     loop-less
     loop-again

@@ -15,7 +15,7 @@ same-walks-requires c κs =
     let o = c .before .before in
     let s = o .before .before .before .before in
     let a = s .args in
-    (s .pre .0, (s .pre .1 .0, (once (a .strict) (a .at-b) (a .b .now) (s .pre .1 .1) _ (o .is-once .result) (o .is-once .ensures) (c .before .if1 .taken), s .pre .1 .1 .short)))
+    (s .pre .0, (s .pre .1 .0, (once (a .strict) (a .at-b) (a .b .now) (s .pre .1 .1) (o .is-once .result) (o .is-once .ensures) (c .before .if1 .taken), s .pre .1 .1 .short)))
 
 returns : tie.Need-returns
 returns c = search needs

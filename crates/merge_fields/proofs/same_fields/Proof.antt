@@ -15,7 +15,7 @@ same-as-line-requires c κs =
     let o = c .before .before in
     let s = o .before .before .before in
     let a = s .args in
-    (once (a .strict-a) (a .at-a) (a .a .now) (s .pre .0) _ (o .is-once .result) (o .is-once .ensures) (c .before .if1 .taken), (s .pre .0 .short, s .pre .1))
+    (once (a .strict-a) (a .at-a) (a .a .now) (s .pre .0) (o .is-once .result) (o .is-once .ensures) (c .before .if1 .taken), (s .pre .0 .short, s .pre .1))
 
 returns : tie.Need-returns
 returns c = search needs

@@ -1,4 +1,4 @@
--- `merge_hints::is_marked` meets its contract: a slot that has the mark tells the reference.
+-- `merge_hints::is_marked` meets its contract: a slot that has the mark holds the reference.
 use Prim.Native.Nat.{ℕ, _+_, _-_, _%_, _≤_, _<_}
 use mathlib.Core.Path.{_≡_, refl, sym, ap, subst, _∙_}
 use mathlib.Core.Bool.{false≢true}

@@ -1,4 +1,4 @@
--- `merge_hints::mark_one` meets its contract: the slot that is marked tells a reference with the name and the length.
+-- `merge_hints::mark_one` meets its contract: the slot that is marked holds a reference with the name and the length.
 use Prim.Native.Nat.{ℕ, _+_, _-_, _%_, _≤_, _<_}
 use mathlib.Core.Path.{_≡_, refl, sym, ap, subst, _∙_}
 use mathlib.Core.List.{List}

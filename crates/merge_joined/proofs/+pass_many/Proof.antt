@@ -1,4 +1,4 @@
--- The proof of the cycle of calls {pass_many}: in slots of zeros nothing stands. The measure is how many times more.
+-- The proof of the cycle of calls {pass_many}: slots of zeros are empty. The measure is how many times more.
 use Prim.Native.Nat.{ℕ, _<_}
 use native.Mathlib.Omega.{arith}
 use borrow.Author.Needs.{needs}

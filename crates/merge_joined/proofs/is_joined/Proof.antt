@@ -11,7 +11,7 @@ use borrow.Author.Tests.{not-true, not-false}
 use Rattle.binary_references.specs.Next.{sqFrom, toldList}
 use Rattle.binary_references.proofs.Next.{told-one, told-none}
 use Rattle.format.specs.Merge.{isJoined}
-use Rattle.accepted.proofs.Bools.{split}
+use Rattle.lists.proofs.Bools.{split}
 use Rattle.merge_references.specs.Joining.{leftOf}
 use Rattle.merge_references.proofs.Lists.{joined-left, left-end, none-left, some-left}
 use Rattle.merge_joined.specs.declared.Rules.{Rules}

@@ -1,4 +1,4 @@
--- `merge_joined::pass_marked` meets its contract: a mark tells, or all of A.
+-- `merge_joined::pass_marked` meets its contract: a mark decides, or all of A.
 use Prim.Native.Nat.{ℕ, _+_, _-_, _*_, _/_, _≤_, _<_}
 use mathlib.Core.Path.{_≡_, refl, sym, ap, subst, _∙_}
 use mathlib.Core.Bool.{Bool, true, false, _&&_, cond}

@@ -1,4 +1,4 @@
--- `merge_joined::pass_near` meets its contract: what A has from the cursor on tells.
+-- `merge_joined::pass_near` meets its contract: what A has from the cursor on decides.
 use Prim.Native.Nat.{ℕ, _+_, _-_, _*_, _/_, _≤_, _<_}
 use mathlib.Core.Path.{_≡_, refl, sym, ap, subst, _∙_}
 use mathlib.Core.Bool.{Bool, true, false, _&&_, cond}

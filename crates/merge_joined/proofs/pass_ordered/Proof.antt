@@ -1,4 +1,4 @@
--- `merge_joined::pass_ordered` meets its contract: one turn after another.
+-- `merge_joined::pass_ordered` meets its contract: one step after another.
 use Prim.Native.Nat.{ℕ, _+_, _-_, _*_, _/_, _≤_, _<_}
 use mathlib.Core.Path.{_≡_, refl, sym, ap, subst, _∙_}
 use mathlib.Core.Bool.{Bool, true, false, _&&_, cond}

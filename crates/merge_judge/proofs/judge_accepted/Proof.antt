@@ -32,7 +32,10 @@ returns-2 c =
     ∙ tangles textB (λ y. about textMerged (untangledRecords (recordsOf (a .m .now))) (λ z. judgedMerge (recordsOf (a .a .now)) y z (a .list-a .now) (a .list-b .now))) (recordsOf (a .b .now)) (y .open-text2 .result .refusal) (y .open-text2 .ensures .refusal) (c .if2 .taken)))
 
 open-text-requires-3 : tie.Need-open-text-requires-3
-open-text-requires-3 c κs = search needs
+open-text-requires-3 c κs =
+    let x = c .before .before .before .before .before in
+    let s = x .before .before .before .before .before .before in
+    (s .pre .1 .1 .0, s .pre .1 .1 .1 .1 .1)
 
 returns-3 : tie.Need-returns-3
 unfolding verdictOf whichOf untangling

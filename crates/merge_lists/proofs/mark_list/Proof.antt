@@ -1,10 +1,10 @@
--- `merge_lists::mark_list` meets its contract: what the marks and the ordinals from the place on tell stays.
+-- `merge_lists::mark_list` meets its contract: what the marks and the ordinals from the place on say stays.
 use Prim.Native.Nat.{ℕ, _+_, _-_, _≤_, _<_}
 use mathlib.Core.Path.{_≡_, refl, sym, ap, _∙_}
 use mathlib.Core.Bool.{Bool, true, false}
 use native.Mathlib.Omega.{arith}
 use lib.ListN.{length, drop, set, getD, replicate, length-set, length-replicate}
-use Rattle.accepted.proofs.Bools.{never}
+use Rattle.lists.proofs.Bools.{never}
 use Rattle.merge_lists.specs.Marks.{freshBy, markedBy}
 use Rattle.merge_lists.proofs.Marks.{too-high, met-again, met-first, marked-first, fresh-end, marked-end}
 use Rattle.merge_lists.proofs.mark_list.Statement.{statement}

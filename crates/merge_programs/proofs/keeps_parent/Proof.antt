@@ -8,7 +8,7 @@ use lib.ListN.{length, getD}
 use lib.Dec.{eqb, ltb}
 use borrow.Author.Tests.{eq-eqb, ne-eqb, ltb-true}
 use Rattle.format.specs.Programs.{Link, root, child}
-use Rattle.accepted.proofs.Bools.{split}
+use Rattle.lists.proofs.Bools.{split}
 use Rattle.program_chains.specs.Parents.{nobody, linkOf}
 use Rattle.format.specs.Merge.{isRoot, isChildOf, keepsParent}
 use borrow.Author.Needs.{needs}

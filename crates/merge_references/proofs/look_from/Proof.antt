@@ -35,7 +35,7 @@ returns c =
 same-name-requires : tie.Need-same-name-requires Inv-loop μ-loop
 same-name-requires c κs = let n = c .before .before in (n .before .before .before .before .pre .1 .1, n .next-reference .ensures .1 .name)
 
--- the reference of a turn comes first
+-- the reference of a step comes first
 first : (c : tie.After-same-name Inv-loop μ-loop)
     → (let n = c .before .before .before in let l = n .before in let a = l .before .before .before .args in let r = n .next-reference .result in
     sqFrom (a .strict) (a .a .now) (l .loop .at) ≡ toldReference (a .a .now) r ∷ sqFrom (a .strict) (a .a .now) (r .next))
@@ -47,7 +47,7 @@ first c =
     let r = n .next-reference .result in
     n .next-reference .ensures .0 ∙ told-one (a .strict) (a .a .now) r (not-false (r .found) (e .if1 .left))
 
--- and those behind it are the last of the text
+-- and those after it are the last of the text
 behind : (c : tie.After-same-name Inv-loop μ-loop) → (let n = c .before .before .before in let l = n .before in let a = l .before .before .before .args in From (a .strict) (a .a .now) (n .next-reference .result .next))
 behind c =
     let n = c .before .before .before in

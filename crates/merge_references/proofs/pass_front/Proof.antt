@@ -39,7 +39,7 @@ returns c =
 next-reference-requires-2 : tie.Need-next-reference-requires-2 Inv-loop μ-loop
 next-reference-requires-2 c κs = let p = c .before .before .before in (p .before .before .before .pre .1, p .loop .inv .1)
 
--- the reference of a turn comes first
+-- the reference of a step comes first
 first : (c : tie.Else1 Inv-loop μ-loop)
     → (let n = c .before .before in let l = n .before in let a = l .before .before .before .args in let r = n .next-reference .result in
     sqFrom (a .strict-a) (a .a .now) (l .loop .at) ≡ toldReference (a .a .now) r ∷ sqFrom (a .strict-a) (a .a .now) (r .next))

@@ -5,7 +5,7 @@ use native.Mathlib.Omega.{arith}
 use borrow.Author.Needs.{needs}
 use lib.ListN.{length, drop}
 use Rattle.catalogue_entries.specs.Entries.{entriesIn, counted}
-use Rattle.name_entries.proofs.Turns.{sq-within, count-none, count-on}
+use Rattle.name_entries.proofs.NextEntry.{sq-within, count-none, count-on}
 use Rattle.name_entries.proofs.count.Statement.{statement}
 use Rattle.name_entries.proofs.count.Tie as tie
 

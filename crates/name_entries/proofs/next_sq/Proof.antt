@@ -6,7 +6,7 @@ use borrow.Author.Needs.{needs}
 use lib.ListN.{length}
 use Rattle.catalogue_entries.proofs.Walk.{turn-within}
 use Rattle.name_entries.specs.Next.{nextSq}
-use Rattle.name_entries.proofs.Turns.{next-end, next-here, next-on}
+use Rattle.name_entries.proofs.NextEntry.{next-end, next-here, next-on}
 use Rattle.name_entries.proofs.next_sq.Statement.{statement}
 use Rattle.name_entries.proofs.next_sq.Tie as tie
 
@@ -28,12 +28,12 @@ entry-at-requires c κs = search needs
 size-requires : tie.Need-size-requires Inv-loop μ-loop
 size-requires c κs = search needs
 
--- ---- in a turn
+-- ---- in a step of the loop
 
 abbrev start : tie.After-size Inv-loop μ-loop → tie.Start Inv-loop μ-loop
 start c = c .before .before .before .before .before
 
--- from behind the fields
+-- from the place after the fields
 from : (c : tie.After-size Inv-loop μ-loop) → nextSq (start c .args .catalogue .now) (start c .args .start) ≡ nextSq (start c .args .catalogue .now) (c .before .before .pass-fields .result)
 from c = c .before .before .before .loop .inv .1 ∙ c .before .before .pass-fields .ensures .2
 

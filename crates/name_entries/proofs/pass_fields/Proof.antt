@@ -4,7 +4,7 @@ use mathlib.Core.Path.{_≡_, refl, _∙_}
 use native.Mathlib.Omega.{arith}
 use lib.ListN.{length}
 use Rattle.name_entries.specs.Next.{nextSq}
-use Rattle.name_entries.proofs.Turns.{next-field}
+use Rattle.name_entries.proofs.NextEntry.{next-field}
 use Rattle.name_entries.proofs.pass_fields.Statement.{statement}
 use Rattle.name_entries.proofs.pass_fields.Tie as tie
 

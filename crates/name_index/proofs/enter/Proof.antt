@@ -1,4 +1,4 @@
--- `name_index::enter` meets its contract: the slot that is free holds the value, and is told.
+-- `name_index::enter` meets its contract: the slot that is free holds the value, and is answered.
 use Prim.Native.Nat.{_<_}
 use mathlib.Core.Path.{ap}
 use native.Mathlib.Omega.{arith}

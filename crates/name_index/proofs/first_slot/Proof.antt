@@ -1,4 +1,4 @@
--- `name_index::first_slot` meets its contract: `n` is the power of two that its leading zeros tell.
+-- `name_index::first_slot` meets its contract: `n` is the power of two that its leading zeros give.
 use Prim.Native.Nat.{_-_, _*_, _%_, _^_, _≤_, _<_}
 use mathlib.Core.Path.{_≡_, sym, ap, _∙_}
 use native.Mathlib.Omega.{arith}

@@ -22,7 +22,7 @@ loop-holds c = (omega arith, omega arith)
 turned-requires : tie.Need-turned-requires Inv-loop μ-loop
 turned-requires c κs = (c .before .before .before .pre .0, (omega arith, omega arith))
 
--- ---- in a turn
+-- ---- in a step of the loop
 
 abbrev start : tie.After-turned Inv-loop μ-loop → tie.Start Inv-loop μ-loop
 start c = c .before .before .before .before

@@ -1,4 +1,4 @@
--- `name_list::count_names` meets its contract: one for each LF, and one more where the last byte is no LF.
+-- `name_list::count_names` meets its contract: one for each LF, and one more where the last byte is not an LF.
 use Prim.Native.Nat.{_+_}
 use mathlib.Core.Path.{sym, ap, _∙_}
 use borrow.Author.Needs.{needs}

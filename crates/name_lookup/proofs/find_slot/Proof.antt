@@ -1,4 +1,4 @@
--- `name_lookup::find_slot` meets its contract: what looking along the slots that are left finds is what looking along all finds.
+-- `name_lookup::find_slot` meets its contract: a search along the slots that are left finds what a search along all finds.
 use Prim.Native.Nat.{ℕ, _+_, _-_, _/_, _%_, _≤_, _<_}
 use mathlib.Core.Path.{_≡_, refl, sym, ap, _∙_}
 use mathlib.Core.Bool.{_&&_}
@@ -31,8 +31,8 @@ abbrev μ-loop : tie.MeasureT-loop
 hash-requires : tie.Need-hash-requires Inv-loop μ-loop
 hash-requires c κs = search needs
 
-mark-requires : tie.Need-mark-requires Inv-loop μ-loop
-mark-requires c κs = search needs
+check-bits-requires : tie.Need-check-bits-requires Inv-loop μ-loop
+check-bits-requires c κs = search needs
 
 first-slot-requires : tie.Need-first-slot-requires Inv-loop μ-loop
 first-slot-requires c κs = search needs
@@ -70,7 +70,7 @@ long c = path-length _ _ (some (start c))
 turned-requires : tie.Need-turned-requires Inv-loop μ-loop
 turned-requires c κs = let f = c .before .before in (begins f, (omega arith, start f .pre .0))
 
--- ---- in a turn
+-- ---- in a step of the loop
 
 abbrev looking : tie.After-turned Inv-loop μ-loop → tie.At-loop Inv-loop μ-loop
 looking c = c .before .before
@@ -118,17 +118,17 @@ returns c =
     let m = missed (path (a .name .now) (a .slots .now)) (l .loop .i) (says (a .text .now) (a .name .now)) (length (a .slots .now)) (l .before .first-slot .result + l .loop .i) (left t) (seen t ∙ c .if1 .taken) in
     (sym (l .loop .inv .1 ∙ m .0 ∙ unfold absent in refl), omega (arith, l .loop .inv .2, m .1))
 
-is-told-requires : tie.Need-is-told-requires Inv-loop μ-loop
-is-told-requires c κs = (positive _ (c .if1 .left), args (looking (c .before .before)) .pre .1 .1)
+is-slot-of-requires : tie.Need-is-slot-of-requires Inv-loop μ-loop
+is-slot-of-requires c κs = (positive _ (c .if1 .left), args (looking (c .before .before)) .pre .1 .1)
   where
     positive : (v : ℕ) → (v ≡ 0 → ⊥) → 0 < v
     positive v n = omega (arith, n)
 
--- whether the slot tells the name
-is-said : (c : tie.After-is-told Inv-loop μ-loop) →
+-- whether the slot holds the name
+is-said : (c : tie.After-is-slot-of Inv-loop μ-loop) →
     let t = c .before .before .before in
     let a = args (looking t) .args in
-    c .is-told .result ≡ says (a .text .now) (a .name .now) (getD (a .slots .now) (t .turned .result) 0)
+    c .is-slot-of .result ≡ says (a .text .now) (a .name .now) (getD (a .slots .now) (t .turned .result) 0)
 unfolding says
 is-said c =
     let t = c .before .before .before in
@@ -136,7 +136,7 @@ is-said c =
     let a = args l .args in
     let v = getD (a .slots .now) (t .turned .result) 0 in
     let m = l .before .before in
-    c .is-told .ensures ∙ ap (λ h. eqb h ((v - 1) % 128) && same (a .name .now) (word (drop ((v - 1) / 128) (a .text .now)))) (m .mark .ensures ∙ ap markOf (m .before .hash .ensures))
+    c .is-slot-of .ensures ∙ ap (λ h. eqb h ((v - 1) % 128) && same (a .name .now) (word (drop ((v - 1) / 128) (a .text .now)))) (m .check-bits .ensures ∙ ap markOf (m .before .hash .ensures))
 
 cast-t18 : tie.Need-cast-t18 Inv-loop μ-loop
 cast-t18 c = let t = c .before .before .before .before in omega (arith, inside t, args (looking t) .pre .0)
@@ -193,7 +193,7 @@ find-slot-spec =
     Inv-loop
     μ-loop
     hash-requires
-    mark-requires
+    check-bits-requires
     first-slot-requires
     loop-holds
     turned-requires
@@ -202,7 +202,7 @@ find-slot-spec =
     add-t15
     cast-t16
     returns
-    is-told-requires
+    is-slot-of-requires
     cast-t18
     add-t19
     cast-t20

@@ -34,7 +34,7 @@ part-upto-end c = omega arith
 upto-requires : tie.Need-upto-requires Inv-loop μ-loop
 upto-requires c κs = search needs
 
--- ---- in a turn
+-- ---- in a step of the loop
 
 within : (c : tie.After-upto Inv-loop μ-loop) → c .before .before .before .loop .at + c .upto .result ≤ length (c .before .before .before .before .before .before .before .before .args .list .now)
 within c = let l = c .before .before .before in name-within (l .before .before .before .before .before .args .list .now) (l .loop .at) (c .upto .result) (c .upto .ensures) (c .before .before .loop-test .taken)

@@ -1,4 +1,4 @@
--- `name_slots::put_name` meets its contract: a name's number tells its first slot and its mark.
+-- `name_slots::put_name` meets its contract: a name's hash gives its first slot and its mark.
 use Prim.Native.Nat.{ℕ, _%_}
 use mathlib.Core.Path.{_≡_, ap, ap₂, _∙_}
 use mathlib.Core.List.{List}

@@ -20,7 +20,7 @@ use Rattle.name_index.proofs.Path.{seat-lt}
 use Rattle.name_index.proofs.Indexed.{enter-length}
 use Rattle.name_entries.specs.Names.{nameIn}
 use Rattle.name_slots.specs.Filled.{startIn, entering, seats}
-use Rattle.name_entries.proofs.Turns.{sq-within}
+use Rattle.name_entries.proofs.NextEntry.{sq-within}
 use Rattle.name_slots.proofs.Filling.{entered, entered-all, seated-all, seated-on}
 use Rattle.name_slots.proofs.Noted.{note-on}
 use Rattle.name_slots.proofs.put_names.Statement.{statement}
@@ -85,7 +85,7 @@ place c =
     let p = c .e .given .0 .0 in
     seat (first (length slots) (take (p .len) (drop (p .at) (start (loop c) .args .text .now)))) slots
 
--- the entry of a turn in which it entered
+-- the entry of a step in which it entered
 abbrev sq : tie.Joined1 Inv-loop μ-loop → tie.After-e Inv-loop μ-loop
 sq c = c .before .before .before .before .before .before
 

@@ -22,11 +22,11 @@ returns c = rw (c .if1 .taken) (add-one (c .before .args .k))
 mul-result : tie.Need-mul-result
 mul-result c = search needs
 
-mark-requires : tie.Need-mark-requires
-mark-requires c κs = search needs
+check-bits-requires : tie.Need-check-bits-requires
+check-bits-requires c κs = search needs
 
-small : (c : tie.After-mark) → c .mark .result < 128
-small c = omega (arith, c .mark .ensures, mark-lt (c .before .before .args .number))
+small : (c : tie.After-check-bits) → c .check-bits .result < 128
+small c = omega (arith, c .check-bits .ensures, mark-lt (c .before .before .args .number))
 
 add-result-2 : tie.Need-add-result-2
 add-result-2 c = omega (arith, small c)
@@ -38,7 +38,7 @@ returns-2 : tie.Need-returns-2
 unfolding valueOf
 returns-2 c =
     let a = c .before .before .args in
-    rw (c .before .if1 .left) (ap (λ m. a .at * 128 + m + 1) (c .mark .ensures) ∙ add-one (a .at * 128 + markOf (a .number)))
+    rw (c .before .if1 .left) (ap (λ m. a .at * 128 + m + 1) (c .check-bits .ensures) ∙ add-one (a .at * 128 + markOf (a .number)))
 
 pub value-spec : {M : Type 1} → statement M
 value-spec =
@@ -48,7 +48,7 @@ value-spec =
     cast-result
     returns
     mul-result
-    mark-requires
+    check-bits-requires
     add-result-2
     add-result-3
     returns-2)

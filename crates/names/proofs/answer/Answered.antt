@@ -11,7 +11,7 @@ use Rattle.byte_slices.specs.Stands.{Each}
 use Rattle.catalogue_entries.specs.Entries.{entriesIn}
 use Rattle.format.specs.NameIndex.{nameOrdinal, slotCount, index, looks}
 use Rattle.name_entries.specs.Names.{namesIn}
-use Rattle.names.specs.Told.{Told}
+use Rattle.names.specs.NameEnds.{Told}
 use Rattle.name_slots.specs.Filled.{entering, seats}
 use Rattle.name_lookup.specs.Looking.{slotOf, looksOf, ordinalAt}
 use Rattle.names.proofs.Found.{filled-index, places-length, places-noted, found-ordinal, found-looks}
@@ -43,7 +43,7 @@ module _ (t c slots₀ slots₁ : List ℕ) (size : length slots₀ ≡ slotCoun
   pub long₁ : length slots₁ ≡ slotCount (length names)
   long₁ = ap length by-places ∙ places-length t c
 
-  -- the notes that were taken beside tell where ordinals go
+  -- the notes say where ordinals go
   pub notes-told : (m : ℕ) → m ≡ length names → (notes₀ notes₁ : List ℕ) → notes₁ ≡ sets notes₀ 0 (seats false t 0 (entriesIn c) (replicate (length slots₀) 0))
       → m ≤ length notes₁ → take m notes₁ ≡ seats true t 0 (entriesIn c) (replicate (length slots₁) 0)
   notes-told m e notes₀ notes₁ is room =

@@ -1,4 +1,4 @@
--- `program_chains::counting` meets its contract: after i turns the first i ordinals are listed. Assumes nothing.
+-- `program_chains::counting` meets its contract: after i steps the first i ordinals are listed. Assumes nothing.
 use Prim.Native.Nat.{ℕ, _+_, _-_, _≤_, _<_}
 use mathlib.Core.Path.{_≡_, refl, sym, ap, _∙_}
 use native.Mathlib.Omega.{arith}

@@ -1,4 +1,4 @@
--- `program_depths::unknown` meets its contract: after some turns as many depths are not known. Assumes nothing.
+-- `program_depths::unknown` meets its contract: after some steps as many depths are not known. Assumes nothing.
 use Prim.Native.Nat.{ℕ, _+_, _-_, _≤_, _<_}
 use mathlib.Core.Path.{_≡_, refl, sym, ap, _∙_}
 use native.Mathlib.Omega.{arith}

@@ -4,7 +4,7 @@ use mathlib.Core.Path.{_≡_, refl, sym, ap, _∙_}
 use native.Mathlib.Omega.{arith}
 use lib.ListN.{length}
 use Rattle.format.specs.Fields.{isTag}
-use Rattle.format.specs.Bytes.{letter, digit, between}
+use Rattle.format.specs.Bytes.{none?, letter, digit, between}
 use Rattle.accepted_line.specs.Next.{lastIn}
 use Rattle.program_lines.specs.Found.{placeOf, previousOf}
 use Rattle.program_lines.proofs.Last.{last-inside}
@@ -19,7 +19,7 @@ narrow-requires : tie.Need-narrow-requires
 narrow-requires c κs =
     let s = c .before .before .before in
     let a = s .args in
-    let i = last-inside (a .once) (a .at) (a .line .now) (s .pre .0 .start) 73 68 in
+    let i = last-inside (none? (a .tables .now)) (a .at) (a .line .now) (s .pre .0 .start) 73 68 in
     let e = c .find-value .ensures in
     (omega (arith, s .pre .1, i, ap (λ v. v .at) e, ap (λ v. v .len) e), omega (arith, s .pre .1, i, ap (λ v. v .at) e, ap (λ v. v .len) e))
 
@@ -31,7 +31,7 @@ narrow-previous-requires : tie.Need-narrow-previous-requires
 narrow-previous-requires c κs =
     let s = c .before .before .before .before .before in
     let a = s .args in
-    let i = last-inside (a .once) (a .at) (a .line .now) (s .pre .0 .start) 80 80 in
+    let i = last-inside (none? (a .tables .now)) (a .at) (a .line .now) (s .pre .0 .start) 80 80 in
     let e = c .find-value2 .ensures in
     (omega (arith, s .pre .1, i, ap (λ v. v .at) e, ap (λ v. v .len) e), omega (arith, s .pre .1, i, ap (λ v. v .at) e, ap (λ v. v .len) e))
 

@@ -13,7 +13,7 @@ Inv-loop text strict starts₀ sizes₀ ats₀ lens₀ from₀ widths₀ count�
 abbrev μ-loop : tie.MeasureT-loop
 μ-loop text strict starts₀ sizes₀ ats₀ lens₀ from₀ widths₀ count₀ at₀ starts sizes ats lens from widths count at = length text - at
 
--- what the line of a turn is
+-- what the line of a step is
 room : (c : tie.Else1 Inv-loop μ-loop) → c .before .before .before .loop .count < 1024
 room c =
     let n = c .before .before in

@@ -18,7 +18,7 @@ Inv-loop text start at₀ at = (start ≤ at) × (at ≤ length text) × (pgFrom
 abbrev μ-loop : tie.MeasureT-loop
 μ-loop text start at₀ at = length text - at
 
--- the line of a turn
+-- the line of a step
 turned : (c : tie.After-first-line Inv-loop μ-loop) → (let l = c .before .before .before in let a = l .before .before .args in Turn (a .text .now) (l .loop .at) (c .first-line .result))
 turned c =
     let l = c .before .before .before in

@@ -15,7 +15,7 @@ find-places-requires c κs =
     let o = c .before .before in
     let s = o .before .before in
     let a = s .args in
-    (once (a .strict) (a .at) (a .line .now) (s .pre) _ (o .is-once .result) (o .is-once .ensures) (c .before .if1 .taken), s .pre .short)
+    (once (a .strict) (a .at) (a .line .now) (s .pre) (o .is-once .result) (o .is-once .ensures) (c .before .if1 .taken), s .pre .short)
 
 returns : tie.Need-returns
 returns c = search needs

@@ -4,11 +4,13 @@ use native.Mathlib.Omega.{arith}
 use borrow.Author.Needs.{needs}
 use mathlib.Core.Path.{_≡_, refl, sym, ap, _∙_}
 use Rattle.format.specs.Catalogue.{catalogue}
+use Rattle.format.specs.Programs.{programs}
 use Rattle.accepted.specs.Read.{recordsOf}
 use Rattle.catalogue_entries.specs.Entries.{entriesIn}
 use Rattle.program_places.specs.declared.Programs.{Programs}
 use Rattle.program_places.specs.Gathered.{notedIn, programsIn, gatheredOf}
-use Rattle.program_parents.proofs.Own.{ats-whole, lens-whole, from-whole, widths-whole}
+use Rattle.program_parents.specs.Placed.{PlacesOf}
+use Rattle.program_parents.proofs.Own.{ats-whole, lens-whole, from-whole, widths-whole, text-placed, text-places}
 use Rattle.program_parents.proofs.Opened.{few-entries}
 use borrow.Fn.Kinds.{In}
 use borrow.Fn.PlainCycle.{Measures, is, falls, and}
@@ -46,6 +48,9 @@ module _ (t : ℕ) (c : parents-again-lts.After-gather (gather-reads.Asked, gath
   own : held ≡ gatheredOf (notedIn (entriesIn (catalogue (recordsOf (start .args .text .now)))))
   own = c .gather .ensures ∙ ap (λ s. gatheredOf (notedIn (entriesIn s))) (start .pre .1 .1)
 
+  placed : PlacesOf (start .args .text .now) (programs (recordsOf (start .args .text .now))) held
+  placed = text-placed (start .args .text .now) (start .pre .1 .0) held own
+
 parents-again-gather-requires : (t : ℕ) → parents-again-lts.Need-gather-requires (
   gather-reads.Asked,
   gather-reads.Learnt,
@@ -56,7 +61,7 @@ parents-again-gather-requires : (t : ℕ) → parents-again-lts.Need-gather-requ
 ) (parents-again-at t) parents-again.Post
 parents-again-gather-requires t c κs =
     let s = c .before .before .before .before .before .before in
-    (few-entries (s .args .text .now) (s .args .kept .now) (s .pre .1 .0) (s .pre .1 .1), (refl, refl, refl, refl))
+    (few-entries (s .args .text .now) (s .args .catalogue .now) (s .pre .1 .0) (s .pre .1 .1), (refl, refl, refl, refl))
 
 parents-again-sub-parents-again : (t : ℕ) → parents-again-lts.Need-sub-parents-again (
   gather-reads.Asked,
@@ -99,8 +104,7 @@ parents-again-slice-aggregate-find-parents :
     ) (parents-again-at t) parents-again.Post
 parents-again-slice-aggregate-find-parents t c =
     let g = c .before .before in
-    let s = start t g in
-    sym (ats-whole (s .args .text .now) (s .pre .1 .0) (held t g) (own t g))
+    sym (ats-whole _ _ (held t g) (placed t g))
 
 parents-again-slice-aggregate-find-parents-2 :
     (t : ℕ) → parents-again-lts.Need-slice-aggregate-find-parents-2 (
@@ -113,8 +117,7 @@ parents-again-slice-aggregate-find-parents-2 :
     ) (parents-again-at t) parents-again.Post
 parents-again-slice-aggregate-find-parents-2 t c =
     let g = c .before .before .before in
-    let s = start t g in
-    sym (lens-whole (s .args .text .now) (s .pre .1 .0) (held t g) (own t g))
+    sym (lens-whole _ _ (held t g) (placed t g))
 
 parents-again-slice-aggregate-find-parents-3 :
     (t : ℕ) → parents-again-lts.Need-slice-aggregate-find-parents-3 (
@@ -127,8 +130,7 @@ parents-again-slice-aggregate-find-parents-3 :
     ) (parents-again-at t) parents-again.Post
 parents-again-slice-aggregate-find-parents-3 t c =
     let g = c .before .before .before .before in
-    let s = start t g in
-    sym (from-whole (s .args .text .now) (s .pre .1 .0) (held t g) (own t g))
+    sym (from-whole _ _ (held t g) (placed t g))
 
 parents-again-slice-aggregate-find-parents-4 :
     (t : ℕ) → parents-again-lts.Need-slice-aggregate-find-parents-4 (
@@ -141,8 +143,7 @@ parents-again-slice-aggregate-find-parents-4 :
     ) (parents-again-at t) parents-again.Post
 parents-again-slice-aggregate-find-parents-4 t c =
     let g = c .before .before .before .before .before in
-    let s = start t g in
-    sym (widths-whole (s .args .text .now) (s .pre .1 .0) (held t g) (own t g))
+    sym (widths-whole _ _ (held t g) (placed t g))
 
 parents-again-find-parents-requires : (t : ℕ) → parents-again-lts.Need-find-parents-requires (
   gather-reads.Asked,
@@ -154,7 +155,7 @@ parents-again-find-parents-requires : (t : ℕ) → parents-again-lts.Need-find-
 ) (parents-again-at t) parents-again.Post
 parents-again-find-parents-requires t c κs =
     let g = c .before .before .before .before .before in
-    (start t g .pre .1 .0, own t g)
+    text-places (start t g .args .text .now) (start t g .pre .1 .0) (held t g) (own t g)
 
 parents-again-returns-2 : (t : ℕ) → parents-again-lts.Need-returns-2 (
   gather-reads.Asked,
@@ -164,7 +165,9 @@ parents-again-returns-2 : (t : ℕ) → parents-again-lts.Need-returns-2 (
   find-parents-reads.Asked,
   find-parents-reads.Learnt,
 ) (parents-again-at t) parents-again.Post
-parents-again-returns-2 t c = search needs
+parents-again-returns-2 t c =
+    let g = c .before .before .before .before .before .before in
+    c .find-parents .ensures (programs (recordsOf (start t g .args .text .now))) (placed t g)
 
 pub +parents-again-spec : {M : Type 1} → statement M
 +parents-again-spec = close μ-parents-again λ t. parents-again-lts.spec (

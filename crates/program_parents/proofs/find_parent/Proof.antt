@@ -11,7 +11,8 @@ use Rattle.program_chains.specs.Parents.{nobody}
 use Rattle.catalogue_entries.specs.declared.Place.{Place}
 use Rattle.program_ids.specs.declared.Named.{Named}
 use Rattle.program_ids.specs.declared.Named.the-variants.{Nobody, Is}
-use Rattle.program_ids.specs.Places.{bytesAt, idsAt}
+use Rattle.program_ids.specs.Places.{bytesAt}
+use Rattle.program_ids.specs.Ids.{idsAt}
 use Rattle.program_ids.specs.Search.{idOrdinalFrom, namedOf}
 use Rattle.program_parents.specs.Parents.{stranger, orStranger, parentOf}
 use Rattle.program_parents.proofs.find_parent.Statement.{statement}
@@ -36,11 +37,11 @@ parent-found t ids p n h e =
     rw (ne-eqb (p .at) 4294967295 h) (sym (number-named (idOrdinalFrom (bytesAt t p) 0 ids)) ∙ ap (λ m. number (namedOf (idOrdinalFrom (take m (drop (p .at) t)) 0 ids))) (sym z) ∙ ap number (sym e))
 
 answered : (c : tie.After-find-program) (n : Named) → c .find-program .result ≡ n
-    → let a = c .before .before .before .before .before .before .before .before .before .args in
-    parentOf (a .text .now) (idsAt (a .text .now) (a .ats .now) (a .lens .now)) (a .previous) ≡ number n
+    → let a = c .before .before .before .before .before .before .before .before .args in
+    parentOf (a .text .now) (idsAt (a .text .now) (a .ids .now)) (a .previous) ≡ number n
 answered c n e =
-    let a = c .before .before .before .before .before .before .before .before .before .args in
-    parent-found (a .text .now) (idsAt (a .text .now) (a .ats .now) (a .lens .now)) (a .previous) n (c .before .before .before .before .if1 .left) (sym e ∙ c .find-program .ensures)
+    let a = c .before .before .before .before .before .before .before .before .args in
+    parent-found (a .text .now) (idsAt (a .text .now) (a .ids .now)) (a .previous) n (c .before .before .before .before .if1 .left) (sym e ∙ c .find-program .ensures)
 
 returns : tie.Need-returns
 unfolding parentOf nobody
@@ -62,7 +63,7 @@ part-find-program-start : tie.Need-part-find-program-start
 part-find-program-start c = search needs
 
 part-find-program-end : tie.Need-part-find-program-end
-part-find-program-end c = omega (arith, c .before .before .before .before .before .before .before .pre .1 (c .before .before .if1 .left))
+part-find-program-end c = omega (arith, c .before .before .before .before .before .before .pre .1 (c .before .before .if1 .left))
 
 find-program-requires : tie.Need-find-program-requires
 find-program-requires c κs = search needs

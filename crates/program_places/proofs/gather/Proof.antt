@@ -31,7 +31,7 @@ returns c =
     let l = c .before .before .before .loop in
     listed-all _ (l .ats) (l .lens) (l .from) (l .widths) (l .count) (l .at) _ _ (c .before .before .entry-at .ensures) (c .before .size .ensures) (l .inv) (c .if1 .taken)
 
--- ---- in a turn
+-- ---- in a step of the loop
 
 -- the entry is within the catalogue
 within : (c : tie.Else1 Inv-loop μ-loop) → c .before .before .before .loop .at + c .before .size .result ≤ length (c .before .before .before .before .before .args .catalogue .now)

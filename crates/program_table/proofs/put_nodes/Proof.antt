@@ -172,7 +172,7 @@ module _ {M : Type 1} (𝓤 : URA M) (H : Heap 𝓤) (A : Atoms 𝓤) (W : Given
     abbrev En : Env 𝓤 H
     En = (tyUnit, l₀) ∷ (slice, l₁) ∷ (arr, l₂) ∷ (arr, l₃) ∷ (word, l₄) ∷ (arr, l₅) ∷ (arr, l₆) ∷ (word, l₇) ∷ (tyBool, l₈) ∷ (word, l₉) ∷ (tyPtr, l₁₀) ∷ (tyPtr, l₁₁) ∷ (half, l₁₂) ∷ (word, l₁₃) ∷ (tyPtr, l₁₄) ∷ (tyPtr, l₁₅) ∷ (half, l₁₆) ∷ (T′.mir, l₁₇) ∷ (word, l₁₈) ∷ (tyPtr, l₁₉) ∷ []
 
-    -- what no turn touches
+    -- what no step touches
     abbrev Frame : List (Item 𝓤)
     Frame = ‵ (fat fullShare slice l₁ 0 s) ∷ ‵ (fat fullShare arr l₂ 0 vp) ∷ ‵ (fat fullShare arr l₃ 0 vd) ∷ ‵ (fat fullShare word l₄ 0 (vint w64 n)) ∷ ‵ (froom tyUnit l₀ 0)
         ∷ ‵ (row u32 fullShare ps l₅ 0) ∷ ‵ (row u32 fullShare ds l₆ 0)
@@ -197,7 +197,7 @@ module _ {M : Type 1} (𝓤 : URA M) (H : Heap 𝓤) (A : Atoms 𝓤) (W : Given
     abbrev Left : Out → SProp 𝓤
     Left = afterBlock 𝓤 H (afterSeq 𝓤 H (Wp 𝓤 H C Λ En mir′.t-5 (atReturn 𝓤 H En Post)) (atReturn 𝓤 H En Post))
 
-    -- the record that turn i writes
+    -- the record that step i writes
     abbrev node : ℕ → Node
     node i = record { parent = getD ps i 0; depth = getD ds i 0 }
 
@@ -207,7 +207,7 @@ module _ {M : Type 1} (𝓤 : URA M) (H : Heap 𝓤) (A : Atoms 𝓤) (W : Given
     made : (i : ℕ) → getD ps i 0 < 2 ^ 32 → getD ds i 0 < 2 ^ 32 → Is T.the-row (node i) (mach i ∷ [])
     made i p d = LL.owes T.the-type T′.the-laws (node i) ((refl, p), ((refl, d), tt))
 
-    -- a turn that writes one record
+    -- a step that writes one record
     more : (i : ℕ) (X : SProp 𝓤) → i < n → ent 𝓤 (⋆ 𝓤 H A (At (suc i))) X → ent 𝓤 (⋆ 𝓤 H A (At i)) (Wp 𝓤 H C Λ En mir′.turn-1 (afterTurn 𝓤 H X Left))
     unfolding afterTurn
     more i X small k =
@@ -251,7 +251,7 @@ module _ {M : Type 1} (𝓤 : URA M) (H : Heap 𝓤) (A : Atoms 𝓤) (W : Given
         forget ! 2 refl $ forget ! 3 refl $ forget ! 4 refl $ forget ! 5 refl $ forget ! 6 refl $ forget ! 7 refl $ forget ! 8 refl $ forget ! 9 refl $ forget ! 10 refl $ forget ! 11 refl $ forget ! 12 refl $ forget ! 13 refl $
         rewrite ! 1 (λ (j : ℕ). ‵ (fat fullShare word l₇ 0 (vint w64 j))) (add-one i) refl $ by ! k)))
 
-    -- the turn that leaves the loop, and the rest of the body
+    -- the step that leaves the loop, and the rest of the body
     ends : (X : SProp 𝓤) → ent 𝓤 (⋆ 𝓤 H A (At n)) (Wp 𝓤 H C Λ En mir′.turn-1 (afterTurn 𝓤 H X Left))
     unfolding afterTurn
     ends X =
@@ -276,7 +276,7 @@ module _ {M : Type 1} (𝓤 : URA M) (H : Heap 𝓤) (A : Atoms 𝓤) (W : Given
         (exI 𝓤 (λ (j : ℕ). guard 𝓤 (Facts t j) (⋆ 𝓤 H A (At j))) (suc i)))
         (via 𝓤 (guard 𝓤 (t < suc t) (Inv t)) (guardI 𝓤 (t < suc t) (Inv t) (le-refl (suc t))) (exI 𝓤 (λ (u : ℕ). guard 𝓤 (u < suc t) (Inv u)) t))
 
-    -- a turn from the invariant at t leaves the loop, or ends in the invariant below t
+    -- a step from the invariant at t leaves the loop, or ends in the invariant below t
     turn-at : (t i : ℕ) → Facts t i → ent 𝓤 (⋆ 𝓤 H A (At i)) (Wp 𝓤 H C Λ En mir′.turn-1 (afterTurn 𝓤 H (Below t) Left))
     turn-at zero i e = subst (λ (k : ℕ). ent 𝓤 (⋆ 𝓤 H A (At k)) (Wp 𝓤 H C Λ En mir′.turn-1 (afterTurn 𝓤 H (Below zero) Left))) (sym e ∙ add-zero i) (ends (Below zero))
     turn-at (suc t) i e = more i (Below (suc t)) (omega (arith, e)) (below t i (omega (arith, e)))

@@ -1,4 +1,4 @@
--- `program_places::put_ordinals` meets its contract: 20, or after i turns the first i ordinals are pasted.
+-- `program_places::put_ordinals` meets its contract: 20, or after i steps the first i ordinals are pasted.
 use Prim.Native.Nat.{ℕ, _+_, _-_, _≤_}
 use mathlib.Core.Path.{_≡_, refl, sym, ap, _∙_}
 use mathlib.Core.List.{List}
@@ -8,7 +8,7 @@ use lib.ListN.{length, length-set, set, getD}
 use lib.Seq.{paste, paste-zero, paste-suc, take-length}
 use Rattle.format.specs.Calls.{fitting}
 use Rattle.byte_slices.specs.Over.{over}
-use Rattle.read.proofs.Told.{too-short, fits, refused-answer, written-answer}
+use Rattle.read.proofs.AnswerCases.{too-short, fits, refused-answer, written-answer}
 use Rattle.programs.proofs.put_ordinals.Statement.{statement}
 use Rattle.programs.proofs.put_ordinals.Tie as tie
 

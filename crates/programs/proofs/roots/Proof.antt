@@ -9,7 +9,7 @@ use Rattle.program_chains.specs.Parents.{inArray}
 use Rattle.program_chains.proofs.Arrays.{front, front-count, front-inside}
 use Rattle.program_parents.proofs.Road.{lent-count, lent-inside, lent-few, lent-roots}
 use Rattle.read.specs.Answers.{answerOf, outputOf}
-use Rattle.read.proofs.Told.{refused-answer}
+use Rattle.read.proofs.AnswerCases.{refused-answer}
 use Rattle.read.proofs.Fresh.{Current, refused-by, fresh-by}
 use Rattle.program_parents.proofs.Opened.{Opened, opened}
 use Rattle.programs.proofs.Chained.{roots-refused, rooted}

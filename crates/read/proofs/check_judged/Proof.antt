@@ -10,39 +10,39 @@ use Rattle.format.specs.Catalogue.{catalogue}
 use Rattle.format.specs.Calls.{fresh, refused, yes}
 use Rattle.byte_slices.proofs.Equal.{same-other}
 use Rattle.accepted.specs.Read.{recordsOf}
-use Rattle.read_judge.proofs.Whole.{text-refused, text-accepted}
-use Rattle.read.specs.declared.Checked.the-variants.{Refused}
-use Rattle.read.specs.Answers.{checkedOf}
-use Rattle.read.proofs.Told.{fresh-refused, fresh-reads}
+use Rattle.accepted_rule.specs.Rule.{isOnce}
+use Rattle.read_judge.proofs.Whole.{Told, text-refused, text-accepted}
+use Rattle.read.specs.declared.CheckedText.the-variants.{Refused, Fresh}
+use Rattle.read.specs.Answers.{checkedTextOf}
+use Rattle.read.proofs.AnswerCases.{fresh-refused, fresh-reads}
 use Rattle.read.proofs.check_judged.Statement.{statement}
 use Rattle.read.proofs.check_judged.Tie as tie
 use Rattle.read.proofs.check_judged.Reads as reads
 use Rattle.read.proofs.check_judged.Lts as lts
 use Rattle.read.proofs.is_catalogue.Reads as is-catalogue-reads
-use Rattle.read_repeat_rule.proofs.is_strict.Reads as is-strict-reads
 
 -- the text is accepted, and `n` is its catalogue's length
 accepted : (c : tie.After-judged2)
     → let t = c .before .before .before .before .args .text .now in
-    (readText t ≡ accept (recordsOf t)) × (c .judged2 .given .0 .0 ≡ length (catalogue (recordsOf t)))
+    Told t (c .judged2 .given .0 .0) (c .judged2 .given .0 .1 .0)
 accepted c =
     let s = c .before .before .before .before in
-    text-accepted (s .args .text .now) (c .judged2 .given .0 .0) (sym (s .pre) ∙ c .judged2 .given .1)
+    text-accepted (s .args .text .now) (c .judged2 .given .0 .0) (c .judged2 .given .0 .1 .0) (sym (s .pre) ∙ c .judged2 .given .1)
 
 found : (c : tie.After-judged2)
     → let a = c .before .before .before .before .args in
     fresh (a .text .now) (a .kept .now) ≡ cond (same (a .kept .now) (catalogue (recordsOf (a .text .now)))) (yes (recordsOf (a .text .now))) (refused 21 0)
 found c =
     let a = c .before .before .before .before .args in
-    fresh-reads (a .text .now) (a .kept .now) (recordsOf (a .text .now)) (accepted c .0)
+    fresh-reads (a .text .now) (a .kept .now) (recordsOf (a .text .now)) (accepted c .reads)
 
 stale : (c : tie.After-judged2)
     → let a = c .before .before .before .before .args in
-    same (a .kept .now) (catalogue (recordsOf (a .text .now))) ≡ false → Refused 21 (record { 0 = 0 }) ≡ checkedOf (fresh (a .text .now) (a .kept .now))
-unfolding checkedOf
+    same (a .kept .now) (catalogue (recordsOf (a .text .now))) ≡ false → Refused 21 (record { 0 = 0 }) ≡ checkedTextOf (isOnce (a .text .now)) (fresh (a .text .now) (a .kept .now))
+unfolding checkedTextOf
 stale c e =
     let a = c .before .before .before .before .args in
-    sym (ap checkedOf (found c ∙ ap (λ t. cond t (yes (recordsOf (a .text .now))) (refused 21 0)) e))
+    sym (ap (checkedTextOf (isOnce (a .text .now))) (found c ∙ ap (λ t. cond t (yes (recordsOf (a .text .now))) (refused 21 0)) e))
 
 enum-known-judged : tie.Need-enum-known-judged
 enum-known-judged c = search needs
@@ -54,34 +54,31 @@ returns : tie.Need-returns
 returns c =
     let z = c .before .before in
     let a = z .before .before .before .before .args in
-    stale z (same-other (a .kept .now) (catalogue (recordsOf (a .text .now))) (λ e. c .if1 .taken (accepted z .1 ∙ sym (ap length e))))
-
-is-strict-requires : tie.Need-is-strict-requires
-is-strict-requires c κs = search needs
+    stale z (same-other (a .kept .now) (catalogue (recordsOf (a .text .now))) (λ e. c .if1 .taken (accepted z .size ∙ sym (ap length e))))
 
 is-catalogue-requires : tie.Need-is-catalogue-requires
-is-catalogue-requires c κs = record { rule = c .is-strict .ensures; reads = accepted (c .before .before .before) .0 }
+is-catalogue-requires c κs = record { rule = accepted (c .before .before) .rule; reads = accepted (c .before .before) .reads }
 
 returns-2 : tie.Need-returns-2
-unfolding checkedOf
+unfolding checkedTextOf
 returns-2 c =
     let i = c .before in
-    let z = i .before .before .before .before in
+    let z = i .before .before .before in
     let a = z .before .before .before .before .args in
-    sym (ap checkedOf (found z ∙ ap (λ t. cond t (yes (recordsOf (a .text .now))) (refused 21 0)) (sym (i .is-catalogue .ensures) ∙ c .if2 .taken)))
+    ap Fresh (accepted z .told) ∙ sym (ap (checkedTextOf (isOnce (a .text .now))) (found z ∙ ap (λ t. cond t (yes (recordsOf (a .text .now))) (refused 21 0)) (sym (i .is-catalogue .ensures) ∙ c .if2 .taken)))
 
 returns-3 : tie.Need-returns-3
-unfolding checkedOf
+unfolding checkedTextOf
 returns-3 c =
     let j = c .before in
     let s = j .before .before .before .before in
     sym
-    (ap checkedOf
+    (ap (checkedTextOf (isOnce (s .args .text .now)))
     (fresh-refused (s .args .text .now) (s .args .kept .now) (j .judged .given .0 .0) (j .judged .given .0 .1 .0 .0)
     (text-refused (s .args .text .now) (j .judged .given .0 .0) (j .judged .given .0 .1 .0) (sym (s .pre) ∙ j .judged .given .1))))
 
 returns-4 : tie.Need-returns-4
-returns-4 c = stale (c .before .before .before .before .before) (sym (c .before .is-catalogue .ensures) ∙ c .if2 .left)
+returns-4 c = stale (c .before .before .before .before) (sym (c .before .is-catalogue .ensures) ∙ c .if2 .left)
 
 pub check-judged-spec : {M : Type 1} → statement M
 check-judged-spec =
@@ -90,7 +87,6 @@ check-judged-spec =
     enum-known-judged
     enum-known-judged-2
     returns
-    is-strict-requires
     is-catalogue-requires
     returns-2
     returns-3

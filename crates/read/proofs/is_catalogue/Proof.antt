@@ -1,4 +1,4 @@
--- `read::is_catalogue` meets its contract: the catalogue starts with the entries of the lines behind.
+-- `read::is_catalogue` meets its contract: the catalogue starts with the entries of the lines that were passed.
 use Prim.Native.Nat.{_+_, _-_}
 use mathlib.Core.Path.{_≡_, refl, sym, ap, subst, _∙_}
 use native.Mathlib.Omega.{arith}

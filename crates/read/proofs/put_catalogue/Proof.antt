@@ -1,4 +1,4 @@
--- `read::put_catalogue` meets its contract: what was written is the catalogue of the lines behind.
+-- `read::put_catalogue` meets its contract: what was written is the catalogue of the lines that were passed.
 use Prim.Native.Nat.{_+_, _-_, _≤_}
 use mathlib.Core.Path.{_≡_, refl, sym, ap, _∙_}
 use mathlib.Core.List.{[], _∷_, _++_}

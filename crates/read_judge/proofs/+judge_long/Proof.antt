@@ -5,7 +5,8 @@ use borrow.Author.Needs.{needs}
 use borrow.Fn.Kinds.{In}
 use borrow.Fn.PlainCycle.{Measures, is, falls, and}
 use Rattle.format.proofs.Slots.{held-none}
-use Rattle.key_index.specs.Told.{start}
+use Rattle.key_look.specs.Seed.{plainSeed}
+use Rattle.key_index.specs.KeySlots.{start}
 use Rattle.read_judge.proofs.judge_long.Reads as judge-long
 use Rattle.read_judge.proofs.judge_long.Kinds as judge-long-kinds
 use Rattle.read_judge.proofs.+judge_long.Lts-judge_long as judge-long-lts
@@ -26,7 +27,7 @@ judge-long-slice-aggregate-judge-indexed : (t : ℕ) → judge-long-lts.Need-sli
 judge-long-slice-aggregate-judge-indexed t c = search needs
 
 judge-long-judge-indexed-requires : (t : ℕ) → judge-long-lts.Need-judge-indexed-requires (judge-indexed-reads.Asked, judge-indexed-reads.Learnt, judge-long-below t, judge-long.Post) (judge-long-at t) judge-long.Post
-judge-long-judge-indexed-requires t c κs = let s = c .before .before in (s .pre .1, (omega arith, held-none (start (s .args .text .now) 196608) 196608))
+judge-long-judge-indexed-requires t c κs = let s = c .before .before in (s .pre .1, (omega arith, held-none (start plainSeed (s .args .text .now) 196608) 196608))
 
 judge-long-sub-judge-long : (t : ℕ) → judge-long-lts.Need-sub-judge-long (judge-indexed-reads.Asked, judge-indexed-reads.Learnt, judge-long-below t, judge-long.Post) (judge-long-at t) judge-long.Post
 judge-long-sub-judge-long t c = omega (arith, c .if1 .taken)

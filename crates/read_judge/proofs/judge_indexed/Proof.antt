@@ -1,421 +1,87 @@
--- `read_judge::judge_indexed` meets its contract: the lines before are records, and what is ahead decides.
-use Prim.Native.Nat.{ℕ, suc, _+_, _-_, _*_, _/_, _≤_, _<_}
+-- `read_judge::judge_indexed` meets its contract, by plain numbers or by keyed ones.
+use Prim.Native.Nat.{ℕ, _≤_}
 use mathlib.Core.Path.{_≡_, refl, sym, ap, subst, _∙_}
-use mathlib.Core.Bool.{Bool, true, false, _||_, cond}
-use mathlib.Core.List.{List, [], _∷_, _++_}
+use mathlib.Core.Bool.{Bool, true, false, false≢true}
+use mathlib.Core.List.{[]}
 use native.Mathlib.Omega.{arith}
+use lib.ListN.{length, replicate, length-replicate}
+use borrow.Author.Tests.{not-true}
+use Rattle.format.specs.Slots.{Held}
+use Rattle.format.proofs.Slots.{held-none}
+use Rattle.key_look.specs.Seed.{plainSeed, seedOf, Seeded}
+use Rattle.key_index.specs.KeySlots.{start}
 use borrow.Author.Needs.{needs}
-use lib.ListN.{length, take, drop, length-take, length-drop}
-use Rattle.format.specs.Lines.{Piece}
-use lib.Dec.{eqb}
-use Rattle.format.specs.Records.{Record, Line, read, refusedLine, line, others, code}
-use Rattle.format.specs.Reading.{admitted, ofKind}
-use Rattle.format.specs.Catalogue.{catalogue}
-use Rattle.byte_slices.specs.First.{firstLine}
-use Rattle.byte_slices.specs.Stands.{Stands}
-use Rattle.byte_slices.proofs.First.{first-le, first-within}
-use Rattle.byte_slices.proofs.Before.{rest}
-use Rattle.record.specs.declared.Head.{Head}
-use Rattle.record.specs.declared.Head.the-variants as head
-use Rattle.record.specs.Head.{headOf, recordHead}
-use Rattle.read_admission.specs.Admission.{lineRefusal, isTaken, barring}
-use Rattle.read_admission.proofs.Admission.{barring-is, unbarred-new, refusal-none, refusal-some}
-use Rattle.read_admission.proofs.Few.{others-few}
-use Rattle.read_admission.proofs.Programs.{programs-most}
-use Rattle.key_index.specs.Told.{isMet}
-use Rattle.key_index.specs.Keyed.{KeyInText}
-use Rattle.key_index.proofs.HeldKeys.{head-placed, meeting-length}
-use Rattle.catalogue_lines.specs.Line.{recordBytes}
-use Rattle.catalogue_lines.specs.Parts.{sizeOfHead, othersOf, ownEntry}
-use Rattle.catalogue_lines.proofs.Records.{catalogue-length, own-others, size-length}
-use Rattle.catalogue_lines.proofs.Entries.{size-most}
-use Rattle.read_judge.specs.Judged.{judgedOf}
-use Rattle.read_judge.proofs.Blocks.{Blocking, blocking-start, blocking-turn, turn-until, used-known, blocking-on}
-use Rattle.read_judge.proofs.Judging.{Judging, judging-start, judging-on, judging-end, judging-refused, few-lines, passed-are, next-within, len-within, next-some, len-is, line-stands}
 use Rattle.read_judge.proofs.judge_indexed.Statement.{statement}
 use Rattle.read_judge.proofs.judge_indexed.Tie as tie
 use Rattle.read_judge.proofs.judge_indexed.Reads as reads
 use Rattle.read_judge.proofs.judge_indexed.Lts as lts
-use Rattle.read_judge.proofs.barred.Reads as barred-reads
-use Rattle.read_judge.proofs.turn.Reads as turn-reads
-use Rattle.key_index.proofs.meet.Reads as meet-reads
-use Rattle.catalogue_lines.proofs.record_size.Reads as record-size-reads
-use Rattle.read_admission.proofs.programs_of.Reads as programs-of-reads
-use Rattle.record_parser.proofs.parse_record.Reads as parse-record-reads
-use Rattle.byte_slices.proofs.first_line.Reads as first-line-reads
+use Rattle.key_index.proofs.clear.Reads as clear-reads
+use Rattle.key_look.proofs.plain.Reads as plain-reads
+use Rattle.key_look.proofs.seed_of.Reads as seed-of-reads
+use Rattle.read_judge.proofs.judge_along.Reads as judge-along-reads
 
-abbrev Inv-loop : tie.InvT-loop
-Inv-loop text strict area₀ until block₀ at₀ line₀ programs₀ size₀ area block at line programs size = (j : Judging strict text at line programs size) × Blocking strict text area₀ area block at line programs size j
+-- a flag is false that is not true
+no : (b : Bool) → (b ≡ true → ⊥) → b ≡ false
+no true h = absurd (h refl)
+no false h = refl
 
-abbrev μ-loop : tie.MeasureT-loop
-μ-loop text strict area₀ until block₀ at₀ line₀ programs₀ size₀ area block at line programs size = length text - at
+plain-requires : tie.Need-plain-requires
+plain-requires c κs = search needs
 
--- ---- in a turn
-
--- the first of the lines ahead
-cut-at : (c : tie.After-first-line Inv-loop μ-loop) → c .first-line .result ≡ firstLine (drop (c .before .before .loop .at) (c .before .before .before .before .before .args .text .now))
-cut-at c = c .first-line .ensures ∙ ap firstLine (rest (c .before .before .loop .at) (c .before .before .before .before .before .args .text .now))
-
--- there is a line ahead
-below : (c : tie.Else1 Inv-loop μ-loop) → c .before .before .before .before .loop .at < length (c .before .before .before .before .before .before .before .args .text .now)
-below c = omega (arith, c .before .before .before .before .loop .inv .0 .inside, c .if1 .left)
-
-cut : (c : tie.Else1 Inv-loop μ-loop) → c .before .before .first-line .result ≡ firstLine (drop (c .before .before .before .before .loop .at) (c .before .before .before .before .before .before .before .args .text .now))
-cut c = cut-at (c .before .before)
-
-inside : (c : tie.Else1 Inv-loop μ-loop)
-    → let l = c .before .before .before .before in
-    let t = l .before .before .before .args .text .now in
-    (l .loop .at + c .before .before .first-line .result .len ≤ length t) × (l .loop .at + c .before .before .first-line .result .next ≤ length t) × (0 < c .before .before .first-line .result .next)
-inside c =
-    let l = c .before .before .before .before in
-    let a = l .before .before .before .args in
-    let h = below c in
-    let e = cut c in (
-      rw e (len-within (a .strict) (a .text .now) (l .loop .at) (l .loop .line) (l .loop .programs) (l .loop .size) (l .loop .inv .0) h),
-      rw e (next-within (a .strict) (a .text .now) (l .loop .at) (l .loop .line) (l .loop .programs) (l .loop .size) (l .loop .inv .0) h),
-      rw e (next-some (a .strict) (a .text .now) (l .loop .at) (l .loop .line) (l .loop .programs) (l .loop .size) (l .loop .inv .0) h),
+judge-along-requires : tie.Need-judge-along-requires
+unfolding Seeded plainSeed
+judge-along-requires c κs =
+    let s = c .before .before .before .before in
+    let a = s .args in
+    let e = c .before .plain .ensures in (
+      s .pre .0,
+      (s .pre .1 .0, (subst (λ d. Held (start d (a .text .now) (length (a .area .now))) (a .area .now) []) (sym e) (s .pre .1 .1), λ q. absurd (false≢true (sym (ap (λ d. d .keyed) e) ∙ q)))),
     )
 
-piece : tie.Else1 Inv-loop μ-loop → Piece
-piece c =
-    let l = c .before .before .before .before in
-    let t = l .before .before .before .args .text .now in
-    record { at = l .loop .at; bytes = take (firstLine (drop (l .loop .at) t) .len) (drop (l .loop .at) t) }
+same-length : tie.Need-same-length
+same-length c = search needs
 
-stands : (c : tie.Else1 Inv-loop μ-loop) → Stands (c .before .before .before .before .before .before .before .args .text .now) 0 (piece c)
-unfolding piece
-stands c =
-    let l = c .before .before .before .before in
-    let a = l .before .before .before .args in
-    line-stands (a .strict) (a .text .now) (l .loop .at) (l .loop .line) (l .loop .programs) (l .loop .size) (l .loop .inv .0) (below c)
+returns : tie.Need-returns
+returns c = c .before .before .before .before .judge-along .ensures .0 (not-true _ (c .if1 .taken))
 
--- its head
-head-is : (c : tie.After-parse-record Inv-loop μ-loop)
-    → let q = c .before .before .before in
-    c .parse-record .result ≡ headOf (line (q .before .before .before .before .before .before .before .args .strict) (piece q))
-unfolding piece
-head-is c =
-    let q = c .before .before .before in
-    let l = q .before .before .before .before in
-    let a = l .before .before .before .args in
-    let n : l .loop .at + q .before .before .first-line .result .len - l .loop .at ≡ q .before .before .first-line .result .len = omega arith in
-    c .parse-record .ensures ∙ ap (λ b. headOf (line (a .strict) (record { at = l .loop .at; bytes = take b (drop (l .loop .at) (a .text .now)) }))) (n ∙ ap (λ x. x .len) (cut q))
+clear-requires : tie.Need-clear-requires
+clear-requires c κs = search needs
 
-placed-head : (c : tie.After-parse-record Inv-loop μ-loop)
-    → let q = c .before .before .before in
-    KeyInText (length (q .before .before .before .before .before .before .before .args .text .now)) (c .parse-record .result)
-unfolding piece
-placed-head c =
-    let q = c .before .before .before in
-    let l = q .before .before .before .before in
-    let a = l .before .before .before .args in
-    subst (KeyInText (length (a .text .now))) (sym (head-is c)) (head-placed (a .strict) (a .text .now) (l .loop .at) (l .before .before .before .pre .0) (stands q))
+seed-of-requires : tie.Need-seed-of-requires
+seed-of-requires c κs = search needs
 
--- what is known of its block and of its key
-turned-is : (c : tie.After-turn Inv-loop μ-loop)
-    → let l = c .before .before .before .before .before .before .before .before .before in
-    let a = l .before .before .before .args in
-    Blocking (a .strict) (a .text .now) (a .area .now) (c .turn .last .1 .1 .0) (c .turn .result) (l .loop .at) (l .loop .line) (l .loop .programs) (l .loop .size) (l .loop .inv .0)
-turned-is c =
-    let l = c .before .before .before .before .before .before .before .before .before in
-    let a = l .before .before .before .args in
-    rw (c .turn .ensures .0, c .turn .ensures .1) (blocking-turn (a .strict) (a .text .now) (a .area .now) (l .loop .area) (l .loop .block) (l .loop .at) (l .loop .line) (l .loop .programs) (l .loop .size) (l .loop .inv .0) (l .loop .inv .1))
+judge-along-requires-2 : tie.Need-judge-along-requires-2
+unfolding Seeded
+judge-along-requires-2 c κs =
+    let k = c .before .before .before .before in
+    let j = k .before .before .before .before .before .before in
+    let s = j .before .before .before .before .before in
+    let e = k .clear .ensures in
+    let long : length (k .clear .last .0) ≡ length (s .args .area .now) = ap length e ∙ length-replicate (length (j .judge-along .last .1 .1 .0)) 0 ∙ j .judge-along .kept .1 .1 .0 in (
+      s .pre .0,
+      (omega (arith, long, s .pre .1 .0), (rw e (held-none (start _ _ _) (length (j .judge-along .last .1 .1 .0))), λ _. c .before .seed-of .ensures)),
+    )
 
-until : (c : tie.After-turn Inv-loop μ-loop)
-    → let l = c .before .before .before .before .before .before .before .before .before in
-    l .loop .line < c .turn .result .until
-until c =
-    let l = c .before .before .before .before .before .before .before .before .before in
-    let a = l .before .before .before .args in
-    rw (c .turn .ensures .0) (turn-until (a .strict) (a .text .now) (a .area .now) (l .loop .area) (l .loop .block) (l .loop .at) (l .loop .line) (l .loop .programs) (l .loop .size) (l .loop .inv .0) (l .loop .inv .1))
+same-length-2 : tie.Need-same-length-2
+same-length-2 c = search needs
 
-used : (c : tie.After-turn Inv-loop μ-loop) (y : Head)
-    → let p = c .before .before in
-    let l = p .before .before .before .before .before .before .before in
-    let a = l .before .before .before .args in
-    y ≡ p .parse-record .result → (isMet (a .text .now) (c .turn .last .1 .1 .0) y || eqb (l .loop .line) (c .turn .result .clash)) ≡ isTaken (l .loop .inv .0 .before) (a .text .now) y
-unfolding piece
-used c y e =
-    let p = c .before .before in
-    let q = p .before .before .before in
-    let l = q .before .before .before .before in
-    let a = l .before .before .before .args in
-    used-known (a .strict) (a .text .now) (a .area .now) (c .turn .last .1 .1 .0) (c .turn .result) (l .loop .at) (l .loop .line) (l .loop .programs) (l .loop .size) (l .loop .inv .0) (turned-is c) (below q) y (e ∙ head-is p)
-
-barring-told : (c : tie.After-barred Inv-loop μ-loop)
-    → let p = c .before .before .before .before .before .before .before .before .before .before in
-    let l = p .before .before .before .before .before .before .before in
-    let a = l .before .before .before .args in
-    c .barred .result ≡ barring (isTaken (l .loop .inv .0 .before) (a .text .now) (p .parse-record .result)) (l .loop .line) (l .loop .programs) (p .parse-record .result)
-barring-told c =
-    let m = c .before .before .before .before in
-    let w = m .before .before .before .before in
-    let p = w .before .before in
-    let l = p .before .before .before .before .before .before .before in
-    c .barred .ensures
-    ∙ ap (λ t. barring t (l .loop .line) (l .loop .programs) (p .parse-record .result))
-    (ap (λ b. b || eqb (l .loop .line) (w .turn .result .clash)) (m .meet .ensures .0) ∙ used w (p .parse-record .result) refl)
-
--- whether it may follow the lines before
-number : (c : tie.After-barred Inv-loop μ-loop)
-    → let q = c .before .before .before .before .before .before .before .before .before .before .before .before .before in
-    let l = q .before .before .before .before in
-    c .barred .result ≡ lineRefusal (admitted (l .before .before .before .args .strict) (l .loop .inv .0 .before) (piece q))
-number c =
-    let q = c .before .before .before .before .before .before .before .before .before .before .before .before .before in
-    let l = q .before .before .before .before in
-    let a = l .before .before .before .args in
-    let j = l .loop .inv .0 in
-    let h = headOf (line (a .strict) (piece q)) in
-    barring-told c
-    ∙ ap (λ x. barring (isTaken (j .before) (a .text .now) x) (l .loop .line) (l .loop .programs) x) (head-is (c .before .before .before .before .before .before .before .before .before .before))
-    ∙ ap (λ n. barring (isTaken (j .before) (a .text .now) h) n (l .loop .programs) h) (sym (j .counted))
-    ∙ ap (λ n. barring (isTaken (j .before) (a .text .now) h) (length (j .before)) n h) (j .told)
-    ∙ barring-is (a .text .now) (j .before) (a .strict) (piece q) (stands q)
-
--- it is a record more
-accepted : (c : tie.Else2 Inv-loop μ-loop)
-    → let q = c .before .before .before .before .before .before .before .before .before .before .before .before .before .before in
-    let l = q .before .before .before .before in
-    let a = l .before .before .before .args in
-    (r : Record) × (line (a .strict) (piece q) ≡ read r) × (admitted (a .strict) (l .loop .inv .0 .before) (piece q) ≡ read r)
-accepted c =
-    let q = c .before .before .before .before .before .before .before .before .before .before .before .before .before .before in
-    let l = q .before .before .before .before in
-    refusal-none (l .before .before .before .args .strict) (l .loop .inv .0 .before) (piece q) (sym (number (c .before)) ∙ c .if2 .left)
-
-record-is : (c : tie.Else2 Inv-loop μ-loop) → c .before .before .before .before .before .before .before .before .before .before .before .parse-record .result ≡ recordHead (accepted c .0)
-unfolding headOf
-record-is c = head-is (c .before .before .before .before .before .before .before .before .before .before .before) ∙ ap headOf (accepted c .1)
-
--- its key was new
-fresh : (c : tie.Else2 Inv-loop μ-loop)
-    → let w = c .before .before .before .before .before .before .before .before .before in
-    let l = w .before .before .before .before .before .before .before .before .before in
-    let a = l .before .before .before .args in
-    (isMet (a .text .now) (w .turn .last .1 .1 .0) (recordHead (accepted c .0)) || eqb (l .loop .line) (w .turn .result .clash)) ≡ false
-fresh c =
-    let w = c .before .before .before .before .before .before .before .before .before in
-    let l = w .before .before .before .before .before .before .before .before .before in
-    let a = l .before .before .before .args in
-    let b = l .loop .inv .0 .before in
-    let x = recordHead (accepted c .0) in
-    used w x (sym (record-is c))
-    ∙ unbarred-new (a .text .now) b (l .loop .line) (l .loop .programs) x
-    (ap (λ y. barring (isTaken b (a .text .now) y) (l .loop .line) (l .loop .programs) y) (sym (record-is c)) ∙ sym (barring-told (c .before)) ∙ c .if2 .left)
-
--- it has no more other fields than bytes, and its entries are within bounds
-few : (c : tie.Else2 Inv-loop μ-loop)
-    → let q = c .before .before .before .before .before .before .before .before .before .before .before .before .before .before in
-    let l = q .before .before .before .before in
-    othersOf (c .before .before .before .before .before .before .before .before .before .before .before .parse-record .result) ≤ firstLine (drop (l .loop .at) (l .before .before .before .args .text .now)) .len
-unfolding piece
-few c =
-    let q = c .before .before .before .before .before .before .before .before .before .before .before .before .before .before in
-    let l = q .before .before .before .before in
-    let a = l .before .before .before .args in
-    let n = len-is (a .strict) (a .text .now) (l .loop .at) (l .loop .line) (l .loop .programs) (l .loop .size) (l .loop .inv .0) (below q) in
-    omega (arith, ap othersOf (record-is c), own-others (accepted c .0), others-few (a .strict) (piece q) (accepted c .0) (accepted c .1), n)
-
-head-most : (h : Head) → sizeOfHead h ≤ 21 + 11 * othersOf h
-unfolding sizeOfHead
-head-most h = omega (arith, size-most (ownEntry 0 h))
-
-entry-most : (c : tie.Else2 Inv-loop μ-loop)
-    → let q = c .before .before .before .before .before .before .before .before .before .before .before .before .before .before in
-    sizeOfHead (c .before .before .before .before .before .before .before .before .before .before .before .parse-record .result) ≤ 32 * q .before .before .first-line .result .next
-entry-most c =
-    let q = c .before .before .before .before .before .before .before .before .before .before .before .before .before .before in
-    let l = q .before .before .before .before in
-    let t = l .before .before .before .args .text .now in
-    omega (arith, head-most (c .before .before .before .before .before .before .before .before .before .before .before .parse-record .result), few c, first-le (drop (l .loop .at) t), ap (λ x. x .next) (cut q), inside q .2)
-
-kind-few : (k : ℕ) (rs : List Record) → length (ofKind k rs) ≤ length rs
-unfolding ofKind
-kind-few k [] = omega arith
-kind-few k (r ∷ rs) = go (eqb (code r) k) (kind-few k rs)
-  where
-    go : (t : Bool) → length (ofKind k rs) ≤ length rs → length (cond t (r ∷ ofKind k rs) (ofKind k rs)) ≤ suc (length rs)
-    go true h = omega arith
-    go false h = omega arith
-
-mul-until : tie.Need-mul-until Inv-loop μ-loop
-mul-until c = search needs
-
-loop-holds : tie.Need-loop-holds Inv-loop μ-loop
-loop-holds c = let s = c .before .before in (judging-start (s .args .strict) (s .args .text .now), blocking-start (s .args .strict) (s .args .text .now) (s .args .area .now) (s .pre .0) (s .pre .1 .0) (s .pre .1 .1))
-
-sub-first-line : tie.Need-sub-first-line Inv-loop μ-loop
-sub-first-line c = omega (arith, c .loop .inv .0 .inside)
-
-part-first-line-start : tie.Need-part-first-line-start Inv-loop μ-loop
-part-first-line-start c = omega (arith, c .loop .inv .0 .inside)
-
-part-first-line-end : tie.Need-part-first-line-end Inv-loop μ-loop
-part-first-line-end c = omega arith
-
-first-line-requires : tie.Need-first-line-requires Inv-loop μ-loop
-first-line-requires c κs = search needs
-
-add-next : tie.Need-add-next Inv-loop μ-loop
-add-next c =
-    let l = c .before .before .before in
-    let t = l .before .before .before .args .text .now in
-    omega (arith, ap (λ x. x .next) (cut-at (c .before)), first-within (drop (l .loop .at) t), length-drop (l .loop .at) t, l .loop .inv .0 .inside)
-
-same-length : tie.Need-same-length Inv-loop μ-loop
-same-length c =
-    let l = c .before .before .before .before in
-    l .loop .inv .1 .long
-
-returns : tie.Need-returns Inv-loop μ-loop
-returns c =
-    let l = c .before .before .before .before in
-    let a = l .before .before .before .args in
-    judging-end (a .strict) (a .text .now) (l .loop .at) (l .loop .line) (l .loop .programs) (l .loop .size) (l .loop .inv .0) (omega (arith, c .if1 .taken))
-
-add-end : tie.Need-add-end Inv-loop μ-loop
-add-end c = omega (arith, inside (c .before))
-
-sub-parse-record : tie.Need-sub-parse-record Inv-loop μ-loop
-sub-parse-record c = omega arith
-
-part-parse-record-start : tie.Need-part-parse-record-start Inv-loop μ-loop
-part-parse-record-start c = omega arith
-
-part-parse-record-end : tie.Need-part-parse-record-end Inv-loop μ-loop
-part-parse-record-end c = omega (arith, inside (c .before))
-
-parse-record-requires : tie.Need-parse-record-requires Inv-loop μ-loop
-parse-record-requires c κs =
-    let q = c .before .before in
-    let l = q .before .before .before .before in
-    let t = l .before .before .before .args .text .now in
-    omega (arith, inside q, length-take (l .loop .at + q .before .before .first-line .result .len - l .loop .at) (drop (l .loop .at) t), l .before .before .before .pre .0)
-
-turn-requires : tie.Need-turn-requires Inv-loop μ-loop
-turn-requires c κs =
-    let q = c .before .before .before .before in
-    let l = q .before .before .before .before in
-    (l .before .before .before .pre .0, (omega (arith, l .loop .inv .1 .some), (l .loop .inv .0 .slow, l .loop .inv .0 .inside)))
-
-meet-requires : tie.Need-meet-requires Inv-loop μ-loop
-meet-requires c κs =
-    let w = c .before .before .before in
-    let p = w .before .before in
-    let l = p .before .before .before .before .before .before .before in
-    (l .before .before .before .pre .0, (omega (arith, turned-is w .some), placed-head p))
-
-barred-requires : tie.Need-barred-requires Inv-loop μ-loop
-barred-requires c κs = search needs
-
-cast-t30 : tie.Need-cast-t30 Inv-loop μ-loop
-cast-t30 c =
-    let q = c .before .before .before .before .before .before .before .before .before .before .before .before .before .before in
-    let l = q .before .before .before .before in
-    omega (arith, l .loop .inv .0 .slow, inside q, l .before .before .before .pre .0)
-
-same-length-2 : tie.Need-same-length-2 Inv-loop μ-loop
-same-length-2 c =
-    let m = c .before .before .before .before .before in
-    let w = m .before .before .before .before in
-    let l = w .before .before .before .before .before .before .before .before .before in
-    let a = l .before .before .before .args in
-    ap length (m .meet .ensures .1) ∙ meeting-length true (a .text .now) (w .turn .last .1 .1 .0) (w .before .before .parse-record .result) ∙ turned-is w .long
-
-returns-2 : tie.Need-returns-2 Inv-loop μ-loop
-unfolding piece
+returns-2 : tie.Need-returns-2
+unfolding seedOf
 returns-2 c =
-    let q = c .before .before .before .before .before .before .before .before .before .before .before .before .before .before in
-    let l = q .before .before .before .before in
-    let a = l .before .before .before .args in
-    judging-refused (a .strict) (a .text .now) (l .loop .at) (l .loop .line) (l .loop .programs) (l .loop .size) (l .loop .inv .0) (below q) (c .before .barred .result)
-    (refusal-some (a .strict) (l .loop .inv .0 .before) (piece q) (c .before .barred .result) (sym (number (c .before))) (c .if2 .taken))
-
-programs-of-requires : tie.Need-programs-of-requires Inv-loop μ-loop
-programs-of-requires c κs = search needs
-
-add-programs : tie.Need-add-programs Inv-loop μ-loop
-add-programs c =
-    let q = c .before .before .before .before .before .before .before .before .before .before .before .before .before .before .before in
-    let l = q .before .before .before .before in
-    let j = l .loop .inv .0 in
-    omega (arith, c .programs-of .ensures, programs-most (c .before .before .before .before .before .before .before .before .before .before .before .before .parse-record .result), j .told, kind-few 4 (j .before), j .counted, j .slow, inside q)
-
-record-size-requires : tie.Need-record-size-requires Inv-loop μ-loop
-record-size-requires c κs =
-    let q = c .before .before .before .before .before .before .before .before .before .before .before .before .before .before .before in
-    let l = q .before .before .before .before in
-    omega (arith, few (c .before), ap (λ x. x .len) (cut q), inside q .0, l .before .before .before .pre .0)
-
-add-size : tie.Need-add-size Inv-loop μ-loop
-add-size c =
-    let e = c .before .before in
-    let q = e .before .before .before .before .before .before .before .before .before .before .before .before .before .before in
-    let l = q .before .before .before .before in
-    omega (arith, c .record-size .ensures, entry-most e, l .loop .inv .0 .small, inside q .1, l .before .before .before .pre .0)
-
-add-line : tie.Need-add-line Inv-loop μ-loop
-add-line c =
-    let q = c .before .before .before .before .before .before .before .before .before .before .before .before .before .before .before .before in
-    let l = q .before .before .before .before in
-    omega (arith, l .loop .inv .0 .slow, inside q .1)
-
-loop-less : tie.Need-loop-less Inv-loop μ-loop
-loop-less c = omega (arith, inside (c .before .before .before .before .before .before .before .before .before .before .before .before .before .before .before .before))
-
-loop-again : tie.Need-loop-again Inv-loop μ-loop
-unfolding piece
-loop-again c =
-    let e = c .before .before in
-    let q = e .before .before .before .before .before .before .before .before .before .before .before .before .before .before in
-    let l = q .before .before .before .before in
-    let a = l .before .before .before .args in
-    let j = l .loop .inv .0 in
-    let r = accepted e .0 in
-    let size : c .record-size .result ≡ length (recordBytes (length (j .before)) (read r)) =
-    c .record-size .ensures ∙ ap sizeOfHead (head-is (e .before .before .before .before .before .before .before .before .before .before .before)) ∙ size-length (length (j .before)) (line (a .strict) (piece q)) ∙ ap (λ x. length (recordBytes (length (j .before)) x)) (accepted e .1) in
-    let bound : c .record-size .result ≤ 32 * firstLine (drop (l .loop .at) (a .text .now)) .next = omega (arith, c .record-size .ensures, entry-most e, ap (λ x. x .next) (cut q)) in
-    let m = e .before .before .before .before .before in
-    let w = m .before .before .before .before in
-    let long : length (catalogue (j .before ++ (r ∷ []))) ≡ length (catalogue (j .before)) + c .record-size .result = catalogue-length (j .before) r ∙ ap (λ n. length (catalogue (j .before)) + n) (sym size) in
-    rw (cut q, c .before .programs-of .ensures, m .meet .ensures .1, record-is e) (
-      judging-on (a .strict) (a .text .now) (l .loop .at) (l .loop .line) (l .loop .programs) (l .loop .size) j (below q) r (accepted e .1) (accepted e .2) (c .record-size .result) long bound,
-      blocking-on (a .strict) (a .text .now) (a .area .now) (w .turn .last .1 .1 .0) (w .turn .result) (l .loop .at) (l .loop .line) (l .loop .programs) (l .loop .size) j (turned-is w) (below q) (l .before .before .before .pre .0) (until w) r (accepted e .1) (accepted e .2)
-          (fresh e) (c .record-size .result) long bound,
-    )
+    let j = c .before .before in
+    let keyed = ap (λ d. d .keyed) (j .before .before .seed-of .ensures) in
+    j .judge-along2 .ensures .0 (no (j .judge-along2 .result .busy) (λ b. false≢true (sym (j .judge-along2 .ensures .1 .0 b) ∙ keyed)))
 
 pub judge-indexed-spec : {M : Type 1} → statement M
 judge-indexed-spec =
     tie.close
     (tie.spec
-    Inv-loop
-    μ-loop
-    mul-until
-    loop-holds
-    sub-first-line
-    part-first-line-start
-    part-first-line-end
-    first-line-requires
-    add-next
+    plain-requires
+    judge-along-requires
     same-length
     returns
-    add-end
-    sub-parse-record
-    part-parse-record-start
-    part-parse-record-end
-    parse-record-requires
-    turn-requires
-    meet-requires
-    barred-requires
-    cast-t30
+    clear-requires
+    seed-of-requires
+    judge-along-requires-2
     same-length-2
-    returns-2
-    programs-of-requires
-    add-programs
-    record-size-requires
-    add-size
-    add-line
-    loop-less
-    loop-again)
+    returns-2)

@@ -4,7 +4,8 @@ use native.Mathlib.Omega.{arith}
 use borrow.Author.Needs.{needs}
 use lib.ListN.{length, take, replicate, length-take, length-replicate}
 use Rattle.format.proofs.Slots.{held-none}
-use Rattle.key_index.specs.Told.{start}
+use Rattle.key_look.specs.Seed.{plainSeed}
+use Rattle.key_index.specs.KeySlots.{start}
 use Rattle.read_judge.proofs.Smaller.{least-left}
 use Rattle.read_judge.proofs.judge_lent.Statement.{statement}
 use Rattle.read_judge.proofs.judge_lent.Tie as tie
@@ -46,7 +47,7 @@ judge-indexed-requires c κs =
     let area = k .before .before .before .before .before .before .before .before .args .area .now in
     let e : k .clear .last .0 ≡ replicate (length (take n area)) 0 = k .clear .ensures in
     let long : length (k .clear .last .0) ≡ n = ap length e ∙ length-replicate (length (take n area)) 0 ∙ sym (slice-aggregate-front (k .before .before)) in
-    (k .before .before .before .before .before .before .before .before .pre, (omega (arith, long, k .before .before .before .if2 .left), rw e (held-none (start _ _) (length (take n area)))))
+    (k .before .before .before .before .before .before .before .before .pre, (omega (arith, long, k .before .before .before .if2 .left), rw e (held-none (start _ _ _) (length (take n area)))))
 
 same-length : tie.Need-same-length
 same-length c = search needs

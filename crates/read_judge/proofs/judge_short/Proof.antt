@@ -2,7 +2,8 @@
 use native.Mathlib.Omega.{arith}
 use borrow.Author.Needs.{needs}
 use Rattle.format.proofs.Slots.{held-none}
-use Rattle.key_index.specs.Told.{start}
+use Rattle.key_look.specs.Seed.{plainSeed}
+use Rattle.key_index.specs.KeySlots.{start}
 use Rattle.read_judge.proofs.judge_short.Statement.{statement}
 use Rattle.read_judge.proofs.judge_short.Tie as tie
 use Rattle.read_judge.proofs.judge_short.Reads as reads
@@ -13,7 +14,7 @@ slice-aggregate-judge-indexed : tie.Need-slice-aggregate-judge-indexed
 slice-aggregate-judge-indexed c = search needs
 
 judge-indexed-requires : tie.Need-judge-indexed-requires
-judge-indexed-requires c κs = let s = c .before .before in (s .pre, (omega arith, held-none (start (s .args .text .now) 512) 512))
+judge-indexed-requires c κs = let s = c .before .before in (s .pre, (omega arith, held-none (start plainSeed (s .args .text .now) 512) 512))
 
 returns : tie.Need-returns
 returns c = search needs

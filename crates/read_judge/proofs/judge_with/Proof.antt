@@ -3,7 +3,8 @@ use mathlib.Core.Path.{_≡_, sym, ap, _∙_}
 use borrow.Author.Needs.{needs}
 use lib.ListN.{replicate}
 use Rattle.format.specs.Work.{allZeros}
-use Rattle.read_judge.specs.Judged.{judgedOf}
+use Rattle.accepted_rule.specs.Rule.{isOnce}
+use Rattle.read_judge.specs.Judged.{judgedOf, judgedBy, judgement}
 use Rattle.read_judge.proofs.Whole.{too-long, by-lines}
 use Rattle.read_judge.proofs.judge_with.Statement.{statement}
 use Rattle.read_judge.proofs.judge_with.Tie as tie
@@ -20,10 +21,11 @@ same-length : tie.Need-same-length
 same-length c = search needs
 
 returns : tie.Need-returns
-unfolding judgedOf allZeros
+unfolding judgement judgedOf allZeros
 returns c =
     let k = c .before .before in
-    (sym (ap judgedOf (too-long (k .before .before .before .before .before .args .text .now) (k .before .before .if1 .taken))), k .clear .ensures)
+    let t = k .before .before .before .before .before .args .text .now in
+    (sym (ap (judgedOf (isOnce t)) (too-long t (k .before .before .if1 .taken))), k .clear .ensures)
 
 is-strict-requires : tie.Need-is-strict-requires
 is-strict-requires c κs = search needs
@@ -38,12 +40,12 @@ same-length-2 : tie.Need-same-length-2
 same-length-2 c = search needs
 
 returns-2 : tie.Need-returns-2
-unfolding allZeros
+unfolding judgement judgedBy allZeros
 returns-2 c =
     let k = c .before .before in
     let j = k .before .before .before .before in
     let t = k .before .before .before .before .before .before .before .before .before .before .args .text .now in
-    (j .judge-lent .ensures .0 ∙ sym (ap judgedOf (by-lines (j .before .before .is-strict .result) t (j .before .before .before .if1 .left) (j .before .before .is-strict .ensures))), k .clear2 .ensures ∙ ap (λ n. replicate n 0) (j .judge-lent .ensures .1))
+    (j .judge-lent .ensures .0 ∙ sym (ap (judgedOf (isOnce t)) (by-lines (j .before .before .is-strict .result) t (j .before .before .before .if1 .left) (j .before .before .is-strict .ensures))), k .clear2 .ensures ∙ ap (λ n. replicate n 0) (j .judge-lent .ensures .1))
 
 pub judge-with-spec : {M : Type 1} → statement M
 judge-with-spec =

@@ -1,4 +1,4 @@
--- `read_repeat_rule::announced` meets its contract: after `@HD` and a tab the pieces decide, and else nothing is announced.
+-- `read_repeat_rule::announced` meets its contract: after `@HD` and a tab the pieces decide, and otherwise nothing is announced.
 use mathlib.Core.Path.{refl, sym, _∙_}
 use mathlib.Core.List.{[], _∷_}
 use Prim.Native.Nat.{_≤_}

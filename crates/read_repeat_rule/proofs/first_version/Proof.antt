@@ -36,12 +36,12 @@ drop-take (suc k) m zero l e = absurd (omega arith)
 drop-take (suc k) m (suc n) [] e = sym (take-nil m)
 drop-take (suc k) m (suc n) (b ∷ l) e = drop-take k m n l (omega arith)
 
--- nothing spells no version
+-- the empty value is not a version
 unspelled : version [] ≡ none
 unfolding version
 unspelled = refl
 
--- a turn at `at`, where the next tab is `n` bytes away
+-- a step at `at`, where the next tab is `n` bytes away
 module _ (s : List ℕ) (at n : ℕ) (h : at ≤ length s) (e : n ≡ upto 9 (take (length s - at) (drop at s))) where
   near : n ≡ upto 9 (drop at s)
   near = e ∙ ap (upto 9) (rest at s)
@@ -87,7 +87,7 @@ module _ (s : List ℕ) (at n : ℕ) (h : at ≤ length s) (e : n ≡ upto 9 (ta
               let z : stop - from ≡ 0 = omega (arith, h .1, h .2) in
               ap (λ m. version (take m (drop from s))) z ∙ unspelled ∙ sym (first-none (drop at s) (judged ∙ h .0) (omega (arith, near, length-drop at s)))
 
-      -- it goes on behind a tab, and nothing has been found
+      -- it goes on after a tab, and nothing has been found
       onward : (at + n ≡ stop → ⊥) → (at + n + 1 ≤ length s) × (from ≡ length s) × (stop ≡ length s) × (firstVersion (cut 9 (drop at s)) ≡ firstVersion (cut 9 (drop (at + n + 1) s)))
       onward k = ⊎-elim (λ h. absurd (k (sym (h .2)))) (λ h. let l : at + n < length s = omega (arith, k, h .2, within) in (omega (arith, l), h .1, h .2, next (h .0) l)) came
 
@@ -101,7 +101,7 @@ three c =
     let l = u .before .before in
     long _ (l .loop .at) (u .upto .result) (l .loop .inv .0) (u .upto .ensures) _ (c .before .is-version .ensures) (c .if1 .taken)
 
--- what was found in this turn
+-- what was found in this step
 came : (c : tie.Joined1 Inv-loop μ-loop)
     → let u = c .before .before .before in
     let l = u .before .before in

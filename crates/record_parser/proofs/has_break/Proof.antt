@@ -1,4 +1,4 @@
--- `record_parser::has_break` meets its contract: LF or CR stands in a line where the bytes before the first of it are not all.
+-- `record_parser::has_break` meets its contract: a line has an LF or a CR if not all of its bytes come before the first one.
 use Prim.Native.Nat.{ℕ, suc}
 use mathlib.Core.Path.{_≡_, refl, sym, ap, _∙_}
 use mathlib.Core.Bool.{Bool, true, false, _||_, cond}
@@ -11,7 +11,7 @@ use borrow.Author.Tests.{lt-ltb, le-ltb}
 use Rattle.format.specs.Bytes.{any}
 use Rattle.format.specs.Records.{breaks}
 use Rattle.byte_slices.specs.Upto.{upto}
-use Rattle.accepted.proofs.Bools.{or-true}
+use Rattle.lists.proofs.Bools.{or-true}
 use Rattle.record_parser.proofs.has_break.Statement.{statement}
 use Rattle.record_parser.proofs.has_break.Tie as tie
 

@@ -1,4 +1,4 @@
--- The marks of tags: each is in the table, exact ones are each tag's own, and with one field more.
+-- The marks of tags: each is in the table, exact ones are each tag's own, and with one more field.
 use Prim.Native.Nat.{ℕ, _<_}
 use mathlib.Core.Path.{_≡_, refl, sym, ap, _∙_}
 use mathlib.Core.Bool.{Bool, true, false, _&&_, _||_, false≢true, and-false}
@@ -10,7 +10,7 @@ use lib.Dec.{eqb}
 use borrow.Author.Tests.{eqb-true, eqb-false, eq-eqb}
 use Rattle.format.specs.Bytes.{any}
 use Rattle.format.specs.Fields.{Field, tagged, isTag}
-use Rattle.accepted.proofs.Bools.{any-snoc, split, or-true, or-split, and-left, and-right}
+use Rattle.lists.proofs.Bools.{any-snoc, split, or-true, or-split, and-left, and-right}
 use Rattle.accepted.proofs.Clean.{tag-bounds}
 use Rattle.record_parser.specs.Marks.{markPlace, marksOf}
 
@@ -45,7 +45,7 @@ tag-same f a b p q = rw (eq-eqb _ _ p, eq-eqb _ _ q) refl
 
 pub record Marked (exact : Bool) (seen : List Bool) (fields : List Field) : Type 0 where
   pub size : length seen ≡ marksOf exact
-  -- a tag that stands among them has its mark
+  -- a tag that is among them has its mark
   pub shows : (a b : ℕ) → any (tagged a b) fields ≡ true → getD seen (markPlace exact a b) false ≡ true
   -- and where the marks are exact, no other has
   pub tells : exact ≡ true → (a b : ℕ) → isTag a b ≡ true → getD seen (markPlace exact a b) false ≡ true → any (tagged a b) fields ≡ true
@@ -60,7 +60,7 @@ marked-none exact =
     }
 
 module _ (exact : Bool) (seen : List Bool) (fields : List Field) (w : Marked exact seen fields) where
-  -- whether a tag stood before is what its mark says, and where that is not exact, what is found
+  -- whether a tag was there before is what its mark says, and where that is not exact, what is found
   pub marked-again : (a b : ℕ) → isTag a b ≡ true → getD seen (markPlace exact a b) false && (exact || any (tagged a b) fields) ≡ any (tagged a b) fields
   marked-again a b h = split (any (tagged a b) fields) there (missing exact refl)
     where
@@ -74,7 +74,7 @@ module _ (exact : Bool) (seen : List Bool) (fields : List Field) (w : Marked exa
           (λ m. rw (m, n) refl)
       missing false q n = rw (n, q) (and-false (getD seen (markPlace false a b) false))
 
-  -- one field more
+  -- one more field
   module _ (f : Field) (h : isTag (f .tag₀) (f .tag₁) ≡ true) where
     place : markPlace exact (f .tag₀) (f .tag₁) < length seen
     place = omega (arith, w .size, place-below exact (f .tag₀) (f .tag₁) h)

@@ -14,7 +14,7 @@ use Rattle.record_tags.proofs.occurs.Tie as tie
 use Rattle.record_tags.proofs.occurs.Reads as reads
 use Rattle.record_tags.proofs.occurs.Lts as lts
 
--- a turn at the place before `i`
+-- a step at the place before `i`
 module _ (a b : ℕ) (s : List ℕ) (i : ℕ) (h : i + 2 ≤ length s) (p : 0 < i) (n : occurs a b (drop i s) ≡ false) where
   here : occurs a b (drop (i - 1) s)
       ≡ (eqb (getD s (i - 1) 0) 9 && (eqb a (getD s (i - 1 + 1) 0) && (eqb b (getD s (i - 1 + 2) 0) && true))) || false

@@ -12,7 +12,7 @@ use Rattle.accepted.specs.Read.{recordsOf}
 use Rattle.catalogue_entries.specs.Entries.{entriesIn, counted}
 use Rattle.read.proofs.Fresh.{Current, refused-by, fresh-by}
 use Rattle.format.specs.Referencing.{rows, referencing}
-use Rattle.references.proofs.Told.{rows-refused, rows-are, count-is, few, rows-fit, rows-short, rows-all, told-refusal, told-answer}
+use Rattle.references.proofs.OwnCatalogue.{rows-refused, rows-are, count-is, few, rows-fit, rows-short, rows-all, told-refusal, told-answer}
 use Rattle.references.proofs.references.Statement.{statement}
 use Rattle.references.proofs.references.Tie as tie
 

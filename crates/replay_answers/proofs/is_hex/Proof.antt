@@ -56,7 +56,7 @@ shared-slice-read-is-pair c = omega arith
 is-pair-requires : tie.Need-is-pair-requires Inv-loop μ-loop
 is-pair-requires c κs = omega arith
 
--- what is left to compare after a turn
+-- what is left to compare after a step
 left : tie.After-is-pair Inv-loop μ-loop → Bool
 left p =
     let l = p .before .before .before in

@@ -1,4 +1,4 @@
--- `replay_answers::is_text` meets its contract: the front is what the word says, and behind it is the filler.
+-- `replay_answers::is_text` meets its contract: the front is what the word says, and after it is the filler.
 use Prim.Native.Nat.{_≤_}
 use mathlib.Core.Path.{_≡_, refl, sym, ap, _∙_}
 use mathlib.Core.Bool.{_&&_, cond, false}

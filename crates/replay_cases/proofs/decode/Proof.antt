@@ -1,4 +1,4 @@
--- `replay_cases::decode` meets its contract: after i turns the first i bytes are pasted. Assumes nothing.
+-- `replay_cases::decode` meets its contract: after i steps the first i bytes are pasted. Assumes nothing.
 use Prim.Native.Nat.{ℕ, _+_, _*_, _≤_, _<_, _-_, _/_}
 use mathlib.Core.Path.{_≡_, refl, sym, ap, ap₂, _∙_}
 use native.Mathlib.Omega.{arith}

@@ -1,6 +1,6 @@
 -- `replay_texts::is_program` is safe and ends. Assumes nothing.
 use native.Mathlib.Omega.{arith}
-use Rattle.tidy_answer.proofs.Told.{program-length}
+use Rattle.tidy_answer.proofs.ProgramOutput.{program-length}
 use borrow.Author.Needs.{needs}
 use Rattle.replay_texts.proofs.is_program.Statement.{statement}
 use Rattle.replay_texts.proofs.is_program.Tie as tie

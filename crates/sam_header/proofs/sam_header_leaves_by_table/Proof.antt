@@ -74,7 +74,7 @@ module _ {M : Type 1} (𝓤 : URA M) (H : Heap 𝓤) (A₀ : Atoms 𝓤) (mem : 
   abbrev Word : Contract 𝓤
   Word = tripleOf 𝓤 H A₀ word.signature (word.spec 𝓤 H A₀ mem run)
 
-  -- of `leaves_word`'s `ensured`, the clause alone
+  -- only the clause of `leaves_word`'s `ensured`
   said : (r : LeavesAnswer) (n : ℕ) → ent 𝓤 (ensured 𝓤 H A₀ word.ended (word.clauses 𝓤 H A₀ mem run) tt (r, tt) tt n) (fact 𝓤 (n ≡ leavesWord r))
   said r n = exE 𝓤 _ (λ ws. snd∗ 𝓤 (sem 𝓤 H A₀ (lasts word.ended tt (r, tt) ws)) (fact 𝓤 (n ≡ leavesWord r)))
 

@@ -1,4 +1,4 @@
--- `seal::check_sealed` meets its contract: the tidy text is written, hashed where it stands, and the digest compared.
+-- `seal::check_sealed` meets its contract: the tidy text is written and hashed in place, and the digest is compared.
 use mathlib.Core.Path.{_≡_, sym, ap, _∙_}
 use mathlib.Core.Bool.{cond}
 use lib.ListN.{length}
@@ -21,7 +21,7 @@ enum-known-n c = search needs
 enum-known-n-2 : tie.Need-enum-known-n-2
 enum-known-n-2 c = search needs
 
--- the tidy text stands at the front of the work area
+-- the tidy text is at the front of the work area
 wrote : (k : tie.After-known-told2) → let a = k .before .before .before .before .before .before .before .before .before .before .args in
     Written (tidyingFresh (a .text .now) (a .catalogue .now) (length (a .work .now))) (k .before .n2 .given .0 .0) (k .before .before .before .before .before .tidy-fresh .last .1 .1 .0)
 wrote k =

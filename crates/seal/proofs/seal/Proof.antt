@@ -1,4 +1,4 @@
--- `seal::seal` meets its contract: the tidy text is written, and hashed where it stands.
+-- `seal::seal` meets its contract: the tidy text is written, and hashed in place.
 use mathlib.Core.Path.{sym, ap, _∙_}
 use lib.ListN.{length}
 use Rattle.format.specs.Calls.{tidying}
@@ -18,7 +18,7 @@ enum-known-n c = search needs
 enum-known-n-2 : tie.Need-enum-known-n-2
 enum-known-n-2 c = search needs
 
--- the tidy text stands at the front of the work area
+-- the tidy text is at the front of the work area
 wrote : (k : tie.After-known-told2) → let a = k .before .before .before .before .before .before .before .before .before .args in
     Written (tidying (a .text .now) (length (a .work .now))) (k .before .n2 .given .0 .0) (k .before .before .before .before .before .tidy .last .1 .0)
 wrote k =

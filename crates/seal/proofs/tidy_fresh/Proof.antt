@@ -6,8 +6,8 @@ use Rattle.format.specs.Reading.{readText}
 use Rattle.format.specs.Calls.{tidying}
 use Rattle.accepted.specs.Read.{isAccepted}
 use Rattle.read.specs.Answers.{answerOf, outputOf}
-use Rattle.read.proofs.Told.{refused-answer}
-use Rattle.read.proofs.Fresh.{Current, refused-by, fresh-by, goes-on, stops}
+use Rattle.read.proofs.AnswerCases.{refused-answer}
+use Rattle.read.proofs.Fresh.{Current, text-refused-by, text-fresh-by, rule-by, goes-on, stops}
 use Rattle.tidy.specs.Written.{writingTidy}
 use Rattle.tidy.proofs.Writing.{tidy-accepted}
 use Rattle.format.specs.Seal.{tidyingFresh}
@@ -15,28 +15,28 @@ use borrow.Author.Needs.{needs}
 use Rattle.seal.proofs.tidy_fresh.Statement.{statement}
 use Rattle.seal.proofs.tidy_fresh.Tie as tie
 
-check-requires : tie.Need-check-requires
-check-requires c κs = search needs
+check-text-requires : tie.Need-check-text-requires
+check-text-requires c κs = search needs
 
 enum-known-n : tie.Need-enum-known-n
 enum-known-n c = search needs
 
-enum-told : tie.Need-enum-told
-enum-told c = search needs
-
-is-strict-requires : tie.Need-is-strict-requires
-is-strict-requires c κs = search needs
+enum-known-once : tie.Need-enum-known-once
+enum-known-once c = search needs
 
 -- the catalogue is the text's own
-own : (k : tie.After-enum-told) → let a = k .before .before .before .before .before .before .args in Current (a .text .now) (a .catalogue .now)
-own k = let a = k .before .before .before .before .before .before .args in fresh-by (a .text .now) (a .catalogue .now) (k .before .before .check .ensures) (k .enum-told .given .1)
+own : (k : tie.After-once) → let a = k .before .before .before .before .before .before .args in Current (a .text .now) (a .catalogue .now)
+own k = let a = k .before .before .before .before .before .before .args in text-fresh-by (a .text .now) (a .catalogue .now) (k .before .before .check-text .ensures) (k .once .given .0 .0) (k .once .given .1)
 
-accepted : (k : tie.After-enum-told) → isAccepted (readText (k .before .before .before .before .before .before .args .text .now)) ≡ true
+accepted : (k : tie.After-once) → isAccepted (readText (k .before .before .before .before .before .before .args .text .now)) ≡ true
 unfolding isAccepted
 accepted k = ap isAccepted (own k .reads)
 
 write-accepted-requires : tie.Need-write-accepted-requires
-write-accepted-requires c κs = (accepted (c .before .before), c .before .is-strict .ensures)
+write-accepted-requires c κs =
+    let k = c .before .before in
+    let a = k .before .before .before .before .before .before .args in
+    (accepted k, rule-by (a .text .now) (a .catalogue .now) (k .before .before .check-text .ensures) (k .once .given .0 .0) (k .once .given .1))
 
 returns : tie.Need-returns
 unfolding tidyingFresh
@@ -47,7 +47,7 @@ returns c =
     let room = length (a .work .now) in
     refused-answer (tidyingFresh (a .text .now) (a .catalogue .now) room) (a .work .now) (g .0 .0) (g .0 .1 .0)
     (stops (a .text .now) (a .catalogue .now) (λ rs. tidying (a .text .now) room) (g .0 .0) (g .0 .1 .0 .0)
-    (refused-by (a .text .now) (a .catalogue .now) (k .check .ensures) (g .0 .0) (g .0 .1 .0) (g .1)))
+    (text-refused-by (a .text .now) (a .catalogue .now) (k .check-text .ensures) (g .0 .0) (g .0 .1 .0) (g .1)))
 
 same-length : tie.Need-same-length
 same-length c = search needs
@@ -67,10 +67,9 @@ pub tidy-fresh-spec : {M : Type 1} → statement M
 tidy-fresh-spec =
     tie.close
     (tie.spec
-    check-requires
+    check-text-requires
     enum-known-n
-    enum-told
-    is-strict-requires
+    enum-known-once
     write-accepted-requires
     returns
     same-length

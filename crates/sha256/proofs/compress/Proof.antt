@@ -1,7 +1,7 @@
 -- `sha256::compress` meets its contract: the words, the schedule, the rounds and the sum.
 use lib.ListN.{take, drop}
 use Rattle.sha256.specs.Parts.{valueOf}
-use Rattle.sha256.proofs.Turns.{composed}
+use Rattle.sha256.proofs.RoundByRound.{composed}
 use borrow.Author.Needs.{needs}
 use Rattle.sha256.proofs.compress.Statement.{statement}
 use Rattle.sha256.proofs.compress.Tie as tie

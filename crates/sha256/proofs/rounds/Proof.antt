@@ -6,7 +6,7 @@ use lib.ListN.{length}
 use native.Mathlib.Omega.{arith}
 use Rattle.format.specs.Sha256.{K}
 use Rattle.sha256.specs.Parts.{valueOf}
-use Rattle.sha256.proofs.Turns.{Left, left-none, left-four, left-all}
+use Rattle.sha256.proofs.RoundByRound.{Left, left-none, left-four, left-all}
 use Rattle.sha256.proofs.rounds.Statement.{statement}
 use Rattle.sha256.proofs.rounds.Tie as tie
 

@@ -11,7 +11,7 @@ use Rattle.byte_slices.proofs.Before.{rest}
 use Rattle.byte_slices.proofs.Lines.{lines-none}
 use Rattle.byte_slices.proofs.First.{first-within, first-some}
 use Rattle.format.specs.TextLen.{otherLine, textLen}
-use Rattle.text_len.proofs.Turn.{line-passed, line-other}
+use Rattle.text_len.proofs.HeaderLines.{line-passed, line-other}
 use Rattle.text_len.proofs.text_len.Statement.{statement}
 use Rattle.text_len.proofs.text_len.Tie as tie
 

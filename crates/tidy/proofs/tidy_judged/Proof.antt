@@ -8,35 +8,34 @@ use Rattle.format.specs.Reading.{readText}
 use Rattle.format.specs.Calls.{tidying}
 use Rattle.accepted.specs.Read.{isAccepted}
 use Rattle.read.specs.Answers.{answerOf, outputOf}
-use Rattle.read_judge.proofs.Whole.{text-refused, text-accepted}
-use Rattle.read.proofs.Told.{refused-answer}
+use Rattle.read_judge.proofs.Whole.{Told, text-refused, text-accepted}
+use Rattle.read.proofs.AnswerCases.{refused-answer}
 use Rattle.tidy.proofs.Writing.{tidy-refused, tidy-accepted}
 use borrow.Author.Needs.{needs}
 use Rattle.tidy.proofs.tidy_judged.Statement.{statement}
 use Rattle.tidy.proofs.tidy_judged.Tie as tie
 use Rattle.tidy.proofs.tidy_judged.Reads as reads
 use Rattle.tidy.proofs.tidy_judged.Lts as lts
-use Rattle.read_repeat_rule.proofs.is_strict.Reads as is-strict-reads
 use Rattle.tidy.proofs.write_accepted.Reads as write-accepted-reads
 
 -- the text is accepted
-accepted : (c : tie.After-enum-told) → isAccepted (readText (c .before .before .before .before .args .text .now)) ≡ true
-unfolding isAccepted
-accepted c =
+told : (c : tie.After-judged2) → Told (c .before .before .before .before .args .text .now) (c .judged2 .given .0 .0) (c .judged2 .given .0 .1 .0)
+told c =
     let s = c .before .before .before .before in
-    ap isAccepted (text-accepted (s .args .text .now) (c .enum-told .given .0 .0) (sym (s .pre) ∙ c .enum-told .given .1) .0)
+    text-accepted (s .args .text .now) (c .judged2 .given .0 .0) (c .judged2 .given .0 .1 .0) (sym (s .pre) ∙ c .judged2 .given .1)
+
+accepted : (c : tie.After-judged2) → isAccepted (readText (c .before .before .before .before .args .text .now)) ≡ true
+unfolding isAccepted
+accepted c = ap isAccepted (told c .reads)
 
 enum-known-judged : tie.Need-enum-known-judged
 enum-known-judged c = search needs
 
-enum-told : tie.Need-enum-told
-enum-told c = search needs
-
-is-strict-requires : tie.Need-is-strict-requires
-is-strict-requires c κs = search needs
+enum-known-judged-2 : tie.Need-enum-known-judged-2
+enum-known-judged-2 c = search needs
 
 write-accepted-requires : tie.Need-write-accepted-requires
-write-accepted-requires c κs = (accepted (c .before .before), c .before .is-strict .ensures)
+write-accepted-requires c κs = (accepted (c .before .before), told (c .before .before) .rule)
 
 returns : tie.Need-returns
 returns c =
@@ -60,4 +59,4 @@ returns-2 c =
 
 pub tidy-judged-spec : {M : Type 1} → statement M
 tidy-judged-spec =
-    tie.close (tie.spec enum-known-judged enum-told is-strict-requires write-accepted-requires returns same-length returns-2)
+    tie.close (tie.spec enum-known-judged enum-known-judged-2 write-accepted-requires returns same-length returns-2)

@@ -14,7 +14,7 @@ use Rattle.tidy_text.specs.Sizes.{sizesOf}
 use Rattle.tidy_text.proofs.Lines.{opened}
 use Rattle.tidy_text.proofs.Total.{tidy-small}
 use Rattle.tidy_text.proofs.Sizes.{total-size}
-use Rattle.read.proofs.Told.{refused-answer, written-answer}
+use Rattle.read.proofs.AnswerCases.{refused-answer, written-answer}
 use Rattle.tidy.proofs.Writing.{measured-bad, measured-is, write-bad, write-long, write-short, write-fits}
 use Rattle.tidy_text.specs.Sifted.{isMarked, sifted}
 use Rattle.tidy_text.proofs.Sifting.{sifted-small}

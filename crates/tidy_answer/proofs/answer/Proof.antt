@@ -7,7 +7,7 @@ use Rattle.format.specs.Calls.{tidying}
 use Rattle.byte_slices.specs.Over.{over}
 use Rattle.format.specs.Program.{refusal, said, program}
 use Rattle.tidy_answer.proofs.Refusal.{refusal-fits}
-use Rattle.tidy_answer.proofs.Told.{program-long, program-taken, told-refused, told-count}
+use Rattle.tidy_answer.proofs.ProgramOutput.{program-long, program-taken, told-refused, told-count}
 use borrow.Author.Needs.{needs}
 use Rattle.tidy_answer.proofs.answer.Statement.{statement}
 use Rattle.tidy_answer.proofs.answer.Tie as tie

@@ -1,4 +1,4 @@
--- `tidy_answer::put_refusal` meets its contract: five writes, one behind the other.
+-- `tidy_answer::put_refusal` meets its contract: five writes, one after another.
 use Prim.Native.Nat.{_+_}
 use mathlib.Core.Path.{_≡_, refl, _∙_}
 use native.Mathlib.Omega.{arith}

@@ -5,6 +5,7 @@ use mathlib.Core.Bool.{not, _&&_}
 use native.Mathlib.Omega.{arith}
 use lib.ListN.{length}
 use borrow.Author.Needs.{needs}
+use Rattle.format.specs.Bytes.{none?}
 use Rattle.accepted_line.specs.Next.{isFirst}
 use Rattle.accepted_line.proofs.fields.Place.{bounds}
 use Rattle.tidy_fields.proofs.is_other.Statement.{statement}
@@ -14,7 +15,7 @@ use Rattle.tidy_fields.proofs.is_other.Tie as tie
 reach : (s : tie.Start) → (let a = s .args in a .i + 4 ≤ length (a .line .now))
 reach s =
     let a = s .args in
-    let b = bounds (a .once) (a .at) (a .line .now) (a .i) (s .pre .1 .0) (s .pre .1 .1 .0) _ refl in
+    let b = bounds (none? (a .tables .now)) (a .at) (a .line .now) (a .i) (s .pre .1 .0) (s .pre .1 .1 .0) _ refl in
     omega (arith, b)
 
 add-is-key : tie.Need-add-is-key
@@ -38,8 +39,8 @@ returns c =
     let a = k .before .before .before .before .before .args in
     sym (ap (λ t. not t && isFirst (a .at) (a .line .now) (a .i)) (sym (k .is-key .ensures) ∙ c .if1 .taken))
 
-is-first-requires : tie.Need-is-first-requires
-is-first-requires c κs =
+is-first-of-tag-requires : tie.Need-is-first-of-tag-requires
+is-first-of-tag-requires c κs =
     let s = c .before .before .before .before .before .before in
     (s .pre .0, (s .pre .1 .0, (s .pre .1 .1 .0, omega (arith, s .pre .1 .1 .1))))
 
@@ -48,7 +49,7 @@ returns-2 c =
     let e = c .before in
     let k = e .before in
     let a = k .before .before .before .before .before .args in
-    c .is-first .ensures ∙ sym (ap (λ t. not t && isFirst (a .at) (a .line .now) (a .i)) (sym (k .is-key .ensures) ∙ e .if1 .left))
+    c .is-first-of-tag .ensures ∙ sym (ap (λ t. not t && isFirst (a .at) (a .line .now) (a .i)) (sym (k .is-key .ensures) ∙ e .if1 .left))
 
 pub is-other-spec : {M : Type 1} → statement M
 is-other-spec =
@@ -60,5 +61,5 @@ is-other-spec =
     shared-slice-read-is-key-2
     is-key-requires
     returns
-    is-first-requires
+    is-first-of-tag-requires
     returns-2)

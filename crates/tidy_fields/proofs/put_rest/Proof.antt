@@ -8,6 +8,7 @@ use borrow.Author.Needs.{needs}
 use Rattle.format.specs.Tidy.{fieldText}
 use Rattle.byte_slices.specs.Over.{over}
 use Rattle.byte_slices.proofs.Over.{over-none}
+use Rattle.format.specs.Bytes.{none?}
 use Rattle.accepted_line.specs.Run.{AtField}
 use Rattle.accepted_line.proofs.fields.Place.{next-at, bounds}
 use Rattle.tidy_fields.specs.Others.{othersText}
@@ -17,29 +18,29 @@ use Rattle.tidy_fields.proofs.put_rest.Statement.{statement}
 use Rattle.tidy_fields.proofs.put_rest.Tie as tie
 
 abbrev Inv-loop : tie.InvT-loop
-Inv-loop out₀ o kind line at once tables n₀ i₀ out n i =
-    AtField once at line i
+Inv-loop out₀ o kind line at tables n₀ i₀ out n i =
+    AtField (none? tables) at line i
     × (n + length (restText kind at line i) ≡ o + length (othersText kind at line))
     × (over out n (restText kind at line i) ≡ over out₀ o (othersText kind at line))
     × (length out ≡ length out₀)
 
 abbrev μ-loop : tie.MeasureT-loop
-μ-loop out₀ o kind line at once tables n₀ i₀ out n i = length line - i
+μ-loop out₀ o kind line at tables n₀ i₀ out n i = length line - i
 
--- the field of a turn ends in the line
+-- the field of a step ends in the line
 reach : (f : tie.After-field-end Inv-loop μ-loop)
     → (let l = f .before .before in (l .loop .i + 4 ≤ f .field-end .result) × (f .field-end .result ≤ length (l .before .before .before .before .args .line .now)))
 reach f =
     let l = f .before .before in
     let a = l .before .before .before .before .args in
-    bounds (a .once) (a .at) (a .line .now) (l .loop .i) (l .loop .inv .0) (omega arith) (f .field-end .result) (f .field-end .ensures)
+    bounds (none? (a .tables .now)) (a .at) (a .line .now) (l .loop .i) (l .loop .inv .0) (omega arith) (f .field-end .result) (f .field-end .ensures)
 
 -- and the walk goes on from there
-onward : (f : tie.After-field-end Inv-loop μ-loop) → (let l = f .before .before in let a = l .before .before .before .before .args in AtField (a .once) (a .at) (a .line .now) (f .field-end .result))
+onward : (f : tie.After-field-end Inv-loop μ-loop) → (let l = f .before .before in let a = l .before .before .before .before .args in AtField (none? (a .tables .now)) (a .at) (a .line .now) (f .field-end .result))
 onward f =
     let l = f .before .before in
     let a = l .before .before .before .before .args in
-    next-at (a .once) (a .at) (a .line .now) (l .loop .i) (l .loop .inv .0) (omega arith) (f .field-end .result) (f .field-end .ensures)
+    next-at (none? (a .tables .now)) (a .at) (a .line .now) (l .loop .i) (l .loop .inv .0) (omega arith) (f .field-end .result) (f .field-end .ensures)
 
 loop-holds : tie.Need-loop-holds Inv-loop μ-loop
 loop-holds c =
@@ -76,7 +77,7 @@ kept-value-requires c κs =
     let s = l .before .before .before .before in
     (s .pre .0, (l .loop .inv .0, ((omega arith, f .field-end .ensures), omega (arith, s .pre .1 .0))))
 
--- the value of the field stands in the line
+-- the value of the field is in the line
 value : (c : tie.After-kept-value Inv-loop μ-loop)
     → (let f = c .before .before .before .before .before in let a = f .before .before .before .before .before .before .args in let v = c .kept-value .result in
     (a .at ≤ v .at) × (v .at - a .at + v .len ≤ length (a .line .now)))
@@ -85,7 +86,7 @@ value c =
     let f = t .before .before .before .before in
     let l = f .before .before in
     let a = l .before .before .before .before .args in
-    value-inside (a .once) (a .at) (a .line .now) (a .kind) (l .loop .i) (l .loop .inv .0) (omega arith) (f .field-end .result) (f .field-end .ensures) (sym (t .before .is-other .ensures) ∙ t .if1 .taken) (c .kept-value .result) (c .kept-value .ensures)
+    value-inside (none? (a .tables .now)) (a .at) (a .line .now) (a .kind) (l .loop .i) (l .loop .inv .0) (omega arith) (f .field-end .result) (f .field-end .ensures) (sym (t .before .is-other .ensures) ∙ t .if1 .taken) (c .kept-value .result) (c .kept-value .ensures)
 
 sub-put-field : tie.Need-sub-put-field Inv-loop μ-loop
 sub-put-field c = value (c .before .before) .0
@@ -98,7 +99,7 @@ put-field-requires c κs =
     let l = f .before .before in
     let s = l .before .before .before .before in
     let a = s .args in
-    let size = rest-size (a .once) (a .at) (a .line .now) (a .kind) (l .loop .i) (l .loop .inv .0) (omega arith) (f .field-end .result) (f .field-end .ensures) (sym (t .before .is-other .ensures) ∙ t .if1 .taken) (k .kept-value .result) (k .kept-value .ensures) in
+    let size = rest-size (none? (a .tables .now)) (a .at) (a .line .now) (a .kind) (l .loop .i) (l .loop .inv .0) (omega arith) (f .field-end .result) (f .field-end .ensures) (sym (t .before .is-other .ensures) ∙ t .if1 .taken) (k .kept-value .result) (k .kept-value .ensures) in
     (value k .1, omega (arith, s .pre .1 .1, l .loop .inv .1, l .loop .inv .3, size))
 
 loop-less : tie.Need-loop-less Inv-loop μ-loop
@@ -116,7 +117,7 @@ loop-again c =
     let v = k .kept-value .result in
     let xs = fieldText (getD (a .line .now) (l .loop .i + 1) 0) (getD (a .line .now) (l .loop .i + 2) 0) (take (v .len) (drop (v .at - a .at) (a .line .now))) in
     let ys = restText (a .kind) (a .at) (a .line .now) (f .field-end .result) in
-    let r = rest-more (a .once) (a .at) (a .line .now) (a .kind) (l .loop .i) (l .loop .inv .0) (omega arith) (f .field-end .result) (f .field-end .ensures) (sym (t .before .is-other .ensures) ∙ t .if1 .taken) v (k .kept-value .ensures) in
+    let r = rest-more (none? (a .tables .now)) (a .at) (a .line .now) (a .kind) (l .loop .i) (l .loop .inv .0) (omega arith) (f .field-end .result) (f .field-end .ensures) (sym (t .before .is-other .ensures) ∙ t .if1 .taken) v (k .kept-value .ensures) in
     let z = ap length r ∙ length-append xs ys in (
       onward f,
       omega (arith, z, p .put-field .ensures .0, l .loop .inv .1),
@@ -133,7 +134,7 @@ loop-again-2 c =
     let f = c .before .before .before .before in
     let l = f .before .before in
     let a = l .before .before .before .before .args in
-    let e = rest-past (a .once) (a .at) (a .line .now) (a .kind) (l .loop .i) (l .loop .inv .0) (omega arith) (f .field-end .result) (f .field-end .ensures) (sym (c .before .is-other .ensures) ∙ c .if1 .left) in
+    let e = rest-past (none? (a .tables .now)) (a .at) (a .line .now) (a .kind) (l .loop .i) (l .loop .inv .0) (omega arith) (f .field-end .result) (f .field-end .ensures) (sym (c .before .is-other .ensures) ∙ c .if1 .left) in
     (onward f, ap (λ x. l .loop .n + length x) (sym e) ∙ l .loop .inv .1, ap (over (l .loop .out) (l .loop .n)) (sym e) ∙ l .loop .inv .2, l .loop .inv .3)
 
 -- all of them are written
@@ -141,7 +142,7 @@ written : (l : tie.At-loop Inv-loop μ-loop)
     → (let a = l .before .before .before .before .args in length (a .line .now) ≤ l .loop .i → Wrote (a .out .now) (a .o) (l .loop .out) (l .loop .n) (othersText (a .kind) (a .at) (a .line .now)))
 written l h =
     let a = l .before .before .before .before .args in
-    let e = rest-none (a .once) (a .at) (a .line .now) (a .kind) (l .loop .i) (l .loop .inv .0) h in
+    let e = rest-none (none? (a .tables .now)) (a .at) (a .line .now) (a .kind) (l .loop .i) (l .loop .inv .0) h in
     (omega (arith, l .loop .inv .1, ap length e), sym (over-none (l .loop .out) (l .loop .n)) ∙ ap (over (l .loop .out) (l .loop .n)) (sym e) ∙ l .loop .inv .2)
 
 slice-write-out : tie.Need-slice-write-out Inv-loop μ-loop

@@ -9,7 +9,7 @@ use lib.Dec.{eqb, leb}
 use borrow.Author.Tests.{leb-true}
 use Rattle.format.specs.Bytes.{digit, all, none?, between}
 use Rattle.format.specs.Decimal.{worth, worthFrom, digits, written}
-use Rattle.accepted.proofs.Bools.{never, and-left, and-right}
+use Rattle.lists.proofs.Bools.{never, and-left, and-right}
 use Rattle.decimal.proofs.Front.{digit-top, worth-grows}
 use Rattle.decimal.proofs.Written.{written-one, written-step}
 
@@ -17,7 +17,7 @@ digit-bottom : (b : ℕ) → digit b ≡ true → 48 ≤ b
 unfolding digit between
 digit-bottom b h = leb-true 48 b (and-left (leb 48 b) (leb b 57) h)
 
--- digits behind a number that is not 0
+-- digits after a number that is not 0
 behind : (n : ℕ) (ds : List ℕ) → 1 ≤ n → all digit ds ≡ true → worthFrom n ds < 10 ^ 20 → written (worthFrom n ds) ≡ written n ++ ds
 unfolding all worthFrom
 behind n [] h d l = sym (append-nil (written n))

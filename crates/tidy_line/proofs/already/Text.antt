@@ -20,7 +20,7 @@ use Rattle.format.specs.declared.Kind.the-variants.{Header, ReferenceSequence, 
 use Rattle.byte_slices.specs.Upto.{upto}
 use Rattle.accepted.specs.Spelled as sp
 use Rattle.accepted.specs.Spelled.{Made, Spelled, AcceptedLine, kind₀, kind₁}
-use Rattle.accepted.proofs.Bools.{never, and-left, and-right, or-left, or-right}
+use Rattle.lists.proofs.Bools.{never, and-left, and-right, or-left, or-right}
 use Rattle.accepted.proofs.Spelled.{line-accepted}
 use Rattle.accepted_line.specs.Run.{fieldsFrom, AtField}
 use Rattle.accepted_line.specs.Next.{fieldLength}

@@ -12,7 +12,7 @@ use Rattle.tidy_line.proofs.noted_size.Statement.{statement}
 use Rattle.tidy_line.proofs.noted_size.Tie as tie
 
 -- its tables
-tables : (n : tie.After-note-tags) → (let a = n .before .before .before .args in Walkable false (a .at) (a .src .now) (n .note-tags .last .1 .1 .0))
+tables : (n : tie.After-note-tags) → (let a = n .before .before .before .args in Walkable (a .at) (a .src .now) (n .note-tags .last .1 .1 .0))
 tables n =
     let s = n .before .before .before in
     let a = s .args in

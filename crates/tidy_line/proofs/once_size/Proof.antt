@@ -1,4 +1,4 @@
--- `tidy_line::once_size` meets its contract: a tidy line has one byte more, and of another the keys tell how long its other fields are.
+-- `tidy_line::once_size` meets its contract: a tidy line has one more byte, and of another the keys say how long its other fields are.
 use Prim.Native.Nat.{_+_, _-_, _≤_}
 use mathlib.Core.Path.{_≡_, refl, sym, ap, _∙_}
 use mathlib.Core.Bool.{true, false}
@@ -46,7 +46,7 @@ slice-aggregate-is-writable c = search needs
 is-writable-requires : tie.Need-is-writable-requires
 is-writable-requires c κs =
     let s = c .before .before in
-    (s .pre .0, (s .pre .1 .0, once-walkable (s .args .at) (s .args .src .now) _ (s .pre .1 .1)))
+    (s .pre .0, (s .pre .1 .0, once-walkable (s .args .at) (s .args .src .now) (s .pre .1 .1)))
 
 returns : tie.Need-returns
 unfolding lineSize
@@ -74,7 +74,7 @@ slice-aggregate-find-keys c = search needs
 find-keys-requires : tie.Need-find-keys-requires
 find-keys-requires c κs =
     let s = c .before .before .before .before .before .before .before in
-    (once-walkable (s .args .at) (s .args .src .now) _ (s .pre .1 .1), omega (arith, s .pre .0 .short))
+    (once-walkable (s .args .at) (s .args .src .now) (s .pre .1 .1), omega (arith, s .pre .0 .short))
 
 sub-others : tie.Need-sub-others
 sub-others c = omega (arith, parts c)

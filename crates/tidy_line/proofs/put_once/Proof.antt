@@ -46,7 +46,7 @@ slice-aggregate-put-parts c = search needs
 put-parts-requires : tie.Need-put-parts-requires
 put-parts-requires c κs =
     let s = c .before .before .before .before .before .before in
-    (s .pre .0, (s .pre .1 .0, (once-walkable (s .args .at) (s .args .src .now) _ (s .pre .1 .1 .0), s .pre .1 .1 .1)))
+    (s .pre .0, (s .pre .1 .0, (once-walkable (s .args .at) (s .args .src .now) (s .pre .1 .1 .0), s .pre .1 .1 .1)))
 
 same-length-2 : tie.Need-same-length-2
 same-length-2 c = search needs

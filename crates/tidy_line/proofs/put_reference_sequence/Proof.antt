@@ -17,12 +17,12 @@ use Rattle.tidy_line.proofs.put_reference_sequence.Statement.{statement
 use Rattle.tidy_line.proofs.put_reference_sequence.Tie as tie
 
 -- how long the whole is, and its name
-sizes : (s : tie.Start) → (let a = s .args in (length (placeText (a .at) (a .line .now) (a .name)) ≡ a .name .len)
-    × (length (sequenceText (a .name) (a .ln) (a .at) (a .line .now)) ≡ 12 + a .name .len + length (written (a .ln)) + length (othersText ReferenceSequence (a .at) (a .line .now))))
+sizes : (s : tie.Start) → (let a = s .args in (length (placeText (a .at) (a .line .now) (a .keys .name)) ≡ a .keys .name .len)
+    × (length (sequenceText (a .keys .name) (a .keys .ln) (a .at) (a .line .now)) ≡ 12 + a .keys .name .len + length (written (a .keys .ln)) + length (othersText ReferenceSequence (a .at) (a .line .now))))
 sizes s =
     let a = s .args in
     let i = s .pre .1 .1 .0 in
-    (place-size (a .at) (a .line .now) (a .name) i, sequence-size (a .at) (a .line .now) (a .name) i (a .ln))
+    (place-size (a .at) (a .line .now) (a .keys .name) i, sequence-size (a .at) (a .line .now) (a .keys .name) i (a .keys .ln))
 
 sub-from : tie.Need-sub-from
 sub-from c = search needs
@@ -64,9 +64,9 @@ returns c =
     let prefix = field .before .before .before .before in
     let s = prefix .before .before .before .before .before .before in
     let a = s .args in
-    let name = fieldText 83 78 (placeText (a .at) (a .line .now) (a .name)) in
-    let ln = fieldText 76 78 (written (a .ln)) in
-    let length-field = wrote-then (field .put-field .last .0) (field .put-field .result) _ _ _ _ (9 ∷ 76 ∷ 78 ∷ 58 ∷ []) (written (a .ln)) (tag .put-tag .ensures) (number .write-u64 .ensures) (omega (arith, s .pre, sizes s)) in
+    let name = fieldText 83 78 (placeText (a .at) (a .line .now) (a .keys .name)) in
+    let ln = fieldText 76 78 (written (a .keys .ln)) in
+    let length-field = wrote-then (field .put-field .last .0) (field .put-field .result) _ _ _ _ (9 ∷ 76 ∷ 78 ∷ 58 ∷ []) (written (a .keys .ln)) (tag .put-tag .ensures) (number .write-u64 .ensures) (omega (arith, s .pre, sizes s)) in
     let named = wrote-then (a .out .now) (a .o) _ _ _ _ (prefixText ReferenceSequence) name (prefix .put-prefix .ensures) (field .put-field .ensures) (omega (arith, s .pre, sizes s)) in
     let front = wrote-then (a .out .now) (a .o) _ _ _ _ (prefixText ReferenceSequence ++ name) ln named length-field (omega (arith, s .pre, sizes s, length-append (prefixText ReferenceSequence ++ name) ln)) in
     wrote-then (a .out .now) (a .o) _ _ _ _ (prefixText ReferenceSequence ++ name ++ ln) (othersText ReferenceSequence (a .at) (a .line .now) ++ (10 ∷ [])) front (rest .put-rest .ensures) (s .pre .1 .1 .1)

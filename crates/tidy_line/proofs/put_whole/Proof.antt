@@ -1,4 +1,4 @@
--- `tidy_line::put_whole` meets its contract: a copy, and a store behind it.
+-- `tidy_line::put_whole` meets its contract: a copy, and a store after it.
 use Prim.Native.Nat.{_+_, _≤_}
 use mathlib.Core.Path.{_≡_, refl}
 use mathlib.Core.List.{[], _∷_, _++_}

@@ -1,4 +1,4 @@
--- `tidy_parts::put_field` meets its contract: what stands before the value, and then the value.
+-- `tidy_parts::put_field` meets its contract: what comes before the value, and then the value.
 use Prim.Native.Nat.{ℕ, _+_, _-_, _≤_}
 use mathlib.Core.Path.{_≡_, ap, _∙_}
 use mathlib.Core.List.{List, [], _∷_}

@@ -45,7 +45,7 @@ abbrev μ-loop : tie.MeasureT-loop
 begun : (s : tie.Start Inv-loop μ-loop) → Opened (s .args .strict) (s .args .text .now)
 begun s = opened (s .args .strict) (s .args .text .now) (s .pre .0) (s .pre .1)
 
--- the line of a turn
+-- the line of a step
 turned : (c : tie.After-first-line Inv-loop μ-loop) → (let l = c .before .before .before in let a = l .before .before .before .before .args in Turn (a .strict) (a .text .now) (l .loop .at) (c .first-line .result))
 turned c =
     let l = c .before .before .before in

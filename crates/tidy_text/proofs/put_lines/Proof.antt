@@ -40,7 +40,7 @@ abbrev μ-loop : tie.MeasureT-loop
 begun : (s : tie.Start Inv-loop μ-loop) → Opened (s .args .strict) (s .args .text .now)
 begun s = opened (s .args .strict) (s .args .text .now) (s .pre .0) (s .pre .1 .0)
 
--- the line of a turn
+-- the line of a step
 turned : (c : tie.After-first-line Inv-loop μ-loop) → (let l = c .before .before .before in let a = l .before .before .before .before .args in Turn (a .strict) (a .text .now) (l .loop .at) (c .first-line .result))
 turned c =
     let l = c .before .before .before in
@@ -77,7 +77,7 @@ steps c =
     let a = l .before .before .before .before .args in
     c .stay-of .ensures ∙ ap (λ b. stayBy b (a .marks .now) (l .loop .k)) (sym (line-pg (a .strict) (l .loop .at) (bytes-of f) (turned f .read)))
 
--- what is still to be written stands apart, seen from this line
+-- what is still to be written is apart, seen from this line
 apart : (f : tie.After-first-line Inv-loop μ-loop) → (let l = f .before .before .before in Apart (parts (l .loop .next) (sifted (p-of f) (l .loop .k) (withRecord (line-of f) (rest-of f)))) (length (l .loop .out)))
 apart f = let l = f .before .before .before in subst (λ rs. Apart (parts (l .loop .next) (sifted (p-of f) (l .loop .k) rs)) (length (l .loop .out))) (turned f .records) (l .loop .inv .3)
 
@@ -126,20 +126,20 @@ stay-of-requires c κs =
     let s = l .before .before .before .before in
     (three (s .args .strict) (l .loop .at) (bytes-of f) (turned f .read), omega (arith, l .loop .inv .1, l .loop .inv .0, begun s .fits))
 
-add-put-line-if : tie.Need-add-put-line-if Inv-loop μ-loop
-add-put-line-if c = omega (arith, turned (c .before .before .before .before .before))
+add-put-at-kind-if : tie.Need-add-put-at-kind-if Inv-loop μ-loop
+add-put-at-kind-if c = omega (arith, turned (c .before .before .before .before .before))
 
-sub-put-line-if : tie.Need-sub-put-line-if Inv-loop μ-loop
-sub-put-line-if c = omega arith
+sub-put-at-kind-if : tie.Need-sub-put-at-kind-if Inv-loop μ-loop
+sub-put-at-kind-if c = omega arith
 
-part-put-line-if-start : tie.Need-part-put-line-if-start Inv-loop μ-loop
-part-put-line-if-start c = omega arith
+part-put-at-kind-if-start : tie.Need-part-put-at-kind-if-start Inv-loop μ-loop
+part-put-at-kind-if-start c = omega arith
 
-part-put-line-if-end : tie.Need-part-put-line-if-end Inv-loop μ-loop
-part-put-line-if-end c = omega (arith, turned (c .before .before .before .before .before))
+part-put-at-kind-if-end : tie.Need-part-put-at-kind-if-end Inv-loop μ-loop
+part-put-at-kind-if-end c = omega (arith, turned (c .before .before .before .before .before))
 
-put-line-if-requires : tie.Need-put-line-if-requires Inv-loop μ-loop
-put-line-if-requires c κs =
+put-at-kind-if-requires : tie.Need-put-at-kind-if-requires Inv-loop μ-loop
+put-at-kind-if-requires c κs =
     let st = c .before .before .before in
     let f = st .before .before .before in
     let l = f .before .before .before in
@@ -170,13 +170,13 @@ loop-again c =
       t .within,
       omega (arith, l .loop .inv .1, t .onward, next-le (a .marks .now) (l .loop .k) _ (st .stay-of .result) (st .stay-of .ensures)),
       t .rest,
-      subst (λ p. Apart (parts p rs) (length (w .put-line-if .last .0))) (sym (w .put-line-if .ensures .0)) (subst (Apart _) (sym (w .put-line-if .kept .0))
+      subst (λ p. Apart (parts p rs) (length (w .put-at-kind-if .last .0))) (sym (w .put-at-kind-if .ensures .0)) (subst (Apart _) (sym (w .put-at-kind-if .kept .0))
           (stay-apart (a .marks .now) (l .loop .k) (kind-at f) (line-of f) (rest-of f) (t .read) (goes f) (st .stay-of .result) (steps st) (l .loop .out) (length (l .loop .out)) (l .loop .next) (omega arith) (apart f))),
-      ap₂ (λ o p. withParts o (parts p rs)) (w .put-line-if .ensures .1) (w .put-line-if .ensures .0)
+      ap₂ (λ o p. withParts o (parts p rs)) (w .put-at-kind-if .ensures .1) (w .put-at-kind-if .ensures .0)
           ∙ stay-same (a .marks .now) (l .loop .k) (kind-at f) (line-of f) (rest-of f) (t .read) (goes f) (st .stay-of .result) (steps st) (l .loop .out) (length (l .loop .out)) (l .loop .next) (omega arith) (apart f)
           ∙ ap (λ rs. withParts (l .loop .out) (parts (l .loop .next) (sifted (p-of f) (l .loop .k) rs))) (sym (t .records))
           ∙ l .loop .inv .4,
-      w .put-line-if .kept .0 ∙ l .loop .inv .5,
+      w .put-at-kind-if .kept .0 ∙ l .loop .inv .5,
     )
 
 same-length : tie.Need-same-length Inv-loop μ-loop
@@ -207,11 +207,11 @@ put-lines-spec =
     part-stay-of-start
     part-stay-of-end
     stay-of-requires
-    add-put-line-if
-    sub-put-line-if
-    part-put-line-if-start
-    part-put-line-if-end
-    put-line-if-requires
+    add-put-at-kind-if
+    sub-put-at-kind-if
+    part-put-at-kind-if-start
+    part-put-at-kind-if-end
+    put-at-kind-if-requires
     add-at
     loop-less
     loop-again

@@ -27,13 +27,13 @@ kind-at s = kindBy (getD (s .args .src .now) 1 0)
 
 -- its size, if it can be written
 told : (z : tie.After-size) → lineSize (line-of (z .before .before .before .before .before)) ≡ Is (z .size .given .0 .0)
-told z = sym (z .before .before .record-size .ensures) ∙ z .size .given .1
+told z = sym (z .before .before .line-size .ensures) ∙ z .size .given .1
 
 returns : tie.Need-returns
 returns c = let a = c .before .before .args in sym (grown-goes _ _ _ _ (not-true (a .stays) (c .if1 .taken)))
 
-record-size-requires : tie.Need-record-size-requires
-record-size-requires c κs = search needs
+line-size-requires : tie.Need-line-size-requires
+line-size-requires c κs = search needs
 
 enum-known-size : tie.Need-enum-known-size
 enum-known-size c = search needs
@@ -45,7 +45,7 @@ returns-2 : tie.Need-returns-2
 returns-2 c =
     let e = c .before .before .before in
     let s = e .before .before in
-    sym (grown-stays _ _ _ _ (not-false (s .args .stays) (e .if1 .left)) ∙ grown-bad (kind-at s) (line-of s) (s .args .sizes) (sym (c .before .before .record-size .ensures) ∙ c .enum-told .given .1))
+    sym (grown-stays _ _ _ _ (not-false (s .args .stays) (e .if1 .left)) ∙ grown-bad (kind-at s) (line-of s) (s .args .sizes) (sym (c .before .before .line-size .ensures) ∙ c .enum-told .given .1))
 
 kind-of-requires : tie.Need-kind-of-requires
 kind-of-requires c κs = let s = c .before .before .before .before .before .before in three (s .args .strict) (s .args .at) (s .args .src .now) (s .pre .0)
@@ -68,7 +68,7 @@ with-line-if-spec =
     tie.close
     (tie.spec
     returns
-    record-size-requires
+    line-size-requires
     enum-known-size
     enum-told
     returns-2

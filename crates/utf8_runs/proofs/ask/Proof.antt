@@ -1,4 +1,4 @@
--- `utf8_runs::ask` is safe: the value fits behind the front. Assumes nothing.
+-- `utf8_runs::ask` is safe: the value fits after the front. Assumes nothing.
 use mathlib.Core.Path.{sym}
 use native.Mathlib.Omega.{arith}
 use lib.Seq.{length-take-le}

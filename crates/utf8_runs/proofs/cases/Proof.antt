@@ -1,4 +1,4 @@
--- `utf8_runs::cases` is safe and ends: each turn passes at least the end of a line. Assumes nothing.
+-- `utf8_runs::cases` is safe and ends: each step passes at least the end of a line. Assumes nothing.
 use Prim.Native.Nat.{_-_}
 use lib.ListN.{length}
 use borrow.Author.Needs.{needs}

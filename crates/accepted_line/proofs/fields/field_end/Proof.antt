@@ -1,4 +1,4 @@
--- `accepted_line::fields::field_end` meets its contract: the part that is lent is the rest of the line, and the tab stands in it or it ends.
+-- `accepted_line::fields::field_end` meets its contract: the part that is lent is the rest of the line, and the tab is in it or it ends.
 use Prim.Native.Nat.{ℕ, _+_, _-_}
 use mathlib.Core.Path.{_≡_, ap, _∙_}
 use native.Mathlib.Omega.{arith}

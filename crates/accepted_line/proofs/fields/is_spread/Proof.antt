@@ -1,4 +1,4 @@
--- `accepted_line::fields::is_spread` meets its contract: what the marks and the fields from the place on tell stays.
+-- `accepted_line::fields::is_spread` meets its contract: what the marks and the fields from the place on say stays.
 use Prim.Native.Nat.{ℕ, _+_, _-_, _%_, _≤_}
 use mathlib.Core.Path.{_≡_, refl, sym, ap, _∙_}
 use mathlib.Core.Bool.{Bool, true, false, cond}
@@ -27,14 +27,14 @@ Inv-loop line at seen₀ i₀ seen i =
 abbrev μ-loop : tie.MeasureT-loop
 μ-loop line at seen₀ i₀ seen i = length line - i
 
--- the field of a turn ends in the line
+-- the field of a step ends in the line
 reach : (c : tie.After-field-end Inv-loop μ-loop) → (let l = c .before .before in (l .loop .i + 4 ≤ c .field-end .result) × (c .field-end .result ≤ length (l .before .before .args .line .now)))
 reach c =
     let l = c .before .before in
     let a = l .before .before .args in
     bounds false (a .at) (a .line .now) (l .loop .i) (l .loop .inv .0) (omega arith) (c .field-end .result) (c .field-end .ensures)
 
--- what is told with it
+-- what is answered with it
 told : (c : tie.After-tag-number Inv-loop μ-loop)
     → (let f = c .before .before .before in let l = f .before .before in let a = l .before .before .args in let n = c .tag-number .result % 112 in
     spread (l .loop .seen) (fieldsFrom (a .at) (a .line .now) (l .loop .i)) ≡ cond (lib.ListN.getD (l .loop .seen) n false) false (spread (set (l .loop .seen) n true) (fieldsFrom (a .at) (a .line .now) (f .field-end .result))))

@@ -29,7 +29,7 @@ Inv-loop line at tables₀ i₀ tables i =
 abbrev μ-loop : tie.MeasureT-loop
 μ-loop line at tables₀ i₀ tables i = length line - i
 
--- the field of a turn ends in the line
+-- the field of a step ends in the line
 reach : (c : tie.After-field-end Inv-loop μ-loop) → (let l = c .before .before in (l .loop .i + 4 ≤ c .field-end .result) × (c .field-end .result ≤ length (l .before .before .before .args .line .now)))
 reach c =
     let l = c .before .before in
@@ -61,11 +61,11 @@ tag-number-requires c κs = tt
 placed : (f : tie.After-field-end Inv-loop μ-loop) → (let l = f .before .before in l .before .before .before .args .at + l .loop .i ≤ 4294967295)
 placed f = omega (arith, reach f, f .before .before .before .before .before .pre .1 .1 .0)
 
-add-mark : tie.Need-add-mark Inv-loop μ-loop
-add-mark c = omega (arith, placed (c .before .before .before .before))
+add-note-tag : tie.Need-add-note-tag Inv-loop μ-loop
+add-note-tag c = omega (arith, placed (c .before .before .before .before))
 
-cast-mark : tie.Need-cast-mark Inv-loop μ-loop
-cast-mark c = omega (arith, placed (c .before .before .before .before))
+cast-note-tag : tie.Need-cast-note-tag Inv-loop μ-loop
+cast-note-tag c = omega (arith, placed (c .before .before .before .before))
 
 -- the number of its tag, and the tags after it
 tags : (c : tie.After-tag-number Inv-loop μ-loop)
@@ -77,8 +77,8 @@ tags c =
     let g = tags-at false (a .at) (a .line .now) (l .loop .i) (l .loop .inv .0) (omega arith) (f .field-end .result) (f .field-end .ensures) (l .loop .inv .1) in
     (omega (arith, c .tag-number .ensures, g .0), g .1)
 
-mark-requires : tie.Need-mark-requires Inv-loop μ-loop
-mark-requires c κs = let l = c .before .before .before .before .before .before in (tags c .0, l .loop .inv .2 ∙ l .before .before .before .pre .1 .1 .1)
+note-tag-requires : tie.Need-note-tag-requires Inv-loop μ-loop
+note-tag-requires c κs = let l = c .before .before .before .before .before .before in (tags c .0, l .loop .inv .2 ∙ l .before .before .before .pre .1 .1 .1)
 
 loop-less : tie.Need-loop-less Inv-loop μ-loop
 loop-less c = omega (arith, reach (c .before .before .before .before .before .before .before))
@@ -92,8 +92,8 @@ loop-again c =
     let a = l .before .before .before .args in (
       next-at false (a .at) (a .line .now) (l .loop .i) (l .loop .inv .0) (omega arith) (f .field-end .result) (f .field-end .ensures),
       tags n .1,
-      ap length (m .mark .ensures) ∙ marked-length (l .loop .tables) (n .tag-number .result) (a .at + l .loop .i) ∙ l .loop .inv .2,
-      ap (λ t. noted t (a .at + f .field-end .result) (fieldsFrom (a .at) (a .line .now) (f .field-end .result))) (m .mark .ensures)
+      ap length (m .note-tag .ensures) ∙ marked-length (l .loop .tables) (n .tag-number .result) (a .at + l .loop .i) ∙ l .loop .inv .2,
+      ap (λ t. noted t (a .at + f .field-end .result) (fieldsFrom (a .at) (a .line .now) (f .field-end .result))) (m .note-tag .ensures)
           ∙ sym (noted-at false (a .at) (a .line .now) (l .loop .i) (l .loop .inv .0) (omega arith) (f .field-end .result) (f .field-end .ensures) (l .loop .tables) (n .tag-number .result) (n .tag-number .ensures))
           ∙ l .loop .inv .3,
     )
@@ -120,9 +120,9 @@ note-tags-spec =
     add-tag-number-2
     shared-slice-read-tag-number-2
     tag-number-requires
-    add-mark
-    cast-mark
-    mark-requires
+    add-note-tag
+    cast-note-tag
+    note-tag-requires
     loop-less
     loop-again
     same-length

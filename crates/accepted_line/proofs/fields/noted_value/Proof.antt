@@ -1,4 +1,4 @@
--- `accepted_line::fields::noted_value` meets its contract: the tables tell where the last field with the tag starts.
+-- `accepted_line::fields::noted_value` meets its contract: the tables say where the last field with the tag starts.
 use Prim.Native.Nat.{ℕ, _+_, _-_, _<_, _≤_}
 use mathlib.Core.Path.{_≡_, sym, ap, subst, _∙_}
 use mathlib.Core.Bool.{false}

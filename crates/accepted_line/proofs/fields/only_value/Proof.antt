@@ -8,7 +8,7 @@ use lib.ListN.{length, getD}
 use lib.Dec.{eqb}
 use borrow.Author.Tests.{eqb-true}
 use Rattle.format.specs.Fields.{Field, lastOf}
-use Rattle.accepted.proofs.Bools.{and-left, and-right}
+use Rattle.lists.proofs.Bools.{and-left, and-right}
 use Rattle.accepted_line.specs.Run.{fieldsFrom, AtField}
 use Rattle.accepted_line.specs.Next.{orValue, noValue, lastIn, valueAt, keptAt}
 use Rattle.accepted_line.proofs.fields.Here.{ended}
@@ -35,7 +35,7 @@ Inv-loop line at a b i₀ i = AtField true at line i × (lastIn at line a b ≡ 
 abbrev μ-loop : tie.MeasureT-loop
 μ-loop line at a b i₀ i = length line - i
 
--- the field of a turn ends in the line
+-- the field of a step ends in the line
 reach : (c : tie.After-field-end Inv-loop μ-loop) → (let l = c .before .before in (l .loop .i + 4 ≤ c .field-end .result) × (c .field-end .result ≤ length (l .before .before .args .line .now)))
 reach c =
     let l = c .before .before in

@@ -13,9 +13,10 @@ use Rattle.format.specs.Carrying.{keptOf, skips, rows}
 use Rattle.carry_early.specs.declared.Begin.{Begin}
 use Rattle.carry_lines.specs.Going.{Going}
 use Rattle.carry_passes.specs.From.{linesKeptFrom, keptFrom, rowsOf}
-use Rattle.carry_passes.specs.Turn.{Turn}
+use Rattle.carry_passes.specs.NextLine.{Turn}
+use borrow.Author.Needs.{needs}
 use Rattle.carry_passes.proofs.Begun.{begun}
-use Rattle.carry_passes.proofs.Turn.{turn, kept-next, none-left}
+use Rattle.carry_passes.proofs.NextLine.{turn, kept-next, none-left}
 use Rattle.carry_passes.specs.Steps.{rowsBefore, placesAfter}
 use Rattle.carry_passes.proofs.writing.Steps.{out-more, out-fits, row-fits, table-more, table-same, skipped, kept-one}
 use Rattle.carry_passes.proofs.writing.put_lines.Statement.{statement}
@@ -43,22 +44,22 @@ Inv-loop t b area₀ ids₀ out₀ table₀ next₀ c₀ area ids out table next
 abbrev μ-loop : tie.MeasureT-loop
 μ-loop t b area₀ ids₀ out₀ table₀ next₀ c₀ area ids out table next c = length t - c .at
 
--- the line of a turn
+-- the line of a step
 turned : (c : tie.After-next-line Inv-loop μ-loop)
-    → (let l = c .before .before .before .before .before in let a = c .before .before .before .before .before .before .before .before .before .before .before .args in
+    → (let l = c .before .before .before .before .before in let a = c .before .before .before .before .before .before .before .before .before .before .before .before .args in
     Turn (a .b .strict) (a .text .now) (a .b .at) (l .loop .c) (c .next-line .result .end) (c .next-line .result .refusal))
 turned c =
     let l = c .before .before .before .before .before .loop in
-    let a = c .before .before .before .before .before .before .before .before .before .before .before .args in
+    let a = c .before .before .before .before .before .before .before .before .before .before .before .before .args in
     turn (a .b .strict) (a .text .now) (a .b .at) (l .area) (l .ids) (l .c) (l .inv .0) (c .before .before .before .if1 .taken) (c .next-line .result .end) (c .next-line .result .refusal)
     (c .next-line .ensures .0) (c .next-line .ensures .1 .0)
 
--- a row more, or none
+-- one more row, or none
 counted : (c : tie.After-next-line Inv-loop μ-loop)
-    → (let l = c .before .before .before .before .before .loop in let b = c .before .before .before .before .before .before .before .before .before .before .before .args .b in rowsBefore b (c .next-line .result .next) ≡ rowsBefore b (l .c) + skipped (c .next-line .result .refusal))
+    → (let l = c .before .before .before .before .before .loop in let b = c .before .before .before .before .before .before .before .before .before .before .before .before .args .b in rowsBefore b (c .next-line .result .next) ≡ rowsBefore b (l .c) + skipped (c .next-line .result .refusal))
 counted c =
     let l = c .before .before .before .before .before .loop in
-    let a = c .before .before .before .before .before .before .before .before .before .before .before .args in
+    let a = c .before .before .before .before .before .before .before .before .before .before .before .before .args in
     let u = turned c in
     let w = c .next-line in
     omega (
@@ -69,16 +70,19 @@ counted c =
       kept-one (a .b .strict) (a .text .now) (a .b .at) (l .c) (w .result .end) (w .result .refusal) u,
     )
 
+plain-requires : tie.Need-plain-requires Inv-loop μ-loop
+plain-requires c κs = search needs
+
 loop-holds : tie.Need-loop-holds Inv-loop μ-loop
 unfolding keptFrom rowsOf
 loop-holds c =
-    let s = c .before .before .before .before .before in
+    let s = c .before .before .before .before .before .before in
     let a = s .args in
     let b = a .b in
     let zero : b .line + 0 ≡ b .line = omega arith in
     let same : rows (skips (b .line + 0) (ahead (a .text .now) b 0)) ≡ rowsOf (a .text .now) b = ap (λ k. rows (skips k (ahead (a .text .now) b 0))) zero in
     let from : (b .line + 0) * 2 ≡ b .line * 2 = omega arith in (
-      begun (a .text .now) b (a .area .now) (a .ids .now) (s .pre .1 .0) (s .pre .1 .1 .0),
+      begun (a .text .now) b _ (a .area .now) (a .ids .now) (s .pre .1 .0) (s .pre .1 .1 .0),
       s .pre .1 .1 .1 .0,
       refl,
       omega (arith, s .pre .1 .1 .1 .1, ap length same),
@@ -90,13 +94,13 @@ loop-holds c =
     )
 
 next-line-requires : tie.Need-next-line-requires Inv-loop μ-loop
-next-line-requires c κs = (c .before .before .before .before .before .before .before .before .before .before .pre .0, (c .before .before .before .before .loop .inv .0, c .before .before .if1 .taken))
+next-line-requires c κs = (c .before .before .before .before .before .before .before .before .before .before .before .pre .0, (c .before .before .before .before .loop .inv .0, c .before .before .if1 .taken))
 
 put-step-requires : tie.Need-put-step-requires Inv-loop μ-loop
 put-step-requires c κs =
     let w = c .before .before .before .before .before .before in
     let l = w .before .before .before .before .before .loop in
-    let s = w .before .before .before .before .before .before .before .before .before .before .before in
+    let s = w .before .before .before .before .before .before .before .before .before .before .before .before in
     let a = s .args in
     let b = a .b in
     let r = w .next-line .result in
@@ -120,7 +124,7 @@ loop-less c = let w = c .before .before .before .before .before .before .before 
 loop-again : tie.Need-loop-again Inv-loop μ-loop
 loop-again c =
     let x = c .before .before .before .before .before .before .before .before .before .before .before .before in
-    let a = x .before .before .before .before .before .before .before .before .before .before .before .args in
+    let a = x .before .before .before .before .before .before .before .before .before .before .before .before .args in
     let b = a .b in
     let t = a .text .now in
     let l = x .before .before .before .before .before .loop in
@@ -169,7 +173,7 @@ same-length-4 c = c .before .before .loop .inv .8
 returns : tie.Need-returns Inv-loop μ-loop
 unfolding keptOf rows skips
 returns c =
-    let a = c .before .before .before .before .before .before .before .before .args in
+    let a = c .before .before .before .before .before .before .before .before .before .args in
     let b = a .b in
     let l = c .before .before .loop in
     let e = none-left (b .strict) (a .text .now) (b .at) (l .area) (l .ids) (l .c) (l .inv .0) (c .if1 .left) in (
@@ -183,6 +187,7 @@ put-lines-spec =
     (tie.spec
     Inv-loop
     μ-loop
+    plain-requires
     loop-holds
     next-line-requires
     put-step-requires

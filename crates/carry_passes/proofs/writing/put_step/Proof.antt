@@ -52,17 +52,17 @@ returns c =
       ),
     )
 
-sub-put-line : tie.Need-sub-put-line
-sub-put-line c = c .before .before .before .before .before .pre .1 .1 .0 .start
+sub-put-at-kind : tie.Need-sub-put-at-kind
+sub-put-at-kind c = c .before .before .before .before .before .pre .1 .1 .0 .start
 
-part-put-line-start : tie.Need-part-put-line-start
-part-put-line-start c = c .before .before .before .before .before .pre .1 .1 .0 .start
+part-put-at-kind-start : tie.Need-part-put-at-kind-start
+part-put-at-kind-start c = c .before .before .before .before .before .pre .1 .1 .0 .start
 
-part-put-line-end : tie.Need-part-put-line-end
-part-put-line-end c = c .before .before .before .before .before .pre .1 .1 .0 .inside
+part-put-at-kind-end : tie.Need-part-put-at-kind-end
+part-put-at-kind-end c = c .before .before .before .before .before .pre .1 .1 .0 .inside
 
-put-line-requires : tie.Need-put-line-requires
-put-line-requires c κs =
+put-at-kind-requires : tie.Need-put-at-kind-requires
+put-at-kind-requires c κs =
     let s = c .before .before .before .before .before .before in
     let a = s .args in
     let u = s .pre .1 .1 .0 in
@@ -79,7 +79,7 @@ returns-2 c =
     let a = c .before .before .before .before .before .before .before .before .before .args in
     let n = a .step .refusal in
     let z : n ≡ 0 = omega (arith, c .before .before .before .before .before .if1 .left) in
-    let w = c .before .before .put-line .ensures in (
+    let w = c .before .before .put-at-kind .ensures in (
       w .0 ∙ sym (places-kept n _ _ (a .places) z),
       (
         w .1 ∙ sym (out-kept n _ _ (a .places) (a .out .now) z),
@@ -99,9 +99,9 @@ put-step-spec =
     put-row-requires
     same-length
     returns
-    sub-put-line
-    part-put-line-start
-    part-put-line-end
-    put-line-requires
+    sub-put-at-kind
+    part-put-at-kind-start
+    part-put-at-kind-end
+    put-at-kind-requires
     same-length-2
     returns-2)

@@ -1,4 +1,4 @@
--- `field::value::is_printable_block` meets its contract: after `i` bytes the flag says whether all of them may stand in a value.
+-- `field::value::is_printable_block` meets its contract: after `i` bytes the flag says whether all of them may be in a value.
 use Prim.Native.Nat.{_-_, _≤_}
 use mathlib.Core.Path.{_≡_, sym, ap, _∙_}
 use mathlib.Core.Logic.{⊎-elim}

@@ -19,7 +19,7 @@ use Rattle.field.proofs.value.Wide.{wide-left}
 use Rattle.field.proofs.value.wide_value_len.Statement.{statement}
 use Rattle.field.proofs.value.wide_value_len.Tie as tie
 
--- `i` bytes were passed as whole blocks, and `n` more stand before the next tab
+-- `i` bytes were passed as whole blocks, and `n` more come before the next tab
 module _ (s : List ℕ) (i : ℕ) (e : i ≡ run printable s / 8 * 8) where
   start-within : i ≤ length s
   start-within = omega (arith, run-le printable s)

@@ -69,7 +69,7 @@ marked c =
     let a = l .before .before .before .before .args in
     rw (c .mark-of .ensures) (turn-place (a .kind) (a .src .now) (a .at) (a .strict) (a .exact) (l .loop .seen) (l .loop .keys) (l .loop .pos) (l .loop .inv) (q .before .before .before .before .loop-test .taken) (q .before .before .if1 .left) _ (turn k))
 
--- whether its tag stood before
+-- whether its tag was there before
 again : (c : tie.After-stands-again Inv-loop μ-loop)
     → let k = c .before .before .before .before in
     let l = k .before .before .before .before .before .before .before in
@@ -91,7 +91,7 @@ lent c =
     let b = c .before .before .before .before in
     c .loop .inv .marked .size ∙ sym (ap length (b .pre .1 .1) ∙ length-replicate (marksOf (b .args .exact)) false)
 
--- no tag stands twice where that is forbidden
+-- no tag is repeated where that is forbidden
 allowed : (c : tie.Joined3 Inv-loop μ-loop)
     → let k = c .before .before .before .before .before in
     let l = k .before .before .before .before .before .before .before in

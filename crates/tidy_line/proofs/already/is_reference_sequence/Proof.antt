@@ -9,7 +9,7 @@ use lib.Seq.{take-all}
 use lib.Dec.{eqb, ltb}
 use Prim.Native.Nat.{ℕ}
 use borrow.Author.Tests.{ltb-false, not-true, not-false}
-use Rattle.accepted.proofs.Bools.{and-left}
+use Rattle.lists.proofs.Bools.{and-left}
 use Rattle.byte_slices.specs.Upto.{upto}
 use Rattle.byte_slices.proofs.Lines.{upto-le}
 use lib.ListN.{getD}

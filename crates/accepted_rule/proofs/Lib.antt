@@ -1,0 +1,2 @@
+pub mod Lax
+pub mod Rule

@@ -1,0 +1,50 @@
+-- `carry_keys::fill_by` meets its contract: its three steps in a row.
+use Prim.Native.Nat.{ℕ, _*_, _/_}
+use mathlib.Core.Path.{_≡_, ap, ap₂, _∙_}
+use lib.ListN.{length, drop, length-replicate}
+use Rattle.format.specs.Lines.{linesFrom}
+use Rattle.carry_keys.specs.Blocks.{keyedFront, afterKeyed, earlier, entered, pointedBack, filledFor}
+use borrow.Author.Needs.{needs}
+use Rattle.carry_keys.proofs.fill_by.Statement.{statement}
+use Rattle.carry_keys.proofs.fill_by.Tie as tie
+use Rattle.carry_keys.proofs.fill_by.Reads as reads
+use Rattle.carry_keys.proofs.fill_by.Lts as lts
+use Rattle.carry_keys.proofs.enter.Reads as enter-reads
+use Rattle.carry_keys.proofs.point_back.Reads as point-back-reads
+use Rattle.key_index.proofs.clear.Reads as clear-reads
+
+clear-requires : tie.Need-clear-requires
+clear-requires c κs = search needs
+
+mul-many : tie.Need-mul-many
+mul-many c = search needs
+
+enter-requires : tie.Need-enter-requires
+enter-requires c κs = search needs
+
+point-back-requires : tie.Need-point-back-requires
+point-back-requires c κs = search needs
+
+same-length : tie.Need-same-length
+same-length c = search needs
+
+returns : tie.Need-returns
+unfolding filledFor
+returns c =
+    let b = c .before .before in
+    let e = b .before .before .before .before in
+    let k = e .before .before .before .before in
+    let a = k .before .before .before .before .args in
+    let t = a .text .now in
+    let n : ℕ = length (a .area .now) in
+    let long : length (k .clear .last .0) ≡ n = ap length (k .clear .ensures) ∙ length-replicate n 0 in (
+      e .enter .ensures .0 ∙ ap (λ m. afterKeyed (a .strict) (m / 4 * 3) (a .at) t) long,
+      b .point-back .ensures
+          ∙ ap (λ s. pointedBack (a .seed) (a .strict) t s (earlier (a .at) (linesFrom (a .from) (drop (a .from) t))))
+          (e .enter .ensures .1 ∙ ap₂ (λ s m. entered (a .seed) (a .strict) t s (keyedFront (a .strict) (m / 4 * 3) (linesFrom (a .at) (drop (a .at) t)))) (k .clear .ensures) long),
+    )
+
+pub fill-by-spec : {M : Type 1} → statement M
+fill-by-spec =
+    tie.close
+    (tie.spec clear-requires mul-many enter-requires point-back-requires same-length returns)

@@ -1,0 +1,1 @@
+// Laws of tests and of lists that know nothing of SAM; no code.

@@ -1,0 +1,4 @@
+pub mod Turns
+pub mod Last
+pub mod Examples
+pub mod Laws
