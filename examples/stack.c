@@ -19,7 +19,8 @@
 enum { PAINT = 0xA5, LARGE = 4 << 20, KIB = 1024, SLOTS = 1 << 18, NUMBERS = 1 << 16 };
 
 static uint8_t *text, *turned, *catalogue, *binary, *out;
-static size_t text_len, catalogue_len, binary_len, out_len;
+static uint8_t *faulty; /* the text and a line that is refused: carrying on over a text without one is tidying */
+static size_t text_len, faulty_len, catalogue_len, binary_len, out_len;
 static uint32_t *table, *work;
 static struct sam_header_node nodes[1024];
 static uint64_t answer;
@@ -33,7 +34,7 @@ static void do_field(void) { answer = sam_header_field(text, text_len, catalogue
 static void do_find(void) { answer = sam_header_find(text, text_len, catalogue, catalogue_len, 2, (const uint8_t *)"c0", 2); }
 static void do_references(void) { answer = sam_header_references(text, text_len, catalogue, catalogue_len, table, NUMBERS); }
 static void do_tidy(void) { answer = sam_header_tidy(text, text_len, out, out_len); }
-static void do_carry_on(void) { answer = sam_header_carry_on(text, text_len, out, out_len, table, NUMBERS); }
+static void do_carry_on(void) { answer = sam_header_carry_on(faulty, faulty_len, out, out_len, table, NUMBERS); }
 static void do_faults(void) { answer = sam_header_faults(text, text_len, table, NUMBERS); }
 static void do_binary_out(void) { answer = sam_header_binary_out(text, text_len, out, out_len); }
 static void do_binary_in(void) { answer = sam_header_binary_in(binary, binary_len, out, out_len); }
@@ -61,7 +62,7 @@ static uint8_t seal[32];
 static void do_seal(void) { answer = sam_header_seal(text, text_len, out, out_len, seal); }
 static void do_check_sealed(void) { answer = sam_header_check_sealed(text, text_len, catalogue, catalogue_len, seal, out, out_len); }
 static void do_tidy_with(void) { answer = sam_header_tidy_with(text, text_len, out, out_len, work, SLOTS); }
-static void do_carry_on_with(void) { answer = sam_header_carry_on_with(text, text_len, out, out_len, table, NUMBERS, work, SLOTS); }
+static void do_carry_on_with(void) { answer = sam_header_carry_on_with(faulty, faulty_len, out, out_len, table, NUMBERS, work, SLOTS); }
 
 /* What the header promises, in KiB: for texts of at most 256 KiB, and for longer ones. */
 static const struct {
@@ -151,6 +152,8 @@ static void make(int lines, const char *fields) {
     memcpy(turned, text, text_len);
     for (int i = 0; i < lines; i++) text_len += (size_t)sprintf((char *)text + text_len, "@SQ\tSN:c%d\tLN:5%s\n", i, fields);
     for (int i = lines; i-- > 0;) at += (size_t)sprintf((char *)turned + at, "@SQ\tSN:c%d\tLN:5%s\n", i, fields);
+    memcpy(faulty, text, text_len);
+    faulty_len = text_len + (size_t)sprintf((char *)faulty + text_len, "@XX\n");
     catalogue_len = sam_header_read(text, text_len, catalogue, out_len);
     binary_len = sam_header_binary_out(text, text_len, binary, out_len);
 }
@@ -160,7 +163,7 @@ int main(void) {
     static const struct { int lines; int wide; } texts[] = {{1, 0}, {3366, 0}, {20000, 1}};
     int status = 0;
     out_len = 16 << 20;
-    text = malloc(16 << 20), turned = malloc(16 << 20), catalogue = malloc(out_len), binary = malloc(out_len), out = malloc(out_len);
+    text = malloc(16 << 20), turned = malloc(16 << 20), faulty = malloc(16 << 20), catalogue = malloc(out_len), binary = malloc(out_len), out = malloc(out_len);
     table = malloc(NUMBERS * sizeof *table), work = calloc(SLOTS, sizeof *work);
     for (size_t t = 0; t < sizeof texts / sizeof *texts; t++) {
         make(texts[t].lines, texts[t].wide ? fields : "");
