@@ -3,8 +3,8 @@
  * Any bytes may be lent. Pointers must be what C asks of a slice: not NULL, even if the length is 0; aligned to their type; to fewer bytes than
  * PTRDIFF_MAX. Nothing that a call writes, `*length`, `*inspected` and `seal` included, may overlap anything else that is lent to that call. Calls keep no
  * state, so they may run side by side.
- * Stack: for texts of at most 256 KiB a call takes at most 64 KiB, but for leaves_by_table, which takes 72, faults 136 and judge_merge 208; for longer
- * texts any call takes at most 900 KiB, faults 912. The calls with a work area take at most 64 KiB for any text. examples/stack.c measures it.
+ * Stack: for texts of at most 256 KiB a call takes at most 64 KiB, but for add, which takes 72, leaves_by_table 80, faults 136 and judge_merge 208; for
+ * longer texts any call takes at most 900 KiB, faults 912. The calls with a work area take at most 64 KiB for any text. examples/stack.c measures it.
  *
  * Room that always suffices: for read 3 * text_len + 1 bytes; for tidy, prune, carry_on, binary_in, seal and check_sealed as many as the text has and
  * one more, and two numbers per line in carry_on's table; for binary_out twice text_len and 14; for roots, leaves and leaves_by_table 1,024

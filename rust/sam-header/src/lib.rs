@@ -19,7 +19,7 @@
 //! decompression is flate2's.
 //!
 //! # Stack
-//! For texts of up to 256 KiB no call takes more than 72 KiB, [`faults`] 136 and [`judge_merge`] 208. For longer texts reading, checking, tidying and carrying on take their
+//! For texts of up to 256 KiB no call takes more than 80 KiB, [`faults`] 136 and [`judge_merge`] 208. For longer texts reading, checking, tidying and carrying on take their
 //! work area from the heap and no more than 64 KiB of stack; the others up to 912 KiB, which every thread of the standard library has.
 //!
 //! # With noodles
