@@ -1,4 +1,4 @@
--- `tidy_line::already::is_reference_sequence` meets its contract: SN ends at the next tab, and LN is looked for there.
+-- `tidy_neat::is_reference_sequence` meets its contract: SN ends at the next tab, and LN is looked for there.
 use mathlib.Core.Path.{_≡_, refl, sym, ap, _∙_}
 use native.Mathlib.Omega.{arith}
 use Prim.Native.Nat.{_+_, _-_, _≤_, _<_}
@@ -13,10 +13,10 @@ use Rattle.lists.proofs.Bools.{and-left}
 use Rattle.byte_slices.specs.Upto.{upto}
 use Rattle.byte_slices.proofs.Lines.{upto-le}
 use lib.ListN.{getD}
-use Rattle.tidy_line.specs.Neat.{hasTag, plainLength, neat}
+use Rattle.tidy_neat.specs.Neat.{hasTag, plainLength, neat}
 use borrow.Author.Needs.{needs}
-use Rattle.tidy_line.proofs.already.is_reference_sequence.Statement.{statement}
-use Rattle.tidy_line.proofs.already.is_reference_sequence.Tie as tie
+use Rattle.tidy_neat.proofs.is_reference_sequence.Statement.{statement}
+use Rattle.tidy_neat.proofs.is_reference_sequence.Tie as tie
 
 -- SN comes first
 flag : (e : tie.Else1) → hasTag (e .before .before .before .args .src .now) 3 83 78 ≡ true

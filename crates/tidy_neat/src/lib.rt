@@ -3,7 +3,7 @@ use format::Kind;
 ghost use mathlib.Core.Path.{_≡_};
 ghost use Prim.Native.Nat.{_≤_, _<_, _+_};
 ghost use lib.ListN.{length};
-ghost use Rattle.tidy_line.specs.Neat.{hasTag, plainLength, neat};
+ghost use Rattle.tidy_neat.specs.Neat.{hasTag, plainLength, neat, namedSequence, ready};
 
 // Whether the tag `a`, `b` comes after `i`, where a tab is known to be.
 fn has_tag(src: &[u8], i: usize, a: u8, b: u8) -> bool
@@ -44,7 +44,7 @@ fn is_reference_sequence(src: &[u8]) -> bool
     is_plain_length(src, 4 + byte_slices::upto(&src[4..], b'\t'))
 }
 
-// Whether an accepted line of `kind` that repeats no tag has its keys first and no leading zeros. It is never asked for an HD.
+// Whether an accepted line of `kind` that repeats no tag has its keys first and no leading zeros. It is false for an HD, which is written part by part.
 pub fn is_neat(kind: Kind, src: &[u8]) -> bool
     requires { ⌜ 3 ≤ length (now src) ⌝ }
     ensures { λ r. ⌜ r ≡ neat kind (now (src .entry)) ⌝ }
@@ -55,5 +55,34 @@ pub fn is_neat(kind: Kind, src: &[u8]) -> bool
         Kind::ReadGroup => has_tag(src, 3, b'I', b'D'),
         Kind::Program => has_tag(src, 3, b'I', b'D'),
         Kind::Comment => true,
+    }
+}
+
+// Whether SN comes first with a name that can be written, and then LN. The name is walked over once.
+fn is_named_sequence(src: &[u8]) -> bool
+    requires { ⌜ 7 ≤ length (now src) ⌝ }
+    ensures { λ r. ⌜ r ≡ namedSequence (now (src .entry)) ⌝ }
+{
+    if !has_tag(src, 3, b'S', b'N') {
+        return false;
+    }
+    let n = tidy_name::name_len(&src[7..]);
+    if n == 0 {
+        return false;
+    }
+    if !is_plain_length(src, 7 + n) {
+        return false;
+    }
+    src[7 + n] == b'\t'
+}
+
+// Whether an accepted line of `kind` that repeats no tag is tidy already and can be written.
+pub fn is_ready(kind: Kind, src: &[u8]) -> bool
+    requires { ⌜ 7 ≤ length (now src) ⌝ }
+    ensures { λ r. ⌜ r ≡ ready kind (now (src .entry)) ⌝ }
+{
+    match kind {
+        Kind::ReferenceSequence => is_named_sequence(src),
+        _ => is_neat(kind, src),
     }
 }

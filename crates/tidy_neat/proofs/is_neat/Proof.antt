@@ -1,9 +1,9 @@
--- `tidy_line::already::is_neat` meets its contract: an arm for each kind.
+-- `tidy_neat::is_neat` meets its contract: an arm for each kind.
 use mathlib.Core.Path.{_≡_, refl, sym, ap, _∙_}
-use Rattle.tidy_line.specs.Neat.{hasTag, plainLength, neat}
+use Rattle.tidy_neat.specs.Neat.{hasTag, plainLength, neat}
 use borrow.Author.Needs.{needs}
-use Rattle.tidy_line.proofs.already.is_neat.Statement.{statement}
-use Rattle.tidy_line.proofs.already.is_neat.Tie as tie
+use Rattle.tidy_neat.proofs.is_neat.Statement.{statement}
+use Rattle.tidy_neat.proofs.is_neat.Tie as tie
 
 enum-told : tie.Need-enum-told
 enum-told c = search needs

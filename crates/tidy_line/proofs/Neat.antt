@@ -30,16 +30,16 @@ use Rattle.accepted_line.specs.Found.{kindBy}
 use Rattle.accepted_line.proofs.Finds.{Number, first-byte, number}
 use Rattle.tidy_laws.proofs.Once.{last-absent}
 use Rattle.tidy_laws.proofs.Made.{made-reference, made-group, made-program}
-use Rattle.tidy_line.specs.Neat.{hasTag, plainLength, neat}
-use Rattle.tidy_line.proofs.already.Plain.{written-plain}
+use Rattle.tidy_neat.specs.Neat.{hasTag, plainLength, neat}
+use Rattle.tidy_line.proofs.Plain.{written-plain}
 
-abbrev of : ℕ → ℕ → Piece → Field
+abbrev pub of : ℕ → ℕ → Piece → Field
 of a b p = record { tag₀ = a; tag₁ = b; value = p }
 
 -- ---- from fields to text
 
 -- the first of the fields `fs` has the tag `a`, `b`, and no other has
-record First (a b : ℕ) (fs : List Field) : Type 0 where
+pub record First (a b : ℕ) (fs : List Field) : Type 0 where
   pub piece : Piece
   pub rest : List Field
   pub is : fs ≡ of a b piece ∷ rest
@@ -129,11 +129,11 @@ some-digits (b ∷ v) h = omega arith
 
 -- a field starts at `pos`, and its tag is `a`, `b`
 module _ (at : ℕ) (s : List ℕ) (pos : ℕ) (h : AtField true at s pos) (once : repeats (fieldsFrom at s pos) ≡ false) (a b : ℕ) (t : hasTag s pos a b ≡ true) where
-  long : pos + 3 ≤ length s
+  pub long : pos + 3 ≤ length s
   unfolding hasTag
   long = omega (arith, ltb-false (length s - pos) 3 (not-true (ltb (length s - pos) 3) (and-left (not (ltb (length s - pos) 3)) (eqb (getD s (pos + 1) 0) a && eqb (getD s (pos + 2) 0) b) t)))
 
-  abbrev own : Found true at s pos
+  abbrev pub own : Found true at s pos
   own = found true at s pos h (omega (arith, long))
 
   tags : (getD s (pos + 1) 0 ≡ a) × (getD s (pos + 2) 0 ≡ b)
@@ -150,14 +150,14 @@ module _ (at : ℕ) (s : List ℕ) (pos : ℕ) (h : AtField true at s pos) (once
       ap (λ x. record { tag₀ = x; tag₁ = f .tag₁; value = f .value }) (sym (own .here .tag-0) ∙ tags .0)
       ∙ ap (λ y. record { tag₀ = a; tag₁ = y; value = f .value }) (sym (own .here .tag-1) ∙ tags .1)
 
-  rest-is : fieldsFrom at s pos ≡ of a b (own .field .value) ∷ fieldsFrom at s (pos + fieldLength (own .field))
+  pub rest-is : fieldsFrom at s pos ≡ of a b (own .field .value) ∷ fieldsFrom at s (pos + fieldLength (own .field))
   rest-is = own .here .rest ∙ ap (λ f. f ∷ fieldsFrom at s (pos + fieldLength (own .field))) field-is
 
-  alone : any (tagged a b) (fieldsFrom at s (pos + fieldLength (own .field))) || repeats (fieldsFrom at s (pos + fieldLength (own .field))) ≡ false
+  pub alone : any (tagged a b) (fieldsFrom at s (pos + fieldLength (own .field))) || repeats (fieldsFrom at s (pos + fieldLength (own .field))) ≡ false
   unfolding repeats
   alone = sym (ap repeats rest-is) ∙ once
 
-  abbrev first : First a b (fieldsFrom at s pos)
+  abbrev pub first : First a b (fieldsFrom at s pos)
   first =
       let fs = fieldsFrom at s (pos + fieldLength (own .field)) in
       record { piece = own .field .value; rest = fs; is = rest-is; absent = or-left (any (tagged a b) fs) (repeats fs) alone; once = or-right (any (tagged a b) fs) (repeats fs) alone }
@@ -178,13 +178,13 @@ second-last p n fs h = rw (last-absent 76 78 fs h) refl
 -- ---- a line of fields
 
 module _ (at : ℕ) (s : List ℕ) (r : Record) (a : Spelled true at s r) where
-  start : AtField true at s 3
+  pub start : AtField true at s 3
   start = accepted-start true at s r a
 
-  fields : fieldsFrom at s 3 ≡ a .fields
+  pub fields : fieldsFrom at s 3 ≡ a .fields
   fields = accepted-fields true at s r a
 
-  once : repeats (fieldsFrom at s 3) ≡ false
+  pub once : repeats (fieldsFrom at s 3) ≡ false
   once = ap repeats fields ∙ a .once
 
   line-text : s ≡ 64 ∷ kind₀ (a .kind) ∷ kind₁ (a .kind) ∷ fieldsText (a .fields)

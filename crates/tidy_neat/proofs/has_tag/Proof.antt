@@ -1,10 +1,10 @@
--- `tidy_line::already::has_tag` meets its contract: each test is one of the definition's.
+-- `tidy_neat::has_tag` meets its contract: each test is one of the definition's.
 use mathlib.Core.Path.{_≡_, refl, sym, ap, _∙_}
 use borrow.Author.Tests.{lt-ltb, le-ltb, eq-eqb, ne-eqb, not-true, not-false}
-use Rattle.tidy_line.specs.Neat.{hasTag, plainLength, neat}
+use Rattle.tidy_neat.specs.Neat.{hasTag, plainLength, neat}
 use borrow.Author.Needs.{needs}
-use Rattle.tidy_line.proofs.already.has_tag.Statement.{statement}
-use Rattle.tidy_line.proofs.already.has_tag.Tie as tie
+use Rattle.tidy_neat.proofs.has_tag.Statement.{statement}
+use Rattle.tidy_neat.proofs.has_tag.Tie as tie
 
 sub-if1 : tie.Need-sub-if1
 sub-if1 c = search needs

@@ -1,12 +1,12 @@
--- `tidy_line::already::is_plain_length` meets its contract: each test is one of the definition's.
+-- `tidy_neat::is_plain_length` meets its contract: each test is one of the definition's.
 use mathlib.Core.Path.{_≡_, refl, sym, ap, _∙_}
 use native.Mathlib.Omega.{arith}
 use lib.ListN.{length}
 use borrow.Author.Tests.{lt-ltb, le-ltb, eq-eqb, ne-eqb, not-true, not-false}
-use Rattle.tidy_line.specs.Neat.{hasTag, plainLength, neat}
+use Rattle.tidy_neat.specs.Neat.{hasTag, plainLength, neat}
 use borrow.Author.Needs.{needs}
-use Rattle.tidy_line.proofs.already.is_plain_length.Statement.{statement}
-use Rattle.tidy_line.proofs.already.is_plain_length.Tie as tie
+use Rattle.tidy_neat.proofs.is_plain_length.Statement.{statement}
+use Rattle.tidy_neat.proofs.is_plain_length.Tie as tie
 
 has-tag-requires : tie.Need-has-tag-requires
 has-tag-requires c κs = search needs
