@@ -1,14 +1,14 @@
--- `read_judge::counted` meets its contract, case by case.
+-- `key_index::counting::counted` meets its contract, case by case.
 use Prim.Native.Nat.{ℕ, _+_}
 use mathlib.Core.Path.{sym, ap, _∙_}
 use mathlib.Core.Bool.{cond}
 use native.Mathlib.Omega.{arith}
 use lib.Dec.{ltb}
 use borrow.Author.Tests.{lt-ltb, le-ltb}
-use Rattle.read_judge.specs.Busy.{countedSlots}
+use Rattle.key_index.specs.Counting.{countedSlots}
 use borrow.Author.Needs.{needs}
-use Rattle.read_judge.proofs.counted.Statement.{statement}
-use Rattle.read_judge.proofs.counted.Tie as tie
+use Rattle.key_index.proofs.counting.counted.Statement.{statement}
+use Rattle.key_index.proofs.counting.counted.Tie as tie
 
 returns : tie.Need-returns
 unfolding countedSlots
