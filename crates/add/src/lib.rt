@@ -9,7 +9,7 @@ use tidy_sizes::PerKind;
 use tidy_text::Measured;
 ghost use mathlib.Core.Path.{_≡_};
 ghost use mathlib.Core.Bool.{true, false, not, _||_, cond};
-ghost use Prim.Native.Nat.{_≤_, _<_, _+_, min};
+ghost use Prim.Native.Nat.{_≤_, _<_, min};
 ghost use lib.ListN.{length};
 ghost use lib.Dec.{ltb};
 ghost use Rattle.format.specs.Fields.{lastOf};
@@ -101,16 +101,6 @@ fn is_too_long(prefix: &[u8], fields: &[u8]) -> bool
     format::LONGEST < prefix.len() || format::LONGEST < fields.len()
 }
 
-// Whether two lengths together are greater than a text may have.
-fn is_over(n: usize, more: usize) -> bool
-    ensures { λ r. ⌜ r ≡ ltb 16777216 (n + more) ⌝ }
-{
-    if format::LONGEST < n {
-        return true;
-    }
-    format::LONGEST - n < more
-}
-
 // Measures what is to be written to an output of `room` bytes, or refuses with 24, then 1, then 20.
 fn measure_all(
     text: &[u8],
@@ -136,11 +126,9 @@ fn measure_all(
                 return Planned::Refused(1, LineNo(0));
             }
             let more = add_lines::added_len(text, ids, prefix, fields, leaves, ways.shape);
-            if is_over(n, more) {
-                return Planned::Refused(1, LineNo(0));
-            }
-            if room < n + more {
-                return Planned::Refused(20, LineNo(0));
+            let unfit = tidy_sizes::fit(n, more, 0, room);
+            if unfit != 0 {
+                return Planned::Refused(unfit, LineNo(0));
             }
             Planned::Is(Plan { ways, sizes, more })
         }

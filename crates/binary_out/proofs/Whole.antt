@@ -1,17 +1,17 @@
 -- The binary header part by part, and what judging and measuring say of the call's answer.
-use Prim.Native.Nat.{ℕ, _+_, _-_, _≤_, _<_}
+use Prim.Native.Nat.{ℕ, _+_, _-_, _≤_}
 use mathlib.Core.Path.{_≡_, refl, sym, ap, _∙_}
-use mathlib.Core.Bool.{true}
+use mathlib.Core.Bool.{Bool, true, false, cond}
 use mathlib.Core.List.{List, [], _++_, append-assoc, append-nil}
 use mathlib.Core.Option.{none, some}
 use native.Mathlib.Omega.{arith}
 use lib.ListN.{length, take, drop, length-append, length-take, drop-of-length-le}
 use lib.Seq.{drop-drop}
-use borrow.Author.Tests.{lt-ltb, le-ltb}
+use lib.Dec.{ltb}
 use Rattle.format.specs.Catalogue.{little}
 use Rattle.format.specs.Reading.{refusedText, readText, longest}
 use Rattle.format.specs.Tidy.{tidy, unwritable}
-use Rattle.format.specs.Calls.{refused, yes, then, readAnswer, records, fitting}
+use Rattle.format.specs.Calls.{refused, yes, then, readAnswer, records, fitting, writing}
 use Rattle.byte_slices.specs.Over.{over}
 use Rattle.little_endian.proofs.Little.{little-length}
 use Rattle.accepted.specs.Read.{isAccepted, recordsOf}
@@ -19,7 +19,8 @@ use Rattle.accepted.proofs.Read.{accepted-reads}
 use Rattle.format.specs.References.{Reference, sqList}
 use Rattle.format.specs.Binary.{magic, sized, listBytes, binary, binaryOut}
 use Rattle.binary_put.proofs.Bytes.{behind}
-use Rattle.tidy.proofs.Writing.{write-bad, write-long, write-fits}
+use Rattle.tidy_sizes.specs.Plan.{unfit}
+use Rattle.tidy_sizes.proofs.Plan.{fitted, fitted-unfit, fitted-fits, write-bad}
 use Rattle.binary_out.specs.Written.{binaryOf, writingBinary}
 
 -- ---- the bytes
@@ -97,19 +98,21 @@ module _ (t : List ℕ) (room : ℕ) where
   unfolding then
   out-bad l e = ap (λ a. then a (λ x. fitting room (binary x (sqList (recordsOf t))))) (write-bad longest (unwritable 0 (recordsOf t)) (tidy (recordsOf t)) l e)
 
-  pub out-long : unwritable 0 (recordsOf t) ≡ none → 16777216 < length (tidy (recordsOf t)) → writingBinary t room ≡ refused 1 0
-  unfolding then
-  out-long e h = ap (λ a. then a (λ x. fitting room (binary x (sqList (recordsOf t))))) (write-long longest (unwritable 0 (recordsOf t)) (tidy (recordsOf t)) e h)
+  module _ (e : unwritable 0 (recordsOf t) ≡ none) where
+    -- 1 is about the tidy text, 20 about the whole
+    out-planned : writingBinary t room ≡ fitted (length (tidy (recordsOf t))) room (binaryOf t)
+    unfolding then writing fitting fitted longest
+    out-planned = rw e (go (ltb 16777216 (length (tidy (recordsOf t)))))
+      where
+        go : (a : Bool)
+            → then (cond a (refused 1 0) (cond a (refused 20 0) (yes (tidy (recordsOf t))))) (λ x. fitting room (binary x (sqList (recordsOf t))))
+            ≡ cond a (refused 1 0) (fitting room (binaryOf t))
+        go true = refl
+        go false = refl
 
-  module _ (e : unwritable 0 (recordsOf t) ≡ none) (h : length (tidy (recordsOf t)) ≤ 16777216) where
-    out-fits : writingBinary t room ≡ fitting room (binaryOf t)
-    unfolding then longest
-    out-fits = ap (λ a. then a (λ x. fitting room (binary x (sqList (recordsOf t))))) (write-fits longest (unwritable 0 (recordsOf t)) (tidy (recordsOf t)) e h h)
+    module _ (n besides u : ℕ) (size : length (tidy (recordsOf t)) ≡ n) (whole : length (binaryOf t) ≡ n + besides) (p : u ≡ unfit n besides room) where
+      pub out-unfit : (u ≡ 0 → ⊥) → writingBinary t room ≡ refused u 0
+      out-unfit h = out-planned ∙ ap (λ k. fitted k room (binaryOf t)) size ∙ fitted-unfit n besides room u p (binaryOf t) whole h
 
-    pub out-short : room < length (binaryOf t) → writingBinary t room ≡ refused 20 0
-    unfolding fitting
-    out-short s = out-fits ∙ rw (lt-ltb _ _ s) refl
-
-    pub out-written : length (binaryOf t) ≤ room → writingBinary t room ≡ yes (binaryOf t)
-    unfolding fitting
-    out-written s = out-fits ∙ rw (le-ltb _ _ s) refl
+      pub out-fits : u ≡ 0 → writingBinary t room ≡ yes (binaryOf t)
+      out-fits z = out-planned ∙ ap (λ k. fitted k room (binaryOf t)) size ∙ fitted-fits n besides room u p (binaryOf t) whole z

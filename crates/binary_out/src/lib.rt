@@ -73,14 +73,13 @@ fn write_accepted(text: &[u8], strict: bool, out: &mut [u8]) -> CountAnswer
         Measured::Unwritable(line) => CountAnswer::Refused(24, line),
         Measured::Is(sizes) => {
             let n = sizes.total();
-            if format::LONGEST < n {
-                return CountAnswer::Refused(1, LineNo(0));
-            }
             let list = binary_put::measure_list(text, strict);
-            let whole = 12 + n + list.bytes;
-            if out.len() < whole {
-                return CountAnswer::Refused(20, LineNo(0));
+            let besides = 12 + list.bytes;
+            let unfit = tidy_sizes::fit(n, 0, besides, out.len());
+            if unfit != 0 {
+                return CountAnswer::Refused(unfit, LineNo(0));
             }
+            let whole = n + besides;
             put_binary(text, strict, sizes, n, list.count, out);
             CountAnswer::Count(whole)
         }

@@ -68,7 +68,7 @@ fn fill_at_block_end(text: &[u8], strict: bool, from: usize, area: &mut [u32], c
         let seed = c.seed;
         return Filled { end, seed };
     }
-    carry_keys::fill(text, strict, area, from, c.at)
+    carry_keys::fill(text, c.seed, strict, area, from, c.at)
 }
 
 // After a line with this head in a block, which ends before `next`; `n` is 0 where it is kept.

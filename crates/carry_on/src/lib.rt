@@ -49,11 +49,9 @@ fn write_kept(
     ensures listed { λ _. ⌜ now (table .exit) ≡ tableLeft (now (text .entry)) (now (out .entry)) (now (table .entry)) ⌝ }
 {
     let n = sizes.total();
-    if format::LONGEST < n {
-        return Carried::Refused(1, LineNo(0));
-    }
-    if out.len() < n {
-        return Carried::Refused(20, LineNo(0));
+    let unfit = tidy_sizes::fit(n, 0, 0, out.len());
+    if unfit != 0 {
+        return Carried::Refused(unfit, LineNo(0));
     }
     let lines = b.line as usize + skipped;
     if table.len() < lines * 2 {

@@ -6,3 +6,4 @@ pub mod Entries
 pub mod LineEntries
 pub mod NextField
 pub mod Length
+pub mod Plain

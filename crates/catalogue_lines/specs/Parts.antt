@@ -13,6 +13,8 @@ use Rattle.catalogue_entries.specs.declared.Place.{Place}
 use Rattle.catalogue_entries.specs.declared.Entry.{Entry}
 use Rattle.catalogue_entries.specs.declared.Entry.the-variants as entry
 use Rattle.catalogue_entries.specs.Entries.{kindSize, entrySize}
+use Rattle.catalogue_lines.specs.declared.PlainLine.{PlainLine}
+use Rattle.catalogue_lines.specs.declared.PlainLine.the-variants.{Other, Is}
 
 -- a place, in the numbers of an entry
 abbrev pub entryPlace : record′.Stretch → Place
@@ -26,6 +28,11 @@ ownEntry k (ReferenceSequence p l n) = entry.ReferenceSequence (entryPlace p) l 
 ownEntry k (ReadGroup p n) = entry.ReadGroup (entryPlace p) k
 ownEntry k (Program p n) = entry.Program (entryPlace p) k
 ownEntry k (Comment p) = entry.Comment (entryPlace p) k
+
+-- the head of a line that may have been recognised whole: of another line it is `h`
+unfoldable pub plainHead : Head → PlainLine → Head
+plainHead h Other = h
+plainHead h (Is p l) = ReferenceSequence (record { at = p .at; len = p .len }) l 0
 
 -- how many other fields it has
 unfoldable pub othersOf : Head → ℕ

@@ -5,6 +5,7 @@ use catalogue_entries::Entry;
 use catalogue_entries::Place;
 use format::Kind;
 use record::Head;
+use record_parser::plain::Plain;
 ghost use mathlib.Core.Path.{_≡_};
 ghost use mathlib.Core.Bool.{true, false};
 ghost use Prim.Native.Nat.{_≤_, _<_, _+_, _^_};
@@ -18,11 +19,11 @@ ghost use Rattle.record.specs.Head.{headOf};
 ghost use Rattle.accepted_line.specs.Run.{fieldsFrom};
 ghost use Rattle.accepted_line.specs.Tables.{Walkable};
 ghost use Rattle.accepted_line.specs.Found.{isComment};
-ghost use Rattle.accepted_line.specs.Form.{LineOf};
+ghost use Rattle.accepted_line.specs.Form.{LineOf, IsForm};
 ghost use Rattle.accepted_line.specs.Keys.{keysIn};
 ghost use Rattle.catalogue_entries.specs.Entries.{entrySize, entryBytes, FitsEntry};
 ghost use Rattle.catalogue_lines.specs.Line.{lineBytes};
-ghost use Rattle.catalogue_lines.specs.Parts.{ownEntry, othersOf, sizeOfHead, ownSize, fieldBytes};
+ghost use Rattle.catalogue_lines.specs.Parts.{ownEntry, plainHead, othersOf, sizeOfHead, ownSize, fieldBytes};
 ghost use Rattle.catalogue_lines.specs.Matched.{metIn, comparedOf, matched};
 
 // Whether a catalogue has the expected bytes at a place, and if so, the place after them.
@@ -47,6 +48,12 @@ struct Met {
 enum Compared {
     Differs,
     Same(Met),
+}
+
+// Where the name of an SQ with SN and LN alone is, and its length; or it is another line.
+enum PlainLine {
+    Other,
+    Is(Place, u64),
 }
 
 // How many other fields a record has.
@@ -146,6 +153,21 @@ fn comment_entry(src: &[u8], at: usize, number: u32) -> Entry
     line_entry(Kind::Comment, src, at, number, KeyValues::new())
 }
 
+// Whether an accepted line is an SQ with SN and LN alone, as most lines are. It is recognised whole, without a walk over its fields.
+fn plain_line(src: &[u8], at: usize) -> PlainLine
+    requires { ⌜ isRead (line false (record { at = at; bytes = now src })) ≡ true ⌝ }
+    requires { ⌜ at + length (now src) ≤ 16777216 ⌝ }
+    ensures { λ r. ⌜ plainHead (headOf (line false (record { at = at; bytes = now (src .entry) }))) r ≡ headOf (line false (record { at = at; bytes = now (src .entry) })) ⌝ }
+{
+    if src[1] != b'S' {
+        return PlainLine::Other;
+    }
+    let Plain::Is(len, n) = record_parser::plain::parse_plain(src) else {
+        return PlainLine::Other;
+    };
+    PlainLine::Is(narrow(at + 7, len), n)
+}
+
 // Writes the entries of an accepted line's other fields from `o` on. The same walk finds the keys.
 fn put_fields(out: &mut [u8], o: usize, kind: Kind, src: &[u8], at: usize, tables: &[u32]) -> Met
     requires { ⌜ Walkable at (now src) (now tables) ⌝ }
@@ -199,6 +221,26 @@ fn put_line_entries(
     met.next
 }
 
+// Writes the entries of an accepted line of a form from `o` on, and returns the place after them.
+fn put_formed(out: &mut [u8], o: usize, form: Form, src: &[u8], place: LinePlace) -> usize
+    requires { ⌜ IsForm (place .at) (now src) form ⌝ }
+    requires { ⌜ o + length (lineBytes false (place .number) (place .at) (now src)) ≤ length (now out) ⌝ }
+    ensures next { λ r. ⌜ r ≡ o + length (lineBytes false (place .number) (place .at) (now (src .entry))) ⌝ }
+    ensures wrote { λ _. ⌜ now (out .exit) ≡ over (now (out .entry)) o (lineBytes false (place .number) (place .at) (now (src .entry))) ⌝ }
+{
+    match form {
+        Form::Comment => {
+            catalogue_put::put_entry(out, o, comment_entry(src, place.at, place.number))
+        }
+        Form::Once(kind) => put_line_entries(out, o, kind, src, place, &[]),
+        Form::Repeating(kind) => {
+            let mut tables = [0u32; 6448];
+            accepted_line::fields::note_tags(src, place.at, &mut tables);
+            put_line_entries(out, o, kind, src, place, &tables)
+        }
+    }
+}
+
 // Writes the entries of the accepted line `src` from `o` on, and returns the place after them. The line has the number `number` and starts at the
 // offset `at`.
 pub fn put_record(
@@ -215,15 +257,11 @@ pub fn put_record(
     ensures next { λ r. ⌜ r ≡ o + length (lineBytes strict number at (now (src .entry))) ⌝ }
     ensures wrote { λ _. ⌜ now (out .exit) ≡ over (now (out .entry)) o (lineBytes strict number at (now (src .entry))) ⌝ }
 {
-    match accepted_line::form_of(src, at, strict) {
-        Form::Comment => catalogue_put::put_entry(out, o, comment_entry(src, at, number)),
-        Form::Once(kind) => put_line_entries(out, o, kind, src, LinePlace { at, number }, &[]),
-        Form::Repeating(kind) => {
-            let mut tables = [0u32; 6448];
-            accepted_line::fields::note_tags(src, at, &mut tables);
-            put_line_entries(out, o, kind, src, LinePlace { at, number }, &tables)
-        }
-    }
+    let PlainLine::Is(name, n) = plain_line(src, at) else {
+        let form = accepted_line::form_of(src, at, strict);
+        return put_formed(out, o, form, src, LinePlace { at, number });
+    };
+    catalogue_put::put_entry(out, o, Entry::ReferenceSequence(name, n, number))
 }
 
 // Whether the catalogue has the entries of an accepted line's other fields at `o`. The same walk finds the keys.
@@ -296,6 +334,29 @@ fn same_line(
     Matched::Differs
 }
 
+// Whether the catalogue has the entries of an accepted line of a form at `o`, and if so, the place after them.
+fn same_formed(catalogue: &[u8], o: usize, form: Form, src: &[u8], place: LinePlace) -> Matched
+    requires { ⌜ IsForm (place .at) (now src) form ⌝ }
+    requires { ⌜ o ≤ length (now catalogue) ⌝ }
+    ensures { λ r. ⌜ r ≡ matched o (drop o (now (catalogue .entry))) (lineBytes false (place .number) (place .at) (now (src .entry))) ⌝ }
+{
+    match form {
+        Form::Comment => {
+            let entry = comment_entry(src, place.at, place.number);
+            if catalogue_same::same_entry(catalogue, o, entry) {
+                return Matched::Upto(o + 13);
+            }
+            Matched::Differs
+        }
+        Form::Once(kind) => same_line(catalogue, o, kind, src, place, &[]),
+        Form::Repeating(kind) => {
+            let mut tables = [0u32; 6448];
+            accepted_line::fields::note_tags(src, place.at, &mut tables);
+            same_line(catalogue, o, kind, src, place, &tables)
+        }
+    }
+}
+
 // Whether the catalogue has the entries of the accepted line `src` at `o`, and if so, the place after them. The line has the number `number` and
 // starts at the offset `at`.
 pub fn same_record(
@@ -311,18 +372,12 @@ pub fn same_record(
     requires { ⌜ o ≤ length (now catalogue) ⌝ }
     ensures { λ r. ⌜ r ≡ matched o (drop o (now (catalogue .entry))) (lineBytes strict number at (now (src .entry))) ⌝ }
 {
-    match accepted_line::form_of(src, at, strict) {
-        Form::Comment => {
-            if catalogue_same::same_entry(catalogue, o, comment_entry(src, at, number)) {
-                return Matched::Upto(o + 13);
-            }
-            Matched::Differs
-        }
-        Form::Once(kind) => same_line(catalogue, o, kind, src, LinePlace { at, number }, &[]),
-        Form::Repeating(kind) => {
-            let mut tables = [0u32; 6448];
-            accepted_line::fields::note_tags(src, at, &mut tables);
-            same_line(catalogue, o, kind, src, LinePlace { at, number }, &tables)
-        }
+    let PlainLine::Is(name, n) = plain_line(src, at) else {
+        let form = accepted_line::form_of(src, at, strict);
+        return same_formed(catalogue, o, form, src, LinePlace { at, number });
+    };
+    if catalogue_same::same_entry(catalogue, o, Entry::ReferenceSequence(name, n, number)) {
+        return Matched::Upto(o + 21);
     }
+    Matched::Differs
 }

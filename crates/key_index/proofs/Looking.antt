@@ -6,7 +6,7 @@ use native.Mathlib.Omega.{arith}
 use lib.ListN.{length, take, drop}
 use Rattle.record.specs.declared.Head.{Head}
 use Rattle.record.specs.declared.Head.the-variants as head
-use Rattle.key_look.specs.declared.Sought.the-variants.{Known}
+use Rattle.key_look.specs.declared.Sought.the-variants.{Known, Free}
 use Rattle.key_look.proofs.Looking.{Below, sought-below, looks-few}
 use Rattle.key_index.specs.KeySlots.{looksOf, soughtOf, offsetOf}
 use Rattle.key_index.specs.Keyed.{KeyInText}
@@ -22,17 +22,22 @@ offset-small size (head.Program p n) h = h .1
 offset-small size (head.Comment p) h = omega arith
 
 module _ (seed : Seed) where
-  pub known-below : (t slots : List ℕ) (x : Head) (i : ℕ) → 0 < length slots → soughtOf seed t slots x ≡ Known i → i < length slots
+  head-below : (t slots : List ℕ) (x : Head) → 0 < length slots → Below (length slots) (soughtOf seed t slots x)
   unfolding Below soughtOf
-  known-below t slots x i p e = subst (Below (length slots)) e (go x)
-    where
-      go : (x : Head) → Below (length slots) (soughtOf seed t slots x)
-      go (head.Refused n) = tt
-      go (head.Header v n) = tt
-      go (head.ReferenceSequence q l n) = sought-below seed t slots 2 (take (q .len) (drop (q .at) t)) p
-      go (head.ReadGroup q n) = sought-below seed t slots 3 (take (q .len) (drop (q .at) t)) p
-      go (head.Program q n) = sought-below seed t slots 4 (take (q .len) (drop (q .at) t)) p
-      go (head.Comment q) = tt
+  head-below t slots (head.Refused n) p = tt
+  head-below t slots (head.Header v n) p = tt
+  head-below t slots (head.ReferenceSequence q l n) p = sought-below seed t slots 2 (take (q .len) (drop (q .at) t)) p
+  head-below t slots (head.ReadGroup q n) p = sought-below seed t slots 3 (take (q .len) (drop (q .at) t)) p
+  head-below t slots (head.Program q n) p = sought-below seed t slots 4 (take (q .len) (drop (q .at) t)) p
+  head-below t slots (head.Comment q) p = tt
+
+  pub known-below : (t slots : List ℕ) (x : Head) (i : ℕ) → 0 < length slots → soughtOf seed t slots x ≡ Known i → i < length slots
+  unfolding Below
+  known-below t slots x i p e = subst (Below (length slots)) e (head-below t slots x p)
+
+  pub free-below : (t slots : List ℕ) (x : Head) (i : ℕ) → 0 < length slots → soughtOf seed t slots x ≡ Free i → i < length slots
+  unfolding Below
+  free-below t slots x i p e = subst (Below (length slots)) e (head-below t slots x p)
 
   -- no slot is looked at twice
   pub head-looks-few : (t slots : List ℕ) (x : Head) → 0 < length slots → looksOf seed t slots x ≤ length slots

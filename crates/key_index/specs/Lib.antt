@@ -2,3 +2,4 @@
 pub mod KeySlots
 pub mod Keyed
 pub mod HeldKeys
+pub mod Counting

@@ -1,5 +1,7 @@
 // An exact index of the keys seen so far. A slot is 0, or holds a key: its kind and its offset in the text. A key ends before the first byte below 32
 // or at the end of the text, so no length is kept.
+pub mod counting;
+
 use key_at::OFFSETS;
 use key_look::Looked;
 use key_look::Seed;
@@ -7,13 +9,10 @@ use key_look::Sought;
 use record::Head;
 use record::Stretch;
 ghost use mathlib.Core.Path.{_≡_};
-ghost use mathlib.Core.Bool.{false};
 ghost use Prim.Native.Nat.{_≤_, _<_, _+_};
 ghost use lib.ListN.{length, replicate};
-ghost use Rattle.key_look.specs.declared.Sought.the-variants.{Full};
-ghost use Rattle.key_look.specs.Sought.{soughtAt, looksAt};
-ghost use Rattle.key_index.specs.KeySlots.{saysKnown, afterEnteringAt, isFound, looksOf, afterEntering, soughtOf, offsetOf, afterPointing, isFirstKey};
-ghost use Rattle.key_index.specs.Keyed.{KeyInText};
+ghost use Rattle.key_index.specs.KeySlots.{isFound, looksOf, afterEntering, afterPointing, isFirstKey};
+ghost use Rattle.key_index.specs.Keyed.{KeyInText, noKey, keyOf, soughtBy, looksBy, printBy};
 
 // Whether a key was found, and how many slots were looked at for it.
 pub struct Found {
@@ -27,32 +26,83 @@ pub struct Standing {
     pub slots: usize,
 }
 
-// Whether the area holds the key of this kind at a place of the text. If not, the key is put in where there is `room`.
-fn find_or_enter_at(
-    text: &[u8],
-    area: &mut [u32],
-    seed: Seed,
+// The key of a head: its kind, and where it is in the text. The kind is 0 if the head has no key.
+struct Key {
     kind: u8,
     place: Stretch,
-    room: bool,
-) -> Found
+}
+
+// What a head without a key has.
+fn no_key() -> Key
+    ensures { λ r. ⌜ r ≡ noKey ⌝ }
+{
+    Key {
+        kind: 0,
+        place: Stretch { at: 0, len: 0 },
+    }
+}
+
+// The key of a head.
+fn key_of(head: Head) -> Key
+    ensures { λ r. ⌜ r ≡ keyOf head ⌝ }
+{
+    match head {
+        Head::Refused(_) => no_key(),
+        Head::Header(_, _) => no_key(),
+        Head::ReferenceSequence(place, _, _) => Key {
+            kind: format::REFERENCE_SEQUENCE,
+            place,
+        },
+        Head::ReadGroup(place, _) => Key {
+            kind: format::READ_GROUP,
+            place,
+        },
+        Head::Program(place, _) => Key {
+            kind: format::PROGRAM,
+            place,
+        },
+        Head::Comment(_) => no_key(),
+    }
+}
+
+// Looks for a key. No slot holds the key of a head without one, and none is looked at.
+fn look_for(text: &[u8], area: &[u32], seed: Seed, key: Key) -> Looked
     requires { ⌜ length (now text) ≤ 16777216 ⌝ }
     requires { ⌜ 0 < length (now area) ⌝ }
-    requires { ⌜ place .at + place .len ≤ length (now text) ⌝ }
-    requires { ⌜ (place .at < 16777216) × (kind ≤ 7) ⌝ }
-    ensures known { λ r. ⌜ r .known ≡ saysKnown (soughtAt seed (now (text .entry)) (now (area .entry)) kind place) ⌝ }
-    ensures slots { λ r. ⌜ r .slots ≡ looksAt seed (now (text .entry)) (now (area .entry)) kind place ⌝ }
-    ensures wrote { λ _. ⌜ now (area .exit) ≡ afterEnteringAt seed room (now (text .entry)) (now (area .entry)) kind place ⌝ }
+    requires { ⌜ key .place .at + key .place .len ≤ length (now text) ⌝ }
+    ensures sought { λ r. ⌜ r .sought ≡ soughtBy seed (now (text .entry)) (now (area .entry)) key ⌝ }
+    ensures slots { λ r. ⌜ r .slots ≡ looksBy seed (now (text .entry)) (now (area .entry)) key ⌝ }
+    ensures print { λ r. ⌜ r .print ≡ printBy seed (now (text .entry)) key ⌝ }
 {
-    let start = place.at;
-    let looked = key_look::look_at(text, area, seed, kind, place);
+    if key.kind == 0 {
+        return Looked {
+            sought: Sought::Full,
+            slots: 0,
+            print: 0,
+        };
+    }
+    key_look::look_at(text, area, seed, key.kind, key.place)
+}
+
+// Whether the area holds the key of a head. If not, the key is put in where there is `room`. A head without a key changes nothing.
+pub fn find_or_enter(text: &[u8], area: &mut [u32], seed: Seed, head: Head, room: bool) -> Found
+    requires { ⌜ length (now text) ≤ 16777216 ⌝ }
+    requires { ⌜ 0 < length (now area) ⌝ }
+    requires { ⌜ KeyInText (length (now text)) head ⌝ }
+    ensures known { λ r. ⌜ r .known ≡ isFound seed (now (text .entry)) (now (area .entry)) head ⌝ }
+    ensures slots { λ r. ⌜ r .slots ≡ looksOf seed (now (text .entry)) (now (area .entry)) head ⌝ }
+    ensures wrote { λ _. ⌜ now (area .exit) ≡ afterEntering seed room (now (text .entry)) (now (area .entry)) head ⌝ }
+{
+    let key = key_of(head);
+    let at = key.place.at;
+    let looked = look_for(text, area, seed, key);
     let slots = looked.slots;
     let sought = looked.sought;
     match sought {
         Sought::Known(_) => Found { known: true, slots },
         Sought::Free(i) => {
             if room {
-                area[i] = looked.print * OFFSETS + (start as u32);
+                area[i] = looked.print * OFFSETS + (at as u32);
             }
             Found {
                 known: false,
@@ -66,93 +116,6 @@ fn find_or_enter_at(
     }
 }
 
-// What is found of a head that has no key.
-fn none_found() -> Found
-    ensures known { λ r. ⌜ r .known ≡ false ⌝ }
-    ensures slots { λ r. ⌜ r .slots ≡ 0 ⌝ }
-{
-    Found {
-        known: false,
-        slots: 0,
-    }
-}
-
-// Whether the area holds the key of a head. If not, the key is put in where there is `room`. A head without a key changes nothing.
-pub fn find_or_enter(text: &[u8], area: &mut [u32], seed: Seed, head: Head, room: bool) -> Found
-    requires { ⌜ length (now text) ≤ 16777216 ⌝ }
-    requires { ⌜ 0 < length (now area) ⌝ }
-    requires { ⌜ KeyInText (length (now text)) head ⌝ }
-    ensures known { λ r. ⌜ r .known ≡ isFound seed (now (text .entry)) (now (area .entry)) head ⌝ }
-    ensures slots { λ r. ⌜ r .slots ≡ looksOf seed (now (text .entry)) (now (area .entry)) head ⌝ }
-    ensures wrote { λ _. ⌜ now (area .exit) ≡ afterEntering seed room (now (text .entry)) (now (area .entry)) head ⌝ }
-{
-    match head {
-        Head::Refused(_) => none_found(),
-        Head::Header(_, _) => none_found(),
-        Head::ReferenceSequence(p, _, _) => find_or_enter_at(
-            text,
-            area,
-            seed,
-            format::REFERENCE_SEQUENCE,
-            p,
-            room,
-        ),
-        Head::ReadGroup(p, _) => find_or_enter_at(text, area, seed, format::READ_GROUP, p, room),
-        Head::Program(p, _) => find_or_enter_at(text, area, seed, format::PROGRAM, p, room),
-        Head::Comment(_) => none_found(),
-    }
-}
-
-// What looking for no key comes to: no slot holds it, and none is looked at.
-fn none_looked() -> Looked
-    ensures sought { λ r. ⌜ r .sought ≡ Full ⌝ }
-    ensures slots { λ r. ⌜ r .slots ≡ 0 ⌝ }
-{
-    Looked {
-        sought: Sought::Full,
-        slots: 0,
-        print: 0,
-    }
-}
-
-// Looks for the key of a head. No slot holds the key of a head without one.
-fn look_for(text: &[u8], area: &[u32], seed: Seed, head: Head) -> Looked
-    requires { ⌜ length (now text) ≤ 16777216 ⌝ }
-    requires { ⌜ 0 < length (now area) ⌝ }
-    requires { ⌜ KeyInText (length (now text)) head ⌝ }
-    ensures sought { λ r. ⌜ r .sought ≡ soughtOf seed (now (text .entry)) (now (area .entry)) head ⌝ }
-    ensures slots { λ r. ⌜ r .slots ≡ looksOf seed (now (text .entry)) (now (area .entry)) head ⌝ }
-{
-    match head {
-        Head::Refused(_) => none_looked(),
-        Head::Header(_, _) => none_looked(),
-        Head::ReferenceSequence(p, _, _) => key_look::look_at(
-            text,
-            area,
-            seed,
-            format::REFERENCE_SEQUENCE,
-            p,
-        ),
-        Head::ReadGroup(p, _) => key_look::look_at(text, area, seed, format::READ_GROUP, p),
-        Head::Program(p, _) => key_look::look_at(text, area, seed, format::PROGRAM, p),
-        Head::Comment(_) => none_looked(),
-    }
-}
-
-// The offset of a head's key; 0 if it has none.
-fn offset_of(head: Head) -> usize
-    ensures { λ r. ⌜ r ≡ offsetOf head ⌝ }
-{
-    match head {
-        Head::Refused(_) => 0,
-        Head::Header(_, _) => 0,
-        Head::ReferenceSequence(p, _, _) => p.at,
-        Head::ReadGroup(p, _) => p.at,
-        Head::Program(p, _) => p.at,
-        Head::Comment(_) => 0,
-    }
-}
-
 // Puts the head's own offset into the slot that holds the head's key, if there is one. Answers how many slots were looked at.
 pub fn point_to_head(text: &[u8], area: &mut [u32], seed: Seed, head: Head) -> usize
     requires { ⌜ length (now text) ≤ 16777216 ⌝ }
@@ -161,8 +124,9 @@ pub fn point_to_head(text: &[u8], area: &mut [u32], seed: Seed, head: Head) -> u
     ensures slots { λ r. ⌜ r ≡ looksOf seed (now (text .entry)) (now (area .entry)) head ⌝ }
     ensures wrote { λ _. ⌜ now (area .exit) ≡ afterPointing seed (now (text .entry)) (now (area .entry)) head ⌝ }
 {
-    let at = offset_of(head);
-    let looked = look_for(text, area, seed, head);
+    let key = key_of(head);
+    let at = key.place.at;
+    let looked = look_for(text, area, seed, key);
     let slots = looked.slots;
     let sought = looked.sought;
     match sought {
@@ -183,8 +147,9 @@ pub fn is_first_with_key(text: &[u8], area: &[u32], seed: Seed, head: Head) -> S
     ensures first { λ r. ⌜ r .first ≡ isFirstKey seed (now (text .entry)) (now (area .entry)) head ⌝ }
     ensures slots { λ r. ⌜ r .slots ≡ looksOf seed (now (text .entry)) (now (area .entry)) head ⌝ }
 {
-    let at = offset_of(head);
-    let looked = look_for(text, area, seed, head);
+    let key = key_of(head);
+    let at = key.place.at;
+    let looked = look_for(text, area, seed, key);
     let slots = looked.slots;
     let sought = looked.sought;
     match sought {

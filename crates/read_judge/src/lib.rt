@@ -1,5 +1,6 @@
 // Judges a whole text line by line: answers its first refusal, or the size of its catalogue.
 use format::LineNo;
+use key_index::counting;
 use key_look::Seed;
 use record::Head;
 ghost use mathlib.Core.Path.{_≡_};
@@ -14,7 +15,7 @@ ghost use Rattle.format.specs.Slots.{Held};
 ghost use Rattle.read_admission.specs.Admission.{barring};
 ghost use Rattle.key_look.specs.Seed.{plainSeed, Seeded};
 ghost use Rattle.key_index.specs.KeySlots.{start};
-ghost use Rattle.read_judge.specs.Busy.{countedSlots, tooMany};
+ghost use Rattle.read_judge.specs.Busy.{keptBusy};
 ghost use Rattle.read_judge.specs.Blocks.{clashOf, turned, emptied};
 ghost use Rattle.read_judge.specs.Judged.{judgedBy, judgement};
 ghost use Rattle.read_judge.specs.Parsed.{parsedBy};
@@ -40,9 +41,6 @@ pub enum Judged {
 // What looking ahead answers where it is given up: no line has this number.
 const GIVEN_UP: usize = 16777218;
 
-// No more slots are counted for a key: they are too many for any text.
-const MOST_COUNTED: usize = 4294967296;
-
 // What judging came to: what the text is, unless it was given up, since the numbers of its keys keep it `busy`; and how many slots were looked at, for
 // the keys of so many lines.
 struct Tried {
@@ -64,24 +62,10 @@ struct Block {
     clash: usize,
 }
 
-// How many slots were looked at, with those for one key more, as far as that is counted. By keyed numbers none is.
-fn counted(seed: Seed, slots: usize, more: usize) -> usize
-    requires { ⌜ slots ≤ 4294967296 ⌝ }
-    ensures { λ r. ⌜ r ≡ countedSlots (seed .keyed) slots more ⌝ }
-{
-    if seed.keyed {
-        return slots;
-    }
-    if MOST_COUNTED < more {
-        return MOST_COUNTED;
-    }
-    slots + more
-}
-
-// Whether so many slots for the keys of so many lines are too many: more than 16 for each line, beyond the first 65,536; or looking ahead was given up.
+// Whether judging is given up after so many lines: so many slots are too many for their keys, or looking ahead was given up.
 fn is_busy(seed: Seed, clash: usize, lines: usize, slots: usize) -> bool
     requires { ⌜ lines ≤ 16777216 ⌝ }
-    ensures { λ r. ⌜ r ≡ tooMany (seed .keyed) clash lines slots ⌝ }
+    ensures { λ r. ⌜ r ≡ keptBusy (seed .keyed) clash lines slots ⌝ }
 {
     if seed.keyed {
         return false;
@@ -89,7 +73,7 @@ fn is_busy(seed: Seed, clash: usize, lines: usize, slots: usize) -> bool
     if clash == GIVEN_UP {
         return true;
     }
-    65536 + 16 * lines < slots
+    counting::is_busy(seed, lines, slots)
 }
 
 // Judging that was given up after so many lines.
@@ -152,8 +136,8 @@ fn first_met(
         let end = at + cut.len;
         let head = record_parser::parse_record(&text[at..end], at, way.strict);
         let found = key_index::find_or_enter(text, area, seed, head, false);
-        slots = counted(seed, slots, found.slots);
-        if is_busy(seed, clash, line - first, slots) {
+        slots = counting::counted(seed, slots, found.slots);
+        if counting::is_busy(seed, line - first, slots) {
             return GIVEN_UP;
         }
         if found.known {
@@ -281,7 +265,7 @@ fn judge_along(text: &[u8], way: Way, area: &mut [u32]) -> Tried
         once = parsed.once;
         block = next_block(text, way, area, at, line, block);
         let found = key_index::find_or_enter(text, area, seed, head, true);
-        slots = counted(seed, slots, found.slots);
+        slots = counting::counted(seed, slots, found.slots);
         if is_busy(seed, block.clash, line, slots) {
             return given_up(line, slots);
         }

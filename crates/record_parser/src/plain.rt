@@ -65,7 +65,7 @@ fn whole_length(src: &[u8]) -> u64
 }
 
 // Whether the fields of a line of SQ are SN and LN alone. No tag is repeated in such a line, so it is accepted under either rule for those.
-fn parse_plain(src: &[u8]) -> Plain
+pub fn parse_plain(src: &[u8]) -> Plain
     requires { ⌜ 3 ≤ length (now src) ⌝ }
     ensures { λ r. ⌜ PlainTold (now (src .entry)) r ⌝ }
 {

@@ -29,11 +29,9 @@ pub fn write_marked(text: &[u8], strict: bool, marks: &[bool], out: &mut [u8]) -
         Measured::Unwritable(line) => CountAnswer::Refused(24, line),
         Measured::Is(sizes) => {
             let n = sizes.total();
-            if format::LONGEST < n {
-                return CountAnswer::Refused(1, LineNo(0));
-            }
-            if out.len() < n {
-                return CountAnswer::Refused(20, LineNo(0));
+            let unfit = tidy_sizes::fit(n, 0, 0, out.len());
+            if unfit != 0 {
+                return CountAnswer::Refused(unfit, LineNo(0));
             }
             let n = tidy_text::put_marked(text, strict, marks, sizes, out);
             CountAnswer::Count(n)

@@ -19,8 +19,9 @@ use Rattle.accepted_line.specs.Run.{fieldsOf, fieldsFrom, AtField}
 use Rattle.accepted_line.proofs.fields.Start.{accepted-fields}
 use Rattle.accepted_line.specs.Found.{kindBy}
 use Rattle.accepted_line.proofs.Finds.{accepted-byte, by-record}
-use Rattle.tidy_line.specs.Neat.{neat}
-use Rattle.tidy_line.proofs.already.Text.{neat-text}
+use Rattle.tidy_neat.specs.Neat.{neat, ready}
+use Rattle.tidy_line.proofs.Neat.{neat-text}
+use Rattle.tidy_line.proofs.Ready.{ready-neat}
 use Rattle.tidy_line.specs.Line.{lineText, lineWritable}
 
 -- where no tag is repeated, the line is accepted where that is forbidden
@@ -59,6 +60,17 @@ module _ (at : ℕ) (s : List ℕ) (h : isRead (line false (record { at = at; by
   whole-text o k e n =
       by-record false at s h (λ l. lineText l ≡ s ++ (10 ∷ []))
       (λ r d. neat-text at s r (once-accepted at s r (line-accepted false (record { at = at; bytes = s }) r d) o) (ap (λ k. neat k s) e ∙ n))
+
+  -- a line that is ready is, and can be written
+  pub ready-text : AtField true at s 3 → (k : Kind) → kindBy (getD s 1 0) ≡ k → ready k s ≡ true
+      → (lineText (line false (record { at = at; bytes = s })) ≡ s ++ (10 ∷ [])) × (lineWritable (line false (record { at = at; bytes = s })) ≡ true)
+  unfolding lineText lineWritable
+  ready-text o k e n =
+      by-record false at s h (λ l. (lineText l ≡ s ++ (10 ∷ [])) × (lineWritable l ≡ true))
+      (λ r d.
+      let a = once-accepted at s r (line-accepted false (record { at = at; bytes = s }) r d) o in
+      let f = ready-neat at s r a (ap (λ k. ready k s) e ∙ n) in
+      (neat-text at s r a (f .0), f .1))
 
   -- a comment is, and can be written
   pub comment-text : kindBy (getD s 1 0) ≡ Comment → (lineText (line false (record { at = at; bytes = s })) ≡ s ++ (10 ∷ [])) × (lineWritable (line false (record { at = at; bytes = s })) ≡ true)

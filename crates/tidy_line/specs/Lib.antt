@@ -2,4 +2,3 @@
 pub mod Line
 pub mod Texts
 pub mod Heads
-pub mod Neat

@@ -1,6 +1,4 @@
 // One record of the tidy text: writes it from its accepted line, or measures it.
-pub mod already;
-
 use accepted_line::Form;
 use accepted_line::KeyValues;
 use format::Kind;
@@ -149,7 +147,7 @@ fn put_once(out: &mut [u8], o: usize, kind: Kind, src: &[u8], at: usize) -> usiz
     ensures next { λ r. ⌜ r ≡ o + length (lineText (line false (record { at = at; bytes = now (src .entry) }))) ⌝ }
     ensures wrote { λ _. ⌜ now (out .exit) ≡ over (now (out .entry)) o (lineText (line false (record { at = at; bytes = now (src .entry) }))) ⌝ }
 {
-    if already::is_neat(kind, src) {
+    if tidy_neat::is_neat(kind, src) {
         return put_whole(out, o, src);
     }
     put_parts(out, o, kind, src, at, &[])
@@ -250,11 +248,11 @@ fn once_size(kind: Kind, src: &[u8], at: usize) -> Size
     requires { ⌜ AtField true at (now src) 3 ⌝ }
     ensures { λ r. ⌜ r ≡ lineSize (line false (record { at = at; bytes = now (src .entry) })) ⌝ }
 {
+    if tidy_neat::is_ready(kind, src) {
+        return Size::Is(src.len() + 1);
+    }
     if !is_writable(kind, src, at, &[]) {
         return Size::Unwritable;
-    }
-    if already::is_neat(kind, src) {
-        return Size::Is(src.len() + 1);
     }
     let keys = accepted_line::find_keys(kind, src, at, &[]);
     let others = src.len() - 3 - keys_len(kind, keys);

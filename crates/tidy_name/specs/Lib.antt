@@ -1,2 +1,3 @@
 -- Words for contracts and laws, and nothing to believe.
 pub mod Classes
+pub mod Runs

@@ -1,7 +1,7 @@
 // Reference names that can be written. The reader takes any value as a name; the writer takes only those that follow the specification's rule.
 ghost use mathlib.Core.Path.{_≡_};
-ghost use Rattle.format.specs.Tidy.{nameFirst, nameLater, isName};
-ghost use Rattle.tidy_name.specs.Classes.{classOf};
+ghost use Rattle.format.specs.Tidy.{isName};
+ghost use Rattle.tidy_name.specs.Runs.{nameRun};
 
 // The classes of bytes: 0 for a byte that no name has, 2 for one that may be anywhere in a name, and 1 for one that may be anywhere but at the start.
 const NEVER: u8 = 0;
@@ -268,44 +268,34 @@ const CLASSES: [u8; 256] = [
     0,
 ];
 
-// The class of a byte, from the table.
-fn class_of(b: u8) -> u8
-    ensures { λ r. ⌜ r ≡ classOf b ⌝ }
+// How many bytes at the front of `s` make a name that can be written, or 0 if its first byte can't start one. The table is put on the stack once for
+// all bytes.
+pub fn name_len(s: &[u8]) -> usize
+    ensures { λ r. ⌜ r ≡ nameRun (now (s .entry)) ⌝ }
 {
-    CLASSES[b as usize]
+    if s.len() == 0 {
+        return 0;
+    }
+    let classes = CLASSES;
+    if classes[s[0] as usize] != ANYWHERE {
+        return 0;
+    }
+    let mut i: usize = 1;
+    while i < s.len() {
+        if classes[s[i] as usize] == NEVER {
+            return i;
+        }
+        i += 1;
+    }
+    i
 }
 
-// Whether a name may start with `b`: a digit, a letter or one of certain other characters.
-pub fn is_first_byte(b: u8) -> bool
-    ensures { λ r. ⌜ r ≡ nameFirst b ⌝ }
-{
-    class_of(b) == ANYWHERE
-}
-
-// Whether `b` may come later in a name: these, and `*` and `=`.
-pub fn is_later_byte(b: u8) -> bool
-    ensures { λ r. ⌜ r ≡ nameLater b ⌝ }
-{
-    class_of(b) != NEVER
-}
-
-// Whether `s` can be written as a reference name. The table is put on the stack once for all bytes.
+// Whether `s` can be written as a reference name.
 pub fn is_name(s: &[u8]) -> bool
     ensures { λ r. ⌜ r ≡ isName (now (s .entry)) ⌝ }
 {
     if s.len() == 0 {
         return false;
     }
-    let classes = CLASSES;
-    if classes[s[0] as usize] != ANYWHERE {
-        return false;
-    }
-    let mut i: usize = 1;
-    while i < s.len() {
-        if classes[s[i] as usize] == NEVER {
-            return false;
-        }
-        i += 1;
-    }
-    true
+    name_len(s) == s.len()
 }

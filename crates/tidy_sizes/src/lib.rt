@@ -1,8 +1,9 @@
-// One number per kind of record.
+// One number per kind of record, and whether a text of so many bytes can be written.
 use format::Kind;
 ghost use mathlib.Core.Path.{_≡_};
 ghost use Prim.Native.Nat.{_≤_, _+_};
 ghost use Rattle.tidy_sizes.specs.Numbers.{noBytes, get, plus, front, total, kindStarts};
+ghost use Rattle.tidy_sizes.specs.Plan.{unfit};
 
 // One number per kind of record: how many bytes the records of the kind take, or where the next one goes.
 pub struct PerKind {
@@ -97,4 +98,22 @@ impl PerKind {
             co: pg + self.pg + gap,
         }
     }
+}
+
+// Whether a text of `n` and `more` bytes can be written with `besides` other bytes to an output of `room` bytes: 0, or the refusal. That is 1 if the
+// text is longer than a text may be, then 20 if the output is too short.
+pub fn fit(n: usize, more: usize, besides: usize, room: usize) -> u8
+    requires { ⌜ 16777216 + besides ≤ 18446744073709551615 ⌝ }
+    ensures { λ r. ⌜ r ≡ unfit (n + more) besides room ⌝ }
+{
+    if format::LONGEST < n {
+        return 1;
+    }
+    if format::LONGEST - n < more {
+        return 1;
+    }
+    if room < n + more + besides {
+        return 20;
+    }
+    0
 }

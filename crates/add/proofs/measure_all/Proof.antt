@@ -1,11 +1,10 @@
 -- `add::measure_all` meets its contract: what the tidy text and the new programs have together is known before a byte is written.
 use Prim.Native.Nat.{ℕ, _+_, _≤_}
-use mathlib.Core.Path.{_≡_, sym, ap, _∙_}
+use mathlib.Core.Path.{_≡_, refl, sym, ap, _∙_}
 use mathlib.Core.List.{List}
 use mathlib.Core.Option.{none}
 use native.Mathlib.Omega.{arith}
 use lib.ListN.{length}
-use borrow.Author.Tests.{ltb-true, ltb-false}
 use Rattle.format.specs.Records.{Record}
 use Rattle.format.specs.Tidy.{tidy, unwritable}
 use Rattle.accepted.specs.Read.{recordsOf}
@@ -15,7 +14,8 @@ use Rattle.tidy_text.specs.Sizes.{sizesOf}
 use Rattle.tidy_text.proofs.Lines.{opened}
 use Rattle.tidy_text.proofs.Total.{tidy-small}
 use Rattle.tidy_text.proofs.Sizes.{total-size}
-use Rattle.tidy.proofs.Writing.{measured-bad, measured-is, write-bad, write-long, write-short, write-fits}
+use Rattle.tidy_sizes.proofs.Plan.{unfit-long, write-bad, write-unfit, write-fits}
+use Rattle.tidy.proofs.Writing.{measured-bad, measured-is}
 use Rattle.add_lines.specs.Lines.{addedText}
 use Rattle.add.specs.Added.{withAdded, plannedOf}
 use Rattle.add.specs.declared.Plan.{Plan}
@@ -66,10 +66,6 @@ size c =
     let s = start (n .before .before) in
     omega (arith, with-size (records s) (new s), counted n, c .added-len .ensures)
 
--- and no longer than a text may be
-short : (c : tie.Else2) → length (whole (start (c .before .before .before .before .before .before .before))) ≤ 16777216
-short c = let o = c .before in omega (arith, size (o .before), ltb-false 16777216 (o .before .before .before .before .total .result + o .before .added-len .result) (sym (o .is-over .ensures) ∙ c .if2 .left))
-
 measure-requires : tie.Need-measure-requires
 measure-requires c κs = search needs
 
@@ -93,7 +89,7 @@ returns c =
     let a = s .args in
     let room = a .room in
     let long = added-long (idsAt (a .text .now) (a .ids .now)) (a .ways .shape .linked) (a .prefix .now) (a .fields .now) (a .ways .shape .empty) (a .ways .shape .alone) (a .leaves .now) (s .pre .1 .1 .1 .1) (sym (c .before .is-too-long .ensures) ∙ c .if1 .taken) in
-    sym (ap (plannedOf (sound s)) (write-long room (unwritable 0 (records s)) (whole s) (measured z .0) (omega (arith, with-size (records s) (new s), long))))
+    sym (ap (plannedOf (sound s)) (write-unfit room (unwritable 0 (records s)) (whole s) (measured z .0) (length (whole s)) 1 refl (unfit-long (length (whole s)) 0 room (omega (arith, with-size (records s) (new s), long))) (λ z. omega (arith, z))))
 
 added-len-requires : tie.Need-added-len-requires
 added-len-requires c κs =
@@ -102,52 +98,38 @@ added-len-requires c κs =
     let b = both-short (s .args .prefix .now) (s .args .fields .now) (sym (c .before .is-too-long .ensures) ∙ c .if1 .left) in
     (s .pre .1 .1 .0, (opened (s .args .ways .strict) (s .args .text .now) (s .pre .0) (s .pre .1 .0) .fits, b .0, b .1, s .pre .1 .1 .1 .0))
 
-is-over-requires : tie.Need-is-over-requires
-is-over-requires c κs = search needs
+fit-requires : tie.Need-fit-requires
+fit-requires c κs = search needs
 
 returns-2 : tie.Need-returns-2
 unfolding plannedOf
 returns-2 c =
-    let o = c .before in
-    let n = o .before .before .before .before in
-    let z = n .before .before in
+    let f = c .before in
+    let l = f .before in
+    let z = l .before .before .before .before .before in
     let s = start z in
-    let a = s .args in
-    let room = a .room in
-    sym (ap (plannedOf (sound s)) (write-long room (unwritable 0 (records s)) (whole s) (measured z .0) (omega (arith, size (o .before), ltb-true 16777216 (n .total .result + o .before .added-len .result) (sym (o .is-over .ensures) ∙ c .if2 .taken)))))
-
-add-if3 : tie.Need-add-if3
-add-if3 c = omega (arith, short c, size (c .before .before))
+    sym (ap (plannedOf (sound s)) (write-unfit (s .args .room) (unwritable 0 (records s)) (whole s) (measured z .0) _ (f .fit .result) (size l) (f .fit .ensures) (c .if2 .taken)))
 
 returns-3 : tie.Need-returns-3
 unfolding plannedOf
 returns-3 c =
-    let e = c .before in
-    let z = e .before .before .before .before .before .before .before in
-    let s = start z in
-    let a = s .args in
-    let room = a .room in
-    sym (ap (plannedOf (sound s)) (write-short room (unwritable 0 (records s)) (whole s) (measured z .0) (short e) (omega (arith, size (e .before .before), c .if3 .taken))))
-
-returns-4 : tie.Need-returns-4
-unfolding plannedOf
-returns-4 c =
     let m = c .before .before .before in
     let s = c .before .before .before .before .before .before .before .before .before in
     let room = s .args .room in
     let l = c .before .line .given .0 .0 in
     sym (ap (plannedOf (sound s)) (write-bad room (unwritable 0 (records s)) (whole s) (l .0) (measured-bad (unwritable 0 (records s)) (sizesOf (records s)) l (sym (m .measure .ensures .0) ∙ c .before .line .given .1))))
 
-returns-5 : tie.Need-returns-5
+returns-4 : tie.Need-returns-4
 unfolding plannedOf
-returns-5 c =
-    let l = c .before .before .before in
+returns-4 c =
+    let f = c .before in
+    let l = f .before in
     let z = l .before .before .before .before .before in
     let s = start z in
     let p = sound s in
     ap (λ n. Is (record { ways = p .ways; sizes = n; more = l .added-len .result })) (sym (measured z .1))
     ∙ ap (λ n. Is (record { ways = p .ways; sizes = p .sizes; more = n })) (l .added-len .ensures)
-    ∙ sym (ap (plannedOf p) (write-fits (s .args .room) (unwritable 0 (records s)) (whole s) (measured z .0) (short (c .before)) (omega (arith, size l, c .if3 .left))))
+    ∙ sym (ap (plannedOf p) (write-fits (s .args .room) (unwritable 0 (records s)) (whole s) (measured z .0) _ (f .fit .result) (size l) (f .fit .ensures) (c .if2 .left)))
 
 pub measure-all-spec : {M : Type 1} → statement M
 measure-all-spec =
@@ -160,9 +142,7 @@ measure-all-spec =
     is-too-long-requires
     returns
     added-len-requires
-    is-over-requires
+    fit-requires
     returns-2
-    add-if3
     returns-3
-    returns-4
-    returns-5)
+    returns-4)

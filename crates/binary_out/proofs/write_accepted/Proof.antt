@@ -1,5 +1,5 @@
 -- `binary_out::write_accepted` meets its contract: the tidy text and the SQ list are measured, then written.
-use Prim.Native.Nat.{_+_}
+use Prim.Native.Nat.{_+_, _≤_}
 use mathlib.Core.Path.{_≡_, sym, ap, _∙_}
 use mathlib.Core.Option.{none}
 use native.Mathlib.Omega.{arith}
@@ -13,6 +13,7 @@ use Rattle.format.specs.Binary.{listBytes}
 use Rattle.binary_references.proofs.Next.{sq-all}
 use Rattle.binary_put.specs.Size.{listSize}
 use Rattle.tidy_sizes.specs.Numbers.{total}
+use Rattle.tidy_sizes.proofs.Plan.{unfit-not}
 use Rattle.tidy_text.specs.Sizes.{sizesOf}
 use Rattle.tidy_text.proofs.Lines.{opened}
 use Rattle.tidy_text.proofs.Total.{tidy-small}
@@ -20,7 +21,7 @@ use Rattle.tidy_text.proofs.Sizes.{total-size}
 use Rattle.read.proofs.AnswerCases.{refused-answer, written-answer}
 use Rattle.tidy.proofs.Writing.{measured-bad, measured-is}
 use Rattle.binary_out.specs.Written.{binaryOf, writingBinary}
-use Rattle.binary_out.proofs.Whole.{binary-length, out-bad, out-long, out-short, out-written}
+use Rattle.binary_out.proofs.Whole.{binary-length, out-bad, out-unfit, out-fits}
 use borrow.Author.Needs.{needs}
 use Rattle.binary_out.proofs.write_accepted.Statement.{statement}
 use Rattle.binary_out.proofs.write_accepted.Tie as tie
@@ -41,23 +42,26 @@ sum c = ap total (sym (measured c .1)) ∙ total-size (recordsOf (c .before .bef
 counted : (c : tie.After-total) → length (tidy (recordsOf (c .before .before .before .before .before .before .before .args .text .now))) ≡ c .total .result
 counted c = sym (c .total .ensures ∙ sum (c .before .before))
 
+-- what was measured before the list
+abbrev start : tie.After-measure-list → tie.Start
+start c = c .before .before .before .before .before .before .before .before
+
 -- the list's size is that of the SQ list
 list-size : (c : tie.After-measure-list)
-    → let rs = recordsOf (c .before .before .before .before .before .before .before .before .before .args .text .now) in
+    → let rs = recordsOf (start c .args .text .now) in
     (c .measure-list .result .count ≡ length (sqList rs)) × (c .measure-list .result .bytes ≡ length (listBytes (sqList rs)))
 unfolding listSize
 list-size c =
-    let s = c .before .before .before .before .before .before .before .before .before in
+    let s = start c in
     let t = s .args .text .now in
     let e = c .measure-list .ensures .0 ∙ ap listSize (sq-all (s .args .strict) t (recordsOf t) (accepted-reads t (s .pre .0)) (s .pre .1)) in
     (ap (λ z. z .count) e, ap (λ z. z .bytes) e)
 
 -- and so is the whole header's
-whole : (c : tie.After-measure-list)
-    → 12 + c .before .before .total .result + c .measure-list .result .bytes ≡ length (binaryOf (c .before .before .before .before .before .before .before .before .before .args .text .now))
+whole : (c : tie.After-measure-list) → length (binaryOf (start c .args .text .now)) ≡ c .before .total .result + 0 + (12 + c .measure-list .result .bytes)
 whole c =
-    let rs = recordsOf (c .before .before .before .before .before .before .before .before .before .args .text .now) in
-    omega (arith, counted (c .before .before), list-size c .1, binary-length (tidy rs) (sqList rs))
+    let rs = recordsOf (start c .args .text .now) in
+    omega (arith, counted (c .before), list-size c .1, binary-length (tidy rs) (sqList rs))
 
 measure-requires : tie.Need-measure-requires
 measure-requires c κs = search needs
@@ -75,49 +79,52 @@ total-requires c κs =
     let a = s .args in
     omega (arith, sum z, tidy-small (a .strict) (a .text .now) (opened (a .strict) (a .text .now) (s .pre .0) (s .pre .1)) .1)
 
-returns : tie.Need-returns
-returns c =
-    let n = c .before in
-    let z = n .before .before in
-    let a = z .before .before .before .before .before .args in
-    let room = length (a .out .now) in
-    refused-answer (writingBinary (a .text .now) room) (a .out .now) 1 (record { 0 = 0 })
-    (out-long (a .text .now) room (measured z .0) (omega (arith, counted n, c .if1 .taken)))
-
 measure-list-requires : tie.Need-measure-list-requires
 measure-list-requires c κs =
-    let s = c .before .before .before .before .before .before .before .before in
+    let s = c .before .before .before .before .before .before .before in
     let t = s .args .text .now in
     text-fits t (recordsOf t) (accepted-reads t (s .pre .0))
 
-add-whole : tie.Need-add-whole
-add-whole c = search needs
+add-besides : tie.Need-add-besides
+add-besides c = search needs
 
-add-whole-2 : tie.Need-add-whole-2
-add-whole-2 c = search needs
+fit-requires : tie.Need-fit-requires
+fit-requires c κs = omega (arith, c .before .measure-list .ensures .1)
 
-returns-2 : tie.Need-returns-2
-returns-2 c =
-    let m = c .before .before in
-    let f = m .before in
-    let n = f .before in
+returns : tie.Need-returns
+returns c =
+    let f = c .before in
+    let m = f .before .before in
+    let n = m .before in
     let z = n .before .before in
-    let a = z .before .before .before .before .before .args in
+    let a = start m .args in
     let room = length (a .out .now) in
-    refused-answer (writingBinary (a .text .now) room) (a .out .now) 20 (record { 0 = 0 })
-    (out-short (a .text .now) room (measured z .0) (omega (arith, counted n, f .if1 .left)) (omega (arith, whole m, c .if2 .taken)))
+    refused-answer (writingBinary (a .text .now) room) (a .out .now) (f .fit .result) (record { 0 = 0 })
+    (out-unfit (a .text .now) room (measured z .0) (n .total .result + 0) (12 + m .measure-list .result .bytes) (f .fit .result) (omega (arith, counted n)) (whole m) (f .fit .ensures) (c .if1 .taken))
+
+-- it fits
+fits : (e : tie.Else1)
+    → let m = e .before .before .before in
+    (m .before .total .result + 0 ≤ 16777216) × (m .before .total .result + 0 + (12 + m .measure-list .result .bytes) ≤ length (start m .args .out .now))
+fits e =
+    let f = e .before in
+    let m = f .before .before in
+    unfit-not (m .before .total .result + 0) (12 + m .measure-list .result .bytes) (length (start m .args .out .now)) (f .fit .result) (f .fit .ensures) (e .if1 .left)
+
+add-whole : tie.Need-add-whole
+add-whole c = omega (arith, fits c .0, c .before .before .before .measure-list .ensures .1)
 
 put-binary-requires : tie.Need-put-binary-requires
 put-binary-requires c κs =
-    let m = c .before .before .before in
-    let f = m .before in
-    let n = f .before in
+    let e = c .before in
+    let m = e .before .before .before in
+    let n = m .before in
     let z = n .before .before in
-    let s = z .before .before .before .before .before in
-    (s .pre .0, (s .pre .1, (sym (measured z .1), (sym (counted n), (list-size m .0, (omega (arith, f .if1 .left), omega (arith, whole m, c .before .if2 .left)))))))
+    let s = start m in
+    (s .pre .0, (s .pre .1, (sym (measured z .1), (sym (counted n), (list-size m .0, (omega (arith, fits e .0), omega (arith, whole m, fits e .1)))))))
 
-returns-3 : tie.Need-returns-3
-returns-3 c =
+returns-2 : tie.Need-returns-2
+returns-2 c =
     let m = c .before .before .before in
     let a = m .before .before .before .args in
     let rs = recordsOf (a .text .now) in
@@ -129,19 +136,19 @@ returns-3 c =
 same-length : tie.Need-same-length
 same-length c = search needs
 
-returns-4 : tie.Need-returns-4
-returns-4 c =
+returns-3 : tie.Need-returns-3
+returns-3 c =
     let w = c .before .before in
-    let q = w .before .before in
-    let m = q .before .before in
-    let f = m .before in
-    let n = f .before in
+    let l = w .before .before in
+    let f = l .before in
+    let m = f .before .before in
+    let n = m .before in
     let z = n .before .before in
-    let a = z .before .before .before .before .before .args in
+    let a = start m .args in
     let room = length (a .out .now) in
-    written-answer (writingBinary (a .text .now) room) (a .out .now) (binaryOf (a .text .now)) (w .put-binary .last .1 .1 .1 .1 .1 .0) (12 + n .total .result + m .measure-list .result .bytes)
-    (out-written (a .text .now) room (measured z .0) (omega (arith, counted n, f .if1 .left)) (omega (arith, whole m, q .if2 .left)))
-    (whole m) (w .put-binary .ensures)
+    written-answer (writingBinary (a .text .now) room) (a .out .now) (binaryOf (a .text .now)) (w .put-binary .last .1 .1 .1 .1 .1 .0) (n .total .result + (12 + m .measure-list .result .bytes))
+    (out-fits (a .text .now) room (measured z .0) (n .total .result + 0) (12 + m .measure-list .result .bytes) (f .fit .result) (omega (arith, counted n)) (whole m) (f .fit .ensures) (l .if1 .left))
+    (omega (arith, whole m)) (w .put-binary .ensures)
 
 pub write-accepted-spec : {M : Type 1} → statement M
 write-accepted-spec =
@@ -151,12 +158,12 @@ write-accepted-spec =
     enum-known-line
     enum-known-sizes
     total-requires
-    returns
     measure-list-requires
+    add-besides
+    fit-requires
+    returns
     add-whole
-    add-whole-2
-    returns-2
     put-binary-requires
-    returns-3
+    returns-2
     same-length
-    returns-4)
+    returns-3)

@@ -3,7 +3,7 @@ use mathlib.Core.Path.{sym, _∙_}
 use lib.ListN.{length}
 use Rattle.format.specs.Tidy.{tidy}
 use Rattle.tidy_text.specs.Sizes.{sizesOf}
-use Rattle.tidy.proofs.Writing.{write-bad}
+use Rattle.tidy_sizes.proofs.Plan.{write-bad}
 use Rattle.format.specs.Carrying.{keptOf, carriedLines, unwritableLine, carrying}
 use Rattle.carry_passes.specs.From.{keptFrom, skippedFrom, unwritableFrom}
 use Rattle.carry_passes.proofs.Split.{first-names}

@@ -17,17 +17,17 @@ use Rattle.record.specs.Head.{headOf}
 use Rattle.key_index.specs.KeySlots.{isFound}
 use Rattle.key_index.specs.Keyed.{KeyInText}
 use Rattle.key_index.proofs.HeldKeys.{head-placed, entering-none}
-use Rattle.read_judge.specs.Busy.{tooMany}
+use Rattle.key_index.specs.Counting.{tooMany}
+use Rattle.key_index.proofs.counting.Calm.{calm-few, busy-plain}
 use Rattle.read_judge.specs.Blocks.{clashOf}
-use Rattle.read_judge.proofs.Busy.{calm-few, busy-plain}
 use Rattle.read_judge.proofs.Blocks.{clash-none, clash-here, clash-met, clash-on}
 use Rattle.read_judge.proofs.first_met.Statement.{statement}
 use Rattle.read_judge.proofs.first_met.Tie as tie
 use Rattle.read_judge.proofs.first_met.Reads as reads
 use Rattle.read_judge.proofs.first_met.Lts as lts
 use Rattle.key_index.proofs.find_or_enter.Reads as find-or-enter-reads
-use Rattle.read_judge.proofs.counted.Reads as counted-reads
-use Rattle.read_judge.proofs.is_busy.Reads as is-busy-reads
+use Rattle.key_index.proofs.counting.counted.Reads as counted-reads
+use Rattle.key_index.proofs.counting.is_busy.Reads as is-busy-reads
 use Rattle.record_parser.proofs.parse_record.Reads as parse-record-reads
 use Rattle.byte_slices.proofs.first_line.Reads as first-line-reads
 
@@ -181,7 +181,7 @@ returns-2 c =
     let m = b .before .before .before .before in
     let l = m .before .before .before .before .before .before .before .before .before in
     let a = l .before .before .before .before .args in
-    let plain = busy-plain (a .way .seed .keyed) (a .clash) (l .loop .line - a .first) (b .before .counted .result) (sym (b .is-busy .ensures) ∙ c .if2 .taken) in
+    let plain = busy-plain (a .way .seed .keyed) (l .loop .line - a .first) (b .before .counted .result) (sym (b .is-busy .ensures) ∙ c .if2 .taken) in
     ((λ h. absurd (h plain refl)), kept m)
 
 same-length-3 : tie.Need-same-length-3 Inv-loop μ-loop
@@ -214,8 +214,8 @@ loop-again c =
     let l = q .before .before .before .before in
     let a = l .before .before .before .before .args in
     let t = a .text .now in
-    let calm = calm-few (a .way .seed .keyed) (a .clash) (l .loop .line - a .first) (l .loop .slots) (m .find-or-enter .result .slots)
-    (ap (tooMany (a .way .seed .keyed) (a .clash) (l .loop .line - a .first)) (sym (b .before .counted .ensures)) ∙ sym (b .is-busy .ensures) ∙ e .before .if2 .left) (l .loop .inv .5) in
+    let calm = calm-few (a .way .seed .keyed) (l .loop .line - a .first) (l .loop .slots) (m .find-or-enter .result .slots)
+    (ap (tooMany (a .way .seed .keyed) (l .loop .line - a .first)) (sym (b .before .counted .ensures)) ∙ sym (b .is-busy .ensures) ∙ e .before .if2 .left) (l .loop .inv .5) in
     let n : l .loop .at + q .first-line .result .next ≡ l .loop .at + firstLine (drop (l .loop .at) t) .next = ap (λ x. l .loop .at + x .next) (cut q) in (
       omega (arith, inside q, l .loop .inv .0),
       omega (arith, inside q),

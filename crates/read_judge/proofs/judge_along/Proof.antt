@@ -32,8 +32,10 @@ use Rattle.catalogue_lines.proofs.Records.{catalogue-length, own-others, size-l
 use Rattle.catalogue_lines.proofs.Entries.{size-most}
 use Rattle.read_judge.specs.Parsed.{parsedBy}
 use Rattle.read_judge.proofs.Once.{Once, once-start, once-end, once-on}
-use Rattle.read_judge.specs.Busy.{tooMany}
-use Rattle.read_judge.proofs.Busy.{counted-most, calm-few, calm-known, busy-plain}
+use Rattle.key_index.specs.Counting.{countedSlots}
+use Rattle.key_index.proofs.counting.Calm.{counted-most, calm-few}
+use Rattle.read_judge.specs.Busy.{keptBusy}
+use Rattle.read_judge.proofs.Busy.{calm-many, calm-known, busy-keyless}
 use Rattle.key_index.proofs.Looking.{head-looks-few}
 use Rattle.read_judge.proofs.Blocks.{emptied-length, Blocking, blocking-start, blocking-turn, turn-until, used-known, blocking-on}
 use Rattle.read_judge.proofs.Judging.{Judging, judging-start, judging-on, judging-end, judging-refused, few-lines, passed-are, next-within, len-within, next-some, len-is, line-stands}
@@ -42,7 +44,7 @@ use Rattle.read_judge.proofs.judge_along.Tie as tie
 use Rattle.read_judge.proofs.judge_along.Reads as reads
 use Rattle.read_judge.proofs.judge_along.Lts as lts
 use Rattle.read_judge.proofs.barred.Reads as barred-reads
-use Rattle.read_judge.proofs.counted.Reads as counted-reads
+use Rattle.key_index.proofs.counting.counted.Reads as counted-reads
 use Rattle.read_judge.proofs.is_busy.Reads as is-busy-reads
 use Rattle.read_judge.proofs.given_up.Reads as given-up-reads
 use Rattle.read_judge.proofs.ended.Reads as ended-reads
@@ -191,8 +193,11 @@ few-slots c =
     let w = m .before .before .before .before in
     let l = w .before .before .before .before .before .before .before .before .before in
     let a = l .before .before .before .before .args in
-    let e = calm-few (a .way .seed .keyed) (w .next-block .result .clash) (l .loop .line) (l .loop .slots) (m .find-or-enter .result .slots)
-    (ap (tooMany (a .way .seed .keyed) (w .next-block .result .clash) (l .loop .line)) (sym (b .before .counted .ensures)) ∙ sym (b .is-busy .ensures) ∙ c .if2 .left) (l .loop .inv .3) in
+    let k : Bool = a .way .seed .keyed in
+    let clash : ℕ = w .next-block .result .clash in
+    let all : ℕ = countedSlots k (l .loop .slots) (m .find-or-enter .result .slots) in
+    let calm : keptBusy k clash (l .loop .line) all ≡ false = ap (keptBusy k clash (l .loop .line)) (sym (b .before .counted .ensures)) ∙ sym (b .is-busy .ensures) ∙ c .if2 .left in
+    let e = calm-few k (l .loop .line) (l .loop .slots) (m .find-or-enter .result .slots) (calm-many k clash (l .loop .line) all calm) (l .loop .inv .3) in
     omega (arith, b .before .counted .ensures, e)
 
 barring-told : (c : tie.After-barred Inv-loop μ-loop)
@@ -413,7 +418,7 @@ returns-2 c =
     let l = w .before .before .before .before .before .before .before .before .before in
     let a = l .before .before .before .before .args in
     let x = w .before .before .parse-line .result .head in
-    let plain = busy-plain (a .way .seed .keyed) (w .next-block .result .clash) (l .loop .line) (b .before .counted .result) (sym (b .is-busy .ensures) ∙ c .before .if2 .taken) in
+    let plain = busy-keyless (a .way .seed .keyed) (w .next-block .result .clash) (l .loop .line) (b .before .counted .result) (sym (b .is-busy .ensures) ∙ c .before .if2 .taken) in
     let long : length (w .next-block .last .1 .1 .0) ≡ length (a .area .now) = ap length (w .next-block .ensures .1) ∙ emptied-length (l .loop .area) (l .loop .line) (l .loop .block) ∙ l .loop .inv .1 .long in
     let more = head-looks-few (a .way .seed) (a .text .now) (w .next-block .last .1 .1 .0) x (omega (arith, long, l .before .before .before .before .pre .1 .0)) in (
       (λ q. absurd (false≢true (sym q ∙ c .given-up .ensures .0))),

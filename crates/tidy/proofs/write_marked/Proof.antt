@@ -1,5 +1,5 @@
 -- `tidy::write_marked` meets its contract: the text of what stays is measured, then written.
-use Prim.Native.Nat.{ℕ}
+use Prim.Native.Nat.{ℕ, _+_}
 use mathlib.Core.Path.{_≡_, sym, ap, _∙_}
 use mathlib.Core.List.{List}
 use mathlib.Core.Option.{none}
@@ -15,7 +15,8 @@ use Rattle.tidy_text.proofs.Lines.{opened}
 use Rattle.tidy_text.proofs.Total.{tidy-small}
 use Rattle.tidy_text.proofs.Sizes.{total-size}
 use Rattle.read.proofs.AnswerCases.{refused-answer, written-answer}
-use Rattle.tidy.proofs.Writing.{measured-bad, measured-is, write-bad, write-long, write-short, write-fits}
+use Rattle.tidy_sizes.proofs.Plan.{unfit-not, write-bad, write-unfit, write-fits}
+use Rattle.tidy.proofs.Writing.{measured-bad, measured-is}
 use Rattle.tidy_text.specs.Sifted.{isMarked, sifted}
 use Rattle.tidy_text.proofs.Sifting.{sifted-small}
 use borrow.Author.Needs.{needs}
@@ -67,32 +68,29 @@ total-requires c κs =
     let a = s .args in
     omega (arith, sum z, sifted-small (isMarked (a .marks .now)) 0 (all s), tidy-small (a .strict) (a .text .now) (opened (a .strict) (a .text .now) (s .pre .0) (s .pre .1)) .1)
 
+fit-requires : tie.Need-fit-requires
+fit-requires c κs = search needs
+
 returns : tie.Need-returns
 returns c =
-    let n = c .before in
-    let z = n .before .before in
-    let s = from (z .before .before) in
-    refused-answer (asked s) (s .args .out .now) 1 (record { 0 = 0 })
-    (write-long (length (s .args .out .now)) (unwritable 0 (all s)) (tidy (stay s)) (measured z .0) (omega (arith, counted n, c .if1 .taken)))
-
-returns-2 : tie.Need-returns-2
-returns-2 c =
     let f = c .before in
     let n = f .before in
     let z = n .before .before in
     let s = from (z .before .before) in
-    refused-answer (asked s) (s .args .out .now) 20 (record { 0 = 0 })
-    (write-short (length (s .args .out .now)) (unwritable 0 (all s)) (tidy (stay s)) (measured z .0) (omega (arith, counted n, f .if1 .left)) (omega (arith, counted n, c .if2 .taken)))
+    refused-answer (asked s) (s .args .out .now) (f .fit .result) (record { 0 = 0 })
+    (write-unfit (length (s .args .out .now)) (unwritable 0 (all s)) (tidy (stay s)) (measured z .0) (n .total .result + 0) (f .fit .result) (omega (arith, counted n)) (f .fit .ensures) (c .if1 .taken))
 
 put-marked-requires : tie.Need-put-marked-requires
 put-marked-requires c κs =
-    let n = c .before .before .before in
+    let f = c .before .before in
+    let n = f .before in
     let z = n .before .before in
     let m = z .before .before in
-    (from m .pre .0, (from m .pre .1, (sym (measured z .1), omega (arith, counted n, c .before .if2 .left))))
+    let fits = unfit-not (n .total .result + 0) 0 (length (from m .args .out .now)) (f .fit .result) (f .fit .ensures) (c .before .if1 .left) in
+    (from m .pre .0, (from m .pre .1, (sym (measured z .1), omega (arith, counted n, fits .1))))
 
-returns-3 : tie.Need-returns-3
-returns-3 c =
+returns-2 : tie.Need-returns-2
+returns-2 c =
     let m = c .before .before .before in
     let s = from m in
     let l = c .before .line .given .0 .0 in
@@ -102,15 +100,16 @@ returns-3 c =
 same-length : tie.Need-same-length
 same-length c = search needs
 
-returns-4 : tie.Need-returns-4
-returns-4 c =
+returns-3 : tie.Need-returns-3
+returns-3 c =
     let w = c .before .before in
-    let f = w .before .before .before in
+    let l = w .before .before in
+    let f = l .before in
     let n = f .before in
     let z = n .before .before in
     let s = from (z .before .before) in
     written-answer (asked s) (s .args .out .now) (tidy (stay s)) (w .put-marked .last .1 .1 .1 .1 .0) (w .put-marked .result)
-    (write-fits (length (s .args .out .now)) (unwritable 0 (all s)) (tidy (stay s)) (measured z .0) (omega (arith, counted n, f .if1 .left)) (omega (arith, counted n, w .before .before .if2 .left)))
+    (write-fits (length (s .args .out .now)) (unwritable 0 (all s)) (tidy (stay s)) (measured z .0) (n .total .result + 0) (f .fit .result) (omega (arith, counted n)) (f .fit .ensures) (l .if1 .left))
     (w .put-marked .ensures .0) (w .put-marked .ensures .1)
 
 pub write-marked-spec : {M : Type 1} → statement M
@@ -121,9 +120,9 @@ write-marked-spec =
     enum-known-line
     enum-known-sizes
     total-requires
+    fit-requires
     returns
-    returns-2
     put-marked-requires
-    returns-3
+    returns-2
     same-length
-    returns-4)
+    returns-3)

@@ -1,0 +1,2 @@
+-- Words for contracts and laws, and nothing to believe.
+pub mod Neat
