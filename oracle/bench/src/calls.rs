@@ -17,13 +17,20 @@ pub struct Room {
     size: usize,
     pub out: Vec<u8>,
     ordinals: Vec<u32>,
+    table: Vec<u32>,
 }
 
 impl Room {
     /// A field of five bytes has an entry of eleven, and nothing has more for its length but a last comment without LF.
     pub fn new() -> Self {
         let longest = oracle::LONGEST;
-        Self { catalogue: vec![0; 3 * longest + 1], size: 0, out: vec![0; longest], ordinals: vec![0; oracle::PROGRAMS] }
+        Self {
+            catalogue: vec![0; 3 * longest + 1],
+            size: 0,
+            out: vec![0; longest],
+            ordinals: vec![0; oracle::PROGRAMS],
+            table: vec![0; longest / 4],
+        }
     }
 
     fn kept(&self) -> &[u8] {
@@ -59,6 +66,15 @@ pub const CALLS: [(&str, Call); 6] = [
     ("add", add),
     ("tidy", |text, room| library::tidy(text, &mut room.out)),
 ];
+
+/// Calls that go on after a refused line, on a text that has one.
+#[cfg(all(feature = "carry_on", feature = "faults"))]
+pub const GOING_ON: [(&str, Call); 2] = [
+    ("carry on", |text, room| library::carry_on(text, &mut room.out, &mut room.table)),
+    ("faults", |text, room| library::faults(text, &mut room.table)),
+];
+#[cfg(not(all(feature = "carry_on", feature = "faults")))]
+pub const GOING_ON: [(&str, Call); 0] = [];
 
 /// Runs it; the best time is kept.
 pub fn timed<T>(best: &mut Duration, f: impl FnOnce() -> T) -> T {

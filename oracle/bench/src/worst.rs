@@ -2,7 +2,8 @@
 //!
 //! A row is a text: its name, bytes and lines, then the library's time for each call in ms, the best of three; a call that takes
 //! longer than twenty seconds is timed once. Where a call is refused the number stands behind its time in brackets. Every text
-//! leaves room for the line that add puts after it. Each cell is printed when it is measured; there is no limit of time.
+//! leaves room for the line that add puts after it. The last two calls are asked of the same text with a first line that is refused. Each cell is
+//! printed when it is measured; there is no limit of time.
 //!
 //!   shortest SQ, RG       as many lines as fit, their keys all different and as short as possible
 //!   all tags, VN:1.6      one line with each of the 3,224 tags once and values that fill it; under VN:1.5 too
@@ -12,7 +13,7 @@
 //!   long IDs, leaves      512 programs without PP, the IDs such that the text with one more after each fits
 //!   comment               one comment
 //!   one number, N RG      lines whose IDs all differ and have one and the same plain number in the index of keys
-//!   one number, all SQ    the same with SQ, whose names can be written, and with SQ and RG in turn, each kind with a number of its own
+//!   one number, all SQ    the same with SQ, whose names can be written, with PG, and with SQ and RG in turn, each kind with a number of its own
 
 use std::{
     io::{Write, stdout},
@@ -21,7 +22,7 @@ use std::{
 
 use oracle::{LONGEST, PROGRAMS};
 
-use crate::calls::{CALLS, FIELDS, PREFIX, Room, timed};
+use crate::calls::{CALLS, Call, FIELDS, GOING_ON, PREFIX, Room, timed};
 
 /// The most bytes of a text: a last LF and a program may be added.
 const MOST: usize = LONGEST - (b"\n@PG\tID:\n".len() + PREFIX.len() + FIELDS.len());
@@ -136,19 +137,31 @@ fn references() -> impl Iterator<Item = Vec<u8>> {
     one_number(2, FIRST).map(|name| [b"@SQ\tSN:", &name[..], b"\tLN:1\n"].concat())
 }
 
+fn programs_alike() -> impl Iterator<Item = Vec<u8>> {
+    one_number(4, VALUE).map(|id| [b"@PG\tID:", &id[..], b"\n"].concat())
+}
+
+fn cell(call: Call, text: &[u8], room: &mut Room) {
+    let (mut best, mut answer, began) = (Duration::MAX, Ok(0), Instant::now());
+    for ran in 0..3 {
+        if ran == 0 || began.elapsed() < PATIENCE {
+            answer = timed(&mut best, || call(text, room));
+        }
+    }
+    let number = answer.map_or_else(|r| format!(" ({})", r.number), |_| String::new());
+    print!("{:>14}", format!("{:.1}{number}", 1e3 * best.as_secs_f64()));
+    stdout().flush().expect("written");
+}
+
 fn row(name: &str, text: &[u8]) {
     print!("{name:<24}{:>10}{:>9}", text.len(), oracle::spans(text).count());
     let mut room = Room::new();
     for (_, call) in CALLS {
-        let (mut best, mut answer, began) = (Duration::MAX, Ok(0), Instant::now());
-        for ran in 0..3 {
-            if ran == 0 || began.elapsed() < PATIENCE {
-                answer = timed(&mut best, || call(text, &mut room));
-            }
-        }
-        let number = answer.map_or_else(|r| format!(" ({})", r.number), |_| String::new());
-        print!("{:>14}", format!("{:.1}{number}", 1e3 * best.as_secs_f64()));
-        stdout().flush().expect("written");
+        cell(call, text, &mut room);
+    }
+    let refused = [b"@XX\n", text].concat();
+    for (_, call) in GOING_ON {
+        cell(call, &refused, &mut room);
     }
     println!();
 }
@@ -156,12 +169,12 @@ fn row(name: &str, text: &[u8]) {
 /// The rows that have this word in their names.
 pub fn table(word: &str) {
     print!("{:<24}{:>10}{:>9}", "ms", "bytes", "lines");
-    for (call, _) in CALLS {
+    for (call, _) in CALLS.iter().chain(&GOING_ON) {
         print!("{call:>14}");
     }
     println!();
     let ids = |n: usize, parts: usize| (MOST - n * 64) / (n * parts);
-    let rows: [(&str, &dyn Fn() -> Vec<u8>); 14] = [
+    let rows: [(&str, &dyn Fn() -> Vec<u8>); 15] = [
         ("shortest SQ", &|| shortest(b"@SQ\tSN:", FIRST, LATER, b"\tLN:1\n")),
         ("shortest RG", &|| shortest(b"@RG\tID:", VALUE, VALUE, b"\n")),
         ("all tags, VN:1.6", &|| all_tags(b"@HD\tVN:1.6\n@RG")),
@@ -175,6 +188,7 @@ pub fn table(word: &str) {
         ("one number, 100000 RG", &|| filled(MOST, groups().take(100_000))),
         ("one number, all RG", &|| filled(MOST, groups())),
         ("one number, all SQ", &|| filled(MOST, references())),
+        ("one number, all PG", &|| filled(MOST, programs_alike())),
         ("one number, SQ and RG", &|| filled(MOST, references().zip(groups()).map(|(sq, rg)| [sq, rg].concat()))),
     ];
     for (name, text) in rows.iter().filter(|(name, _)| name.contains(word)) {
