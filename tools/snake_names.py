@@ -5,7 +5,7 @@ types in camel case. Run once, after /opt/rattle/port/port.py.
 usage: python3 tools/snake_names.py [--list]      at the top of the repository; --list only prints what it would rename, and the names that fall together
 
 It goes by words of .antt and .rt files and of must-fail edits. A word is turned where it begins with a small letter and has a capital inside
-(`lengthField` becomes `length_field`), part by part between dashes. Strings and chars of .rt files stay, and so do functions of src/, which have no capitals.
+(`lengthField` becomes `length_field`), part by part between dashes. Strings and chars stay, and so do functions of src/, which have no capitals.
 A function into `Type` whose name is small gets a capital (listed in TYPES).
 """
 import os
@@ -60,10 +60,10 @@ def turn_text(text, path):
     def words(t):
         return WORD.sub(lambda m: turned(m.group(0)), t)
 
-    if path.endswith((".rt", ".edit")):
+    if True:
         out, at = [], 0
         for line in text.splitlines(keepends=True):
-            if line.lstrip().startswith("//"):
+            if path.endswith(".rt") and line.lstrip().startswith("//"):
                 out.append(words(line))
                 continue
             at = 0

@@ -11,11 +11,11 @@ use Rattle.add_laws.specs.Grown.{links_in}
 
 unfoldable old : List ℕ
 unfolding ascii
-old = ascii "@PG\t_id:pg0\n@PG\t_id:pg1\t_pp:pg0\n@PG\t_id:pg2\t_pp:pg1\n@PG\t_id:pg3\n"
+old = ascii "@PG\tID:pg0\n@PG\tID:pg1\tPP:pg0\n@PG\tID:pg2\tPP:pg1\n@PG\tID:pg3\n"
 
 unfoldable new : List ℕ
 unfolding ascii
-new = ascii "@PG\t_id:pg0\n@PG\t_id:pg1\t_pp:pg0\n@PG\t_id:pg2\t_pp:pg1\n@PG\t_id:pg3\n@PG\t_id:x\t_pp:pg3\n@PG\t_id:x-pg2\t_pp:pg2\n"
+new = ascii "@PG\tID:pg0\n@PG\tID:pg1\tPP:pg0\n@PG\tID:pg2\tPP:pg1\n@PG\tID:pg3\n@PG\tID:x\tPP:pg3\n@PG\tID:x-pg2\tPP:pg2\n"
 
 example-added : adding old (catalogue (records_of old)) (ascii "x") [] 1000 ≡ yes new
 unfolding ascii old new adding catalogue records_of
@@ -37,13 +37,13 @@ example-leaves = refl
 
 unfoldable chain : List ℕ
 unfolding ascii
-chain = ascii "@PG\t_id:a\n@PG\t_id:b\t_pp:a\n"
+chain = ascii "@PG\tID:a\n@PG\tID:b\tPP:a\n"
 
 unfoldable branched : List ℕ
 unfolding ascii
-branched = ascii "@PG\t_id:a\n@PG\t_id:b\t_pp:a\n@PG\t_id:x\t_pp:a\n"
+branched = ascii "@PG\tID:a\n@PG\tID:b\tPP:a\n@PG\tID:x\tPP:a\n"
 
-example-given : adding chain (catalogue (records_of chain)) (ascii "x") (ascii "\t_pp:a") 1000 ≡ yes branched
+example-given : adding chain (catalogue (records_of chain)) (ascii "x") (ascii "\tPP:a") 1000 ≡ yes branched
 unfolding ascii chain branched adding catalogue records_of
 example-given = refl
 

@@ -17,7 +17,7 @@ bare = binary (ascii "@CO\t\n") []
 
 unfoldable pub one : List ℕ
 unfolding ascii binary
-one = binary (ascii "@SQ\t_sn:a\t_ln:8") (record { name = ascii "a"; size = 8 } ∷ [])
+one = binary (ascii "@SQ\tSN:a\tLN:8") (record { name = ascii "a"; size = 8 } ∷ [])
 
 -- the header with one reference, whose name is announced with `n` bytes and is `name`
 unfoldable pub announced : ℕ → List ℕ → List ℕ

@@ -8,12 +8,12 @@ use Rattle.format.specs.Binary.{binary, binary_out, binary_in}
 
 unfoldable pub given : List ℕ
 unfolding ascii
-given = ascii "@SQ\t_ln:08\t_sn:a\n@CO\tx\n@SQ\t_sn:bc\t_ln:300"
+given = ascii "@SQ\tLN:08\tSN:a\n@CO\tx\n@SQ\tSN:bc\tLN:300"
 
 -- 37 bytes
 unfoldable pub tidied : List ℕ
 unfolding ascii
-tidied = ascii "@SQ\t_sn:a\t_ln:8\n@SQ\t_sn:bc\t_ln:300\n@CO\tx\n"
+tidied = ascii "@SQ\tSN:a\tLN:8\n@SQ\tSN:bc\tLN:300\n@CO\tx\n"
 
 unfoldable pub bytes : List ℕ
 unfolding tidied
@@ -46,9 +46,9 @@ longer-in = refl
 -- the header of `@SQ`, SN `a`, LN 8 with a list of one reference
 unfoldable pub listing : List ℕ → ℕ → List ℕ
 unfolding ascii binary
-listing name size = binary (ascii "@SQ\t_sn:a\t_ln:8\n" ++ (0 ∷ 0 ∷ [])) (record { name = name; size = size } ∷ [])
+listing name size = binary (ascii "@SQ\tSN:a\tLN:8\n" ++ (0 ∷ 0 ∷ [])) (record { name = name; size = size } ∷ [])
 
-pub padded-in : binary_in (listing (97 ∷ []) 8) 14 ≡ yes (ascii "@SQ\t_sn:a\t_ln:8\n")
+pub padded-in : binary_in (listing (97 ∷ []) 8) 14 ≡ yes (ascii "@SQ\tSN:a\tLN:8\n")
 unfolding ascii listing binary_in
 padded-in = refl
 
@@ -69,15 +69,15 @@ nameless-in = refl
 -- ---- a list that is not the text's
 
 -- one reference fewer
-pub fewer-in : binary_in (binary (ascii "@SQ\t_sn:a\t_ln:8\n") []) 14 ≡ refused 29 0
+pub fewer-in : binary_in (binary (ascii "@SQ\tSN:a\tLN:8\n") []) 14 ≡ refused 29 0
 unfolding ascii binary binary_in
 fewer-in = refl
 
 -- 29 comes before 24 and 20, and after reading's refusals
-pub unwritable-in : binary_in (binary (ascii "@SQ\t_sn:*\t_ln:8\n") []) 0 ≡ refused 29 0
+pub unwritable-in : binary_in (binary (ascii "@SQ\tSN:*\tLN:8\n") []) 0 ≡ refused 29 0
 unfolding ascii binary binary_in
 unwritable-in = refl
 
-pub unread-in : binary_in (binary (ascii "@SQ\t_sn:a\t_ln:0\n") []) 0 ≡ refused 13 0
+pub unread-in : binary_in (binary (ascii "@SQ\tSN:a\tLN:0\n") []) 0 ≡ refused 13 0
 unfolding ascii binary binary_in
 unread-in = refl

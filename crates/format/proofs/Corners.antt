@@ -57,7 +57,7 @@ hold_all (c ∷ cs) = holds c && hold_all cs
 -- ---- the table
 
 pg0-pg3 : String
-pg0-pg3 = "@PG\t_id:pg0\n@PG\t_id:pg1\t_pp:pg0\n@PG\t_id:pg2\t_pp:pg1\n@PG\t_id:pg3\n"
+pg0-pg3 = "@PG\tID:pg0\n@PG\tID:pg1\tPP:pg0\n@PG\tID:pg2\tPP:pg1\n@PG\tID:pg3\n"
 
 -- SN at offset 7, one byte, LN in eight bytes, the largest that is accepted, and line 0
 largest : List ℕ
@@ -70,40 +70,40 @@ one-six = 1 ∷ 1 ∷ 0 ∷ 0 ∷ 0 ∷ 6 ∷ 0 ∷ 0 ∷ 0 ∷ 0 ∷ 0 ∷ 0 �
 pub cases : List Case
 unfolding pg0-pg3 largest one-six
 cases =
-    reading "@SQ\t_sn:s\t_ln:0" (refused 13 0)
-    ∷ reading "@SQ\t_sn:s\t_ln:8x" (refused 6 0)
-    ∷ reading "@SQ\t_sn:s\t_ln:2147483647" (yes largest)
-    ∷ reading "@SQ\t_sn:s\t_ln:2147483648" (refused 27 0)
-    ∷ reading "@HD\t_vn:1.6\n@SQ\t_sn:s\t_ln:1\t_ln:2147483648" (refused 27 1)
-    ∷ reading "@SQ\t_sn:s\t_ln:18446744073709551615" (refused 27 0)
-    ∷ reading "@SQ\t_sn:s\t_ln:18446744073709551616" (refused 12 0)
+    reading "@SQ\tSN:s\tLN:0" (refused 13 0)
+    ∷ reading "@SQ\tSN:s\tLN:8x" (refused 6 0)
+    ∷ reading "@SQ\tSN:s\tLN:2147483647" (yes largest)
+    ∷ reading "@SQ\tSN:s\tLN:2147483648" (refused 27 0)
+    ∷ reading "@HD\tVN:1.6\n@SQ\tSN:s\tLN:1\tLN:2147483648" (refused 27 1)
+    ∷ reading "@SQ\tSN:s\tLN:18446744073709551615" (refused 27 0)
+    ∷ reading "@SQ\tSN:s\tLN:18446744073709551616" (refused 12 0)
     ∷ reading "@HD" (refused 15 0)
-    ∷ reading "@CO\t\n@HD\t_vn:1.6\n" (refused 17 1)
+    ∷ reading "@CO\t\n@HD\tVN:1.6\n" (refused 17 1)
     ∷ reading "\n" (refused 3 0)
-    ∷ looking "@HD\t_vn:1.5\t_so:unsorted\t_so:coordinate\n" 1 0 83 79 "coordinate"
-    ∷ reading "@HD\t_vn:1.6\t_so:unsorted\t_so:coordinate\n" (refused 14 0)
-    ∷ reading "@HD\t_vn:1.5\t_vn:1.6\n" (yes one-six)
+    ∷ looking "@HD\tVN:1.5\tSO:unsorted\tSO:coordinate\n" 1 0 83 79 "coordinate"
+    ∷ reading "@HD\tVN:1.6\tSO:unsorted\tSO:coordinate\n" (refused 14 0)
+    ∷ reading "@HD\tVN:1.5\tVN:1.6\n" (yes one-six)
     ∷ leafing pg0-pg3 (yes (3 ∷ 2 ∷ [], 3))
-    ∷ adding pg0-pg3 "x" "" (yes "@PG\t_id:pg0\n@PG\t_id:pg1\t_pp:pg0\n@PG\t_id:pg2\t_pp:pg1\n@PG\t_id:pg3\n@PG\t_id:x\t_pp:pg3\n@PG\t_id:x-pg2\t_pp:pg2\n")
-    ∷ adding pg0-pg3 "pg0" "" (yes "@PG\t_id:pg0\n@PG\t_id:pg1\t_pp:pg0\n@PG\t_id:pg2\t_pp:pg1\n@PG\t_id:pg3\n@PG\t_id:pg0-pg3\t_pp:pg3\n@PG\t_id:pg0-pg2\t_pp:pg2\n")
-    ∷ leafing "@PG\t_id:c\t_pp:a\n@PG\t_id:a\t_pp:b\n@PG\t_id:b\t_pp:a\n" (refused 23 0)
-    ∷ leafing "@PG\t_id:a\t_pp:a\n" (refused 23 0)
-    ∷ leafing "@PG\t_id:a\t_pp:b\n" (refused 22 0)
-    ∷ looking "@RG\t_id:a\t_pl:x\t_pl:y\n" 3 0 80 76 "y"
-    ∷ reading "@HD\t_so:a\t_so:b\n" (refused 15 0)
-    ∷ reading "@HD\t_so:a\t_so:b\t_vn:x\n" (refused 11 0)
-    ∷ adding "@PG\t_id:a\t_pn:x\t_pn:y\n" "b" "\t_cl:x\t_cl:y" (refused 26 0)
-    ∷ reading "@HD\t_vn:1.6.0" (refused 11 0)
-    ∷ reading "@HD\t_vn:1.6\t_ds:Ã©" (refused 10 0)
-    ∷ adding "@PG\t_id:a\n@PG\t_id:b\n@PG\t_id:x-b\t_pp:a\n" "x" "" (refused 18 0)
-    ∷ adding "@PG\t_id:a\n" "x" "\t_pp:b" (refused 22 0)
-    ∷ reading_into 13 "@HD\t_vn:1.6\n" (yes one-six)
-    ∷ reading_into 12 "@HD\t_vn:1.6\n" (refused 20 0)
-    ∷ tidying_into 11 "@HD\t_vn:1.6" (yes "@HD\t_vn:1.6\n")
-    ∷ tidying_into 10 "@HD\t_vn:1.6" (refused 20 0)
-    ∷ adding_into 9 "" "a" "" (yes "@PG\t_id:a\n")
+    ∷ adding pg0-pg3 "x" "" (yes "@PG\tID:pg0\n@PG\tID:pg1\tPP:pg0\n@PG\tID:pg2\tPP:pg1\n@PG\tID:pg3\n@PG\tID:x\tPP:pg3\n@PG\tID:x-pg2\tPP:pg2\n")
+    ∷ adding pg0-pg3 "pg0" "" (yes "@PG\tID:pg0\n@PG\tID:pg1\tPP:pg0\n@PG\tID:pg2\tPP:pg1\n@PG\tID:pg3\n@PG\tID:pg0-pg3\tPP:pg3\n@PG\tID:pg0-pg2\tPP:pg2\n")
+    ∷ leafing "@PG\tID:c\tPP:a\n@PG\tID:a\tPP:b\n@PG\tID:b\tPP:a\n" (refused 23 0)
+    ∷ leafing "@PG\tID:a\tPP:a\n" (refused 23 0)
+    ∷ leafing "@PG\tID:a\tPP:b\n" (refused 22 0)
+    ∷ looking "@RG\tID:a\tPL:x\tPL:y\n" 3 0 80 76 "y"
+    ∷ reading "@HD\tSO:a\tSO:b\n" (refused 15 0)
+    ∷ reading "@HD\tSO:a\tSO:b\tVN:x\n" (refused 11 0)
+    ∷ adding "@PG\tID:a\tPN:x\tPN:y\n" "b" "\tCL:x\tCL:y" (refused 26 0)
+    ∷ reading "@HD\tVN:1.6.0" (refused 11 0)
+    ∷ reading "@HD\tVN:1.6\tDS:Ã©" (refused 10 0)
+    ∷ adding "@PG\tID:a\n@PG\tID:b\n@PG\tID:x-b\tPP:a\n" "x" "" (refused 18 0)
+    ∷ adding "@PG\tID:a\n" "x" "\tPP:b" (refused 22 0)
+    ∷ reading_into 13 "@HD\tVN:1.6\n" (yes one-six)
+    ∷ reading_into 12 "@HD\tVN:1.6\n" (refused 20 0)
+    ∷ tidying_into 11 "@HD\tVN:1.6" (yes "@HD\tVN:1.6\n")
+    ∷ tidying_into 10 "@HD\tVN:1.6" (refused 20 0)
+    ∷ adding_into 9 "" "a" "" (yes "@PG\tID:a\n")
     ∷ adding_into 8 "" "a" "" (refused 20 0)
-    ∷ tidying_into 0 "@CO\t\n@SQ\t_sn:*\t_ln:1" (refused 24 1)
+    ∷ tidying_into 0 "@CO\t\n@SQ\tSN:*\tLN:1" (refused 24 1)
     ∷ []
 
 -- ---- the statement

@@ -23,17 +23,17 @@ use Rattle.merge_laws.specs.Rewritten.{SameSq, FollowsOld, Longer, stayed, Short
 
 unfoldable first : List ℕ
 unfolding ascii
-first = ascii "@SQ\t_sn:s1\t_ln:8\n@SQ\t_sn:s2\t_ln:9\n@PG\t_id:a\t_pn:x\n@PG\t_id:b\t_pp:a\t_vn:1\n"
+first = ascii "@SQ\tSN:s1\tLN:8\n@SQ\tSN:s2\tLN:9\n@PG\tID:a\tPN:x\n@PG\tID:b\tPP:a\tVN:1\n"
 
 unfoldable second : List ℕ
 unfolding ascii
-second = ascii "@SQ\t_sn:s3\t_ln:7\n@SQ\t_sn:s1\t_ln:8\n@PG\t_id:b\t_pp:a\t_vn:1\n@PG\t_id:a\n"
+second = ascii "@SQ\tSN:s3\tLN:7\n@SQ\tSN:s1\tLN:8\n@PG\tID:b\tPP:a\tVN:1\n@PG\tID:a\n"
 
 -- where the PP is among the fields is free
 unfoldable together : List ℕ
 unfolding ascii
 together =
-    ascii "@SQ\t_sn:s1\t_ln:8\n@SQ\t_sn:s2\t_ln:9\n@SQ\t_sn:s3\t_ln:7\n@PG\t_id:a\t_pn:x\n@PG\t_id:a.1\n@PG\t_id:b.1\t_pp:a.1\t_vn:1\n@PG\t_id:b\t_vn:1\t_pp:a\n"
+    ascii "@SQ\tSN:s1\tLN:8\n@SQ\tSN:s2\tLN:9\n@SQ\tSN:s3\tLN:7\n@PG\tID:a\tPN:x\n@PG\tID:a.1\n@PG\tID:b.1\tPP:a.1\tVN:1\n@PG\tID:b\tVN:1\tPP:a\n"
 
 example-merged : judging_merge first second together (0 ∷ 3 ∷ []) (2 ∷ 1 ∷ []) ≡ merged
 unfolding ascii first second together judging_merge
@@ -63,7 +63,7 @@ example-32 = refl
 
 unfoldable added : List ℕ
 unfolding ascii
-added = ascii "@SQ\t_sn:s1\t_ln:8\n@SQ\t_sn:s2\t_ln:9\n@PG\t_id:a\t_pn:x\n@PG\t_id:b\t_pp:a\t_vn:1\n@PG\t_id:c\t_pp:b\n"
+added = ascii "@SQ\tSN:s1\tLN:8\n@SQ\tSN:s2\tLN:9\n@PG\tID:a\tPN:x\n@PG\tID:b\tPP:a\tVN:1\n@PG\tID:c\tPP:b\n"
 
 example-fit : Fit first
 unfolding ascii first records records_of parent_links any is_dangling loops_from
@@ -86,11 +86,11 @@ example-longer =
 
 unfoldable four : List ℕ
 unfolding ascii
-four = ascii "@PG\t_id:a\n@PG\t_id:d\n@PG\t_id:c\t_pp:b\n@PG\t_id:b\t_pp:a\n"
+four = ascii "@PG\tID:a\n@PG\tID:d\n@PG\tID:c\tPP:b\n@PG\tID:b\tPP:a\n"
 
 unfoldable three : List ℕ
 unfolding ascii
-three = ascii "@PG\t_id:a\n@PG\t_id:c\t_pp:b\n@PG\t_id:b\t_pp:a\n"
+three = ascii "@PG\tID:a\n@PG\tID:c\tPP:b\n@PG\tID:b\tPP:a\n"
 
 -- all but the program 1
 stays : ℕ → Bool

@@ -46,18 +46,18 @@ hold_all [] = true
 hold_all (c ∷ cs) = holds c && hold_all cs
 
 pg0-pg3 : String
-pg0-pg3 = "@PG\t_id:pg0\n@PG\t_id:pg1\t_pp:pg0\n@PG\t_id:pg2\t_pp:pg1\n@PG\t_id:pg3\n"
+pg0-pg3 = "@PG\tID:pg0\n@PG\tID:pg1\tPP:pg0\n@PG\tID:pg2\tPP:pg1\n@PG\tID:pg3\n"
 
 pub cases : List Case
 unfolding pg0-pg3
 cases =
     case pg0-pg3 4 4 (yes (3 ∷ 2 ∷ [], 3, 4294967295 ∷ 0 ∷ 0 ∷ 1 ∷ 1 ∷ 2 ∷ 4294967295 ∷ 0 ∷ []))
-    ∷ case "@PG\t_id:c\t_pp:b\n@PG\t_id:b\t_pp:a\n@PG\t_id:a\n" 1 3 (yes (0 ∷ [], 3, 1 ∷ 2 ∷ 2 ∷ 1 ∷ 4294967295 ∷ 0 ∷ []))
+    ∷ case "@PG\tID:c\tPP:b\n@PG\tID:b\tPP:a\n@PG\tID:a\n" 1 3 (yes (0 ∷ [], 3, 1 ∷ 2 ∷ 2 ∷ 1 ∷ 4294967295 ∷ 0 ∷ []))
     ∷ case pg0-pg3 4 3 (refused 20 0)
     ∷ case pg0-pg3 1 4 (refused 20 0)
-    ∷ case "@PG\t_id:c\t_pp:a\n@PG\t_id:a\t_pp:b\n@PG\t_id:b\t_pp:a\n" 3 0 (refused 23 0)
-    ∷ case "@PG\t_id:a\t_pp:a\n" 1 1 (refused 23 0)
-    ∷ case "@PG\t_id:a\t_pp:b\n" 0 0 (refused 22 0)
+    ∷ case "@PG\tID:c\tPP:a\n@PG\tID:a\tPP:b\n@PG\tID:b\tPP:a\n" 3 0 (refused 23 0)
+    ∷ case "@PG\tID:a\tPP:a\n" 1 1 (refused 23 0)
+    ∷ case "@PG\tID:a\tPP:b\n" 0 0 (refused 22 0)
     ∷ case "@CO\t\n" 0 0 (yes ([], 0, []))
     ∷ []
 

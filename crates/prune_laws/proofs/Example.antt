@@ -11,12 +11,12 @@ use Rattle.format.specs.Prune.{pruning}
 -- not tidy: the comment comes first, a child before its parent
 unfoldable old : List ℕ
 unfolding ascii
-old = ascii "@CO\tx\n@PG\t_pp:b\t_id:c\n@PG\t_id:d\n@PG\t_id:b\t_pp:a\n@PG\t_id:a\n"
+old = ascii "@CO\tx\n@PG\tPP:b\tID:c\n@PG\tID:d\n@PG\tID:b\tPP:a\n@PG\tID:a\n"
 
 -- by `b`, twice: its ancestor `a` stays too
 unfoldable new : List ℕ
 unfolding ascii
-new = ascii "@PG\t_id:b\t_pp:a\n@PG\t_id:a\n@CO\tx\n"
+new = ascii "@PG\tID:b\tPP:a\n@PG\tID:a\n@CO\tx\n"
 
 example-middle : pruning old (catalogue (records_of old)) (2 ∷ 2 ∷ []) 1000 ≡ yes new
 unfolding ascii old new pruning catalogue records_of

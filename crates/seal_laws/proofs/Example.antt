@@ -12,14 +12,14 @@ use Rattle.format.specs.Seal.{sealing, checking_sealed}
 -- the header that was planned with, its catalogue, and the edited one
 unfoldable pub planned : List ℕ
 unfolding ascii
-planned = ascii "@SQ\t_sn:chr1\t_ln:8\n"
+planned = ascii "@SQ\tSN:chr1\tLN:8\n"
 
 unfoldable pub kept : List ℕ
 kept = 2 ∷ 7 ∷ 0 ∷ 0 ∷ 0 ∷ 4 ∷ 0 ∷ 0 ∷ 0 ∷ 8 ∷ 0 ∷ 0 ∷ 0 ∷ 0 ∷ 0 ∷ 0 ∷ 0 ∷ 0 ∷ 0 ∷ 0 ∷ 0 ∷ []
 
 unfoldable pub edited : List ℕ
 unfolding ascii
-edited = ascii "@SQ\t_sn:chr_x\t_ln:8\n"
+edited = ascii "@SQ\tSN:chr_x\tLN:8\n"
 
 pub planned-kept : reading planned 21 ≡ yes kept
 unfolding planned kept reading

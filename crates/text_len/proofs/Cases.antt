@@ -16,7 +16,7 @@ corners =
     (ascii "@a\n\n@b\n", 3) ∷
     (ascii "@a\r\n\r\n@b\n", 4) ∷
     (ascii "@a\r\n@b\r", 7) ∷
-    (ascii "@CO\tx\nr1\t4\t*\t0\t0\t*\t*\t0\t0\t_a\t_i\n@CO\ty\n", 6) ∷
+    (ascii "@CO\tx\nr1\t4\t*\t0\t0\t*\t*\t0\t0\tA\tI\n@CO\ty\n", 6) ∷
     []
 
 pub corners-told : map (λ c. text_len c.0) corners ≡ map (λ c. c.1) corners

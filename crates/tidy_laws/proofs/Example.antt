@@ -11,7 +11,7 @@ use Rattle.tidy_laws.specs.Faithful.{Allowed, tidied}
 
 unfoldable pub given : List ℕ
 unfolding ascii
-given = ascii "@HD\t_so:unsorted\t_vn:01.6\n@PG\t_id:a\n@SQ\t_ln:08\t_sn:s1\n@CO\tx"
+given = ascii "@HD\tSO:unsorted\tVN:01.6\n@PG\tID:a\n@SQ\tLN:08\tSN:s1\n@CO\tx"
 
 -- the records that are answered
 pub answered : Answer (List Record) → List Record
@@ -22,6 +22,6 @@ pub example-allowed : Allowed given (answered (records given))
 unfolding ascii given answered records unwritable
 example-allowed = record { accepted = refl; small = omega arith; names = refl }
 
-pub example-tidied : tidied given ≡ yes (ascii "@HD\t_vn:1.6\t_so:unsorted\n@SQ\t_sn:s1\t_ln:8\n@PG\t_id:a\n@CO\tx\n")
+pub example-tidied : tidied given ≡ yes (ascii "@HD\tVN:1.6\tSO:unsorted\n@SQ\tSN:s1\tLN:8\n@PG\tID:a\n@CO\tx\n")
 unfolding ascii given tidied
 example-tidied = refl
