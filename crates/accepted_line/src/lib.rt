@@ -1,4 +1,5 @@
 // The head of an accepted line: its kind, its key and its number, found from where their values are. Nothing is judged again.
+#![tactic(auto)]
 pub mod fields;
 pub mod tag_number;
 
@@ -19,7 +20,7 @@ use format::Kind;
 use record::{Head, Stretch};
 
 // The form of an accepted line: a comment, fields that repeat no tag, or fields that may repeat one.
-#[derive(Drop)]
+#[derive(Clone, Copy)]
 pub enum Form {
     Comment,
     Once(Kind),
@@ -27,7 +28,7 @@ pub enum Form {
 }
 
 // Where the last values of a line's keys are: VN, SN or ID, and LN of SQ.
-#[derive(Drop)]
+#[derive(Clone, Copy)]
 pub struct KeyValues {
     pub key: Stretch,
     pub number: Stretch,

@@ -1,4 +1,5 @@
 // Adds programs: one after each leaf, written in the tidy text after the old programs.
+#![tactic(auto)]
 ghost use Rattle.std.specs.Prelude.{◌≡◌, true, false, not, ◌||◌, cond, ◌≤◌, ◌<◌, min, length, ltb};
 ghost use Rattle.format.specs.Fields.{last_of};
 ghost use Rattle.format.specs.Reading.{read_text};
@@ -26,14 +27,14 @@ use tidy_sizes::PerKind;
 use tidy_text::Measured;
 
 // What the new programs are like, and the rule for repeated tags that the text's lines are read by.
-#[derive(Drop)]
+#[derive(Clone, Copy)]
 struct Ways {
     shape: Shape,
     strict: bool,
 }
 
 // What is known before a byte is written: the ways, the bytes of each kind, and those of the new programs.
-#[derive(Drop)]
+#[derive(Clone, Copy)]
 struct Plan {
     ways: Ways,
     sizes: PerKind,
@@ -41,14 +42,14 @@ struct Plan {
 }
 
 // Whether no PP is given, and the rule.
-#[derive(Drop)]
+#[derive(Clone, Copy)]
 struct Known {
     linked: bool,
     strict: bool,
 }
 
 // A refusal and its line, or what was measured.
-#[derive(Drop)]
+#[derive(Clone, Copy)]
 enum Planned {
     Refused(u8, LineNo),
     Is(Plan),

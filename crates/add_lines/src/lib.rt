@@ -1,4 +1,5 @@
 // The lines of new programs in a tidy text.
+#![tactic(auto)]
 ghost use Rattle.std.specs.Prelude.{◌≡◌, ◌≤◌, ◌+◌, length};
 ghost use Rattle.byte_slices.specs.Over.{over};
 ghost use Rattle.program_ids.specs.Ids.{IdsInText};
@@ -9,7 +10,7 @@ use format::{Kind, ProgramNo};
 
 // How new programs look: whether there are no programs yet, whether the first new ID is the prefix by itself, and whether a PP with the ID of the
 // leaf is added.
-#[derive(Drop)]
+#[derive(Clone, Copy)]
 pub struct Shape {
     pub empty: bool,
     pub alone: bool,
@@ -17,7 +18,7 @@ pub struct Shape {
 }
 
 // How one of them looks: its ID is the prefix alone; PP with the leaf's ID is added.
-#[derive(Drop)]
+#[derive(Clone, Copy)]
 pub struct Look {
     pub alone: bool,
     pub linked: bool,

@@ -1,1 +1,2 @@
 // The binary header of the SAM specification: what is written, what is read, and that reading undoes writing. This crate has no code.
+#![tactic(auto)]

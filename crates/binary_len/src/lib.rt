@@ -1,10 +1,11 @@
 // How much of an uncompressed BAM stream is its binary header.
+#![tactic(auto)]
 ghost use Rattle.std.specs.Prelude.{◌≡◌, ◌+◌, ◌≤◌, length};
 ghost use Rattle.binary_len.specs.BinaryLen.{reference_at, references_at, binary_len};
 ghost use Rattle.binary_len.specs.Step.{at_first, told, len_from, Resumes};
 
 // The length of the binary header in bytes; or that it goes on, and how many bytes are needed to say more; or a refusal.
-#[derive(Drop)]
+#[derive(Clone, Copy)]
 pub enum BinaryLen {
     Whole(usize),
     More(usize),
@@ -12,7 +13,7 @@ pub enum BinaryLen {
 }
 
 // Where to go on. At first nothing has been passed; later the references before `at` have been passed, and `left` are still to come.
-#[derive(Drop)]
+#[derive(Clone, Copy)]
 pub struct Cursor {
     pub begun: bool,
     pub at: usize,
@@ -20,7 +21,7 @@ pub struct Cursor {
 }
 
 // The same answer, and if the header goes on, the cursor for a longer front.
-#[derive(Drop)]
+#[derive(Clone, Copy)]
 pub enum Step {
     Whole(usize),
     More(usize, Cursor),

@@ -1,4 +1,5 @@
 // Takes a binary header apart: where its text and its reference list are, or that the bytes are not a binary header.
+#![tactic(auto)]
 ghost use Rattle.std.specs.Prelude.{◌≡◌, ◌+◌, ◌≤◌, eqb, length, drop};
 ghost use Rattle.format.specs.Programs.{last_or};
 ghost use Rattle.format.specs.Binary.{take_number, take_sized, take_reference, take_list, take_both, binary_parts, unpadded};
@@ -6,7 +7,7 @@ ghost use Rattle.binary_parts.specs.Parts.{number_taken, run_from, reference_fro
 ghost use Rattle.binary_parts.specs.Places.{number_at, run_at, reference_at, both_at, parts_at};
 
 // A number, and where the bytes after it start.
-#[derive(Drop)]
+#[derive(Clone, Copy)]
 pub struct NumberAt {
     pub ok: bool,
     pub value: u32,
@@ -14,7 +15,7 @@ pub struct NumberAt {
 }
 
 // A run of bytes. The bytes after it start at its end.
-#[derive(Drop)]
+#[derive(Clone, Copy)]
 pub struct RunAt {
     pub ok: bool,
     pub at: usize,
@@ -22,7 +23,7 @@ pub struct RunAt {
 }
 
 // A reference: where its name is, its length, and where the bytes after it start.
-#[derive(Drop)]
+#[derive(Clone, Copy)]
 pub struct ReferenceAt {
     pub ok: bool,
     pub name: usize,
@@ -32,7 +33,7 @@ pub struct ReferenceAt {
 }
 
 // Where the text is, where the reference list starts, and how many references it has.
-#[derive(Drop)]
+#[derive(Clone, Copy)]
 pub struct PartsAt {
     pub ok: bool,
     pub text: usize,

@@ -1,4 +1,5 @@
 // Measures the SQ list of a text, and writes it as the reference list of a binary header.
+#![tactic(auto)]
 ghost use Rattle.std.specs.Prelude.{◌≡◌, ◌≤◌, ◌+◌, ◌*◌, length};
 ghost use Rattle.byte_slices.specs.Over.{over};
 ghost use Rattle.format.specs.Binary.{reference_bytes, list_bytes};
@@ -6,7 +7,7 @@ ghost use Rattle.binary_references.specs.Next.{sq_from};
 ghost use Rattle.binary_put.specs.Size.{list_size};
 
 // How many references a list has, and how many bytes they take.
-#[derive(Drop)]
+#[derive(Clone, Copy)]
 pub struct ListSize {
     pub count: u32,
     pub bytes: usize,

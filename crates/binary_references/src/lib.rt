@@ -1,11 +1,12 @@
 // Walks over the SQ list of a text, one reference at a time: where the name is in the text, and the LN.
+#![tactic(auto)]
 ghost use Rattle.std.specs.Prelude.{◌≡◌, ◌≤◌, length};
 ghost use Rattle.binary_references.specs.Next.{may_be_sq, sq_from, told_list, NextInText};
 
 use record::{Head, Stretch};
 
 // The next reference, and the offset of the line after its own; `found` is false if no SQ is left.
-#[derive(Drop)]
+#[derive(Clone, Copy)]
 pub struct NextReference {
     pub found: bool,
     pub name: Stretch,

@@ -1,4 +1,5 @@
 // Compares the reference list of a binary header with the SQ list of a text.
+#![tactic(auto)]
 ghost use Rattle.std.specs.Prelude.{◌≡◌, true, ◌≤◌, ◌+◌, length, drop};
 ghost use Rattle.format.specs.References.{same_reference, same_references};
 ghost use Rattle.format.specs.Binary.{take_list};

@@ -1,4 +1,5 @@
 // Bytes of a lent slice: finds the first place of a byte, compares slices, cuts off the first line, and copies bytes.
+#![tactic(auto)]
 ghost use Rattle.std.specs.Prelude.{◌≡◌, ◌≤◌, ◌+◌, ◌*◌, ◌/◌, leb, length, drop};
 ghost use Rattle.format.specs.Bytes.{same, starts};
 ghost use Rattle.byte_slices.specs.Upto.{upto, leads};
@@ -94,7 +95,7 @@ pub fn leads(s: &[u8], b: u8) -> bool
 }
 
 // A line at the front of a text: its length without the ending, and where the next line starts.
-#[derive(Drop)]
+#[derive(Clone, Copy)]
 pub struct Cut {
     pub len: usize,
     pub next: usize,

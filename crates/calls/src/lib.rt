@@ -1,4 +1,5 @@
 // The calls that look up a record in a text and its catalogue: counts, keys, lengths, lines and fields. Each first judges the text and the catalogue.
+#![tactic(auto)]
 ghost use Rattle.std.specs.Prelude.{◌≡◌};
 ghost use Rattle.format.specs.Calls.{counting, keying, sizing, locating, valuing, looking};
 ghost use Rattle.calls.specs.Answers.{count_of, key_answer_of, length_answer_of, line_answer_of, value_place_of, part_standing};
@@ -8,28 +9,28 @@ use format::LineNo;
 use read::{Checked, CountAnswer};
 
 // A refusal and its line, or the key's offset and length.
-#[derive(Drop)]
+#[derive(Clone, Copy)]
 pub enum KeyAnswer {
     Refused(u8, LineNo),
     At(u32, u32),
 }
 
 // A refusal and its line, or the LN.
-#[derive(Drop)]
+#[derive(Clone, Copy)]
 pub enum LengthAnswer {
     Refused(u8, LineNo),
     Is(u64),
 }
 
 // A refusal and its line, or the line of a record.
-#[derive(Drop)]
+#[derive(Clone, Copy)]
 pub enum LineAnswer {
     Refused(u8, LineNo),
     Is(LineNo),
 }
 
 // The value's offset and length, or that the stand-in is used.
-#[derive(Drop)]
+#[derive(Clone, Copy)]
 pub enum ValuePlace {
     StandIn,
     At(u32, u32),

@@ -1,5 +1,6 @@
 // Carrying on, the part before the first line that is kept. All of these lines are skipped, and each one that announces a version sets the rule for
 // repeated tags.
+#![tactic(auto)]
 ghost use Rattle.std.specs.Prelude.{◌≡◌, ◌∷◌, [], ◌≤◌, ◌<◌, ◌+◌, ◌*◌, length, drop};
 ghost use Rattle.format.specs.Reading.{announced, admitted};
 ghost use Rattle.byte_slices.specs.First.{first_line};
@@ -11,7 +12,7 @@ ghost use Rattle.carry_early.specs.Early.{early_of, rows_from};
 ghost use Rattle.carry_early.specs.First.{First};
 
 // Where the first kept line starts, its number, and whether repeated tags are refused from there on.
-#[derive(Drop)]
+#[derive(Clone, Copy)]
 pub struct Begin {
     pub at: usize,
     pub line: u32,
@@ -20,7 +21,7 @@ pub struct Begin {
 
 // The verdict on a line before which no line is kept: whether its repeated tags are refused, 0 or the reason why it is skipped, and where the next
 // line starts.
-#[derive(Drop)]
+#[derive(Clone, Copy)]
 struct EarlyLine {
     strict: bool,
     refusal: u8,

@@ -1,5 +1,6 @@
 // Finds where each key of a block of lines occurs first. The slots hold one offset for each key of the block: that of its first line in the block, or
 // of an earlier line if the key occurs before the block.
+#![tactic(auto)]
 ghost use Rattle.std.specs.Prelude.{◌≡◌, true, false, ◌≤◌, ◌<◌, ◌+◌, ◌*◌, ◌/◌, length, drop};
 ghost use Rattle.format.specs.Records.{line};
 ghost use Rattle.byte_slices.specs.First.{first_line};
@@ -12,21 +13,21 @@ use key_look::Seed;
 use record::Head;
 
 // Where a block of lines ends, and how the keys are numbered that the area is filled with.
-#[derive(Drop)]
+#[derive(Clone, Copy)]
 pub struct Filled {
     pub end: usize,
     pub seed: Seed,
 }
 
 // Where a block of lines ends, unless filling the area was given up, since the numbers of the keys keep it `busy`.
-#[derive(Drop)]
+#[derive(Clone, Copy)]
 struct Tried {
     busy: bool,
     end: usize,
 }
 
 // How many slots were looked at for the keys of so many lines; `busy` where that was given up, since they are too many.
-#[derive(Drop)]
+#[derive(Clone, Copy)]
 struct Looks {
     busy: bool,
     lines: usize,
@@ -34,14 +35,14 @@ struct Looks {
 }
 
 // The offset after the lines whose keys were put in, and what was looked at for these keys.
-#[derive(Drop)]
+#[derive(Clone, Copy)]
 struct Entered {
     end: usize,
     looks: Looks,
 }
 
 // The head of a line, and the offset of the line after it.
-#[derive(Drop)]
+#[derive(Clone, Copy)]
 struct Parsed {
     head: Head,
     next: usize,

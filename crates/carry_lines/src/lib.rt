@@ -1,4 +1,5 @@
 // Carrying on line by line, from the first kept line on: each line is judged after the lines that were kept before it.
+#![tactic(auto)]
 ghost use Rattle.std.specs.Prelude.{◌≡◌, ◌≤◌, ◌<◌, ◌+◌, length, drop, ltb};
 ghost use Rattle.byte_slices.specs.First.{first_line};
 ghost use Rattle.key_index.specs.Keyed.{KeyInText};
@@ -11,7 +12,7 @@ use record::Head;
 
 // Where judging is: the offset of the next line, how many lines are judged, the offset where the block ends for which the area is
 // filled and the numbers that it is filled by, and how many lines, and programs among them, are kept. Where judging begins no block has begun, and both offsets are the same.
-#[derive(Drop)]
+#[derive(Clone, Copy)]
 pub struct Cursor {
     pub at: usize,
     pub line: usize,
@@ -22,7 +23,7 @@ pub struct Cursor {
 }
 
 // The verdict on a line: where the line ends, 0 or the reason why it is skipped, and the cursor after it.
-#[derive(Drop)]
+#[derive(Clone, Copy)]
 pub struct Step {
     pub end: usize,
     pub refusal: u8,

@@ -1,4 +1,5 @@
 // Carrying on after refused lines: they are skipped and listed in a table, and the tidy text of the other lines is written.
+#![tactic(auto)]
 ghost use Rattle.std.specs.Prelude.{◌≡◌, true, ◌≤◌, length};
 ghost use Rattle.std.proofs.Math.Option.{none};
 ghost use Rattle.format.specs.Reading.{read_text};
@@ -20,7 +21,7 @@ use read_judge::Judged;
 use tidy_sizes::PerKind;
 
 // A refusal and its line, or how many bytes were written and how many lines were skipped.
-#[derive(Drop)]
+#[derive(Clone, Copy)]
 pub enum Carried {
     Refused(u8, LineNo),
     Written(usize, usize),

@@ -1,4 +1,5 @@
 // Carrying on, the pass that measures: the length of the tidy text of the kept lines, and the number of skipped lines.
+#![tactic(auto)]
 pub mod writing;
 
 ghost use Rattle.std.specs.Prelude.{◌≡◌, true, ◌≤◌, ◌+◌, length};
@@ -19,7 +20,7 @@ use tidy_text::Grown;
 
 // How many bytes of the tidy text the kept records of each kind take, and how many lines are skipped from the first kept line on; or the line of the
 // first kept SQ whose name can't be written.
-#[derive(Drop)]
+#[derive(Clone, Copy)]
 pub enum KeptSizes {
     Unwritable(LineNo),
     Is(PerKind, usize),

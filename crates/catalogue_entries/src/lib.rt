@@ -1,18 +1,19 @@
 // The entries of a catalogue, one at a time.
+#![tactic(auto)]
 ghost use Rattle.std.specs.Prelude.{◌≡◌, ◌≤◌, ◌+◌, length, drop};
 ghost use Rattle.catalogue_entries.specs.Entries.{kind_byte, kind_size, entry_size, version_from, place_from, entry_with, entry_of};
 
 use format::Version;
 
 // Where a piece of the text is. The numbers have 32 bits because a catalogue stores them so; everywhere else such a place is a `record::Stretch`.
-#[derive(Drop)]
+#[derive(Clone, Copy)]
 pub struct Place {
     pub at: u32,
     pub len: u32,
 }
 
 // What is at a place of a catalogue. An entry of a record ends with the record's line. `End` also stands for anything that is not an entry.
-#[derive(Drop)]
+#[derive(Clone, Copy)]
 pub enum Entry {
     End,
     Header(Version, u32),

@@ -1,4 +1,5 @@
 // One line of a text in its catalogue: measures, writes and compares its entries.
+#![tactic(auto)]
 ghost use Rattle.std.specs.Prelude.{◌≡◌, true, false, ◌≤◌, ◌<◌, ◌+◌, ◌^◌, length, drop};
 ghost use Rattle.format.specs.Bytes.{starts};
 ghost use Rattle.format.specs.Records.{line};
@@ -23,35 +24,35 @@ use record::Head;
 use record_parser::plain::Plain;
 
 // Whether a catalogue has the expected bytes at a place, and if so, the place after them.
-#[derive(Drop)]
+#[derive(Clone, Copy)]
 pub enum Matched {
     Differs,
     Upto(usize),
 }
 
 // Where a line is: its offset in the text, and its number.
-#[derive(Drop)]
+#[derive(Clone, Copy)]
 struct LinePlace {
     at: usize,
     number: u32,
 }
 
 // Where a walk over a line found its keys, and the place after the entries of its other fields.
-#[derive(Drop)]
+#[derive(Clone, Copy)]
 struct Met {
     next: usize,
     keys: KeyValues,
 }
 
 // Whether a catalogue has those entries, and if so, what the walk found.
-#[derive(Drop)]
+#[derive(Clone, Copy)]
 enum Compared {
     Differs,
     Same(Met),
 }
 
 // Where the name of an SQ with SN and LN alone is, and its length; or it is another line.
-#[derive(Drop)]
+#[derive(Clone, Copy)]
 enum PlainLine {
     Other,
     Is(Place, u64),

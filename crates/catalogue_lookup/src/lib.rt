@@ -1,4 +1,5 @@
 // Finds keys, lengths, lines and fields with a catalogue. No line of the text is parsed again.
+#![tactic(auto)]
 ghost use Rattle.std.specs.Prelude.{◌≡◌, drop};
 ghost use Rattle.catalogue_entries.specs.Entries.{entries_in};
 ghost use Rattle.catalogue_lookup.specs.Lookup.{entry_key, entry_length, entry_line, value_in, key_in, length_in, line_in, field_in};
@@ -8,21 +9,21 @@ use catalogue_entries::{Entry, Place};
 use format::LineNo;
 
 // A place of the text, if there is one.
-#[derive(Drop)]
+#[derive(Clone, Copy)]
 pub enum Found {
     Nothing,
     At(Place),
 }
 
 // A length, if there is one.
-#[derive(Drop)]
+#[derive(Clone, Copy)]
 pub enum Sized {
     Nothing,
     Is(u64),
 }
 
 // A line, if there is one.
-#[derive(Drop)]
+#[derive(Clone, Copy)]
 pub enum Located {
     Nothing,
     On(LineNo),

@@ -1,11 +1,12 @@
 // Decimal numbers: reads one at the front of a slice, and writes one into a slice.
+#![tactic(auto)]
 ghost use Rattle.std.specs.Prelude.{◌≡◌, suc, ◌≤◌, ◌+◌, ◌^◌, length};
 ghost use Rattle.format.specs.Decimal.{written};
 ghost use Rattle.byte_slices.specs.Over.{over};
 ghost use Rattle.decimal.specs.Number.{number_at_front, NumberTold};
 
 // What is at the front of a slice: the value of the number and how many digits it has.
-#[derive(Drop)]
+#[derive(Clone, Copy)]
 pub enum Number {
     NoDigit,
     TooLarge,

@@ -1,4 +1,5 @@
 // The programs among the kept lines: finds their parents in one pass, and counts the faults that do not depend on parents.
+#![tactic(auto)]
 ghost use Rattle.std.specs.Prelude.{◌≡◌, true, map, ◌≤◌, ◌+◌, length};
 ghost use Rattle.format.specs.Records.{line};
 ghost use Rattle.format.specs.Programs.{links, programs};
@@ -41,7 +42,7 @@ pub fn one_if(n: u8) -> usize
 }
 
 // Where the ID and the PP of each kept program are, and how many faults do not depend on parents.
-#[derive(Drop)]
+#[derive(Clone, Copy)]
 struct Gathered {
     programs: Programs,
     plain: usize,
@@ -100,7 +101,7 @@ fn gather(text: &[u8], b: Begin, area: &mut [u32], ids: &mut [u32]) -> Gathered
 }
 
 // The parent of each kept program, in order, how many there are, and how many faults do not depend on parents.
-#[derive(Drop)]
+#[derive(Clone, Copy)]
 pub struct KeptLinks {
     pub parents: [u32; 1024],
     pub count: usize,

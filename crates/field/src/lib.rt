@@ -1,4 +1,5 @@
 // One field of a header line: tag, colon and value, and the numbers in VN of HD and LN of SQ.
+#![tactic(auto)]
 pub mod value;
 pub mod version;
 
@@ -16,7 +17,7 @@ use version::ParsedVersion;
 
 // A field of a line or its refusal, in plain numbers: `stop` is 0 or the refusal, `major` and `minor` are those of VN of HD, `length` is that of LN
 // of SQ.
-#[derive(Drop)]
+#[derive(Clone, Copy)]
 pub struct ParsedField {
     pub stop: u8,
     pub tag_0: u8,

@@ -8,14 +8,14 @@ use decimal::Number;
 use format::Version;
 
 // The version in a value.
-#[derive(Drop)]
+#[derive(Clone, Copy)]
 pub enum ParsedVersion {
     Is(Version),
     Invalid,
 }
 
 // One side of a version's dot.
-#[derive(Drop)]
+#[derive(Clone, Copy)]
 enum VersionSide {
     Is(u32),
     Invalid,

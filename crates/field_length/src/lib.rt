@@ -1,4 +1,5 @@
 // The length in LN of SQ.
+#![tactic(auto)]
 ghost use Rattle.std.specs.Prelude.{◌≡◌};
 ghost use Rattle.format.specs.Decimal.{span};
 ghost use Rattle.format.specs.Fields.{length_field};
@@ -8,7 +9,7 @@ ghost use Rattle.field_length.specs.Parsed.{parsed_length_of, piece_refusal, len
 use decimal::Number;
 
 // The length and how many digits it has; or that there is no number of 64 bits, that it is 0, or that it is above 2,147,483,647.
-#[derive(Drop)]
+#[derive(Clone, Copy)]
 pub enum ParsedLength {
     Invalid,
     Zero,

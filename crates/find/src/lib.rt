@@ -1,4 +1,5 @@
 // Finds a record by its key, in a text and its catalogue: the inverse of `calls::key`.
+#![tactic(auto)]
 ghost use Rattle.std.specs.Prelude.{◌≡◌};
 ghost use Rattle.catalogue_entries.specs.Entries.{entries_in};
 ghost use Rattle.program_ids.specs.Search.{id_ordinal_from};
@@ -11,14 +12,14 @@ use format::LineNo;
 use read::Checked;
 
 // A refusal and its line, or the ordinal among the records of the kind.
-#[derive(Drop)]
+#[derive(Clone, Copy)]
 pub enum FindAnswer {
     Refused(u8, LineNo),
     Is(u32),
 }
 
 // An ordinal, if there is one.
-#[derive(Drop)]
+#[derive(Clone, Copy)]
 enum Found {
     Nothing,
     At(u32),

@@ -1,5 +1,6 @@
 // An exact index of the keys seen so far. A slot is 0, or holds a key: its kind and its offset in the text. A key ends before the first byte below 32
 // or at the end of the text, so no length is kept.
+#![tactic(auto)]
 pub mod counting;
 
 ghost use Rattle.std.specs.Prelude.{◌≡◌, ◌≤◌, ◌<◌, ◌+◌, length, replicate};
@@ -11,21 +12,21 @@ use key_look::{Looked, Seed, Sought};
 use record::{Head, Stretch};
 
 // Whether a key was found, and how many slots were looked at for it.
-#[derive(Drop)]
+#[derive(Clone, Copy)]
 pub struct Found {
     pub known: bool,
     pub slots: usize,
 }
 
 // Whether a line is the first with its key, and how many slots were looked at to know it.
-#[derive(Drop)]
+#[derive(Clone, Copy)]
 pub struct Standing {
     pub first: bool,
     pub slots: usize,
 }
 
 // The key of a head: its kind, and where it is in the text. The kind is 0 if the head has no key.
-#[derive(Drop)]
+#[derive(Clone, Copy)]
 struct Key {
     kind: u8,
     place: Stretch,

@@ -1,4 +1,5 @@
 // Looks for a key in the slots of an exact index. A slot is 0, or holds a key: its kind and its offset in the text.
+#![tactic(auto)]
 pub mod hash;
 
 ghost use Rattle.std.specs.Prelude.{◌≡◌, ◌&&◌, ◌≤◌, ◌<◌, ◌+◌, ◌*◌, ◌/◌, ◌%◌, eqb, length};
@@ -10,7 +11,7 @@ use key_at::OFFSETS;
 use record::Stretch;
 
 // How keys are numbered: by a public function, or by a keyed one, with this key.
-#[derive(Drop)]
+#[derive(Clone, Copy)]
 pub struct Seed {
     pub keyed: bool,
     pub k0: u64,
@@ -18,7 +19,7 @@ pub struct Seed {
 }
 
 // How a search for a key ends: at a slot that holds it, at an empty slot, or after all slots.
-#[derive(Drop)]
+#[derive(Clone, Copy)]
 pub enum Sought {
     Known(usize),
     Free(usize),
@@ -26,7 +27,7 @@ pub enum Sought {
 }
 
 // How looking for a key ended, how many slots were looked at for it, and the key's fingerprint.
-#[derive(Drop)]
+#[derive(Clone, Copy)]
 pub struct Looked {
     pub sought: Sought,
     pub slots: usize,

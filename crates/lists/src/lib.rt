@@ -1,1 +1,2 @@
 // Laws of tests and of lists that know nothing of SAM; no code.
+#![tactic(auto)]

@@ -1,4 +1,5 @@
 // Compares the fields of two accepted PG lines: all but ID and PP, each tag with its last value, in order.
+#![tactic(auto)]
 ghost use Rattle.std.specs.Prelude.{◌≡◌, ◌≤◌, ◌+◌, length};
 ghost use Rattle.format.specs.Bytes.{none?};
 ghost use Rattle.accepted_line.specs.Run.{AtField};
@@ -8,7 +9,7 @@ ghost use Rattle.program_lines.specs.Line.{FieldsOf};
 ghost use Rattle.merge_fields.specs.Kept.{is_passed, kept_from, told_field, told_fields, NextInLine};
 
 // The next field: its tag, where its value is in the line, and where the field after it starts; `found` is false if no field is left.
-#[derive(Drop)]
+#[derive(Clone, Copy)]
 struct NextField {
     found: bool,
     first: u8,

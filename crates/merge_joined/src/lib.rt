@@ -1,6 +1,7 @@
 // Compares the SQ lists of a merge. A's list must be the front of the merged list, and each reference of B must be the next of the merged list or one
 // of A's. Merging tools keep the order, so a reference of B that A has is looked for after the one found before it. Once one is not found there, B is
 // taken in blocks: the references of a block are put into slots, and a walk over A marks those that A has.
+#![tactic(auto)]
 ghost use Rattle.std.specs.Prelude.{◌≡◌, true, false, ◌≤◌, ◌<◌, length};
 ghost use Rattle.format.specs.Merge.{is_joined};
 ghost use Rattle.binary_references.specs.Next.{sq_from};
@@ -15,7 +16,7 @@ use merge_references::Met;
 const SHORT: usize = 524288;
 
 // The rule for repeated tags that the lines of each of the three texts are read by.
-#[derive(Drop)]
+#[derive(Clone, Copy)]
 pub struct Rules {
     pub a: bool,
     pub b: bool,
@@ -23,7 +24,7 @@ pub struct Rules {
 }
 
 // Where B and the merged list go on, whether everything agrees so far, and whether B has more references.
-#[derive(Drop)]
+#[derive(Clone, Copy)]
 struct Left {
     good: bool,
     more: bool,
@@ -33,7 +34,7 @@ struct Left {
 
 // What is left after the next reference of B, if that one is settled: B has none, or it is the next of the merged list too. Otherwise the reference
 // itself.
-#[derive(Drop)]
+#[derive(Clone, Copy)]
 struct Turn {
     settled: bool,
     left: Left,
@@ -114,7 +115,7 @@ fn pass_bad(left: Left, q: NextReference) -> Left
 
 // What is left after the next reference of B, and where A goes on after the reference found; `near` is false if A does not have it from the cursor
 // on.
-#[derive(Drop)]
+#[derive(Clone, Copy)]
 struct Near {
     near: bool,
     left: Left,

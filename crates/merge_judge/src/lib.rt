@@ -1,5 +1,6 @@
 // Judges a merge of two headers that another tool made: the headers A and B, the merged header, and for each program of A and of B its ordinal in the
 // merged header.
+#![tactic(auto)]
 ghost use Rattle.std.specs.Prelude.{◌≡◌, true};
 ghost use Rattle.format.specs.Reading.{read_text};
 ghost use Rattle.accepted.specs.Read.{is_accepted, records_of};
@@ -14,7 +15,7 @@ use merge_programs::Opened;
 use read_judge::Judged;
 
 // Which of the three texts a refusal is about.
-#[derive(Drop)]
+#[derive(Clone, Copy)]
 pub enum Which {
     A,
     B,
@@ -23,7 +24,7 @@ pub enum Which {
 
 // The merge is accepted; refused because of one of the texts, with a number and a line; or refused because the texts do not fit together, with a
 // number.
-#[derive(Drop)]
+#[derive(Clone, Copy)]
 pub enum Verdict {
     Accepted,
     Unfit(Which, u8, LineNo),
@@ -31,7 +32,7 @@ pub enum Verdict {
 }
 
 // What is known of each of the three accepted texts.
-#[derive(Drop)]
+#[derive(Clone, Copy)]
 struct Texts {
     a: Opened,
     b: Opened,
@@ -39,7 +40,7 @@ struct Texts {
 }
 
 // The rules for repeated tags that the lines of A and of B are read by.
-#[derive(Drop)]
+#[derive(Clone, Copy)]
 struct Pair {
     a: bool,
     b: bool,

@@ -1,10 +1,11 @@
 // The two lists of a merge: the ordinal in the merged header of each program of A and of B.
+#![tactic(auto)]
 ghost use Rattle.std.specs.Prelude.{◌≡◌, true, false, ◌≤◌, length, replicate};
 ghost use Rattle.format.specs.Merge.{assigned};
 ghost use Rattle.merge_lists.specs.Marks.{fresh_by, marked_by, hit_from};
 
 // Whether a list has valid ordinals and none twice, and if so, the ordinals that it hits.
-#[derive(Drop)]
+#[derive(Clone, Copy)]
 struct Marked {
     good: bool,
     hits: [bool; 1024],

@@ -1,5 +1,6 @@
 // The programs of a merge: what is known of those of an accepted text, and whether each has its image in the merged text, given by a list of
 // ordinals.
+#![tactic(auto)]
 ghost use Rattle.std.specs.Prelude.{◌≡◌, true, ◌||◌, ◌<◌, ◌≤◌, length, eqb, ltb};
 ghost use Rattle.format.specs.Bytes.{all};
 ghost use Rattle.format.specs.Reading.{read_text};
@@ -15,7 +16,7 @@ use program_places::Places;
 
 // What an accepted text is judged by: the rule for repeated tags that its lines are read by, 0 or 22 or 23, where the lines of its programs
 // are, and their parents.
-#[derive(Drop)]
+#[derive(Clone, Copy)]
 pub struct Opened {
     pub strict: bool,
     pub refusal: u8,
@@ -42,7 +43,7 @@ pub fn open_text(text: &[u8], strict: bool) -> Opened
 }
 
 // A program of a text: the rule for repeated tags that the text's lines are read by, where the program's line is, and its parent.
-#[derive(Drop)]
+#[derive(Clone, Copy)]
 struct Member {
     strict: bool,
     at: u32,

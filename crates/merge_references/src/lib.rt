@@ -1,4 +1,5 @@
 // Compares the references of a merge by name and length, and checks that A's references are the front of the merged list.
+#![tactic(auto)]
 ghost use Rattle.std.specs.Prelude.{◌≡◌, ◌&&◌, List, ◌++◌, ◌≤◌, ◌+◌, length};
 ghost use Rattle.format.specs.References.{Reference, same_reference, same_references};
 ghost use Rattle.binary_references.specs.Next.{sq_from, told_reference};
@@ -8,7 +9,7 @@ ghost use Rattle.merge_references.specs.Joining.{met_in, From};
 use binary_references::NextReference;
 
 // What a list has of a name: nothing, or a length, which is the same or another.
-#[derive(Drop)]
+#[derive(Clone, Copy)]
 pub enum Met {
     Nothing,
     Same,
@@ -16,7 +17,7 @@ pub enum Met {
 }
 
 // Where the walk over the merged list goes on, if everything agrees so far.
-#[derive(Drop)]
+#[derive(Clone, Copy)]
 pub struct Front {
     pub good: bool,
     pub next: usize,
@@ -48,7 +49,7 @@ pub fn same_reference(a: &[u8], r: NextReference, b: &[u8], q: NextReference) ->
 }
 
 // What a search finds of a name, and where the references after the one found start.
-#[derive(Drop)]
+#[derive(Clone, Copy)]
 pub struct Look {
     pub met: Met,
     pub next: usize,

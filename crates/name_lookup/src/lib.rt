@@ -1,4 +1,5 @@
 // Looks for names in slots that hold their offsets in the text and some bits of their hashes, and replaces slots by the ordinals in them.
+#![tactic(auto)]
 ghost use Rattle.std.specs.Prelude.{◌≡◌, ◌&&◌, map, ℕ, ◌≤◌, ◌<◌, ◌-◌, ◌/◌, ◌%◌, ◌^◌, eqb, length, drop};
 ghost use Rattle.format.specs.Bytes.{same};
 ghost use Rattle.key_at.specs.Word.{word};
@@ -21,7 +22,7 @@ fn is_slot_of(text: &[u8], v: u32, told: u32, name: &[u8]) -> bool
 }
 
 // The slot that holds a name, or ABSENT, and how many slots were looked at.
-#[derive(Drop)]
+#[derive(Clone, Copy)]
 pub struct Looked {
     pub slot: u32,
     pub looks: u32,

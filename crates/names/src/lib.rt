@@ -1,5 +1,6 @@
 // Many names at once: makes an index of the SQ names in a lent work area, finds the ordinal of each name of a list with it, and counts the slots
 // looked at.
+#![tactic(auto)]
 pub mod answer;
 
 ghost use Rattle.std.specs.Prelude.{◌≡◌, length};
@@ -11,7 +12,7 @@ use format::LineNo;
 use read::Checked;
 
 // A refusal and its line, or how many names were answered and how many slots were looked at.
-#[derive(Drop)]
+#[derive(Clone, Copy)]
 pub enum NamesAnswer {
     Refused(u8, LineNo),
     Counted(usize, u64),

@@ -1,4 +1,5 @@
 // Chains of programs: roots and leaves, from a list of parents. A program without PP has the parent 4,294,967,295.
+#![tactic(auto)]
 ghost use Rattle.std.specs.Prelude.{◌≡◌, true, ◌≤◌, ◌<◌, length};
 ghost use Rattle.format.specs.Programs.{numbers_from, leaves, roots};
 ghost use Rattle.program_chains.specs.Parents.{links_of, are_parents, in_array, index_in, HasPlaces};
@@ -6,7 +7,7 @@ ghost use Rattle.program_chains.specs.Parents.{links_of, are_parents, in_array, 
 pub const NOBODY: u32 = 4294967295;
 
 // Ordinals in an array, and how many there are.
-#[derive(Drop)]
+#[derive(Clone, Copy)]
 pub struct Ordinals {
     pub list: [u32; 1024],
     pub count: usize,

@@ -1,4 +1,5 @@
 // The depth of every program, from a list of parents. Each program takes it from its parent, so every link is followed at most twice.
+#![tactic(auto)]
 ghost use Rattle.std.specs.Prelude.{◌≡◌, true, false, ◌≤◌, ◌<◌, length, get_or, replicate};
 ghost use Rattle.program_chains.specs.Parents.{links_of, are_parents, in_array};
 ghost use Rattle.program_depths.specs.Depths.{deep, KnownRight, KnownStay, depths_of};
@@ -98,7 +99,7 @@ fn unknown(n: usize) -> [u32; 1024]
 }
 
 // The depth of each program in order, their sum, and whether some program comes back to itself. In that case the other depths are zeros.
-#[derive(Drop)]
+#[derive(Clone, Copy)]
 pub struct Depths {
     pub list: [u32; 1024],
     pub hops: u32,

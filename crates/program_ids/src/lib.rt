@@ -1,4 +1,5 @@
 // The IDs of programs in one list of numbers, and the search for the program with an ID among them.
+#![tactic(auto)]
 ghost use Rattle.std.specs.Prelude.{◌≡◌, ◌≤◌, ◌*◌, length};
 ghost use Rattle.byte_slices.specs.Over.{over};
 ghost use Rattle.program_ids.specs.Places.{places_of, PlacesInText};
@@ -38,7 +39,7 @@ pub fn list_ids(text: &[u8], ats: &[u32], lens: &[u32], list: &mut [u32])
 }
 
 // A program, if there is one.
-#[derive(Drop)]
+#[derive(Clone, Copy)]
 pub enum Named {
     Nobody,
     Is(ProgramNo),

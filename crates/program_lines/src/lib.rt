@@ -1,4 +1,5 @@
 // The programs of an accepted text, gathered from its PG lines: where each line is, its ID and its PP.
+#![tactic(auto)]
 ghost use Rattle.std.specs.Prelude.{◌≡◌, true, map, ◌≤◌, ◌+◌, ◌<◌, ◌^◌, length};
 ghost use Rattle.format.specs.Reading.{read_text};
 ghost use Rattle.accepted_rule.specs.Rule.{ReadsBy};
@@ -14,7 +15,7 @@ use program_places::{Places, Programs};
 use record::Stretch;
 
 // The next PG line, where it is, and the offset of the line after it; `found` is false if none is left.
-#[derive(Drop)]
+#[derive(Clone, Copy)]
 struct NextLine {
     found: bool,
     at: usize,
@@ -23,14 +24,14 @@ struct NextLine {
 }
 
 // Where the ID and the PP of a program are.
-#[derive(Drop)]
+#[derive(Clone, Copy)]
 pub struct Noted {
     pub id: Place,
     pub previous: Place,
 }
 
 // The programs of a text, and where their lines are.
-#[derive(Drop)]
+#[derive(Clone, Copy)]
 pub struct ProgramLines {
     pub programs: Programs,
     pub lines: Places,

@@ -1,4 +1,5 @@
 // The parents of the programs that were gathered from a catalogue, and from the parents the leaves.
+#![tactic(auto)]
 ghost use Rattle.std.specs.Prelude.{◌≡◌, true, List, [], ◌≤◌, length};
 ghost use Rattle.format.specs.Reading.{read_text};
 ghost use Rattle.format.specs.Catalogue as format;
@@ -35,7 +36,7 @@ fn find_parent(text: &[u8], ids: &[u32], previous: Place) -> u32
 }
 
 // The parent of each program in order, how many there are, and whether some PP equals no ID.
-#[derive(Drop)]
+#[derive(Clone, Copy)]
 pub struct Parents {
     pub list: [u32; 1024],
     pub count: usize,
@@ -167,7 +168,7 @@ pub fn tangle(parents: Parents) -> u8
 }
 
 // What is found on the way to the leaves: 0, or 22 or 23 with no leaves; the parents; and the leaves.
-#[derive(Drop)]
+#[derive(Clone, Copy)]
 pub struct Graph {
     pub refusal: u8,
     pub parents: Parents,

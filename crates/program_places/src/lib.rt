@@ -1,4 +1,5 @@
 // The programs of a catalogue, gathered in one walk: where the ID and the PP of each are.
+#![tactic(auto)]
 ghost use Rattle.std.specs.Prelude.{◌≡◌, ◌≤◌, drop, replicate};
 ghost use Rattle.catalogue_entries.specs.Entries.{entries_in, counted};
 ghost use Rattle.catalogue_lookup.specs.Lookup.{value_in};
@@ -11,14 +12,14 @@ use catalogue_lookup::Found;
 pub const NOWHERE: u32 = 4294967295;
 
 // Places in the text: their offsets and their lengths.
-#[derive(Drop)]
+#[derive(Clone, Copy)]
 pub struct Places {
     pub at: [u32; 1024],
     pub len: [u32; 1024],
 }
 
 // Where the ID and the PP of each program are, in order, and how many programs there are.
-#[derive(Drop)]
+#[derive(Clone, Copy)]
 pub struct Programs {
     pub id: Places,
     pub previous: Places,

@@ -1,4 +1,5 @@
 // The roots and the leaves of the programs of a text and its catalogue. Each call first judges the text and the catalogue.
+#![tactic(auto)]
 ghost use Rattle.std.specs.Prelude.{◌≡◌, length};
 ghost use Rattle.format.specs.Calls.{fitting, rooting, leafing};
 ghost use Rattle.read.specs.Answers.{answer_of, output_of};
@@ -8,7 +9,7 @@ use format::LineNo;
 use read::{Checked, CountAnswer};
 
 // A refusal and its line, or how many leaves were written, and the hops.
-#[derive(Drop)]
+#[derive(Clone, Copy)]
 pub enum LeavesAnswer {
     Refused(u8, LineNo),
     Counted(usize, u32),

@@ -1,5 +1,6 @@
 // The leaves of a text and its catalogue, found by a second engine: each program takes its depth from its parent, and a lent table gets the parent
 // and the depth of each. The answers are those of the first engine (`programs`).
+#![tactic(auto)]
 ghost use Rattle.std.specs.Prelude.{◌≡◌, true, length};
 ghost use Rattle.format.specs.Reading.{read_text};
 ghost use Rattle.format.specs.Catalogue.{catalogue};
@@ -15,7 +16,7 @@ use programs::LeavesAnswer;
 use read::{Checked, CountAnswer};
 
 // What is found from the parents: 0, 22 or 23 (the last two with nothing else); the parents, the depths and the number of programs; and the leaves.
-#[derive(Drop)]
+#[derive(Clone, Copy)]
 struct DeepGraph {
     refusal: u8,
     parents: [u32; 1024],
@@ -74,7 +75,7 @@ fn find(text: &[u8], kept: &[u8]) -> DeepGraph
 }
 
 // The answer, and what goes into the table; for a refusal nothing does.
-#[derive(Drop)]
+#[derive(Clone, Copy)]
 pub struct TablePlan {
     pub answer: LeavesAnswer,
     pub parents: [u32; 1024],

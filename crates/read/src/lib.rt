@@ -1,4 +1,5 @@
 // A whole text: judges it line by line, writes its catalogue, and compares a catalogue with it.
+#![tactic(auto)]
 ghost use Rattle.std.specs.Prelude.{◌≡◌, ◌≤◌, length};
 ghost use Rattle.format.specs.Bytes.{same};
 ghost use Rattle.format.specs.Catalogue.{catalogue};
@@ -16,21 +17,21 @@ use format::LineNo;
 use read_judge::Judged;
 
 // A refusal and its line, or how many bytes or ordinals were written.
-#[derive(Drop)]
+#[derive(Clone, Copy)]
 pub enum CountAnswer {
     Refused(u8, LineNo),
     Count(usize),
 }
 
 // A refusal and its line, or that the catalogue is this text's.
-#[derive(Drop)]
+#[derive(Clone, Copy)]
 pub enum Checked {
     Refused(u8, LineNo),
     Fresh,
 }
 
 // The same, for those who go over the lines again: whether no tag is repeated in any of them.
-#[derive(Drop)]
+#[derive(Clone, Copy)]
 pub enum CheckedText {
     Refused(u8, LineNo),
     Fresh(bool),

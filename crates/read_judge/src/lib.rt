@@ -1,4 +1,5 @@
 // Judges a whole text line by line: answers its first refusal, or the size of its catalogue.
+#![tactic(auto)]
 ghost use Rattle.std.specs.Prelude.{◌≡◌, ◌||◌, true, false, cond, [], ◌+◌, ◌*◌, ◌≤◌, ◌<◌, length, drop, ltb};
 ghost use Rattle.format.specs.Lines.{lines_from};
 ghost use Rattle.format.specs.Work.{all_zeros};
@@ -29,7 +30,7 @@ pub const OWN_SLOTS: usize = 6144;
 pub const LONG_SLOTS: usize = 196608;
 
 // The first refusal and its line; or how many bytes the catalogue has, and whether no tag is repeated in any line.
-#[derive(Drop)]
+#[derive(Clone, Copy)]
 pub enum Judged {
     Refused(u8, LineNo),
     Accepted(usize, bool),
@@ -40,7 +41,7 @@ const GIVEN_UP: usize = 16777218;
 
 // What judging came to: what the text is, unless it was given up, since the numbers of its keys keep it `busy`; and how many slots were looked at, for
 // the keys of so many lines.
-#[derive(Drop)]
+#[derive(Clone, Copy)]
 struct Tried {
     busy: bool,
     judged: Judged,
@@ -49,14 +50,14 @@ struct Tried {
 }
 
 // How a text is judged: whether a tag is refused that is repeated, and how keys are numbered.
-#[derive(Drop)]
+#[derive(Clone, Copy)]
 struct Way {
     strict: bool,
     seed: Seed,
 }
 
 // The line at which the next block begins, and the first later line whose key an earlier block has.
-#[derive(Drop)]
+#[derive(Clone, Copy)]
 struct Block {
     until: usize,
     clash: usize,
@@ -193,7 +194,7 @@ fn barred(count: usize, programs: usize, head: Head, known: bool, clashes: bool)
 }
 
 // What a line is, and whether no tag is repeated up to its end.
-#[derive(Drop)]
+#[derive(Clone, Copy)]
 struct Parsed {
     head: Head,
     once: bool,

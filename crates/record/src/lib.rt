@@ -1,4 +1,5 @@
 // What the fields of a line make: the keys among them, and the head of the record or its refusal.
+#![tactic(auto)]
 ghost use Rattle.std.specs.Prelude.{◌≡◌, ◌≤◌, ◌+◌};
 ghost use Rattle.record.specs.Keys.{no_keys, with_field, head_from};
 
@@ -6,14 +7,14 @@ use field::ParsedField;
 use format::{Kind, Version};
 
 // Where a piece of the text is.
-#[derive(Drop)]
+#[derive(Clone, Copy)]
 pub struct Stretch {
     pub at: usize,
     pub len: usize,
 }
 
 // A line's refusal, or its record: version or key, length, and how many other fields it has.
-#[derive(Drop)]
+#[derive(Clone, Copy)]
 pub enum Head {
     Refused(u8),
     Header(Version, usize),
@@ -24,7 +25,7 @@ pub enum Head {
 }
 
 // What the fields read so far give, in plain numbers. A key has at least one byte and LN is at least 1, so 0 means that there was none yet.
-#[derive(Drop)]
+#[derive(Clone, Copy)]
 pub struct Keys {
     pub key_at: usize,
     pub key_len: usize,

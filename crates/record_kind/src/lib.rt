@@ -1,11 +1,12 @@
 // The front of a line: the `@` and the two kind bytes.
+#![tactic(auto)]
 ghost use Rattle.std.specs.Prelude.{◌≡◌};
 ghost use Rattle.format.specs.Records.{kind_of};
 ghost use Rattle.record_kind.specs.Kind.{kind_at, parsed_kind_of, KindTold};
 
 use format::Kind;
 
-#[derive(Drop)]
+#[derive(Clone, Copy)]
 pub enum ParsedKind {
     Empty,
     Invalid,

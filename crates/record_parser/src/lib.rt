@@ -1,4 +1,5 @@
 // One line of a header: its record, or its refusal.
+#![tactic(auto)]
 pub mod fields;
 pub mod marks;
 pub mod plain;

@@ -9,7 +9,7 @@ use format::Kind;
 use record::{Head, Stretch};
 
 // How many bytes the name of such a line has, and its length; or it is another line, perhaps a wrong one.
-#[derive(Drop)]
+#[derive(Clone, Copy)]
 pub enum Plain {
     Other,
     Is(usize, u64),

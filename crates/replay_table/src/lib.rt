@@ -1,6 +1,7 @@
 // The leaves found by the second engine: whether the call answers as a line of stored answers says (the crate `replay` describes the lines). A
 // program in Rattle can't lend a table without a proof by hand, so `make_plan` is asked: the call writes its parents and depths into the table, and
 // nothing else.
+#![tactic(auto)]
 ghost use Rattle.std.specs.Prelude.{◌≤◌};
 
 use programs::LeavesAnswer;

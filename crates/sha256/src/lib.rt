@@ -1,4 +1,5 @@
 // SHA-256 (FIPS 180-4) of a lent text, which is read in place.
+#![tactic(auto)]
 ghost use Rattle.std.specs.Prelude.{◌≡◌, ◌+◌, ◌*◌, ◌/◌, ◌<◌, ◌≤◌, length, take, drop};
 ghost use Rattle.format.specs.Sha256.{sum32, Ch, Maj, Σ0, Σ1, σ0, σ1, K, H0, words, next, extend, round, rounds, sum, compress};
 ghost use Rattle.format.specs.Sha256.{big, parse, hashed, digest, sha256};
@@ -6,7 +7,7 @@ ghost use Rattle.sha256.specs.Parts.{value_of, word_at, last_blocks};
 ghost use Rattle.byte_slices.specs.Over.{over};
 
 // A hash value, and the working variables of the rounds: eight words.
-#[derive(Drop)]
+#[derive(Clone, Copy)]
 pub struct State {
     pub a: u32,
     pub b: u32,

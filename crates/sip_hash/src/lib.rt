@@ -1,4 +1,5 @@
 // SipHash (Aumasson and Bernstein, 2012) of a lent text under a key of two words.
+#![tactic(auto)]
 ghost use Rattle.std.specs.Prelude.{◌≡◌, ◌+◌, ◌-◌, ◌*◌, ◌/◌, ◌<◌, ◌≤◌, length, drop};
 ghost use Rattle.format.specs.Little.{of_little};
 ghost use Rattle.format.specs.SipHash.{round, rounds, initial, absorb, absorbed, words, finish, sip, key_of};
@@ -7,7 +8,7 @@ ghost use Rattle.sip_hash.specs.Parts.{state_of};
 use std::num::wrapping_add_u64;
 
 // The four words that the rounds mix.
-#[derive(Drop)]
+#[derive(Clone, Copy)]
 struct State {
     v0: u64,
     v1: u64,
@@ -16,7 +17,7 @@ struct State {
 }
 
 // A key of 128 bits.
-#[derive(Drop)]
+#[derive(Clone, Copy)]
 pub struct Key {
     pub k0: u64,
     pub k1: u64,

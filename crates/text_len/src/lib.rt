@@ -1,4 +1,5 @@
 // How much of a SAM file is its header.
+#![tactic(auto)]
 ghost use Rattle.std.specs.Prelude.{◌≡◌};
 ghost use Rattle.format.specs.TextLen.{text_len};
 

@@ -1,4 +1,5 @@
 // One record of the tidy text: writes it from its accepted line, or measures it.
+#![tactic(auto)]
 ghost use Rattle.std.specs.Prelude.{◌≡◌, true, false, [], ◌∷◌, ◌++◌, ◌≤◌, ◌+◌, length};
 ghost use Rattle.format.specs.Records.{line};
 ghost use Rattle.byte_slices.specs.Over.{over};
@@ -18,21 +19,21 @@ use format::{Kind, Version};
 use record::{Head, Stretch};
 
 // How many bytes a record takes, if it can be written.
-#[derive(Drop)]
+#[derive(Clone, Copy)]
 pub enum Size {
     Unwritable,
     Is(usize),
 }
 
 // The keys of an SQ: where its name is in the text, and its length.
-#[derive(Drop)]
+#[derive(Clone, Copy)]
 struct SequenceKeys {
     name: Stretch,
     ln: u64,
 }
 
 // The key of an RG or a PG: which of both it is, and where its ID is in the text.
-#[derive(Drop)]
+#[derive(Clone, Copy)]
 struct MapKey {
     kind: Kind,
     id: Stretch,

@@ -1,6 +1,7 @@
 // Reads a header from standard input and writes its tidy text, or `refused N line L` and LF.
 //
 // The buffer holds one byte more than the longest input that is taken, so that a longer input is noticed.
+#![tactic(auto)]
 use libc::{STDIN_FILENO, STDOUT_FILENO};
 
 fn main() {

@@ -8,6 +8,7 @@
 // was written by hand from document 01, the long ones by repeating a byte. The files `model_3` to
 // `model_252`, and what is expected of them, come from a model written from document 01 alone. None
 // of it was made by this program.
+#![tactic(auto)]
 use libc::STDOUT_FILENO;
 
 // Answers what an open file holds, read as `tidy` reads its input.

@@ -1,4 +1,5 @@
 // One number per kind of record, and whether a text of so many bytes can be written.
+#![tactic(auto)]
 ghost use Rattle.std.specs.Prelude.{◌≡◌, ◌≤◌, ◌+◌};
 ghost use Rattle.tidy_sizes.specs.Numbers.{no_bytes, get, plus, front, total, kind_starts};
 ghost use Rattle.tidy_sizes.specs.Plan.{unfit};
@@ -6,7 +7,7 @@ ghost use Rattle.tidy_sizes.specs.Plan.{unfit};
 use format::Kind;
 
 // One number per kind of record: how many bytes the records of the kind take, or where the next one goes.
-#[derive(Drop)]
+#[derive(Clone, Copy)]
 pub struct PerKind {
     pub hd: usize,
     pub sq: usize,

@@ -1,6 +1,7 @@
 // The tidy text of an accepted text: HD, then all SQ, RG, PG and CO, each kind in text order. One pass measures each kind, and one puts each record
 // at the place of its kind. Marks can be given, one per program in text order: a program whose mark is false is left out. A program after the last
 // mark stays, so with no marks all programs stay.
+#![tactic(auto)]
 ghost use Rattle.std.specs.Prelude.{◌≡◌, true, ◌≤◌, ◌<◌, ◌+◌, length};
 ghost use Rattle.format.specs.Records.{line};
 ghost use Rattle.format.specs.Reading.{read_text};
@@ -20,21 +21,21 @@ use tidy_line::Size;
 use tidy_sizes::PerKind;
 
 // How many bytes each kind takes in the tidy text, or the line of the first SQ whose name can't be written.
-#[derive(Drop)]
+#[derive(Clone, Copy)]
 pub enum Measured {
     Unwritable(LineNo),
     Is(PerKind),
 }
 
 // The sizes of the lines so far, or that a name can't be written.
-#[derive(Drop)]
+#[derive(Clone, Copy)]
 pub enum Grown {
     Unwritable,
     Is(PerKind),
 }
 
 // Whether the record of a line stays, and the ordinal of the next program.
-#[derive(Drop)]
+#[derive(Clone, Copy)]
 struct Stay {
     stays: bool,
     next: usize,

@@ -4,6 +4,7 @@
 // 0 on, where equal answers in a row are written as `128x10`: 128 times 10. Then come the sequences of the input, one per line in hex, with one
 // answer per line: those of 3 and 4 bytes around each edge of the table of RFC 3629, and some that a tab cuts short. The expected output was made by
 // `oracle/characters` with Python's decoder, not by this program.
+#![tactic(auto)]
 ghost use Rattle.std.specs.Prelude.{◌≤◌, length};
 
 use libc::STDOUT_FILENO;
