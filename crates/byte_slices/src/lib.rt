@@ -1,5 +1,6 @@
 // Bytes of a lent slice: finds the first place of a byte, compares slices, cuts off the first line, and copies bytes.
 #![tactic(auto)]
+
 ghost use Rattle.std.specs.Prelude.{◌≡◌, ◌≤◌, ◌+◌, ◌*◌, ◌/◌, leb, length, drop};
 ghost use Rattle.format.specs.Bytes.{same, starts};
 ghost use Rattle.byte_slices.specs.Upto.{upto, leads};

@@ -4,7 +4,6 @@ use mathlib.Core.Path.{◌≡◌, refl, sym, ap, ◌∙◌}
 use mathlib.Core.List.{List}
 use native.Mathlib.Omega.{arith}
 use native.Mathlib.Numerals.{add-one}
-use borrow.Author.Rules.{rules}
 use borrow.Author.Tests.{eq-eqb, ne_eqb}
 use lib.ListN.{length, get_or, take}
 use lib.Seq.{length-take-le}
@@ -14,8 +13,7 @@ use Rattle.byte_slices.specs.First.{first_line}
 use Rattle.byte_slices.proofs.Lines.{upto_le}
 use Rattle.byte_slices.proofs.Before.{upto-at}
 use Rattle.byte_slices.proofs.First.{chomp-one, chomp-at, first-whole, first_more}
-use Rattle.byte_slices.proofs.first_line.Statement.{statement}
-use Rattle.byte_slices.proofs.first_line.Tie as tie
+use Rattle.byte_slices.proofs.first_line.Goals as goal
 
 -- where the callee answered `n`
 module _ (s : List ℕ) (n : ℕ) (e : n ≡ upto 10 s) where
@@ -44,57 +42,28 @@ module _ (s : List ℕ) (n : ℕ) (e : n ≡ upto 10 s) where
       let k : n < length s = inside h in
       sym (line k ∙ rw (chomp-at s n k (lf k) z, ne_eqb (get_or s (n - 1) 0) 13 b, length-take-le n s (omega arith)) refl)
 
-upto-requires : tie.Need-upto-requires
-upto-requires c κs = search rules
+pub returns-then-n-s : goal.returns-then-n-s
+returns-then-n-s c = whole _ _ c.upto-n.ensures c.if-n-s.true
 
-returns : tie.Need-returns
-returns c = whole _ _ c.before.upto.ensures c.if1.true
+pub returns-then-n-eq0 : goal.returns-then-n-eq0
+returns-then-n-eq0 c = empty _ _ c.upto-n.ensures c.if-n-s.false c.if-n-eq0.true
 
-returns-2 : tie.Need-returns-2
-returns-2 c = empty _ _ c.before.before.upto.ensures c.before.if1.false c.if2.true
+pub bounds-s-n : goal.bounds-s-n
+bounds-s-n c =
+    omega (arith, inside c.args.s.now c.upto-n.result c.upto-n.ensures c.if-n-s.false)
 
-sub-if3 : tie.Need-overflow-sub-if3
-sub-if3 c = search rules
+pub overflow_add-result : goal.overflow_add-result
+overflow_add-result c =
+    omega (arith, inside c.args.s.now c.upto-n.result c.upto-n.ensures c.if-n-s.false)
 
-shared-slice-read-if3 : tie.Need-shared-slice-read-if3
-shared-slice-read-if3 c =
-    let u = c.before.before.before in
-    omega (arith, inside u.before.before.args.s.now u.upto.result u.upto.ensures c.before.before.if1.false)
+pub returns-then-s-n-eq13 : goal.returns-then-s-n-eq13
+returns-then-s-n-eq13 c =
+    with-cr _ _ c.upto-n.ensures c.if-n-s.false c.if-n-eq0.false c.if-s-n-eq13.true
 
-sub-t7 : tie.Need-overflow-sub-t7
-sub-t7 c = search rules
+pub overflow_add-result-2 : goal.overflow_add-result-2
+overflow_add-result-2 c =
+    omega (arith, inside c.args.s.now c.upto-n.result c.upto-n.ensures c.if-n-s.false)
 
-add-t8 : tie.Need-overflow-add-t8
-add-t8 c =
-    let u = c.before.before.before.before in
-    omega (arith, inside u.before.before.args.s.now u.upto.result u.upto.ensures c.before.before.before.if1.false)
-
-returns-3 : tie.Need-returns-3
-returns-3 c =
-    let e = c.before.before.before in
-    with-cr _ _ e.before.upto.ensures e.if1.false c.before.before.if2.false c.if3.true
-
-add-t3 : tie.Need-overflow-add-t3
-add-t3 c =
-    let u = c.before.before.before.before in
-    omega (arith, inside u.before.before.args.s.now u.upto.result u.upto.ensures c.before.before.before.if1.false)
-
-returns-4 : tie.Need-returns-4
-returns-4 c =
-    let e = c.before.before.before in
-    without-cr _ _ e.before.upto.ensures e.if1.false c.before.before.if2.false c.if3.false
-
-pub first-line-spec : {M : Type 1} → statement M
-first-line-spec =
-    tie.close
-    (tie.spec
-    upto-requires
-    returns
-    returns-2
-    sub-if3
-    shared-slice-read-if3
-    sub-t7
-    add-t8
-    returns-3
-    add-t3
-    returns-4)
+pub returns : goal.returns
+returns c =
+    without-cr _ _ c.upto-n.ensures c.if-n-s.false c.if-n-eq0.false c.if-s-n-eq13.false

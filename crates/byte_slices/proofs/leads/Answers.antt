@@ -4,12 +4,10 @@ use mathlib.Core.Path.{◌≡◌, refl}
 use mathlib.Core.Bool.{false}
 use mathlib.Core.List.{List, [], ◌∷◌}
 use native.Mathlib.Omega.{arith}
-use borrow.Author.Rules.{rules}
 use lib.ListN.{length, get_or}
 use lib.Dec.{eqb}
 use Rattle.byte_slices.specs.Upto.{leads}
-use Rattle.byte_slices.proofs.leads.Statement.{statement}
-use Rattle.byte_slices.proofs.leads.Tie as tie
+use Rattle.byte_slices.proofs.leads.Goals as goal
 
 empty : (b : ℕ) (s : List ℕ) → length s ≡ 0 → false ≡ leads b s
 unfolding leads
@@ -21,14 +19,8 @@ unfolding leads
 first b [] h = absurd (h refl)
 first b (c ∷ s) h = refl
 
-returns : tie.Need-returns
-returns c = empty _ _ c.if1.true
+pub returns-then-s-eq0 : goal.returns-then-s-eq0
+returns-then-s-eq0 c = empty _ _ c.if-s-eq0.true
 
-shared-slice-read-result : tie.Need-shared-slice-read-result
-shared-slice-read-result c = search rules
-
-returns-2 : tie.Need-returns-2
-returns-2 c = first _ _ c.before.if1.false
-
-pub leads-spec : {M : Type 1} → statement M
-leads-spec = tie.close (tie.spec returns shared-slice-read-result returns-2)
+pub returns : goal.returns
+returns c = first _ _ c.if-s-eq0.false
