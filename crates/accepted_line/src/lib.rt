@@ -1,5 +1,6 @@
 // The head of an accepted line: its kind, its key and its number, found from where their values are. Nothing is judged again.
 #![tactic(auto)]
+
 pub mod fields;
 pub mod tag_number;
 

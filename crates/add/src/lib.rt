@@ -1,5 +1,6 @@
 // Adds programs: one after each leaf, written in the tidy text after the old programs.
 #![tactic(auto)]
+
 ghost use Rattle.std.specs.Prelude.{◌≡◌, true, false, not, ◌||◌, cond, ◌≤◌, ◌<◌, min, length, ltb};
 ghost use Rattle.format.specs.Fields.{last_of};
 ghost use Rattle.format.specs.Reading.{read_text};

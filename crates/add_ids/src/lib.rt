@@ -1,5 +1,6 @@
 // The IDs that adding makes, and whether a program has one of them already. They are not built: each is compared part by part.
 #![tactic(auto)]
+
 ghost use Rattle.std.specs.Prelude.{◌≡◌};
 ghost use Rattle.format.specs.Bytes.{same};
 ghost use Rattle.program_ids.specs.Ids.{ids_at, IdsInText};

@@ -1,6 +1,7 @@
 // What a caller gives to add programs: a prefix for the IDs, and fields as in the body of a PG line, each with its leading tab. A tag that is given
 // twice is refused under every header, whatever the header's rule for repeated tags.
 #![tactic(auto)]
+
 ghost use Rattle.std.specs.Prelude.{◌≡◌, not, ◌||◌};
 ghost use Rattle.format.specs.Fields.{is_value, last_of};
 ghost use Rattle.format.specs.Adding.{given, misformed};

@@ -1,5 +1,6 @@
 // The lines of new programs in a tidy text.
 #![tactic(auto)]
+
 ghost use Rattle.std.specs.Prelude.{◌≡◌, ◌≤◌, ◌+◌, length};
 ghost use Rattle.byte_slices.specs.Over.{over};
 ghost use Rattle.program_ids.specs.Ids.{IdsInText};

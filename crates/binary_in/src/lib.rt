@@ -1,5 +1,6 @@
 // Reads a binary header: answers the tidy text of its text, if its reference list is that text's SQ list.
 #![tactic(auto)]
+
 ghost use Rattle.std.specs.Prelude.{◌≡◌, length};
 ghost use Rattle.format.specs.Binary.{binary_in};
 ghost use Rattle.read.specs.Answers.{answer_of, output_of};

@@ -1,5 +1,6 @@
 // How much of an uncompressed BAM stream is its binary header.
 #![tactic(auto)]
+
 ghost use Rattle.std.specs.Prelude.{◌≡◌, ◌+◌, ◌≤◌, length};
 ghost use Rattle.binary_len.specs.BinaryLen.{reference_at, references_at, binary_len};
 ghost use Rattle.binary_len.specs.Step.{at_first, told, len_from, Resumes};

@@ -1,5 +1,6 @@
 // Writes the binary header of the SAM specification from an accepted text: its tidy text and its SQ list.
 #![tactic(auto)]
+
 ghost use Rattle.std.specs.Prelude.{◌≡◌, true, ◌++◌, ◌≤◌, ◌+◌, length};
 ghost use Rattle.format.specs.Lines.{lines};
 ghost use Rattle.format.specs.Reading.{read_text};

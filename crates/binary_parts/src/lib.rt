@@ -1,5 +1,6 @@
 // Takes a binary header apart: where its text and its reference list are, or that the bytes are not a binary header.
 #![tactic(auto)]
+
 ghost use Rattle.std.specs.Prelude.{◌≡◌, ◌+◌, ◌≤◌, eqb, length, drop};
 ghost use Rattle.format.specs.Programs.{last_or};
 ghost use Rattle.format.specs.Binary.{take_number, take_sized, take_reference, take_list, take_both, binary_parts, unpadded};

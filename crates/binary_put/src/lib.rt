@@ -1,5 +1,6 @@
 // Measures the SQ list of a text, and writes it as the reference list of a binary header.
 #![tactic(auto)]
+
 ghost use Rattle.std.specs.Prelude.{◌≡◌, ◌≤◌, ◌+◌, ◌*◌, length};
 ghost use Rattle.byte_slices.specs.Over.{over};
 ghost use Rattle.format.specs.Binary.{reference_bytes, list_bytes};

@@ -1,5 +1,6 @@
 // Walks over the SQ list of a text, one reference at a time: where the name is in the text, and the LN.
 #![tactic(auto)]
+
 ghost use Rattle.std.specs.Prelude.{◌≡◌, ◌≤◌, length};
 ghost use Rattle.binary_references.specs.Next.{may_be_sq, sq_from, told_list, NextInText};
 

@@ -1,5 +1,6 @@
 // Compares the reference list of a binary header with the SQ list of a text.
 #![tactic(auto)]
+
 ghost use Rattle.std.specs.Prelude.{◌≡◌, true, ◌≤◌, ◌+◌, length, drop};
 ghost use Rattle.format.specs.References.{same_reference, same_references};
 ghost use Rattle.format.specs.Binary.{take_list};

@@ -1,5 +1,6 @@
 // The calls that look up a record in a text and its catalogue: counts, keys, lengths, lines and fields. Each first judges the text and the catalogue.
 #![tactic(auto)]
+
 ghost use Rattle.std.specs.Prelude.{◌≡◌};
 ghost use Rattle.format.specs.Calls.{counting, keying, sizing, locating, valuing, looking};
 ghost use Rattle.calls.specs.Answers.{count_of, key_answer_of, length_answer_of, line_answer_of, value_place_of, part_standing};

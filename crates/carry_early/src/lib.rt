@@ -1,6 +1,7 @@
 // Carrying on, the part before the first line that is kept. All of these lines are skipped, and each one that announces a version sets the rule for
 // repeated tags.
 #![tactic(auto)]
+
 ghost use Rattle.std.specs.Prelude.{◌≡◌, ◌∷◌, [], ◌≤◌, ◌<◌, ◌+◌, ◌*◌, length, drop};
 ghost use Rattle.format.specs.Reading.{announced, admitted};
 ghost use Rattle.byte_slices.specs.First.{first_line};

@@ -1,6 +1,7 @@
 // Finds where each key of a block of lines occurs first. The slots hold one offset for each key of the block: that of its first line in the block, or
 // of an earlier line if the key occurs before the block.
 #![tactic(auto)]
+
 ghost use Rattle.std.specs.Prelude.{◌≡◌, true, false, ◌≤◌, ◌<◌, ◌+◌, ◌*◌, ◌/◌, length, drop};
 ghost use Rattle.format.specs.Records.{line};
 ghost use Rattle.byte_slices.specs.First.{first_line};

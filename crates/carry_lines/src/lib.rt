@@ -1,5 +1,6 @@
 // Carrying on line by line, from the first kept line on: each line is judged after the lines that were kept before it.
 #![tactic(auto)]
+
 ghost use Rattle.std.specs.Prelude.{◌≡◌, ◌≤◌, ◌<◌, ◌+◌, length, drop, ltb};
 ghost use Rattle.byte_slices.specs.First.{first_line};
 ghost use Rattle.key_index.specs.Keyed.{KeyInText};

@@ -1,5 +1,6 @@
 // Carrying on after refused lines: they are skipped and listed in a table, and the tidy text of the other lines is written.
 #![tactic(auto)]
+
 ghost use Rattle.std.specs.Prelude.{◌≡◌, true, ◌≤◌, length};
 ghost use Rattle.std.proofs.Math.Option.{none};
 ghost use Rattle.format.specs.Reading.{read_text};

@@ -1,5 +1,6 @@
 // Carrying on, the pass that measures: the length of the tidy text of the kept lines, and the number of skipped lines.
 #![tactic(auto)]
+
 pub mod writing;
 
 ghost use Rattle.std.specs.Prelude.{◌≡◌, true, ◌≤◌, ◌+◌, length};

@@ -1,5 +1,6 @@
 // The entries of a catalogue, one at a time.
 #![tactic(auto)]
+
 ghost use Rattle.std.specs.Prelude.{◌≡◌, ◌≤◌, ◌+◌, length, drop};
 ghost use Rattle.catalogue_entries.specs.Entries.{kind_byte, kind_size, entry_size, version_from, place_from, entry_with, entry_of};
 

@@ -1,5 +1,6 @@
 // The entries of the records of one kind: how many a catalogue has, and where the one with an ordinal is.
 #![tactic(auto)]
+
 ghost use Rattle.std.specs.Prelude.{◌≡◌};
 ghost use Rattle.catalogue_entries.specs.Entries.{entries_in, counted, entries_before, sizes};
 ghost use Rattle.catalogue_kinds.specs.Passing.{passing};

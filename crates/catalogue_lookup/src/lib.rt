@@ -1,5 +1,6 @@
 // Finds keys, lengths, lines and fields with a catalogue. No line of the text is parsed again.
 #![tactic(auto)]
+
 ghost use Rattle.std.specs.Prelude.{◌≡◌, drop};
 ghost use Rattle.catalogue_entries.specs.Entries.{entries_in};
 ghost use Rattle.catalogue_lookup.specs.Lookup.{entry_key, entry_length, entry_line, value_in, key_in, length_in, line_in, field_in};

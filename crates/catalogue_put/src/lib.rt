@@ -1,5 +1,6 @@
 // Writes entries of a catalogue into a lent slice.
 #![tactic(auto)]
+
 ghost use Rattle.std.specs.Prelude.{◌≡◌, [], ◌∷◌, ◌++◌, ◌≤◌, ◌+◌, length};
 ghost use Rattle.format.specs.Catalogue.{little};
 ghost use Rattle.byte_slices.specs.Over.{over};

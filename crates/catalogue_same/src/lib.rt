@@ -1,5 +1,6 @@
 // Compares entries of a catalogue with what they should be: first the length, then byte by byte and number by number.
 #![tactic(auto)]
+
 ghost use Rattle.std.specs.Prelude.{◌≡◌, ◌∷◌, ◌++◌, ◌≤◌, ◌+◌, length, drop};
 ghost use Rattle.format.specs.Bytes.{starts};
 ghost use Rattle.format.specs.Catalogue.{little};

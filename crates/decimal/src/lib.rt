@@ -1,5 +1,6 @@
 // Decimal numbers: reads one at the front of a slice, and writes one into a slice.
 #![tactic(auto)]
+
 ghost use Rattle.std.specs.Prelude.{◌≡◌, suc, ◌≤◌, ◌+◌, ◌^◌, length};
 ghost use Rattle.format.specs.Decimal.{written};
 ghost use Rattle.byte_slices.specs.Over.{over};

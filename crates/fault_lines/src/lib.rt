@@ -1,5 +1,6 @@
 // The faulty lines of a text from the first kept line on: counts the programs with a faulty parent, and writes the rows of all faults in one pass.
 #![tactic(auto)]
+
 ghost use Rattle.std.specs.Prelude.{◌≡◌, ◌≤◌, ◌<◌, ◌+◌, ◌*◌, length};
 ghost use Rattle.format.specs.Programs.{programs};
 ghost use Rattle.byte_slices.specs.Over.{over};

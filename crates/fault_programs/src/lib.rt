@@ -1,5 +1,6 @@
 // The programs among the kept lines: finds their parents in one pass, and counts the faults that do not depend on parents.
 #![tactic(auto)]
+
 ghost use Rattle.std.specs.Prelude.{◌≡◌, true, map, ◌≤◌, ◌+◌, length};
 ghost use Rattle.format.specs.Records.{line};
 ghost use Rattle.format.specs.Programs.{links, programs};

@@ -1,5 +1,6 @@
 // The faults of a text: a table with the number of each faulty line and its fault.
 #![tactic(auto)]
+
 ghost use Rattle.std.specs.Prelude.{◌≡◌, map, ◌≤◌, length};
 ghost use Rattle.read.specs.Answers.{output_of};
 ghost use Rattle.carry_early.specs.First.{First};

@@ -1,5 +1,6 @@
 // One field of a header line: tag, colon and value, and the numbers in VN of HD and LN of SQ.
 #![tactic(auto)]
+
 pub mod value;
 pub mod version;
 

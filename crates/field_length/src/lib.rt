@@ -1,5 +1,6 @@
 // The length in LN of SQ.
 #![tactic(auto)]
+
 ghost use Rattle.std.specs.Prelude.{◌≡◌};
 ghost use Rattle.format.specs.Decimal.{span};
 ghost use Rattle.format.specs.Fields.{length_field};

@@ -1,5 +1,6 @@
 // The tag of a field: which bytes are a tag, and which kinds and tags have a rule of their own for their values.
 #![tactic(auto)]
+
 ghost use Rattle.std.specs.Prelude.{◌≡◌, ◌&&◌, eqb};
 ghost use Rattle.format.specs.Bytes.{between, letter, digit};
 ghost use Rattle.format.specs.Fields.{is_tag, is_wide};

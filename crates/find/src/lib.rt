@@ -1,5 +1,6 @@
 // Finds a record by its key, in a text and its catalogue: the inverse of `calls::key`.
 #![tactic(auto)]
+
 ghost use Rattle.std.specs.Prelude.{◌≡◌};
 ghost use Rattle.catalogue_entries.specs.Entries.{entries_in};
 ghost use Rattle.program_ids.specs.Search.{id_ordinal_from};

@@ -1,5 +1,6 @@
 // A key or a name, given by its offset in the text. It ends before the first byte below 32, or at the end of the text.
 #![tactic(auto)]
+
 ghost use Rattle.std.specs.Prelude.{◌≡◌, false, cond, ◌&&◌, ◌≤◌, ◌+◌, eqb, ltb, length, drop};
 ghost use Rattle.format.specs.Bytes.{same, none?};
 ghost use Rattle.key_at.specs.Word.{word, same_from};

@@ -1,6 +1,7 @@
 // An exact index of the keys seen so far. A slot is 0, or holds a key: its kind and its offset in the text. A key ends before the first byte below 32
 // or at the end of the text, so no length is kept.
 #![tactic(auto)]
+
 pub mod counting;
 
 ghost use Rattle.std.specs.Prelude.{◌≡◌, ◌≤◌, ◌<◌, ◌+◌, length, replicate};

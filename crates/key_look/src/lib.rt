@@ -1,5 +1,6 @@
 // Looks for a key in the slots of an exact index. A slot is 0, or holds a key: its kind and its offset in the text.
 #![tactic(auto)]
+
 pub mod hash;
 
 ghost use Rattle.std.specs.Prelude.{◌≡◌, ◌&&◌, ◌≤◌, ◌<◌, ◌+◌, ◌*◌, ◌/◌, ◌%◌, eqb, length};

@@ -1,5 +1,6 @@
 // Numbers of four or eight bytes, lowest byte first: writes them into a lent slice and reads them from one.
 #![tactic(auto)]
+
 ghost use Rattle.std.specs.Prelude.{◌≡◌, ◌≤◌, ◌+◌, length, take, drop};
 ghost use Rattle.format.specs.Catalogue.{little};
 ghost use Rattle.byte_slices.specs.Over.{over};

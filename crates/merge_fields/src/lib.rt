@@ -1,5 +1,6 @@
 // Compares the fields of two accepted PG lines: all but ID and PP, each tag with its last value, in order.
 #![tactic(auto)]
+
 ghost use Rattle.std.specs.Prelude.{◌≡◌, ◌≤◌, ◌+◌, length};
 ghost use Rattle.format.specs.Bytes.{none?};
 ghost use Rattle.accepted_line.specs.Run.{AtField};

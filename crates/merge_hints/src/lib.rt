@@ -2,6 +2,7 @@
 // from which a reference of B is the next one, plus one, with six bits of the hash of its name above it, which tell most other names apart. A marked
 // slot has its highest bit set. Only the marks are trusted: no answer depends on which slots are filled, or with what.
 #![tactic(auto)]
+
 ghost use Rattle.std.specs.Prelude.{◌≡◌, Bool, true, List, ℕ, ◌≤◌, ◌<◌, ◌+◌, ◌*◌, length};
 ghost use Rattle.format.specs.References.{Reference};
 ghost use Rattle.binary_references.specs.Next.{sq_from, told_reference};

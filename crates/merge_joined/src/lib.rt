@@ -2,6 +2,7 @@
 // of A's. Merging tools keep the order, so a reference of B that A has is looked for after the one found before it. Once one is not found there, B is
 // taken in blocks: the references of a block are put into slots, and a walk over A marks those that A has.
 #![tactic(auto)]
+
 ghost use Rattle.std.specs.Prelude.{◌≡◌, true, false, ◌≤◌, ◌<◌, length};
 ghost use Rattle.format.specs.Merge.{is_joined};
 ghost use Rattle.binary_references.specs.Next.{sq_from};

@@ -1,6 +1,7 @@
 // Judges a merge of two headers that another tool made: the headers A and B, the merged header, and for each program of A and of B its ordinal in the
 // merged header.
 #![tactic(auto)]
+
 ghost use Rattle.std.specs.Prelude.{◌≡◌, true};
 ghost use Rattle.format.specs.Reading.{read_text};
 ghost use Rattle.accepted.specs.Read.{is_accepted, records_of};

@@ -1,5 +1,6 @@
 // The two lists of a merge: the ordinal in the merged header of each program of A and of B.
 #![tactic(auto)]
+
 ghost use Rattle.std.specs.Prelude.{◌≡◌, true, false, ◌≤◌, length, replicate};
 ghost use Rattle.format.specs.Merge.{assigned};
 ghost use Rattle.merge_lists.specs.Marks.{fresh_by, marked_by, hit_from};

@@ -1,6 +1,7 @@
 // The programs of a merge: what is known of those of an accepted text, and whether each has its image in the merged text, given by a list of
 // ordinals.
 #![tactic(auto)]
+
 ghost use Rattle.std.specs.Prelude.{◌≡◌, true, ◌||◌, ◌<◌, ◌≤◌, length, eqb, ltb};
 ghost use Rattle.format.specs.Bytes.{all};
 ghost use Rattle.format.specs.Reading.{read_text};

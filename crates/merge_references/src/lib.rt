@@ -1,5 +1,6 @@
 // Compares the references of a merge by name and length, and checks that A's references are the front of the merged list.
 #![tactic(auto)]
+
 ghost use Rattle.std.specs.Prelude.{◌≡◌, ◌&&◌, List, ◌++◌, ◌≤◌, ◌+◌, length};
 ghost use Rattle.format.specs.References.{Reference, same_reference, same_references};
 ghost use Rattle.binary_references.specs.Next.{sq_from, told_reference};

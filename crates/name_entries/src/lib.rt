@@ -1,5 +1,6 @@
 // The SQ entries of a catalogue: where the next one is, and how many there are.
 #![tactic(auto)]
+
 ghost use Rattle.std.specs.Prelude.{◌≡◌, ◌≤◌, length};
 ghost use Rattle.catalogue_entries.specs.Entries.{entries_in, counted};
 ghost use Rattle.name_entries.specs.Next.{next_sq};

@@ -1,5 +1,6 @@
 // The index of names: how many slots it has, which slot is a name's first, and how a name enters.
 #![tactic(auto)]
+
 ghost use Rattle.std.specs.Prelude.{◌≡◌, ℕ, ◌+◌, ◌*◌, ◌%◌, ◌^◌, ◌<◌, ◌≤◌, length, slice_set};
 ghost use Rattle.format.specs.Slots.{seat};
 ghost use Rattle.format.specs.NameIndex.{slot_count, hash_from};

@@ -1,5 +1,6 @@
 // Counts the names of a list. Each LF ends a name, and bytes after the last LF are one more name.
 #![tactic(auto)]
+
 ghost use Rattle.std.specs.Prelude.{◌≡◌, ◌≤◌, ◌+◌, length, drop};
 ghost use Rattle.name_list.specs.Ends.{ends};
 ghost use Rattle.format.specs.Asked.{asked};

@@ -1,5 +1,6 @@
 // Looks for names in slots that hold their offsets in the text and some bits of their hashes, and replaces slots by the ordinals in them.
 #![tactic(auto)]
+
 ghost use Rattle.std.specs.Prelude.{◌≡◌, ◌&&◌, map, ℕ, ◌≤◌, ◌<◌, ◌-◌, ◌/◌, ◌%◌, ◌^◌, eqb, length, drop};
 ghost use Rattle.format.specs.Bytes.{same};
 ghost use Rattle.key_at.specs.Word.{word};

@@ -1,5 +1,6 @@
 // Looks for each name of a list among the SQ names whose places are in slots.
 #![tactic(auto)]
+
 ghost use Rattle.std.specs.Prelude.{◌≡◌, map, ℕ, ◌≤◌, ◌^◌, length};
 ghost use Rattle.byte_slices.specs.Over.{over};
 ghost use Rattle.format.specs.Asked.{asked};

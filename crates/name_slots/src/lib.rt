@@ -1,5 +1,6 @@
 // Fills slots with the SQ names of a catalogue. A slot holds the ordinal of a name, or its offset in the text and some bits of its hash.
 #![tactic(auto)]
+
 ghost use Rattle.std.specs.Prelude.{◌≡◌, true, cond, ℕ, ◌≤◌, ◌<◌, ◌^◌, length, take, ltb};
 ghost use Rattle.format.specs.Slots.{seat};
 ghost use Rattle.format.specs.NameIndex.{first};

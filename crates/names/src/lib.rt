@@ -1,6 +1,7 @@
 // Many names at once: makes an index of the SQ names in a lent work area, finds the ordinal of each name of a list with it, and counts the slots
 // looked at.
 #![tactic(auto)]
+
 pub mod answer;
 
 ghost use Rattle.std.specs.Prelude.{◌≡◌, length};

@@ -1,5 +1,6 @@
 // Chains of programs: roots and leaves, from a list of parents. A program without PP has the parent 4,294,967,295.
 #![tactic(auto)]
+
 ghost use Rattle.std.specs.Prelude.{◌≡◌, true, ◌≤◌, ◌<◌, length};
 ghost use Rattle.format.specs.Programs.{numbers_from, leaves, roots};
 ghost use Rattle.program_chains.specs.Parents.{links_of, are_parents, in_array, index_in, HasPlaces};

@@ -1,5 +1,6 @@
 // The depth of every program, from a list of parents. Each program takes it from its parent, so every link is followed at most twice.
 #![tactic(auto)]
+
 ghost use Rattle.std.specs.Prelude.{◌≡◌, true, false, ◌≤◌, ◌<◌, length, get_or, replicate};
 ghost use Rattle.program_chains.specs.Parents.{links_of, are_parents, in_array};
 ghost use Rattle.program_depths.specs.Depths.{deep, KnownRight, KnownStay, depths_of};

@@ -1,5 +1,6 @@
 // The IDs of programs in one list of numbers, and the search for the program with an ID among them.
 #![tactic(auto)]
+
 ghost use Rattle.std.specs.Prelude.{◌≡◌, ◌≤◌, ◌*◌, length};
 ghost use Rattle.byte_slices.specs.Over.{over};
 ghost use Rattle.program_ids.specs.Places.{places_of, PlacesInText};

@@ -1,5 +1,6 @@
 // The programs of an accepted text, gathered from its PG lines: where each line is, its ID and its PP.
 #![tactic(auto)]
+
 ghost use Rattle.std.specs.Prelude.{◌≡◌, true, map, ◌≤◌, ◌+◌, ◌<◌, ◌^◌, length};
 ghost use Rattle.format.specs.Reading.{read_text};
 ghost use Rattle.accepted_rule.specs.Rule.{ReadsBy};

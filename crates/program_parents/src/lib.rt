@@ -1,5 +1,6 @@
 // The parents of the programs that were gathered from a catalogue, and from the parents the leaves.
 #![tactic(auto)]
+
 ghost use Rattle.std.specs.Prelude.{◌≡◌, true, List, [], ◌≤◌, length};
 ghost use Rattle.format.specs.Reading.{read_text};
 ghost use Rattle.format.specs.Catalogue as format;

@@ -1,5 +1,6 @@
 // The programs of a catalogue, gathered in one walk: where the ID and the PP of each are.
 #![tactic(auto)]
+
 ghost use Rattle.std.specs.Prelude.{◌≡◌, ◌≤◌, drop, replicate};
 ghost use Rattle.catalogue_entries.specs.Entries.{entries_in, counted};
 ghost use Rattle.catalogue_lookup.specs.Lookup.{value_in};

@@ -1,5 +1,6 @@
 // The table of programs that the second engine fills: the ordinal of the parent and the depth of each program, in one small record.
 #![tactic(auto)]
+
 ghost use Rattle.std.specs.Prelude.{◌≡◌, ◌≤◌, length, take};
 ghost use Rattle.program_table.specs.Nodes.{nodes_of, in_front};
 

@@ -1,5 +1,6 @@
 // Chains of programs, walked from parent to parent: cycles and hops, from a list of parents.
 #![tactic(auto)]
+
 ghost use Rattle.std.specs.Prelude.{◌≡◌, true, ◌≤◌, ◌<◌, length, get_or};
 ghost use Rattle.format.specs.Programs.{reaches, loops_from, depth, hops};
 ghost use Rattle.program_chains.specs.Parents.{link_of, links_of, are_parents};

@@ -1,5 +1,6 @@
 // The roots and the leaves of the programs of a text and its catalogue. Each call first judges the text and the catalogue.
 #![tactic(auto)]
+
 ghost use Rattle.std.specs.Prelude.{◌≡◌, length};
 ghost use Rattle.format.specs.Calls.{fitting, rooting, leafing};
 ghost use Rattle.read.specs.Answers.{answer_of, output_of};

@@ -1,6 +1,7 @@
 // The leaves of a text and its catalogue, found by a second engine: each program takes its depth from its parent, and a lent table gets the parent
 // and the depth of each. The answers are those of the first engine (`programs`).
 #![tactic(auto)]
+
 ghost use Rattle.std.specs.Prelude.{◌≡◌, true, length};
 ghost use Rattle.format.specs.Reading.{read_text};
 ghost use Rattle.format.specs.Catalogue.{catalogue};

@@ -1,5 +1,6 @@
 // Pruning: writes the tidy text with only the programs in use and all their ancestors, in the old order. Nothing else is changed.
 #![tactic(auto)]
+
 ghost use Rattle.std.specs.Prelude.{◌≡◌, length, leb};
 ghost use Rattle.format.specs.Bytes.{any};
 ghost use Rattle.read.specs.Answers.{answer_of, output_of};

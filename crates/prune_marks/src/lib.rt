@@ -1,5 +1,6 @@
 // Which programs stay when those that nobody uses are dropped: those in use, and all their ancestors.
 #![tactic(auto)]
+
 ghost use Rattle.std.specs.Prelude.{◌≡◌, true, false, ◌≤◌, ◌<◌, length, leb};
 ghost use Rattle.format.specs.Bytes.{any};
 ghost use Rattle.format.specs.Programs.{loops_from};

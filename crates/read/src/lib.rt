@@ -1,5 +1,6 @@
 // A whole text: judges it line by line, writes its catalogue, and compares a catalogue with it.
 #![tactic(auto)]
+
 ghost use Rattle.std.specs.Prelude.{◌≡◌, ◌≤◌, length};
 ghost use Rattle.format.specs.Bytes.{same};
 ghost use Rattle.format.specs.Catalogue.{catalogue};

@@ -1,5 +1,6 @@
 // Whether a line may follow the lines before it: refusals 17, 18 and 19.
 #![tactic(auto)]
+
 ghost use Rattle.std.specs.Prelude.{◌≡◌};
 ghost use Rattle.read_admission.specs.Admission.{barring, programs_of};
 

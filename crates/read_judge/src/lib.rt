@@ -1,5 +1,6 @@
 // Judges a whole text line by line: answers its first refusal, or the size of its catalogue.
 #![tactic(auto)]
+
 ghost use Rattle.std.specs.Prelude.{◌≡◌, ◌||◌, true, false, cond, [], ◌+◌, ◌*◌, ◌≤◌, ◌<◌, length, drop, ltb};
 ghost use Rattle.format.specs.Lines.{lines_from};
 ghost use Rattle.format.specs.Work.{all_zeros};

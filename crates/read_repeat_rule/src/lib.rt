@@ -1,5 +1,6 @@
 // The rule for repeated tags: a header that announces version 1.6 or later may not repeat a tag in a line. Any other header may.
 #![tactic(auto)]
+
 ghost use Rattle.std.specs.Prelude.{◌≡◌, [], ◌∷◌};
 ghost use Rattle.format.specs.Bytes.{starts};
 ghost use Rattle.format.specs.Lines.{lines, cut};

@@ -1,5 +1,6 @@
 // What the fields of a line make: the keys among them, and the head of the record or its refusal.
 #![tactic(auto)]
+
 ghost use Rattle.std.specs.Prelude.{◌≡◌, ◌≤◌, ◌+◌};
 ghost use Rattle.record.specs.Keys.{no_keys, with_field, head_from};
 

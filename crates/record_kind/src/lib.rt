@@ -1,5 +1,6 @@
 // The front of a line: the `@` and the two kind bytes.
 #![tactic(auto)]
+
 ghost use Rattle.std.specs.Prelude.{◌≡◌};
 ghost use Rattle.format.specs.Records.{kind_of};
 ghost use Rattle.record_kind.specs.Kind.{kind_at, parsed_kind_of, KindTold};

@@ -1,5 +1,6 @@
 // One line of a header: its record, or its refusal.
 #![tactic(auto)]
+
 pub mod fields;
 pub mod marks;
 pub mod plain;

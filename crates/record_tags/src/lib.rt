@@ -1,5 +1,6 @@
 // The tags of a line: which are keys, and whether one is among the fields before.
 #![tactic(auto)]
+
 ghost use Rattle.std.specs.Prelude.{◌≡◌};
 ghost use Rattle.format.specs.Keys.{is_key};
 ghost use Rattle.record_tags.specs.Occurs.{occurs};

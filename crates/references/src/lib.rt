@@ -1,5 +1,6 @@
 // The references of a header in one call, from a text and its catalogue: where the SN of each SQ is, how long it is, and the LN.
 #![tactic(auto)]
+
 ghost use Rattle.std.specs.Prelude.{◌≡◌, [], ◌∷◌, ◌≤◌, ◌+◌, length};
 ghost use Rattle.byte_slices.specs.Over.{over};
 ghost use Rattle.catalogue_entries.specs.Entries.{entries_in};

@@ -63,6 +63,7 @@
 // A line that starts with `!` holds a wrong answer, and the program must find it wrong, which shows that each comparison can fail. A line that starts
 // with `#` is a note.
 #![tactic(auto)]
+
 ghost use Rattle.std.specs.Prelude.{◌≡◌, ◌<◌, ◌≤◌, ◌+◌, length};
 
 use libc::STDOUT_FILENO;

@@ -1,5 +1,6 @@
 // Answers that are stored in files: whether a number, bytes, ordinals or a refusal are the ones in a line.
 #![tactic(auto)]
+
 ghost use Rattle.std.specs.Prelude.{◌≡◌, ◌&&◌, ◌<◌, ◌≤◌, ◌+◌, ◌/◌, ◌%◌, length, take, get_or, replicate, eqb};
 ghost use Rattle.format.specs.Bytes.{same};
 ghost use Rattle.format.specs.Decimal.{written};

@@ -1,5 +1,6 @@
 // What a line of stored answers asks, and how often each question was asked and answered wrongly (the crate `replay` describes the lines).
 #![tactic(auto)]
+
 ghost use Rattle.std.specs.Prelude.{◌≡◌, length};
 
 use libc::STDOUT_FILENO;

@@ -1,6 +1,7 @@
 // The calls that answer one number, place or value, and the catalogue that a call is asked about: whether each answers as a line of stored answers
 // says (the crate `replay` describes the lines).
 #![tactic(auto)]
+
 ghost use Rattle.std.specs.Prelude.{◌≡◌, ◌≤◌, length, take};
 
 use calls::{KeyAnswer, LengthAnswer, LineAnswer};

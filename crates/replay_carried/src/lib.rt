@@ -1,5 +1,6 @@
 // Carrying on after refused lines: whether the call answers as a line of stored answers says (the crate `replay` describes the lines).
 #![tactic(auto)]
+
 ghost use Rattle.std.specs.Prelude.{◌≡◌, length};
 
 use carry_on::Carried;

@@ -1,5 +1,6 @@
 // Cases that are stored in files: their words, numbers and bytes in hex, and a filler that shows what a call has written.
 #![tactic(auto)]
+
 ghost use Rattle.std.specs.Prelude.{◌≡◌, ◌<◌, ◌≤◌, ◌+◌, length, take, drop, replicate, eqb};
 ghost use Rattle.format.specs.Bytes.{all};
 ghost use Rattle.byte_slices.specs.Over.{over};

@@ -1,6 +1,7 @@
 // The search for a key, and the table of references: whether each call answers as a line of stored answers says (the crate `replay` describes the
 // lines).
 #![tactic(auto)]
+
 use find::FindAnswer;
 use read::CountAnswer;
 

@@ -1,5 +1,6 @@
 // Reading, and the calls on program graphs: whether each answers as a line of stored answers says (the crate `replay` describes the lines).
 #![tactic(auto)]
+
 use programs::LeavesAnswer;
 use read::{Checked, CountAnswer};
 

@@ -1,6 +1,7 @@
 // How long the header at the front of a file or of a stream is: whether the calls answer as a line of stored answers says (the crate `replay`
 // describes the lines).
 #![tactic(auto)]
+
 use binary_len::{BinaryLen, Step};
 use format::LineNo;
 

@@ -1,5 +1,6 @@
 // Many names at once: whether the call answers as a line of stored answers says (the crate `replay` describes the lines).
 #![tactic(auto)]
+
 use names::NamesAnswer;
 
 // Whether as many slots were looked at as a word says, if it is a number.

@@ -1,5 +1,6 @@
 // Seals: whether the calls answer as a line of stored answers says (the crate `replay` describes the lines).
 #![tactic(auto)]
+
 ghost use Rattle.std.specs.Prelude.{◌≡◌, length};
 
 use read::{Checked, CountAnswer};

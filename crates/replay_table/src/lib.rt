@@ -2,6 +2,7 @@
 // program in Rattle can't lend a table without a proof by hand, so `make_plan` is asked: the call writes its parents and depths into the table, and
 // nothing else.
 #![tactic(auto)]
+
 ghost use Rattle.std.specs.Prelude.{◌≤◌};
 
 use programs::LeavesAnswer;

@@ -1,5 +1,6 @@
 // The calls that write a text: whether each writes what a line of stored answers says (the crate `replay` describes the lines).
 #![tactic(auto)]
+
 ghost use Rattle.std.specs.Prelude.{◌≡◌, length};
 
 use read::CountAnswer;

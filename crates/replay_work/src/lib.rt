@@ -1,5 +1,6 @@
 // Reading with a lent work area: whether the call answers as a line of stored answers says (the crate `replay` describes the lines).
 #![tactic(auto)]
+
 ghost use Rattle.std.specs.Prelude.{◌≡◌, eqb, length};
 ghost use Rattle.format.specs.Bytes.{all};
 

@@ -1,5 +1,6 @@
 // The calls for programs in C and Rust: each answer is one number (include/sam_header.h).
 #![tactic(auto)]
+
 ghost use Rattle.std.specs.Prelude.{◌≡◌, length};
 ghost use Rattle.format.specs.Calls.{reading, fresh, tidying, counting, keying, sizing, locating, valuing, rooting, leafing, adding};
 ghost use Rattle.format.specs.Work.{all_zeros, reading_with};

@@ -1,5 +1,6 @@
 // Answers as one number, for programs in C and Rust (include/sam_header.h).
 #![tactic(auto)]
+
 ghost use Rattle.std.specs.Prelude.{◌≡◌, ◌≤◌};
 ghost use Rattle.sam_header_words.specs.Words.{refusal_word, answer_word, checked_word, pair_word, FitsHalves, carried_word, key_word, line_word, field_word};
 ghost use Rattle.sam_header_words.specs.Words.{FewLeaves, leaves_word, about_number, unfit_word, verdict_word, short_word, len_word};

@@ -1,5 +1,6 @@
 // Seals: the SHA-256 of a header's tidy text, which a plan keeps next to the catalogue so that an edited name is noticed too.
 #![tactic(auto)]
+
 ghost use Rattle.std.specs.Prelude.{◌≡◌, length};
 ghost use Rattle.format.specs.Bytes.{same};
 ghost use Rattle.format.specs.Calls.{tidying};

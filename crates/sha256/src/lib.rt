@@ -1,5 +1,6 @@
 // SHA-256 (FIPS 180-4) of a lent text, which is read in place.
 #![tactic(auto)]
+
 ghost use Rattle.std.specs.Prelude.{◌≡◌, ◌+◌, ◌*◌, ◌/◌, ◌<◌, ◌≤◌, length, take, drop};
 ghost use Rattle.format.specs.Sha256.{sum32, Ch, Maj, Σ0, Σ1, σ0, σ1, K, H0, words, next, extend, round, rounds, sum, compress};
 ghost use Rattle.format.specs.Sha256.{big, parse, hashed, digest, sha256};

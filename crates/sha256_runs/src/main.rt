@@ -3,6 +3,7 @@
 // The arguments name the files: the empty file, the two examples of FIPS 180-4, and random bytes whose lengths are near the end of a block and of the
 // padding. The expected output was written by `sha256sum` of GNU coreutils.
 #![tactic(auto)]
+
 use libc::STDOUT_FILENO;
 
 fn wide(b: u8) -> u64 {

@@ -1,5 +1,6 @@
 // SipHash (Aumasson and Bernstein, 2012) of a lent text under a key of two words.
 #![tactic(auto)]
+
 ghost use Rattle.std.specs.Prelude.{◌≡◌, ◌+◌, ◌-◌, ◌*◌, ◌/◌, ◌<◌, ◌≤◌, length, drop};
 ghost use Rattle.format.specs.Little.{of_little};
 ghost use Rattle.format.specs.SipHash.{round, rounds, initial, absorb, absorbed, words, finish, sip, key_of};

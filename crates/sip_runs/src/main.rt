@@ -1,6 +1,7 @@
 // SipHash of the 64 messages of the reference implementation's test: no byte, 0, then 0 and 1, and on, under the key of the bytes 0 to 15.
 // A line for each: SipHash-2-4, whose values the authors publish, and SipHash-1-3, whose values an independent program wrote.
 #![tactic(auto)]
+
 use libc::STDOUT_FILENO;
 use sip_hash::Key;
 

@@ -1,5 +1,6 @@
 // How much of a SAM file is its header.
 #![tactic(auto)]
+
 ghost use Rattle.std.specs.Prelude.{◌≡◌};
 ghost use Rattle.format.specs.TextLen.{text_len};
 

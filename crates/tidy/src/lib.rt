@@ -1,5 +1,6 @@
 // Tidying: writes the same records with the keys first and one LF after each line, kind by kind.
 #![tactic(auto)]
+
 ghost use Rattle.std.specs.Prelude.{◌≡◌, true, length};
 ghost use Rattle.format.specs.Lines.{lines};
 ghost use Rattle.format.specs.Reading.{read_text};

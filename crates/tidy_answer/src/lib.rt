@@ -1,5 +1,6 @@
 // What the program on standard input writes: the tidy text, or the refusal as a line.
 #![tactic(auto)]
+
 ghost use Rattle.std.specs.Prelude.{◌≡◌, ◌≤◌, length};
 ghost use Rattle.byte_slices.specs.Over.{over};
 ghost use Rattle.format.specs.Program.{refusal, program};

@@ -1,5 +1,6 @@
 // The fields of an accepted line other than its keys, each tag at its first place with its last value: writes or measures them.
 #![tactic(auto)]
+
 ghost use Rattle.std.specs.Prelude.{◌≡◌, not, ◌&&◌, [], ◌∷◌, ◌++◌, ◌≤◌, ◌<◌, ◌+◌, length, get_or};
 ghost use Rattle.format.specs.Bytes.{none?};
 ghost use Rattle.byte_slices.specs.Over.{over};

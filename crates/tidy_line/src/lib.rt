@@ -1,5 +1,6 @@
 // One record of the tidy text: writes it from its accepted line, or measures it.
 #![tactic(auto)]
+
 ghost use Rattle.std.specs.Prelude.{◌≡◌, true, false, [], ◌∷◌, ◌++◌, ◌≤◌, ◌+◌, length};
 ghost use Rattle.format.specs.Records.{line};
 ghost use Rattle.byte_slices.specs.Over.{over};

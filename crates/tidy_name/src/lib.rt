@@ -1,5 +1,6 @@
 // Reference names that can be written. The reader takes any value as a name; the writer takes only those that follow the specification's rule.
 #![tactic(auto)]
+
 ghost use Rattle.std.specs.Prelude.{◌≡◌};
 ghost use Rattle.format.specs.Tidy.{is_name};
 ghost use Rattle.tidy_name.specs.Runs.{name_run};

@@ -1,5 +1,6 @@
 // Accepted lines that are tidy already: the text of the record is the line and an LF.
 #![tactic(auto)]
+
 ghost use Rattle.std.specs.Prelude.{◌≡◌, ◌≤◌, ◌<◌, ◌+◌, length};
 ghost use Rattle.tidy_neat.specs.Neat.{has_tag, plain_length, neat, named_sequence, ready};
 

@@ -1,5 +1,6 @@
 // The parts of a record's line: its kind, a field, a version.
 #![tactic(auto)]
+
 ghost use Rattle.std.specs.Prelude.{◌≡◌, [], ◌∷◌, ◌≤◌, ◌+◌, length, take, drop};
 ghost use Rattle.format.specs.Tidy.{field_text};
 ghost use Rattle.byte_slices.specs.Over.{over};

@@ -2,6 +2,7 @@
 //
 // The buffer holds one byte more than the longest input that is taken, so that a longer input is noticed.
 #![tactic(auto)]
+
 use libc::{STDIN_FILENO, STDOUT_FILENO};
 
 fn main() {

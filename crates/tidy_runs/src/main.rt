@@ -9,6 +9,7 @@
 // `model_252`, and what is expected of them, come from a model written from document 01 alone. None
 // of it was made by this program.
 #![tactic(auto)]
+
 use libc::STDOUT_FILENO;
 
 // Answers what an open file holds, read as `tidy` reads its input.

@@ -1,5 +1,6 @@
 // One number per kind of record, and whether a text of so many bytes can be written.
 #![tactic(auto)]
+
 ghost use Rattle.std.specs.Prelude.{◌≡◌, ◌≤◌, ◌+◌};
 ghost use Rattle.tidy_sizes.specs.Numbers.{no_bytes, get, plus, front, total, kind_starts};
 ghost use Rattle.tidy_sizes.specs.Plan.{unfit};

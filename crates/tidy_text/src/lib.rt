@@ -2,6 +2,7 @@
 // at the place of its kind. Marks can be given, one per program in text order: a program whose mark is false is left out. A program after the last
 // mark stays, so with no marks all programs stay.
 #![tactic(auto)]
+
 ghost use Rattle.std.specs.Prelude.{◌≡◌, true, ◌≤◌, ◌<◌, ◌+◌, length};
 ghost use Rattle.format.specs.Records.{line};
 ghost use Rattle.format.specs.Reading.{read_text};

@@ -1,6 +1,7 @@
 // Characters in UTF-8, by the table of RFC 3629, without 127 and those below 32. Bytes are read one by one, keeping what the current character still
 // needs.
 #![tactic(auto)]
+
 ghost use Rattle.std.specs.Prelude.{◌≡◌, []};
 ghost use Rattle.format.specs.Utf8.{due, forms, characters};
 ghost use Rattle.utf8.specs.Pending.{pending_of, due_of, due_after};

@@ -5,6 +5,7 @@
 // answer per line: those of 3 and 4 bytes around each edge of the table of RFC 3629, and some that a tab cuts short. The expected output was made by
 // `oracle/characters` with Python's decoder, not by this program.
 #![tactic(auto)]
+
 ghost use Rattle.std.specs.Prelude.{◌≤◌, length};
 
 use libc::STDOUT_FILENO;

@@ -1,0 +1,72 @@
+-- `accepted_line::header_of` meets its contract: VN spells the version.
+use Prim.Native.Nat.{◌+◌, ◌-◌, ◌≤◌}
+use mathlib.Core.Path.{◌≡◌, sym, ap, ◌∙◌}
+use mathlib.Core.Bool.{false}
+use mathlib.Core.Option.{some}
+use native.Mathlib.Omega.{arith}
+use lib.ListN.{length}
+use Rattle.format.specs.Fields.{last_of}
+use Rattle.format.specs.Records.{line}
+use Rattle.format.specs.declared.Kind.TheVariants.{Header}
+use Rattle.lists.proofs.Bools.{never}
+use Rattle.record.specs.Head.{head_of}
+use Rattle.record.specs.declared.Head.TheVariants as head
+use Rattle.accepted_line.specs.Run.{fields_from}
+use Rattle.accepted_line.specs.Next.{or_value, no_value}
+use Rattle.accepted_line.specs.Found.{uncounted}
+use Rattle.accepted_line.specs.Keys.{last_key, keys_from, keys_in}
+use Rattle.accepted_line.proofs.Finds.{OfHeader, Held, held, value-within, value-bytes}
+use Rattle.format.specs.Version.{version}
+use Rattle.format.specs.declared.Version.{Version}
+use Rattle.field.specs.Spelled.{parsed_version_of}
+use Rattle.field.specs.declared.version.ParsedVersion.TheVariants.{Is, Invalid}
+use Rattle.accepted_line.proofs.header_of.Goals as goal
+use Rattle.accepted_line.proofs.header_of.Goals.{After-struct_known-1}
+use Rattle.accepted_line.proofs.header_of.Tie as tie
+
+version-is : (v w : Version) → parsed_version_of (some v) ≡ Is w → v ≡ w
+unfolding parsed_version_of
+version-is v w e = cc
+
+version-none : (v : Version) → parsed_version_of (some v) ≡ Invalid → ⊥
+unfolding parsed_version_of
+version-none v e = never (cc)
+
+kept : (s : tie.Start) → (let a = s.args in OfHeader a.at a.src.now (uncounted (head_of (line false (record { at = a.at; bytes = a.src.now })))))
+unfolding Held
+kept s = (held false s.args.at s.args.src.now s.requires.line_of.accepted Header s.requires.line_of.kind).1
+
+-- the value that was found
+value : (s : tie.Start) → (let a = s.args in a.version ≡ or_value no_value (last_of 86 78 (fields_from a.at a.src.now 3)))
+unfolding keys_in keys_from last_key
+value s = s.requires.version_value
+
+-- VN is in the line
+within : (s : After-struct_known-1) → (let a = s.args in let v = s.args.version in (a.at ≤ v.at) × (v.at - a.at + v.len ≤ length a.src.now))
+within s = let a = s.args in value-within a.at a.src.now 86 78 (kept s.before.before.before).piece (kept s.before.before.before).has a.version (value s.before.before.before)
+
+-- and spells the version
+spelled : (c : tie.After-parse_version) → c.parse_version.result ≡ parsed_version_of (some (kept c.before.before.before.before).number)
+spelled c =
+    let a = c.args in
+    c.parse_version.ensures.is
+    ∙ ap (λ l. parsed_version_of (version l)) (value-bytes a.at a.src.now 86 78 (kept c.before.before.before.before).piece (kept c.before.before.before.before).has a.version (value c.before.before.before.before))
+    ∙ ap parsed_version_of (kept c.before.before.before.before).spells
+
+pub overflow_sub-from : goal.overflow_sub-from
+overflow_sub-from c = (within c).0
+
+pub overflow_add-from : goal.overflow_add-from
+overflow_add-from c = omega (arith, within c, c.requires.line_of.short)
+
+pub slice_bounds-parse_version-end : goal.slice_bounds-parse_version-end
+slice_bounds-parse_version-end c = omega (arith, within c)
+
+pub returns-in-Is : goal.returns-in-Is
+returns-in-Is c =
+    let k = kept c.before.before.before.before.before.before in
+    sym (k.is ∙ ap (λ v. head.Header v 0) (version-is k.number c.in-Is.v (sym (spelled c.before.before) ∙ c.in-Is.is)))
+
+pub returns-in-Invalid : goal.returns-in-Invalid
+returns-in-Invalid c =
+    absurd (version-none (kept c.before.before.before.before.before.before).number (sym (spelled c.before.before) ∙ c.in-Invalid.is))

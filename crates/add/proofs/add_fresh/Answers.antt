@@ -1,0 +1,185 @@
+-- `add::add_fresh` meets its contract: 26, 22, 23, and then what is left once the leaves are known.
+use Prim.Native.Nat.{ℕ, ◌*◌, ◌<◌}
+use mathlib.Core.Path.{◌≡◌, sym, ap, ◌∙◌}
+use mathlib.Core.Bool.{true, false}
+use mathlib.Core.List.{List}
+use native.Mathlib.Omega.{arith}
+use lib.ListN.{length, take, length-take}
+use lib.Seq.{length-take-le}
+use borrow.Author.Tests.{not-true, not-false}
+use Rattle.format.specs.Fields.{last_of}
+use Rattle.format.specs.Programs.{Program, programs, links, leaves, tangled}
+use Rattle.format.specs.Adding.{given, misformed}
+use Rattle.format.specs.Calls.{adding}
+use Rattle.accepted.specs.Read.{records_of}
+use Rattle.program_chains.specs.Parents.{in_array}
+use Rattle.program_chains.proofs.Arrays.{front, front-count, front-inside}
+use Rattle.program_ids.specs.Search.{ids_of}
+use Rattle.program_parents.specs.Parents.{graph_of}
+use Rattle.program_parents.specs.Placed.{ListsIds}
+use Rattle.program_parents.proofs.Road.{graph-refusal, graph-list, graph-count, some-leaf}
+use Rattle.read.specs.Answers.{answer_of, output_of, checked_of}
+use Rattle.read.proofs.AnswerCases.{refused-answer}
+use Rattle.read.proofs.Fresh.{Current, check-fresh}
+use Rattle.program_parents.proofs.Opened.{Opened, opened}
+use Rattle.add_input.proofs.InForm.{in-form}
+use Rattle.add.specs.Added.{is_nothing, stray, leaves_of, adding_on}
+use Rattle.add.proofs.Prior.{nothing-none}
+use Rattle.add.proofs.Adding.{add-misformed, add-stray, add-tangled, add-on}
+use Rattle.add.proofs.add_fresh.Goals as goal
+use Rattle.add.proofs.add_fresh.Goals.{After-ordinals-1, After-slice_known-1, Else-not-is_in_form}
+use Rattle.add.proofs.add_fresh.Tie as tie
+
+-- the catalogue is the text's own
+own : (s : After-slice_known-1) → Current s.args.text.now s.args.catalogue.now
+unfolding checked_of
+own s = check-fresh s.args.text.now s.args.catalogue.now (ap checked_of s.requires.catalogue_value)
+
+opens : (s : After-slice_known-1) → Opened s.args.text.now s.args.catalogue.now
+opens s = opened s.args.text.now s.args.catalogue.now (own s).reads (own s).own
+
+abbrev start : tie.After-list_ids-count → tie.Start
+start c = c {-Start-}
+
+abbrev origin : tie.After-find_leaves-graph → tie.Start
+origin c = start c.before.before.before.before.before.before
+
+-- what is given is in form
+formed : (c : Else-not-is_in_form) → misformed c.args.prefix.now (given c.args.fields.now) ≡ false
+formed c = not-true _ (sym c.is_in_form.ensures ∙ not-false c.is_in_form.result c.if-not-is_in_form.false-raw)
+
+-- ---- what is listed
+
+lists : (c : tie.After-list_ids-count) → ListsIds (start c).args.text.now c.list_ids-count.new.ids c.list_ids-count.result
+lists c = c.list_ids-count.ensures
+
+-- a given PP that is no ID
+prior : (c : tie.After-is_stray)
+    → let a = (start c.before.before.before).args in
+    stray (ids_of (programs (records_of a.text.now))) (last_of 80 80 (given a.fields.now).fields) ≡ c.is_stray.result
+prior c =
+    sym (c.is_stray.ensures ∙ ap (λ ids. stray ids (last_of 80 80 (given (start c.before.before.before).args.fields.now).fields)) (lists c.before.before.before).are)
+
+-- ---- what is found
+
+abbrev ps : tie.After-find_leaves-graph → List Program
+ps c = programs (records_of (origin c).args.text.now)
+
+graph_is : (c : tie.After-find_leaves-graph) → c.find_leaves-graph.result ≡ graph_of (links (ps c))
+graph_is c = c.find_leaves-graph.ensures (ps c) (opens (origin c)).few c.parents_of.ensures
+
+abbrev xs : (c : After-ordinals-1) → List ℕ
+xs c = leaves (links (ps c.before.before.before.before.before))
+
+untangled : (c : After-ordinals-1) → tangled (links (ps c.before.before.before.before.before)) ≡ 0
+untangled c = sym (graph-refusal (links (ps c.before.before.before.before.before)) c.find_leaves-graph.result (graph_is c.before.before.before.before.before)) ∙ c.if-graph-ne0.false
+
+listed : (c : After-ordinals-1) → c.find_leaves-graph.result.leaves.list ≡ in_array (xs c)
+listed c = graph-list (links (ps c.before.before.before.before.before)) c.find_leaves-graph.result (graph_is c.before.before.before.before.before) c.if-graph-ne0.false
+
+counted : (c : After-ordinals-1) → c.find_leaves-graph.result.leaves.count ≡ length (xs c)
+counted c = graph-count (links (ps c.before.before.before.before.before)) c.find_leaves-graph.result (graph_is c.before.before.before.before.before) c.if-graph-ne0.false
+
+-- they are the leaves of the records, and there are some where there are programs
+leaves-are : (c : After-ordinals-1) → take c.find_leaves-graph.result.leaves.count c.find_leaves-graph.result.leaves.list ≡ leaves_of (records_of (origin c.before.before.before.before.before).args.text.now)
+unfolding leaves_of
+leaves-are c = front (xs c) c.find_leaves-graph.result.leaves.list c.find_leaves-graph.result.leaves.count (listed c) (counted c)
+
+some : (c : After-ordinals-1) → 0 < length (take (c.list_ids-count.result * 3) c.list_ids-count.last.1.1.0) → 0 < length (take c.find_leaves-graph.result.leaves.count c.find_leaves-graph.result.leaves.list)
+some c h =
+    let few = (opens (start c.before.before.before.before.before.before.before.before.before.before.before)).few in
+    let k = c.list_ids-count in
+    omega (arith, some-leaf (ps c.before.before.before.before.before) few (untangled c) (omega (arith, h, (lists c.before.before.before.before.before.before.before.before.before.before.before).counts, length-take (k.result * 3) k.last.1.1.0)), ap length (leaves-are c), (counted c), front-count (xs c) c.find_leaves-graph.result.leaves.list c.find_leaves-graph.result.leaves.count (listed c) (counted c))
+
+pub returns-then-not-is_in_form : goal.returns-then-not-is_in_form
+returns-then-not-is_in_form c =
+    let a = c.args in
+    let room = length a.out.now in
+    let told = refused-answer (adding a.text.now a.catalogue.now a.prefix.now a.fields.now room) a.out.now 26 (record { 0 = 0 })
+    (add-misformed a.text.now a.catalogue.now (own (goal.at.returns-then-not-is_in_form c).After-slice_known-1) a.prefix.now a.fields.now room (not-false _ (sym c.is_in_form.ensures ∙ not-true c.is_in_form.result c.if-not-is_in_form.true-raw))) in
+    record { answer = told.0; wrote = told.1 }
+
+pub find_previous-previous-requires : goal.find_previous-previous-requires
+find_previous-previous-requires c = let a = c.args in (in-form a.prefix.now (given a.fields.now) (formed c)).stop
+
+pub list_ids-count-requires : goal.list_ids-count-requires
+list_ids-count-requires c = record {
+  text_value = (opens (goal.at.list_ids-count-requires c).After-slice_known-1).accepted;
+  catalogue_value = (own (goal.at.list_ids-count-requires c).After-slice_known-1).own;
+  in_bounds = omega arith;
+}
+
+pub overflow_mul-end : goal.overflow_mul-end
+overflow_mul-end c = omega (arith, (lists c.before.before).counts, (opens (start c.before.before)).few)
+
+pub slice_bounds-list-end : goal.slice_bounds-list-end
+slice_bounds-list-end c = (lists c.before.before).long
+
+pub slice_bounds-ids-end : goal.slice_bounds-ids-end
+slice_bounds-ids-end c = let k = c.list_ids-count in sym (length-take-le (k.result * 3) k.new.ids (lists c.before.before.before).long)
+
+pub is_stray-requires : goal.is_stray-requires
+is_stray-requires c = record {
+  ids_in_text = (lists c.before.before.before).listed;
+  previous_value = c.find_previous-previous.ensures;
+}
+
+pub returns-then-is_stray : goal.returns-then-is_stray
+returns-then-is_stray c =
+    let a = c.args in
+    let room = length a.out.now in
+    let told = refused-answer (adding a.text.now a.catalogue.now a.prefix.now a.fields.now room) a.out.now 22 (record { 0 = 0 })
+    (add-stray a.text.now a.catalogue.now (own (goal.at.returns-then-is_stray c).After-slice_known-1) a.prefix.now a.fields.now room (formed (goal.at.returns-then-is_stray c).Else-not-is_in_form) (prior c.before.before ∙ c.if-is_stray.true)) in
+    record { answer = told.0; wrote = told.1 }
+
+pub parents_of-requires : goal.parents_of-requires
+parents_of-requires c = let s = start c.before.before.before.before.before in record {
+  text_value = (opens s).accepted;
+  catalogue_value = (own s).own;
+}
+
+pub find_leaves-graph-requires : goal.find_leaves-graph-requires
+find_leaves-graph-requires c =
+    let s = start c.before.before.before.before.before.before in
+    record { ps = programs (records_of s.args.text.now); few = (opens s).few; is = c.parents_of.ensures }
+
+pub returns-then-graph-ne0 : goal.returns-then-graph-ne0
+returns-then-graph-ne0 c =
+    let s = origin c.before.before.before in
+    let a = s.args in
+    let room = length a.out.now in
+    let n = c.find_leaves-graph.result.refusal in
+    let told = refused-answer (adding a.text.now a.catalogue.now a.prefix.now a.fields.now room) a.out.now n (record { 0 = 0 })
+    (add-tangled a.text.now a.catalogue.now (own s) a.prefix.now a.fields.now room (formed (goal.at.returns-then-graph-ne0 c).Else-not-is_in_form) (prior c.before.before.before.before.before.before ∙ c.if-is_stray.false) n (graph-refusal (links (ps c.before.before.before)) c.find_leaves-graph.result (graph_is c.before.before.before)) c.if-graph-ne0.true) in
+    record { answer = told.0; wrote = told.1 }
+
+pub slice_bounds-ordinals-end : goal.slice_bounds-ordinals-end
+slice_bounds-ordinals-end c = front-inside (xs c) c.find_leaves-graph.result.leaves.list c.find_leaves-graph.result.leaves.count (listed c) (counted c)
+
+pub slice_bounds-leaves-end : goal.slice_bounds-leaves-end
+slice_bounds-leaves-end c = front-count (xs (goal.at.slice_bounds-leaves-end c).After-ordinals-1) c.find_leaves-graph.result.leaves.list c.find_leaves-graph.result.leaves.count (listed (goal.at.slice_bounds-leaves-end c).After-ordinals-1) (counted (goal.at.slice_bounds-leaves-end c).After-ordinals-1)
+
+pub add_after-requires : goal.add_after-requires
+add_after-requires c =
+    let s = start c.before.before.before.before.before.before.before.before.before.before.before.before.before.before in
+    let a = s.args in record {
+      text_value = (opens s).accepted;
+      reads_by = s.pre.1;
+      ids_in_text = ((lists c.before.before.before.before.before.before.before.before.before.before.before.before.before.before).listed, (lists c.before.before.before.before.before.before.before.before.before.before.before.before.before.before).are);
+      fields_value = (
+        (in-form a.prefix.now (given a.fields.now) (formed (goal.at.add_after-requires c).Else-not-is_in_form)).stop,
+        c.is_linked-linked.ensures ∙ ap is_nothing c.find_previous-previous.ensures ∙ nothing-none (last_of 80 80 (given a.fields.now).fields),
+      );
+      leaves_value = (leaves-are (goal.at.add_after-requires c).After-ordinals-1, some (goal.at.add_after-requires c).After-ordinals-1);
+    }
+
+pub returns : goal.returns
+returns c =
+    let s = origin c.before.before.before.before.before.before.before.before.before.before.before in
+    let a = s.args in
+    let room = length a.out.now in
+    let on : adding_on (records_of a.text.now) a.prefix.now (given a.fields.now).fields room ≡ adding a.text.now a.catalogue.now a.prefix.now a.fields.now room =
+    sym (add-on a.text.now a.catalogue.now (own s) a.prefix.now a.fields.now room (formed (goal.at.returns c).Else-not-is_in_form) (prior c.before.before.before.before.before.before.before.before.before.before.before.before.before.before ∙ c.if-is_stray.false) (untangled (goal.at.returns c).After-ordinals-1)) in record {
+      answer = c.add_after.ensures.answer ∙ ap answer_of on;
+      wrote = c.add_after.ensures.wrote ∙ ap (λ x. output_of x a.out.now) on;
+    }

@@ -1,0 +1,52 @@
+-- `add_ids::is_known` meets its contract: what the IDs from `k` on say is the answer.
+use Prim.Native.Nat.{◌+◌, ◌-◌}
+use mathlib.Core.Path.{◌≡◌, refl, sym, ap, ◌∙◌}
+use mathlib.Core.Bool.{Bool, true, false, ◌||◌}
+use native.Mathlib.Omega.{arith}
+use lib.ListN.{drop}
+use Rattle.format.specs.Bytes.{same}
+use Rattle.program_ids.specs.Ids.{ids_at}
+use Rattle.program_ids.proofs.Ids.{ids-length, ids-few}
+use Rattle.add_ids.specs.Taken.{joined, is_among}
+use Rattle.add_ids.proofs.Search.{known-end, known_step}
+use Rattle.add_ids.proofs.is_known.Goals as goal
+use Rattle.add_ids.proofs.is_known.Tie as tie
+
+pub loop-k-init : goal.loop-k-init
+loop-k-init c = refl
+
+pub overflow_cast-k : goal.overflow_cast-k
+overflow_cast-k c = omega (arith, ids-length c.args.text.now c.args.ids.now c.requires, ids-few c.args.text.now c.args.ids.now c.requires)
+
+-- the answer, by the ID that was compared
+step : (c : tie.After-is_joined goal.the-invariant-loop-k goal.the-decreases-loop-k) (b : Bool) → c.is_joined.result ≡ b
+    → let a = c.args in
+    let ids = ids_at a.text.now a.ids.now in
+    let made = joined a.prefix.now a.other.now in
+    is_among made ids ≡ b || is_among made (drop (c.loop-k.k + 1) ids)
+step c b e =
+    let a = c.args in
+    let l = c.loop-k in
+    let ids = ids_at a.text.now a.ids.now in
+    let made = joined a.prefix.now a.other.now in
+    l.invariant ∙ known_step made ids l.k (omega (arith, ids-length a.text.now a.ids.now c.requires))
+    ∙ ap (λ b. b || is_among made (drop (l.k + 1) ids)) (sym (c.is_joined.ensures ∙ ap (same made) c.find_id-id.ensures.value) ∙ e)
+
+pub returns-then-is_joined : goal.returns-then-is_joined
+returns-then-is_joined c = sym (step c.before.before true c.if-is_joined.true)
+
+pub overflow_add-k : goal.overflow_add-k
+overflow_add-k c = omega arith
+
+pub loop-k-smaller : goal.loop-k-smaller
+loop-k-smaller c = omega arith
+
+pub loop-k-preserved : goal.loop-k-preserved
+loop-k-preserved c = step c.before.before false c.if-is_joined.false
+
+pub returns : goal.returns
+returns c =
+    let a = c.args in
+    let l = c.loop-k in
+    let e = ids-length a.text.now a.ids.now c.requires in
+    sym (l.invariant ∙ known-end (joined a.prefix.now a.other.now) (ids_at a.text.now a.ids.now) l.k (omega (arith, e)))

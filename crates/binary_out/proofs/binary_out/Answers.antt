@@ -1,0 +1,45 @@
+-- `binary_out::binary_out` meets its contract: the text is judged, then its binary header written.
+use mathlib.Core.Path.{◌≡◌, sym, ap, ◌∙◌}
+use mathlib.Core.Bool.{true}
+use lib.ListN.{length}
+use Rattle.format.specs.Reading.{read_text}
+use Rattle.format.specs.Binary.{binary_out}
+use Rattle.accepted.specs.Read.{is_accepted}
+use Rattle.read.specs.Answers.{answer_of, output_of}
+use Rattle.read_judge.proofs.Whole.{Told, text-refused, text-accepted}
+use Rattle.read.proofs.AnswerCases.{refused-answer}
+use Rattle.binary_out.proofs.Whole.{out-refused, out-accepted}
+use Rattle.binary_out.proofs.binary_out.Goals as goal
+use Rattle.binary_out.proofs.binary_out.Goals.{After-write_accepted-arg-1}
+
+-- the text is accepted
+told : (c : After-write_accepted-arg-1) → Told c.args.text.now c.in-Accepted.field-0 c.in-Accepted.once
+told c =
+    text-accepted c.args.text.now c.in-Accepted.field-0 c.in-Accepted.once (sym c.judge.ensures ∙ c.in-Accepted.is)
+
+accepted : (c : After-write_accepted-arg-1) → is_accepted (read_text c.args.text.now) ≡ true
+unfolding is_accepted
+accepted c = ap is_accepted (told c).reads
+
+pub write_accepted-requires : goal.write_accepted-requires
+write_accepted-requires c = record {
+  text_value = accepted c;
+  reads_by = (told c).rule;
+}
+
+pub returns-in-Refused : goal.returns-in-Refused
+returns-in-Refused c =
+    let a = c.args in
+    let room = length a.out.now in
+    let told = refused-answer (binary_out a.text.now room) a.out.now c.in-Refused.n c.in-Refused.line
+    (out-refused a.text.now room c.in-Refused.n c.in-Refused.line.0
+    (text-refused a.text.now c.in-Refused.n c.in-Refused.line (sym c.judge.ensures ∙ c.in-Refused.is))) in
+    record { answer = told.0; wrote = told.1 }
+
+pub returns-in-Accepted : goal.returns-in-Accepted
+returns-in-Accepted c =
+    let a = c.args in
+    let e = sym (out-accepted a.text.now (length a.out.now) (accepted (goal.at.returns-in-Accepted c).After-write_accepted-arg-1)) in record {
+      answer = c.write_accepted.ensures.answer ∙ ap answer_of e;
+      wrote = c.write_accepted.ensures.wrote ∙ ap (λ x. output_of x a.out.now) e;
+    }

@@ -1,0 +1,42 @@
+-- `carry_on::carry_lent` meets its contract: what the area held before does not matter, since each block of lines empties it.
+use mathlib.Core.Path.{refl, sym}
+use native.Mathlib.Omega.{arith}
+use lib.ListN.{length-take}
+use Rattle.read_judge.proofs.Smaller.{least-left}
+use Rattle.carry_on.proofs.carry_lent.Goals as goal
+
+pub returns-then-text-le-MIDDLE : goal.returns-then-text-le-MIDDLE
+returns-then-text-le-MIDDLE c = let e = c.carry_small.ensures in record {
+  answer = e.answer;
+  wrote = e.wrote;
+  listed = e.listed;
+  room = refl;
+}
+
+pub returns-then-n-le-OWN_SLOTS : goal.returns-then-n-le-OWN_SLOTS
+returns-then-n-le-OWN_SLOTS c = let e = c.carry_small-then-n-le-OWN_SLOTS.ensures in record {
+  answer = e.answer;
+  wrote = e.wrote;
+  listed = e.listed;
+  room = refl;
+}
+
+pub slice_bounds-front-end : goal.slice_bounds-front-end
+slice_bounds-front-end c = rw c.least-n.ensures (least-left _ _)
+
+pub slice_bounds-front-end-2 : goal.slice_bounds-front-end-2
+slice_bounds-front-end-2 c = sym (rw (length-take c.least-n.result c.args.area.now) (omega (arith, slice-relend-prefix-front c {-Else2-})))
+
+pub carry_indexed-requires : goal.carry_indexed-requires
+carry_indexed-requires c = record {
+  text_len_bound = c.requires;
+  in_bounds = omega (arith, slice-aggregate-front c, {-After_front-} c.if-n-le-OWN_SLOTS.false);
+}
+
+pub returns : goal.returns
+returns c = let e = c.carry_indexed.ensures in record {
+  answer = e.answer;
+  wrote = e.wrote;
+  listed = e.listed;
+  room = same-length-7 c; {-After_slice_known10-}
+}

@@ -1,0 +1,87 @@
+-- `catalogue_lookup::field_from` meets its contract: what is found from `at` on is the answer.
+use Prim.Native.Nat.{ℕ, ◌+◌, ◌-◌, ◌≤◌}
+use mathlib.Core.Path.{◌≡◌, refl, sym, ap, subst, ◌∙◌}
+use mathlib.Core.Bool.{◌&&◌, cond}
+use mathlib.Core.Logic.{⊎_elim}
+use mathlib.Core.List.{List, [], ◌∷◌}
+use native.Mathlib.Omega.{arith}
+use borrow.Author.Tests.{eq-eqb, ne_eqb}
+use denote.Enum.Declared.{tag_of}
+use types.Run.{OneOf, miss}
+use lib.ListN.{length, drop}
+use lib.Dec.{eqb}
+use Rattle.catalogue_entries.specs.contracts.Entry.{the_type}
+use Rattle.catalogue_entries.proofs.Walk.{turn_on, turn-within}
+use Rattle.catalogue_entries.specs.declared.Place.{Place}
+use Rattle.catalogue_entries.specs.declared.Entry.{Entry}
+use Rattle.catalogue_entries.specs.declared.Entry.TheVariants.{End, Header, ReferenceSequence, ReadGroup, Program, Comment, Field}
+use Rattle.catalogue_entries.specs.Entries.{kind_byte, kind_size, entry_size, entry_of, entries_in}
+use Rattle.catalogue_lookup.specs.declared.Found.TheVariants.{Nothing, At}
+use Rattle.catalogue_lookup.specs.Lookup.{first_entry, value_in}
+use Rattle.catalogue_lookup.proofs.Walks.{front-entry}
+use Rattle.catalogue_lookup.proofs.field_from.Goals as goal
+use Rattle.catalogue_lookup.proofs.field_from.Goals.{Joined-else-x-a}
+use Rattle.catalogue_lookup.proofs.field_from.Tie as tie
+
+-- no field is first
+no_value_lem : (a b : ℕ) (es : List Entry) → OneOf (0 ∷ 1 ∷ 2 ∷ 3 ∷ 4 ∷ 5 ∷ []) (tag_of the_type (first_entry es)) → Nothing ≡ value_in a b es
+unfolding value_in first_entry
+no_value_lem a b [] h = refl
+no_value_lem a b (End ∷ es) h = refl
+no_value_lem a b (Header v l ∷ es) h = refl
+no_value_lem a b (ReferenceSequence p n l ∷ es) h = refl
+no_value_lem a b (ReadGroup p l ∷ es) h = refl
+no_value_lem a b (Program p l ∷ es) h = refl
+no_value_lem a b (Comment p l ∷ es) h = refl
+no_value_lem a b (Field x y p ∷ es) h = absurd (miss (0 ∷ 1 ∷ 2 ∷ 3 ∷ 4 ∷ 5 ∷ []) 6 tt h)
+
+-- a field is first
+module _ (c : List ℕ) (at x y : ℕ) (p : Place) (e : Entry) (found : e ≡ entry_of (drop at c)) (is : e ≡ Field x y p) where
+  long : 11 ≡ entry_size e
+  unfolding entry_size kind_byte kind_size
+  long = ap entry_size (sym is)
+
+  within : at + 11 ≤ length c
+  within = turn-within c at 11 e found long (λ z. omega arith)
+
+  turn : entries_in (drop at c) ≡ Field x y p ∷ entries_in (drop (at + 11) c)
+  turn = turn_on c at 11 e found long (λ z. omega arith) ∙ ap (λ f. f ∷ entries_in (drop (at + 11) c)) is
+
+pub loop-x-init : goal.loop-x-init
+loop-x-init c = refl
+
+-- the entry at `at` is a field
+first : (c : tie.In-Field goal.the-invariant-loop-x goal.the-decreases-loop-x) (a b : ℕ)
+    → value_in a b (entries_in (drop c.loop-x.at c.args.catalogue.now))
+    ≡ cond (eqb c.in-Field.x a && eqb c.in-Field.y b) (At c.in-Field.p) (
+    value_in a b (entries_in (drop (c.loop-x.at + 11) c.args.catalogue.now)))
+unfolding value_in
+first c a b = ap (value_in a b) (turn c.args.catalogue.now c.loop-x.at _ _ _ _ c.entry_at.ensures c.in-Field.is)
+
+passed : (c : Joined-else-x-a) → c.loop-x.at + 11 ≤ length c.args.catalogue.now
+passed c = within _ _ _ _ _ _ c.entry_at.ensures c.in-Field.is
+
+pub returns-then-y-b : goal.returns-then-y-b
+returns-then-y-b c =
+    let l = c.loop-x in
+    let a = c.args in
+    sym (l.invariant ∙ first c.before.before.before a.a a.b ∙ simp (eq-eqb _ _ c.if-x-a.true, c.if-y-b.true-raw))
+
+pub overflow_add-at : goal.overflow_add-at
+overflow_add-at c = omega (arith, passed c)
+
+pub loop-x-smaller : goal.loop-x-smaller
+loop-x-smaller c = omega (arith, passed c)
+
+pub loop-x-preserved : goal.loop-x-preserved
+loop-x-preserved c =
+    let l = c.loop-x in
+    let a = c.args in
+    l.invariant ∙ first c.before.before a.a a.b ∙ ⊎_elim (λ w. simp (eq-eqb _ _ w.0.taken, w.1.left)) (λ w. simp (ne_eqb _ _ w.left)) c.else-x-a.branch
+
+pub returns-in_default : goal.returns-in_default
+returns-in_default c =
+    let l = c.loop-x in
+    let a = c.args in
+    let s = drop l.at a.catalogue.now in
+    no_value_lem a.a a.b (entries_in s) (subst (λ e. OneOf (0 ∷ 1 ∷ 2 ∷ 3 ∷ 4 ∷ 5 ∷ []) (tag_of the_type e)) (c.entry_at.ensures ∙ sym (front-entry s)) c.in_default.keys2) ∙ sym l.invariant

@@ -1,0 +1,44 @@
+-- `field::value::is_printable_block` meets its contract: after `i` bytes the flag says whether all of them may be in a value.
+use Prim.Native.Nat.{◌-◌}
+use mathlib.Core.Path.{◌≡◌, sym, ap, ◌∙◌}
+use mathlib.Core.Logic.{⊎_elim}
+use native.Mathlib.Omega.{arith}
+use lib.ListN.{drop}
+use lib.Dec.{leb}
+use borrow.Author.Tests.{le-leb, not-true, not-false}
+use Rattle.format.specs.Bytes.{printable}
+use Rattle.byte_slices.specs.Run.{run}
+use Rattle.byte_slices.proofs.Run.{flag-pass, flag-stop}
+use Rattle.field.proofs.value.is_printable_block.Goals as goal
+
+pub loop-i-init : goal.loop-i-init
+loop-i-init c = let a = c.args in (omega arith, sym (le-leb 0 (run printable (drop a.at a.s.now)) (omega arith)))
+
+pub overflow_add-at : goal.overflow_add-at
+overflow_add-at c = omega arith
+
+pub bounds-s-at : goal.bounds-s-at
+bounds-s-at c = omega arith
+
+pub overflow_add-i : goal.overflow_add-i
+overflow_add-i c = omega arith
+
+pub loop-i-smaller : goal.loop-i-smaller
+loop-i-smaller c = omega arith
+
+pub loop-i-preserved : goal.loop-i-preserved
+loop-i-preserved c =
+    let a = c.args in (
+      omega arith,
+      ⊎_elim
+          (λ w. w.1 ∙ sym (flag-stop printable a.s.now a.at c.loop-i.i (omega arith) (sym c.is_printable.ensures ∙ not-true _ w.0.taken)))
+          (λ w.
+          w.1 ∙ c.loop-i.invariant.1 ∙ flag-pass printable a.s.now a.at c.loop-i.i (omega arith) (sym c.is_printable.ensures ∙ not-false _ w.0.left))
+          c.if-not-is_printable.branch,
+    )
+
+pub returns : goal.returns
+returns c =
+    let a = c.args in
+    let e : c.loop-i.i ≡ 8 = omega arith in
+    c.loop-i.invariant.1 ∙ ap (λ i. leb i (run printable (drop a.at a.s.now))) e

@@ -1,0 +1,51 @@
+-- `key_at::is_same_block` meets its contract: the flag says whether the bytes that were passed go on, and what is after them decides.
+use Prim.Native.Nat.{ℕ, ◌+◌, ◌-◌}
+use mathlib.Core.Path.{◌≡◌, sym, ap, ap₂, ◌∙◌}
+use mathlib.Core.Bool.{Bool, true, false, ◌&&◌}
+use mathlib.Core.Logic.{⊎_elim}
+use native.Mathlib.Omega.{arith}
+use borrow.Author.Tests.{not-true, not-false}
+use lib.ListN.{drop}
+use Rattle.format.specs.Bytes.{same}
+use Rattle.key_at.specs.Word.{word}
+use Rattle.key_at.proofs.Same.{byte-decides, one-differs, one_more}
+use Rattle.key_at.proofs.is_same_block.Goals as goal
+
+pub loop-j-init : goal.loop-j-init
+loop-j-init c =
+    let a = c.args in
+    let y : a.i ≡ a.i + 0 = omega arith in
+    let z : a.at ≡ a.at + 0 = omega arith in
+    (omega arith, ap₂ (λ n m. same (drop n a.key.now) (word (drop m a.text.now))) y z)
+
+pub loop-j-smaller : goal.loop-j-smaller
+loop-j-smaller c = omega (arith, c.loop-j-test.true)
+
+pub loop-j-preserved : goal.loop-j-preserved
+loop-j-preserved c =
+    let g = c.goes_on in
+    let a = c.args in
+    let p = c.requires in
+    let i : ℕ = a.i + c.loop-j.j in
+    let at : ℕ = a.at + c.loop-j.j in
+    let y : i + 1 ≡ a.i + (c.loop-j.j + 1) = omega arith in
+    let z : at + 1 ≡ a.at + (c.loop-j.j + 1) = omega arith in
+    let less = c.loop-j-test.true in
+    let r : Bool = same (drop (i + 1) a.key.now) (word (drop (at + 1) a.text.now)) in
+    let all : Bool = c.loop-j.all in
+    let one : same (drop a.i a.key.now) (word (drop a.at a.text.now)) ≡ (all && (g.result && r)) =
+    c.loop-j.invariant.1
+    ∙ ap (λ w. all && w) (byte-decides a.key.now a.text.now i at (omega (arith, less, p.i_in_bounds)) (omega (arith, less, p.at_in_bounds)))
+    ∙ ap (λ w. all && (w && r)) (sym g.ensures) in
+    let on : same (drop a.i a.key.now) (word (drop a.at a.text.now)) ≡ (c.if-not-goes_on.all && r) =
+    ⊎_elim
+    (λ w. one ∙ one-differs all g.result r (not-true g.result w.0.taken) ∙ ap (λ v. v && r) (sym w.1))
+    (λ w. one ∙ one_more all g.result r (not-false g.result w.0.left) ∙ ap (λ v. v && r) (sym w.1))
+    c.if-not-goes_on.branch in
+    (omega (arith, less), on ∙ ap₂ (λ n m. c.if-not-goes_on.all && same (drop n a.key.now) (word (drop m a.text.now))) y z)
+
+pub returns : goal.returns
+returns c =
+    let a = c.args in
+    let e : c.loop-j.j ≡ 8 = omega (arith, c.loop-j.invariant.0, c.loop-j-test.false) in
+    c.loop-j.invariant.1 ∙ ap (λ j. c.loop-j.all && same (drop (a.i + j) a.key.now) (word (drop (a.at + j) a.text.now))) e

@@ -1,0 +1,100 @@
+-- `key_index::point_to_head` meets its contract.
+use Prim.Native.Nat.{◌<◌}
+use mathlib.Core.Path.{◌≡◌, sym, ap, ap₂, ◌∙◌}
+use native.Mathlib.Omega.{arith}
+use lib.ListN.{length}
+use Rattle.key_look.specs.declared.Sought.{Sought}
+use Rattle.key_look.specs.declared.Sought.TheVariants.{Known, Free, Full}
+use Rattle.key_index.specs.KeySlots.{value, pointed, after_pointing, looks_of, sought_of, offset_of}
+use Rattle.key_index.specs.Keyed.{sought_by, looks_by}
+use Rattle.key_index.proofs.Keys.{key-inside, key-offset, sought-by-key, looks-by-key}
+use Rattle.key_index.proofs.Looking.{known-below, offset-small}
+use Rattle.key_index.proofs.point_to_head.Goals as goal
+use Rattle.key_index.proofs.point_to_head.Goals.{After-key_of-key, In-Known}
+use Rattle.key_index.proofs.point_to_head.Tie as tie
+
+-- looking for the head's key ended as the definition says
+ended : (c : tie.After-look_for-looked)
+    → let a = c.args in
+    c.look_for-looked.result.sought ≡ sought_of a.seed a.text.now a.area.now a.head
+ended c =
+    let a = c.args in
+    c.look_for-looked.ensures.sought ∙ ap (sought_by a.seed a.text.now a.area.now) c.key_of-key.ensures ∙ sought-by-key a.seed a.text.now a.area.now a.head
+
+looked : (c : tie.After-look_for-looked)
+    → let a = c.args in
+    c.look_for-looked.result.slots ≡ looks_of a.seed a.text.now a.area.now a.head
+looked c =
+    let a = c.args in
+    c.look_for-looked.ensures.slots ∙ ap (looks_by a.seed a.text.now a.area.now) c.key_of-key.ensures ∙ looks-by-key a.seed a.text.now a.area.now a.head
+
+place : (c : tie.After-key_of-key) → c.key_of-key.result.place.at ≡ offset_of c.args.head
+place c = ap (λ k. k.place.at) c.key_of-key.ensures ∙ key-offset c.args.head
+
+-- the slot that holds the key is one of the slots
+below : (c : In-Known) → c.in-Known.i < length c.args.area.now
+below c =
+    known-below c.args.seed c.args.text.now c.args.area.now c.args.head c.in-Known.i c.requires.area_nonzero (sym (ended c.before.before) ∙ c.in-Known.is)
+
+small : (c : After-key_of-key) → c.key_of-key.result.place.at < 16777216
+small c =
+    omega (arith, place c.before, offset-small (length c.args.text.now) c.args.head c.requires.key_in_text)
+
+-- what the slots become, by how the search ended
+told : (c : tie.After-look_for-looked) (s : Sought) → c.look_for-looked.result.sought ≡ s
+    → let a = c.args in
+    pointed c.key_of-key.result.place.at a.area.now s ≡ after_pointing a.seed a.text.now a.area.now a.head
+unfolding after_pointing
+told c s e =
+    let a = c.args in
+    ap₂ (λ at k. pointed at a.area.now k) (place c.before) (sym e ∙ ended c)
+
+pub look_for-looked-requires : goal.look_for-looked-requires
+look_for-looked-requires c =
+    let k = c.key_of-key.ensures in record {
+      text_len_bound = c.requires.text_len_bound;
+      area_nonzero = c.requires.area_nonzero;
+      len_in_bounds = omega (arith, ap (λ k. k.place.at) k, ap (λ k. k.place.len) k, key-inside (length c.args.text.now) c.args.head c.requires.key_in_text);
+    }
+
+pub offset_bounds-area-i : goal.offset_bounds-area-i
+offset_bounds-area-i c = omega (arith, below c)
+
+pub bounds-area-i : goal.bounds-area-i
+bounds-area-i c = below (goal.at.bounds-area-i c).In-Known
+
+pub overflow_mul-area : goal.overflow_mul-area
+overflow_mul-area c = omega (arith, c.slice_known-in-Known-1.given c.in-Known.i)
+
+pub overflow_cast-area : goal.overflow_cast-area
+overflow_cast-area c = omega (arith, small (goal.at.overflow_cast-area c).After-key_of-key)
+
+pub overflow_add-area : goal.overflow_add-area
+overflow_add-area c = omega (arith, c.slice_known-in-Known-1.given c.in-Known.i, small (goal.at.overflow_add-area c).After-key_of-key)
+
+pub offset_bounds-area-i-in-Known : goal.offset_bounds-area-i-in-Known
+offset_bounds-area-i-in-Known c = omega (arith, below (goal.at.offset_bounds-area-i-in-Known c).In-Known)
+
+pub bounds-area-i-in-Known : goal.bounds-area-i-in-Known
+bounds-area-i-in-Known c = below (goal.at.bounds-area-i-in-Known c).In-Known
+
+pub returns-in-Known : goal.returns-in-Known
+unfolding pointed value
+returns-in-Known c = record {
+  slots = looked c.before.before.before;
+  wrote = told c.before.before.before (Known c.in-Known.i) c.in-Known.is;
+}
+
+pub returns-in-Free : goal.returns-in-Free
+unfolding pointed
+returns-in-Free c = record {
+  slots = looked c.before.before;
+  wrote = told c.before.before (Free c.in-Free.field-0) c.in-Free.is;
+}
+
+pub returns-in-Full : goal.returns-in-Full
+unfolding pointed
+returns-in-Full c = record {
+  slots = looked c.before.before;
+  wrote = told c.before.before Full c.in-Full.is;
+}

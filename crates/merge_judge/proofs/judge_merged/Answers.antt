@@ -1,0 +1,42 @@
+-- `merge_judge::judge_merged` meets its contract: the merged text is judged, and then what follows.
+use mathlib.Core.Path.{◌≡◌, sym, ap, ◌∙◌}
+use mathlib.Core.Bool.{true}
+use Rattle.format.specs.Reading.{read_text}
+use Rattle.accepted.specs.Read.{is_accepted, records_of}
+use Rattle.read_judge.proofs.Whole.{Told, text-refused, text-accepted}
+use Rattle.format.specs.Merge.{text_merged}
+use Rattle.merge_judge.specs.Judged.{which_of, verdict_of, untangling, after_second}
+use Rattle.merge_judge.proofs.Steps.{unread, read}
+use Rattle.merge_judge.proofs.judge_merged.Goals as goal
+use Rattle.merge_judge.proofs.judge_merged.Goals.{In-Accepted}
+
+-- the text is accepted
+told : (c : In-Accepted) → Told c.args.m.now c.in-Accepted.field-0 c.in-Accepted.once
+told c =
+    text-accepted c.args.m.now c.in-Accepted.field-0 c.in-Accepted.once (sym c.judge.ensures ∙ c.in-Accepted.is)
+
+accepted : (c : In-Accepted) → is_accepted (read_text c.args.m.now) ≡ true
+unfolding is_accepted
+accepted c = ap is_accepted (told c).reads
+
+pub judge_accepted-requires : goal.judge_accepted-requires
+judge_accepted-requires c = record {
+  a_value = c.requires.a_value;
+  b_value = c.requires.b_value;
+  m_value = accepted c;
+  reads_by = c.requires.reads_by;
+  reads_by_2 = c.requires.reads_by_2;
+  reads_by_3 = (told c).rule;
+}
+
+pub returns-in-Refused : goal.returns-in-Refused
+unfolding verdict_of which_of after_second
+returns-in-Refused c =
+    let a = c.args in
+    sym (ap verdict_of (unread text_merged (λ m. untangling (records_of a.a.now) (records_of a.b.now) m a.list_a.now a.list_b.now) a.m.now c.in-Refused.n c.in-Refused.line.0 (text-refused a.m.now c.in-Refused.n c.in-Refused.line (sym c.judge.ensures ∙ c.in-Refused.is))))
+
+pub returns-in-Accepted : goal.returns-in-Accepted
+unfolding after_second
+returns-in-Accepted c =
+    let a = c.args in
+    c.judge_accepted.ensures ∙ sym (ap verdict_of (read text_merged (λ m. untangling (records_of a.a.now) (records_of a.b.now) m a.list_a.now a.list_b.now) a.m.now (accepted (goal.at.returns-in-Accepted c).In-Accepted)))

@@ -1,0 +1,10 @@
+-- `name_index::with_byte` meets its contract: five doublings, the number once more, and the byte.
+use Rattle.std.proofs.Common.{◌∙◌, arith}
+use Rattle.name_index.proofs.Byte.{byte_more}
+use Rattle.name_index.proofs.with_byte.Goals as goal
+
+pub returns : goal.returns
+returns c =
+    c.wrapping_add_u32.ensures
+    ∙ byte_more c.args.h c.args.b _ _ _ _ _ _ c.ranges.h.fits (omega (arith, c.ranges.b.fits))
+    c.wrapping_add_u32-two.ensures c.wrapping_add_u32-four.ensures c.wrapping_add_u32-eight.ensures c.wrapping_add_u32-sixteen.ensures c.wrapping_add_u32-thirty_two.ensures c.wrapping_add_u32-thirty_three.ensures

@@ -1,0 +1,134 @@
+-- `program_depths::find_depths` meets its contract: all depths before `i` are known, and their sum with those to come is the hops.
+use Prim.Native.Nat.{ℕ, ◌-◌, ◌<◌}
+use mathlib.Core.Path.{◌≡◌, refl, sym, ap, ap₂, subst, ◌∙◌}
+use mathlib.Core.Bool.{Bool, true, false, not, cond, false≢true}
+use mathlib.Core.List.{List, map}
+use native.Mathlib.Omega.{arith}
+use lib.ListN.{length, get_or, replicate}
+use Rattle.format.specs.Programs.{Link, loops_from, depth, depths, hops}
+use Rattle.program_chains.specs.Parents.{links_of, in_array}
+use Rattle.program_chains.proofs.Arrays.{array-length}
+use Rattle.program_depths.specs.Depths.{deep, KnownRight, depths_of}
+use Rattle.program_depths.proofs.Deep.{deep-cycle, deep-acyclic}
+use Rattle.program_depths.proofs.Noting.{Reached, Behind, unknown-count, noted-none, reached-more, reached-kept, array_behind, behind-kept, all-less, all-depths, sum-turn, sum-spent}
+use Rattle.program_depths.proofs.find_depths.Goals as goal
+use Rattle.program_depths.proofs.find_depths.Goals.{Else-not-learn}
+use Rattle.program_depths.proofs.find_depths.Tie as tie
+
+is_false : (t : Bool) → not t ≡ true → t ≡ false
+is_false true e = absurd (false≢true e)
+is_false false e = refl
+
+is_true : (t : Bool) → not t ≡ false → t ≡ true
+is_true true e = refl
+is_true false e = absurd (false≢true (sym e))
+
+pub unknown-list-requires : goal.unknown-list-requires
+unknown-list-requires c = omega arith
+
+pub loop-i-init : goal.loop-i-init
+unfolding hops
+loop-i-init c =
+    let ps = c.args.parents.now in
+    let is = c.unknown-list.ensures in
+    let n = unknown-count (length ps) in (
+      omega arith,
+      omega arith,
+      omega arith,
+      subst (KnownRight ps) (sym is) (noted-none ps),
+      (λ k h. absurd (omega arith)),
+      ap length is ∙ array-length (replicate (length ps) 4294967295) (omega (arith, n, c.requires.parents_len_bound)),
+      subst (λ l. Behind l (length ps)) (sym is) (array_behind (replicate (length ps) 4294967295) (length ps) n),
+    )
+
+pub learn-requires : goal.learn-requires
+learn-requires c =
+    let l = c.loop-i in record {
+      parents_value = c.requires.parents_value;
+      parents_len_bound = c.requires.parents_len_bound;
+      i_in_bounds = c.loop-i-test.true;
+      known_right = l.invariant.3;
+    }
+
+-- what is answered: nothing where there is a cycle, or every depth
+module _ (ps : List ℕ) where
+  abbrev ls : List Link
+  ls = links_of ps
+
+  none : loops_from ls 0 ls ≡ true → record { list = replicate 1024 0; hops = 0; cycle = true } ≡ depths_of ls
+  unfolding depths_of in_array
+  none e = sym (ap (λ t. cond t (record { list = replicate 1024 0; hops = 0; cycle = true }) (record { list = in_array (map (depth ls (length ls)) ls); hops = hops ls; cycle = false })) e)
+
+  every : (ds : List ℕ) (n : ℕ) → loops_from ls 0 ls ≡ false → ds ≡ in_array (map (depth ls (length ls)) ls) → n ≡ hops ls
+      → record { list = ds; hops = n; cycle = false } ≡ depths_of ls
+  unfolding depths_of in_array
+  every ds n e d h =
+      ap₂ (λ l s. record { list = l; hops = s; cycle = false }) d h
+      ∙ sym (ap (λ t. cond t (record { list = replicate 1024 0; hops = 0; cycle = true }) (record { list = in_array (map (depth ls (length ls)) ls); hops = hops ls; cycle = false })) e)
+
+pub returns-then-not-learn : goal.returns-then-not-learn
+returns-then-not-learn c =
+    let ps = c.args.parents.now in
+    none ps (deep-cycle ps c.requires.parents_value c.loop-i.i c.loop-i-test.true (c.learn.ensures.endless (is_false c.learn.result c.if-not-learn.true-raw)))
+
+abbrev start : (c : tie.Else-not-learn goal.the-invariant-loop-i goal.the-decreases-loop-i) → tie.Start invariant-loop decreases-loop
+start c = c {-Start-}
+
+abbrev ps : (c : tie.Else-not-learn goal.the-invariant-loop-i goal.the-decreases-loop-i) → List ℕ
+ps c = (start c).args.parents.now
+
+abbrev i : (c : tie.Else-not-learn goal.the-invariant-loop-i goal.the-decreases-loop-i) → ℕ
+i c = c.loop-i.i
+
+abbrev ds : (c : Else-not-learn) → List ℕ
+ds c = c.learn.new.depths
+
+here : (c : tie.Else-not-learn goal.the-invariant-loop-i goal.the-decreases-loop-i) → (i c) < length (ps c)
+here c = c.loop-i-test.true
+
+known : (c : Else-not-learn) → get_or (ds c) (i c.before) 0 ≡ 4294967295 → ⊥
+known c = c.learn.ensures.known (is_true c.learn.result c.if-not-learn.false-raw)
+
+noted : (c : Else-not-learn) → KnownRight (ps c.before) (ds c)
+noted c = c.learn.ensures.noted
+
+right : (c : Else-not-learn) → (get_or (ds c) (i c.before) 0 ≡ deep (ps c.before) (i c.before)) × (deep (ps c.before) (i c.before) < length (ps c.before))
+right c = (noted c) (i c.before) (here c.before) (known c)
+
+pub offset_bounds-list-i : goal.offset_bounds-list-i
+offset_bounds-list-i c = omega (arith, here c, {-Else1_unread-} (start c {-Else1_unread-}).requires.1)
+
+pub bounds-list-i : goal.bounds-list-i
+bounds-list-i c = omega (arith, here c, {-Else1_unread-} (start c {-Else1_unread-}).requires.1)
+
+pub overflow_add-sum : goal.overflow_add-sum
+overflow_add-sum c = omega (arith, here c.before, (start c.before).requires.1, (right c).0, (right c).1, c.loop-i.invariant.1)
+
+pub overflow_add-i : goal.overflow_add-i
+overflow_add-i c = omega (arith, here c.before, (start c.before).requires.1)
+
+pub loop-i-smaller : goal.loop-i-smaller
+loop-i-smaller c = omega (arith, here c.before)
+
+pub loop-i-preserved : goal.loop-i-preserved
+loop-i-preserved c =
+    let l = c.loop-i in (
+      omega (arith, here c.before),
+      omega (arith, here c.before, (start c.before).requires.1, (right c).0, (right c).1, l.inv.1),
+      omega (arith, l.inv.2, (right c).0, sum-turn (ps c.before) (i c.before) (here c.before)),
+      noted c,
+      reached-more (ds c) (i c.before) (reached-kept l.list (ds c) (i c.before) c.learn.ensures.kept l.inv.4) (known c),
+      c.learn.ensures.sized ∙ l.inv.5,
+      behind-kept l.list (ds c) (length (ps c.before)) c.learn.ensures.kept l.inv.6,
+    )
+
+pub returns : goal.returns
+returns c =
+    let l = c.loop-i in
+    let ps = c.args.parents.now in
+    let all : length ps ≡ l.i = omega (arith, c.loop-i-test.false, l.invariant.0) in
+    let reached : Reached l.list (length ps) = subst (Reached l.list) (sym all) l.invariant.4 in
+    every ps l.list l.sum
+    (deep-acyclic ps c.requires.parents_value (all-less ps l.list l.invariant.5 c.requires.parents_len_bound l.invariant.3 reached))
+    (all-depths ps l.list l.invariant.5 c.requires.parents_len_bound l.invariant.3 reached l.invariant.6)
+    (omega (arith, l.invariant.2, sum-spent ps l.i c.loop-i-test.false))

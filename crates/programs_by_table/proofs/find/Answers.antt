@@ -1,0 +1,53 @@
+-- `programs_by_table::find` meets its contract: 22, then 23, then the leaves and the depths.
+use Prim.Native.Nat.{◌≤◌}
+use mathlib.Core.Path.{sym, ◌∙◌}
+use mathlib.Core.List.{List}
+use lib.ListN.{length}
+use Rattle.format.specs.Programs.{Program, programs}
+use Rattle.accepted.specs.Read.{records_of}
+use Rattle.program_depths.proofs.Noting.{cycle-is}
+use Rattle.program_parents.proofs.Own.{few-programs}
+use Rattle.program_parents.proofs.Road.{lent-count, lent-inside, lent-few, lent-within}
+use Rattle.programs_by_table.proofs.Finding.{found-dangling, found-cycle, found-leaves}
+use Rattle.programs_by_table.proofs.find.Goals as goal
+use Rattle.programs_by_table.proofs.find.Tie as tie
+
+-- the programs of the text, and that they are few
+abbrev ps : tie.After-parents_of-parents → List Program
+ps f = programs (records_of f.args.text.now)
+
+few : (f : tie.After-parents_of-parents) → length (ps f) ≤ 1024
+few f = few-programs f.args.text.now f.requires.text_value
+
+pub returns-then-parents : goal.returns-then-parents
+returns-then-parents c =
+    found-dangling (ps c.before.before.before) (few c.before.before.before) c.parents_of-parents.result c.parents_of-parents.ensures c.if-parents.true c.nothing.result c.nothing.ensures
+
+pub slice_bounds-list-end : goal.slice_bounds-list-end
+slice_bounds-list-end c =
+    lent-inside (ps c.before.before.before) (few c.before.before.before) c.parents_of-parents.result c.parents_of-parents.ensures
+
+pub slice_bounds-links-end : goal.slice_bounds-links-end
+slice_bounds-links-end c =
+    lent-count (ps c.before.before.before.before) (few c.before.before.before.before) c.parents_of-parents.result c.parents_of-parents.ensures
+
+pub find_depths-known-requires : goal.find_depths-known-requires
+find_depths-known-requires c = record {
+  parents_value = lent-within (ps c.before.before.before.before) (few c.before.before.before.before) c.parents_of-parents.result c.parents_of-parents.ensures c.if-parents.false;
+  parents_len_bound = lent-few (ps c.before.before.before.before) (few c.before.before.before.before) c.parents_of-parents.result c.parents_of-parents.ensures;
+}
+
+pub returns-then-known : goal.returns-then-known
+returns-then-known c =
+    found-cycle (ps c.before.before.before.before.before.before.before) (few c.before.before.before.before.before.before.before) c.parents_of-parents.result c.parents_of-parents.ensures c.if-parents.false (sym (cycle-is _ c.find_depths-known.result c.find_depths-known.ensures) ∙ c.if-known.true) c.nothing-then-known.result c.nothing-then-known.ensures
+
+pub leaves-leaves-requires : goal.leaves-leaves-requires
+leaves-leaves-requires c = record {
+  parents_value = lent-within (ps c.before.before.before.before.before.before) (few c.before.before.before.before.before.before) c.parents_of-parents.result c.parents_of-parents.ensures c.if-parents.false;
+  parents_len_bound = lent-few (ps c.before.before.before.before.before.before) (few c.before.before.before.before.before.before) c.parents_of-parents.result c.parents_of-parents.ensures;
+}
+
+pub returns : goal.returns
+returns c =
+    found-leaves (ps c.before.before.before.before.before.before.before.before) (few c.before.before.before.before.before.before.before.before) c.parents_of-parents.result c.parents_of-parents.ensures c.if-parents.false c.find_depths-known.result c.find_depths-known.ensures c.if-known.false
+    c.leaves-leaves.result c.leaves-leaves.ensures

@@ -1,0 +1,13 @@
+-- `read_judge::judge_short` meets its contract: an area of zeros holds no key.
+use native.Mathlib.Omega.{arith}
+use Rattle.format.proofs.Slots.{held_none}
+use Rattle.key_look.specs.Seed.{plain_seed}
+use Rattle.key_index.specs.KeySlots.{start}
+use Rattle.read_judge.proofs.judge_short.Goals as goal
+
+pub judge_indexed-requires : goal.judge_indexed-requires
+judge_indexed-requires c = record {
+  text_len_bound = c.requires;
+  in_bounds = omega arith;
+  held = held_none (start plain_seed c.args.text.now 512) 512;
+}

@@ -1,0 +1,35 @@
+-- `read_judge::parse_lenient` meets its contract: what the strict rule accepts is the same by the other.
+use mathlib.Core.Path.{◌≡◌, sym, ap, subst, ◌∙◌}
+use mathlib.Core.Bool.{true}
+use mathlib.Core.List.{[], ◌∷◌}
+use borrow.Author.Tests.{not-true, not-false}
+use denote.Enum.Declared.{tag_of}
+use types.Run.{OneOf}
+use Rattle.format.specs.Lines.{Piece}
+use Rattle.format.specs.Records.{line}
+use Rattle.record.specs.contracts.Head.{the_type}
+use Rattle.record.specs.Head.{head_of}
+use Rattle.read_judge.proofs.Parsing.{head_read, head-refused, parsed-known, parsed-read, parsed-again}
+use Rattle.read_judge.proofs.parse_lenient.Goals as goal
+use Rattle.read_judge.proofs.parse_lenient.Tie as tie
+
+-- the line
+abbrev piece : tie.Start → Piece
+piece s = record { at = s.args.at; bytes = s.args.line.now }
+
+-- by the strict rule
+strictly : (c : tie.Else-not-once) → c.parse_record-head.result ≡ head_of (line true (piece c.before.before.before))
+strictly c = c.parse_record-head.ensures ∙ ap (λ s. head_of (line s (piece c.before.before.before))) (not-false _ c.if-not-once.false-raw)
+
+pub returns-then-not-once : goal.returns-then-not-once
+returns-then-not-once c =
+    parsed-known c.args.once (piece c.before.before.before.before) c.parse_record-head.result (not-true _ c.if-not-once.true-raw) c.parse_record-head.ensures
+
+pub returns-in_default : goal.returns-in_default
+returns-in_default c =
+    parsed-read c.args.once (piece c.before.before.before.before.before) c.parse_record-head.result (not-false _ c.if-not-once.false-raw) c.parse_record-head.ensures
+    (head_read (line true (piece c.before.before.before.before.before)) (subst (λ x. OneOf (1 ∷ 2 ∷ 3 ∷ 4 ∷ 5 ∷ []) (tag_of the_type x)) (strictly c.before.before) c.in_default.keys2))
+
+pub returns : goal.returns
+returns c =
+    parsed-again c.args.once (piece c.before.before.before.before.before.before) c.parse_record.result c.parse_record.ensures (head-refused (line true (piece c.before.before.before.before.before.before)) _ (sym (strictly c.before.before.before) ∙ c.in-Refused.is))

@@ -1,0 +1,44 @@
+-- `record_kind::parse_kind` meets its contract: no byte, one byte, or two, which `kind_of` judges.
+use Prim.Native.Nat.{ℕ, ◌<◌}
+use mathlib.Core.Path.{◌≡◌, refl, ◌∙◌}
+use mathlib.Core.List.{List, [], ◌∷◌}
+use native.Mathlib.Omega.{arith}
+use lib.ListN.{length, get_or}
+use Rattle.format.specs.Records.{kind_of}
+use Rattle.record_kind.specs.declared.ParsedKind.TheVariants.{Empty, Invalid}
+use Rattle.record_kind.specs.Kind.{kind_at, parsed_kind_of}
+use Rattle.record_kind.proofs.Refused.{kind-told}
+use Rattle.record_kind.proofs.parse_kind.Goals as goal
+
+none : (s : List ℕ) → length s ≡ 0 → Empty ≡ kind_at s
+unfolding kind_at
+none [] h = refl
+none (a ∷ s) h = absurd (omega arith)
+
+one : (s : List ℕ) → length s ≡ 1 → Invalid ≡ kind_at s
+unfolding kind_at
+one [] h = absurd (omega arith)
+one (a ∷ []) h = refl
+one (a ∷ b ∷ s) h = absurd (omega arith)
+
+two : (s : List ℕ) → 1 < length s → parsed_kind_of (kind_of (get_or s 0 0) (get_or s 1 0)) ≡ kind_at s
+unfolding kind_at
+two [] h = absurd (omega arith)
+two (a ∷ []) h = absurd (omega arith)
+two (a ∷ b ∷ s) h = refl
+
+pub returns-then-src-eq0 : goal.returns-then-src-eq0
+returns-then-src-eq0 c =
+    let told = kind-told _ Empty (none _ c.if-src-eq0.true) in
+    record { is = told.0; refusal = told.1 }
+
+pub returns-then-src-eq1 : goal.returns-then-src-eq1
+returns-then-src-eq1 c =
+    let told = kind-told _ Invalid (one _ c.if-src-eq1.true) in
+    record { is = told.0; refusal = told.1 }
+
+pub returns : goal.returns
+returns c =
+    let s = c.args.src.now in
+    let told = kind-told s c.kind_of.result (c.kind_of.ensures ∙ two s (omega arith)) in
+    record { is = told.0; refusal = told.1 }

@@ -1,0 +1,156 @@
+-- `record_parser::fields::walk_fields` meets its contract: at each tab the fields read so far and those that are left make the line.
+use Prim.Native.Nat.{◌+◌, ◌-◌, ◌≤◌, ◌<◌}
+use mathlib.Core.Path.{◌≡◌, sym, ap, ◌∙◌}
+use mathlib.Core.Bool.{false, ◌&&◌, ◌||◌}
+use mathlib.Core.Logic.{⊎_elim}
+use native.Mathlib.Omega.{arith}
+use lib.ListN.{length, take, drop, get_or, length-replicate}
+use Rattle.format.specs.Bytes.{any}
+use Rattle.format.specs.Fields.{tagged, field}
+use Rattle.byte_slices.specs.Upto.{before}
+use Rattle.field.specs.Parsed.{parsed_of}
+use Rattle.byte_slices.proofs.Before.{rest}
+use Rattle.record_tags.specs.Occurs.{occurs}
+use Rattle.record.specs.Head.{head_of}
+use Rattle.record_parser.specs.Marks.{marks_of}
+use Rattle.record_parser.proofs.Walked.{Turned, turned, refused-here}
+use Rattle.record_parser.proofs.Step.{walked_start, turn-six, turn_end, turn-refused, next-within, turn-tag, turn-place, told-again, turn_twice, walked}
+use Rattle.record_parser.proofs.fields.walk_fields.Goals as goal
+use Rattle.record_parser.proofs.fields.walk_fields.Goals.{After-mark_of-mark, Else-f-ne0, Joined-strict}
+use Rattle.record_parser.proofs.fields.walk_fields.Tie as tie
+
+-- what `parse_field` was lent is the rest of the line
+answer : (c : tie.After-parse_field-f goal.the-invariant-loop-pos goal.the-decreases-loop-pos)
+    → let a = c.args in
+    c.parse_field-f.result ≡ parsed_of a.kind (field a.kind 0 (before 9 (drop (c.loop-pos.pos + 1) a.src.now)))
+answer c =
+    let a = c.args in
+    c.parse_field-f.ensures ∙ ap (λ s. parsed_of a.kind (field a.kind 0 (before 9 s))) (rest (c.loop-pos.pos + 1) a.src.now)
+
+-- the field that it found
+turn : (c : tie.Else-f-ne0 goal.the-invariant-loop-pos goal.the-decreases-loop-pos)
+    → let a = c.args in
+    Turned a.kind (a.at + c.loop-pos.pos) (drop (c.loop-pos.pos + 1) a.src.now) c.parse_field-f.result
+turn c =
+    let a = c.args in
+    turned a.kind (a.at + c.loop-pos.pos) (drop (c.loop-pos.pos + 1) a.src.now) c.parse_field-f.result (answer c.before.before) c.if-f-ne0.false
+
+-- the field ends within the line
+room : (c : Else-f-ne0)
+    → c.loop-pos.pos + 4 + c.parse_field-f.result.len ≤ length c.args.src.now
+room c =
+    let a = c.args in
+    next-within a.kind a.src.now a.at a.strict a.exact c.loop-pos.seen c.loop-pos.keys c.loop-pos.pos c.loop-pos.invariant c.loop-pos-test.true c.if-src-pos-ne9.false _ (turn c.before)
+
+-- its mark is in the table
+marked : (c : After-mark_of-mark)
+    → c.mark_of-mark.result < length c.loop-pos.seen
+marked c =
+    let a = c.args in
+    rw c.mark_of-mark.ensures (turn-place a.kind a.src.now a.at a.strict a.exact c.loop-pos.seen c.loop-pos.keys c.loop-pos.pos c.loop-pos.invariant c.loop-pos-test.true c.if-src-pos-ne9.false _ (turn c.before.before))
+
+-- whether its tag was there before
+again : (c : tie.After-stands_again-again goal.the-invariant-loop-pos goal.the-decreases-loop-pos)
+    → c.stands_again-again.result ≡ any (tagged (turn c.before.before.before.before).field.tag₀ (turn c.before.before.before.before).field.tag₁) c.loop-pos.invariant.fields
+again c =
+    let a = c.args in
+    let g = c.parse_field-f.result in
+    c.stands_again-again.ensures
+    ∙ ap (λ i. get_or c.loop-pos.seen i false && (a.exact || occurs g.tag_0 g.tag_1 (take (c.loop-pos.pos - 3) (drop 3 a.src.now)))) c.mark_of-mark.ensures
+    ∙ told-again a.kind a.src.now a.at a.strict a.exact c.loop-pos.seen c.loop-pos.keys c.loop-pos.pos c.loop-pos.invariant c.loop-pos-test.true c.if-src-pos-ne9.false g (turn c.before.before.before.before)
+
+-- as many marks as were lent
+lent : (c : tie.At-loop-pos goal.the-invariant-loop-pos goal.the-decreases-loop-pos) → length c.loop-pos.seen ≡ length c.args.seen.now
+lent c =
+    c.loop-pos.invariant.marked.size ∙ sym (ap length c.requires.seen_value ∙ length-replicate (marks_of c.args.exact) false)
+
+-- no tag is repeated where that is forbidden
+allowed : (c : Joined-strict)
+    → c.args.strict && any (tagged (turn c.before.before.before.before.before.before).field.tag₀ (turn c.before.before.before.before.before.before).field.tag₁) c.loop-pos.invariant.fields ≡ false
+allowed c =
+    ⊎_elim
+    (λ w. ap (λ t. t && any (tagged (turn c.before.before.before.before.before.before).field.tag₀ (turn c.before.before.before.before.before.before).field.tag₁) c.loop-pos.invariant.fields) w.0.taken ∙ sym (again c.before.before) ∙ w.1.left)
+    (λ w. ap (λ t. t && any (tagged (turn c.before.before.before.before.before.before).field.tag₀ (turn c.before.before.before.before.before.before).field.tag₁) c.loop-pos.invariant.fields) w.left)
+    c.if-strict.branch
+
+pub loop-pos-init : goal.loop-pos-init
+loop-pos-init c =
+    let a = c.args in
+    walked_start a.kind a.src.now a.at a.strict a.exact a.seen.now c.new-keys.result c.requires.in_bounds c.requires.seen_value c.new-keys.ensures
+
+pub shape_of-seen-then-src-pos-ne9 : goal.shape_of-seen-then-src-pos-ne9
+shape_of-seen-then-src-pos-ne9 c = lent c.before.before.before.before
+
+pub returns-then-src-pos-ne9 : goal.returns-then-src-pos-ne9
+unfolding head_of
+returns-then-src-pos-ne9 c =
+    let a = c.args in
+    sym (ap head_of (turn-six a.kind a.src.now a.at a.strict a.exact c.loop-pos.seen c.loop-pos.keys c.loop-pos.pos c.loop-pos.invariant c.loop-pos-test.true c.if-src-pos-ne9.true))
+
+pub shape_of-seen-then-f-ne0 : goal.shape_of-seen-then-f-ne0
+shape_of-seen-then-f-ne0 c = lent c.before.before.before.before.before.before.before.before
+
+pub returns-then-f-ne0 : goal.returns-then-f-ne0
+unfolding head_of
+returns-then-f-ne0 c =
+    let a = c.args in
+    let g = c.parse_field-f.result in
+    sym (ap head_of (turn-refused a.kind a.src.now a.at a.strict a.exact c.loop-pos.seen c.loop-pos.keys c.loop-pos.pos c.loop-pos.invariant c.loop-pos-test.true c.if-src-pos-ne9.false g.stop (refused-here a.kind (a.at + c.loop-pos.pos) (drop (c.loop-pos.pos + 1) a.src.now) g (answer c.before.before.before) c.if-f-ne0.true) c.if-f-ne0.true))
+
+pub mark_of-mark-requires : goal.mark_of-mark-requires
+mark_of-mark-requires c =
+    let a = c.args in
+    turn-tag a.kind a.src.now a.at a.strict a.exact c.loop-pos.seen c.loop-pos.keys c.loop-pos.pos c.loop-pos.invariant c.loop-pos-test.true c.if-src-pos-ne9.false _ (turn c.before)
+
+pub bounds-seen-mark : goal.bounds-seen-mark
+bounds-seen-mark c = marked (goal.at.bounds-seen-mark c).After-mark_of-mark
+
+pub shape_of-seen-then-again : goal.shape_of-seen-then-again
+shape_of-seen-then-again c = lent c.before.before.before.before.before.before.before.before.before.before.before.before.before.before
+
+pub returns-then-again : goal.returns-then-again
+unfolding head_of
+returns-then-again c =
+    let a = c.args in
+    sym (ap head_of (turn_twice a.kind a.src.now a.at a.strict a.exact c.loop-pos.seen c.loop-pos.keys c.loop-pos.pos c.loop-pos.invariant c.loop-pos-test.true c.if-src-pos-ne9.false _ (turn c.before.before.before.before.before.before.before) c.if-strict.true (sym (again c.before.before.before) ∙ c.if-again.true)))
+
+pub bounds-seen-mark-in-loop-pos : goal.bounds-seen-mark-in-loop-pos
+bounds-seen-mark-in-loop-pos c = marked (goal.at.bounds-seen-mark-in-loop-pos c).After-mark_of-mark
+
+pub overflow_add-at : goal.overflow_add-at
+overflow_add-at c =
+    omega (arith, room (goal.at.overflow_add-at c).Else-f-ne0, c.requires.src_bound)
+
+pub overflow_add-at-in-loop-pos : goal.overflow_add-at-in-loop-pos
+overflow_add-at-in-loop-pos c =
+    omega (arith, room (goal.at.overflow_add-at-in-loop-pos c).Else-f-ne0, c.requires.src_bound)
+
+pub with-keys-requires : goal.with-keys-requires
+with-keys-requires c =
+    omega (arith, room (goal.at.with-keys-requires c).Else-f-ne0, c.requires.src_bound, c.loop-pos.invariant.few)
+
+pub overflow_add-pos-in-loop-pos : goal.overflow_add-pos-in-loop-pos
+overflow_add-pos-in-loop-pos c =
+    omega (arith, room (goal.at.overflow_add-pos-in-loop-pos c).Else-f-ne0, c.requires.src_bound)
+
+pub overflow_add-pos-in-loop-pos-2 : goal.overflow_add-pos-in-loop-pos-2
+overflow_add-pos-in-loop-pos-2 c =
+    omega (arith, room (goal.at.overflow_add-pos-in-loop-pos-2 c).Else-f-ne0, c.requires.src_bound)
+
+pub loop-pos-smaller : goal.loop-pos-smaller
+loop-pos-smaller c =
+    omega (arith, room (goal.at.loop-pos-smaller c).Else-f-ne0)
+
+pub loop-pos-preserved : goal.loop-pos-preserved
+loop-pos-preserved c =
+    let a = c.args in
+    rw (c.mark_of-mark.ensures, c.with-keys.ensures, again c.before.before.before.before)
+    (walked a.kind a.src.now a.at a.strict a.exact c.loop-pos.seen c.loop-pos.keys c.loop-pos.pos c.loop-pos.invariant c.loop-pos-test.true c.if-src-pos-ne9.false _ (turn c.before.before.before.before.before.before.before.before) (allowed (goal.at.loop-pos-preserved c).Joined-strict))
+
+pub shape_of-seen : goal.shape_of-seen
+shape_of-seen c = lent c.before.before.before
+
+pub returns : goal.returns
+returns c =
+    let a = c.args in
+    c.head.ensures ∙ turn_end a.kind a.src.now a.at a.strict a.exact c.loop-pos.seen c.loop-pos.keys c.loop-pos.pos c.loop-pos.invariant c.loop-pos-test.false

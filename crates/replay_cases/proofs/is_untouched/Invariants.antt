@@ -1,0 +1,12 @@
+use Prim.Native.Nat.{◌≤◌, ◌-◌}
+use mathlib.Core.Path.{◌≡◌}
+use lib.ListN.{length, drop}
+use lib.Dec.{eqb}
+use Rattle.format.specs.Bytes.{all}
+use Rattle.replay_cases.proofs.is_untouched.Given as goal
+
+abbrev pub invariant-loop-i : goal.invariant-loop-i
+invariant-loop-i l = (l.i ≤ length l.kept) × (all (eqb 165) l.kept ≡ all (eqb 165) (drop l.i l.kept))
+
+abbrev pub decreases-loop-i : goal.decreases-loop-i
+decreases-loop-i l = length l.kept - l.i

@@ -1,0 +1,79 @@
+-- `tidy_line::head_len` meets its contract: the parts that the head names are counted, and each is short.
+use Prim.Native.Nat.{ℕ, ◌+◌, ◌≤◌}
+use mathlib.Core.Path.{◌≡◌, refl, sym, ap, subst, ◌∙◌}
+use native.Mathlib.Omega.{arith}
+use Rattle.decimal.proofs.Written.{written-short}
+use Rattle.record.specs.declared.Head.{Head}
+use Rattle.tidy_line.specs.Heads.{place_length, head_length}
+use Rattle.tidy_parts.proofs.Sizes.{version-size}
+use Rattle.tidy_line.proofs.head_len.Goals as goal
+use Rattle.tidy_line.proofs.head_len.Goals.{After-len_u64, After-version_len}
+use Rattle.tidy_line.proofs.head_len.Tie as tie
+
+-- the head is `d`, and its key is short
+short : (s : tie.Start) (d : Head) → s.args.head ≡ d → place_length d ≤ 16777216
+short s d e = subst (λ h. place_length h ≤ 16777216) e s.requires.1
+
+length-by : (s : tie.Start) (d : Head) → s.args.head ≡ d → (n : ℕ) → n ≡ head_length d s.args.others → n ≡ head_length s.args.head s.args.others
+length-by s d e n q = q ∙ ap (λ h. head_length h s.args.others) (sym e)
+
+-- a version is short
+version-short : (c : After-version_len) → c.version_len.result ≤ 41
+version-short c = let v = c.in-Header.v in omega (arith, c.version_len.ensures, version-size v, written-short v.major, written-short v.minor)
+
+-- a number is
+number_short : (c : After-len_u64) → (c.len_u64.result ≤ 20) × (c.in-ReferenceSequence.p.len ≤ 16777216)
+number_short c = (omega (arith, c.len_u64.ensures, written-short c.in-ReferenceSequence.n), short c.before.before _ c.in-ReferenceSequence.is)
+
+pub overflow_add-result : goal.overflow_add-result
+overflow_add-result c = omega (arith, version-short c)
+
+pub overflow_add-result-in-Header : goal.overflow_add-result-in-Header
+overflow_add-result-in-Header c = omega (arith, version-short c, c.requires.0)
+
+pub overflow_add-result-in-ReferenceSequence : goal.overflow_add-result-in-ReferenceSequence
+overflow_add-result-in-ReferenceSequence c = omega (arith, short c.before _ c.in-ReferenceSequence.is)
+
+pub overflow_add-result-in-ReferenceSequence-2 : goal.overflow_add-result-in-ReferenceSequence-2
+overflow_add-result-in-ReferenceSequence-2 c = omega (arith, number_short c)
+
+pub overflow_add-result-in-ReferenceSequence-3 : goal.overflow_add-result-in-ReferenceSequence-3
+overflow_add-result-in-ReferenceSequence-3 c = omega (arith, number_short c, c.requires.0)
+
+pub overflow_add-result-in-ReadGroup : goal.overflow_add-result-in-ReadGroup
+overflow_add-result-in-ReadGroup c = omega (arith, short c.before _ c.in-ReadGroup.is)
+
+pub overflow_add-result-in-ReadGroup-2 : goal.overflow_add-result-in-ReadGroup-2
+overflow_add-result-in-ReadGroup-2 c = omega (arith, short c.before _ c.in-ReadGroup.is, c.requires.0)
+
+pub overflow_add-result-in-Program : goal.overflow_add-result-in-Program
+overflow_add-result-in-Program c = omega (arith, short c.before _ c.in-Program.is)
+
+pub overflow_add-result-in-Program-2 : goal.overflow_add-result-in-Program-2
+overflow_add-result-in-Program-2 c = omega (arith, short c.before _ c.in-Program.is, c.requires.0)
+
+pub returns-in-Refused : goal.returns-in-Refused
+unfolding head_length
+returns-in-Refused c = length-by c.before _ c.in-Refused.is _ refl
+
+pub returns-in-Header : goal.returns-in-Header
+unfolding head_length
+returns-in-Header c =
+    length-by c.before.before _ c.in-Header.is _ (ap (λ n. 8 + n + c.args.others) c.version_len.ensures)
+
+pub returns-in-ReferenceSequence : goal.returns-in-ReferenceSequence
+unfolding head_length
+returns-in-ReferenceSequence c =
+    length-by c.before.before _ c.in-ReferenceSequence.is _ (ap (λ n. 12 + c.in-ReferenceSequence.p.len + n + c.args.others) c.len_u64.ensures)
+
+pub returns-in-ReadGroup : goal.returns-in-ReadGroup
+unfolding head_length
+returns-in-ReadGroup c = length-by c.before _ c.in-ReadGroup.is _ refl
+
+pub returns-in-Program : goal.returns-in-Program
+unfolding head_length
+returns-in-Program c = length-by c.before _ c.in-Program.is _ refl
+
+pub returns-in-Comment : goal.returns-in-Comment
+unfolding head_length
+returns-in-Comment c = length-by c.before _ c.in-Comment.is _ refl

@@ -1,0 +1,109 @@
+-- `tidy_line::put_parts` meets its contract: the head of an accepted line says which record is to be written, and its text.
+use Prim.Native.Nat.{◌+◌, ◌≤◌}
+use mathlib.Core.Path.{◌≡◌, sym, subst}
+use native.Mathlib.Omega.{arith}
+use lib.ListN.{length}
+use Rattle.record.specs.declared.Head.{Head}
+use Rattle.tidy_line.specs.Heads.{head_text, KeyInLine}
+use Rattle.tidy_parts.proofs.Wrote.{Wrote}
+use Rattle.tidy_line.proofs.Heads.{Told, told}
+use Rattle.tidy_line.proofs.put_parts.Goals as goal
+use Rattle.tidy_line.proofs.put_parts.Tie as tie
+
+-- the head is `d`
+shown : (c : tie.After-head_of-head) (d : Head) → c.head_of-head.result ≡ d → (let a = c.args in Told a.at a.src.now a.kind d)
+shown c d e =
+    let a = c.args in
+    told a.at a.src.now c.requires.line_of.accepted a.kind c.requires.line_of.kind c.requires.kind_value c.head_of-head.result d c.head_of-head.ensures e
+
+-- it has room
+room : (c : tie.After-head_of-head) (d : Head) → c.head_of-head.result ≡ d
+    → (let a = c.args in a.o + length (head_text a.at a.src.now d) ≤ length a.out.now)
+room c d e = subst (λ l. c.args.o + length l ≤ length c.args.out.now) (shown c d e).text c.requires.src_in_bounds
+
+pub find_keys-keys-requires : goal.find_keys-keys-requires
+find_keys-keys-requires c = record {
+  walkable = c.requires.walkable;
+  src_bound = omega (arith, c.requires.line_of.short);
+}
+
+pub head_of-head-requires : goal.head_of-head-requires
+head_of-head-requires c = record {
+  line_of = c.requires.line_of;
+  keys_value = c.find_keys-keys.ensures;
+}
+
+pub put_header-requires : goal.put_header-requires
+unfolding KeyInLine head_text
+put_header-requires c = record {
+  walkable = c.requires.walkable;
+  line_bound = c.requires.line_of.short;
+  line_in_bounds = room c.before.before.before _ c.in-Header.is;
+}
+
+pub put_reference_sequence-requires : goal.put_reference_sequence-requires
+unfolding KeyInLine head_text
+put_reference_sequence-requires c = record {
+  walkable = c.requires.walkable;
+  line_bound = c.requires.line_of.short;
+  inside_line = (shown c.before.before.before _ c.in-ReferenceSequence.is).holds;
+  line_in_bounds = room c.before.before.before _ c.in-ReferenceSequence.is;
+}
+
+pub put_map-requires : goal.put_map-requires
+unfolding KeyInLine head_text
+put_map-requires c = record {
+  walkable = c.requires.walkable;
+  line_bound = c.requires.line_of.short;
+  inside_line = (shown c.before.before.before _ c.in-ReadGroup.is).holds;
+  line_in_bounds = room c.before.before.before _ c.in-ReadGroup.is;
+}
+
+pub put_map-requires-in-Program : goal.put_map-requires-in-Program
+unfolding KeyInLine head_text
+put_map-requires-in-Program c = record {
+  walkable = c.requires.walkable;
+  line_bound = c.requires.line_of.short;
+  inside_line = (shown c.before.before.before _ c.in-Program.is).holds;
+  line_in_bounds = room c.before.before.before _ c.in-Program.is;
+}
+
+pub returns-in-Refused : goal.returns-in-Refused
+unfolding KeyInLine
+returns-in-Refused c =
+    let told = absurd (shown c.before.before _ c.in-Refused.is).holds in
+    record { next = told.0; wrote = told.1 }
+
+pub returns-in-Header : goal.returns-in-Header
+unfolding head_text
+returns-in-Header c =
+    let a = c.args in
+    let told = subst (Wrote a.out.now a.o c.put_header.new.out c.put_header.result) (sym (shown c.before.before.before.before.before.before _ c.in-Header.is).text) c.put_header.ensures in
+    record { next = told.0; wrote = told.1 }
+
+pub returns-in-ReferenceSequence : goal.returns-in-ReferenceSequence
+unfolding head_text
+returns-in-ReferenceSequence c =
+    let a = c.args in
+    let told = subst (Wrote a.out.now a.o c.put_reference_sequence.new.out c.put_reference_sequence.result) (sym (shown c.before.before.before.before.before.before _ c.in-ReferenceSequence.is).text) c.put_reference_sequence.ensures in
+    record { next = told.0; wrote = told.1 }
+
+pub returns-in-ReadGroup : goal.returns-in-ReadGroup
+unfolding head_text
+returns-in-ReadGroup c =
+    let a = c.args in
+    let told = subst (Wrote a.out.now a.o c.put_map.new.out c.put_map.result) (sym (shown c.before.before.before.before.before.before _ c.in-ReadGroup.is).text) c.put_map.ensures in
+    record { next = told.0; wrote = told.1 }
+
+pub returns-in-Program : goal.returns-in-Program
+unfolding head_text
+returns-in-Program c =
+    let a = c.args in
+    let told = subst (Wrote a.out.now a.o c.put_map-in-Program.new.out c.put_map-in-Program.result) (sym (shown c.before.before.before.before.before.before _ c.in-Program.is).text) c.put_map-in-Program.ensures in
+    record { next = told.0; wrote = told.1 }
+
+pub returns-in-Comment : goal.returns-in-Comment
+unfolding KeyInLine
+returns-in-Comment c =
+    let told = absurd (shown c.before.before _ c.in-Comment.is).holds in
+    record { next = told.0; wrote = told.1 }

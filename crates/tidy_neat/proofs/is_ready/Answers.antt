@@ -1,0 +1,29 @@
+-- `tidy_neat::is_ready` meets its contract: only an SQ has a name to look at.
+use Prim.Native.Nat.{ℕ}
+use mathlib.Core.Path.{◌≡◌, refl, sym, ap, ◌∙◌}
+use mathlib.Core.List.{List, [], ◌∷◌}
+use mathlib.Core.Logic.{⊎_elim}
+use native.Mathlib.Omega.{arith}
+use types.Run.{OneOf}
+use denote.Enum.Declared.{tag_of}
+use Rattle.format.specs.declared.Kind.{Kind}
+use Rattle.format.specs.declared.Kind.TheVariants.{Header, ReferenceSequence, ReadGroup, Program, Comment}
+use Rattle.format.specs.contracts.Kind
+use Rattle.tidy_neat.specs.Neat.{neat, ready}
+use Rattle.tidy_neat.proofs.is_ready.Goals as goal
+
+-- another kind has no name
+nameless : (s : List ℕ) (k : Kind) → OneOf (0 ∷ 2 ∷ 3 ∷ 4 ∷ []) (tag_of Kind.the_type k) → neat k s ≡ ready k s
+unfolding ready
+nameless s Header h = refl
+nameless s ReferenceSequence h = absurd (⊎_elim (λ e. omega arith) (⊎_elim (λ e. omega arith) (⊎_elim (λ e. omega arith) (λ e. omega arith))) h)
+nameless s ReadGroup h = refl
+nameless s Program h = refl
+nameless s Comment h = refl
+
+pub returns-in-ReferenceSequence : goal.returns-in-ReferenceSequence
+unfolding ready
+returns-in-ReferenceSequence c = c.is_named_sequence.ensures ∙ sym (ap (λ k. ready k c.args.src.now) c.in-ReferenceSequence.is)
+
+pub returns-in_default : goal.returns-in_default
+returns-in_default c = c.is_neat.ensures ∙ nameless _ _ c.in_default.keys2

@@ -1,0 +1,47 @@
+-- `tidy_text::with_line_if` meets its contract: the record is measured, and its size goes to its kind.
+use mathlib.Core.Path.{◌≡◌, sym, ap, ◌∙◌}
+use native.Mathlib.Omega.{arith}
+use lib.ListN.{get_or}
+use Rattle.format.specs.Records.{Line, line}
+use Rattle.format.specs.declared.Kind.{Kind}
+use Rattle.tidy_line.specs.Line.{line_size}
+use Rattle.tidy_line.specs.declared.Size.TheVariants.{Is}
+use Rattle.tidy_sizes.specs.Numbers.{get, plus}
+use Rattle.accepted_line.specs.Found.{kind_by}
+use Rattle.tidy_text.specs.declared.Grown.TheVariants as grown
+use Rattle.tidy_text.proofs.OfKind.{three}
+use Rattle.tidy_text.proofs.Names.{size_is, grown-bad, grown-is}
+use borrow.Author.Tests.{not-true, not-false}
+use Rattle.tidy_text.proofs.Sifting.{grown-stays, grown-goes}
+use Rattle.tidy_text.proofs.with_line_if.Goals as goal
+use Rattle.tidy_text.proofs.with_line_if.Goals.{Else-not-stays, In-Is}
+
+-- the line, and the kind by its second byte
+abbrev line_of : Else-not-stays → Line
+line_of s = line s.args.strict (record { at = s.args.at; bytes = s.args.src.now })
+
+abbrev kind_at : Else-not-stays → Kind
+kind_at s = kind_by (get_or s.args.src.now 1 0)
+
+-- its size, if it can be written
+told : (z : In-Is) → line_size (line_of (goal.at.kind_of-requires z).Else-not-stays) ≡ Is z.in-Is.n
+told z = sym z.line_size-size.ensures ∙ z.in-Is.is
+
+pub returns-then-not-stays : goal.returns-then-not-stays
+returns-then-not-stays c = let a = c.args in sym (grown-goes _ _ _ _ (not-true a.stays c.if-not-stays.true-raw))
+
+pub returns-in_default : goal.returns-in_default
+returns-in_default c =
+    sym (grown-stays _ _ _ _ (not-false c.args.stays c.if-not-stays.false-raw) ∙ grown-bad (kind_at (goal.at.returns-in_default c).Else-not-stays) (line_of (goal.at.returns-in_default c).Else-not-stays) c.args.sizes (sym c.line_size-size.ensures ∙ c.in_default.is))
+
+pub kind_of-requires : goal.kind_of-requires
+kind_of-requires c = three c.args.strict c.args.at c.args.src.now c.requires.src_value
+
+pub plus-requires : goal.plus-requires
+plus-requires c =
+    omega (arith, c.requires.src_bound_2 (not-false c.args.stays c.if-not-stays.false-raw), (size_is (line_of (goal.at.plus-requires c).Else-not-stays) c.in-Is.n (told (goal.at.plus-requires c).In-Is)).1, ap (λ k. get k c.args.sizes) c.kind_of.ensures)
+
+pub returns : goal.returns
+returns c =
+    ap grown.Is (c.plus.ensures ∙ ap (λ k. plus k c.in-Is.n c.args.sizes) c.kind_of.ensures)
+    ∙ sym (grown-stays _ _ _ _ (not-false c.args.stays c.if-not-stays.false-raw) ∙ grown-is (kind_at (goal.at.returns c).Else-not-stays) (line_of (goal.at.returns c).Else-not-stays) c.args.sizes c.in-Is.n (told (goal.at.returns c).In-Is))
