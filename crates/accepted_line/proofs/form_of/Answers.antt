@@ -15,8 +15,7 @@ use Rattle.accepted_line.specs.declared.Form.TheVariants as form
 use Rattle.accepted_line.proofs.Lax.{read-lax}
 use Rattle.accepted_line.proofs.Finds.{comment-is, three, fielded}
 use Rattle.accepted_line.proofs.form_of.Goals as goal
-use Rattle.accepted_line.proofs.form_of.Goals.{Else-is_comment}
-use Rattle.accepted_line.proofs.form_of.Tie as tie
+use Rattle.accepted_line.proofs.form_of.Goals.{Else-is_comment, Start}
 
 -- ---- which form is answered
 
@@ -36,7 +35,7 @@ module _ (strict : Bool) (at : ℕ) (s : List ℕ) (k : Kind) (e : k ≡ kind_by
 -- ---- that the answer is right
 
 -- the line is of the kind `k`
-of : (s : tie.Start) (k : Kind) → (let a = s.args in kind_by (get_or a.src.now 1 0) ≡ k → LineOf k a.at a.src.now)
+of : (s : Start) (k : Kind) → (let a = s.args in kind_by (get_or a.src.now 1 0) ≡ k → LineOf k a.at a.src.now)
 of s k e = record { accepted = read-lax s.args.strict (record { at = s.args.at; bytes = s.args.src.now }) s.requires.src_value; kind = e; short = s.requires.src_bound }
 
 -- it has fields

@@ -21,8 +21,7 @@ use Rattle.format.specs.declared.Version.{Version}
 use Rattle.field.specs.Spelled.{parsed_version_of}
 use Rattle.field.specs.declared.version.ParsedVersion.TheVariants.{Is, Invalid}
 use Rattle.accepted_line.proofs.header_of.Goals as goal
-use Rattle.accepted_line.proofs.header_of.Goals.{After-struct_known-1}
-use Rattle.accepted_line.proofs.header_of.Tie as tie
+use Rattle.accepted_line.proofs.header_of.Goals.{After-parse_version, Start}
 
 version-is : (v w : Version) → parsed_version_of (some v) ≡ Is w → v ≡ w
 unfolding parsed_version_of
@@ -32,41 +31,41 @@ version-none : (v : Version) → parsed_version_of (some v) ≡ Invalid → ⊥
 unfolding parsed_version_of
 version-none v e = never (cc)
 
-kept : (s : tie.Start) → (let a = s.args in OfHeader a.at a.src.now (uncounted (head_of (line false (record { at = a.at; bytes = a.src.now })))))
+kept : (s : Start) → (let a = s.args in OfHeader a.at a.src.now (uncounted (head_of (line false (record { at = a.at; bytes = a.src.now })))))
 unfolding Held
 kept s = (held false s.args.at s.args.src.now s.requires.line_of.accepted Header s.requires.line_of.kind).1
 
 -- the value that was found
-value : (s : tie.Start) → (let a = s.args in a.version ≡ or_value no_value (last_of 86 78 (fields_from a.at a.src.now 3)))
+value : (s : Start) → (let a = s.args in a.version ≡ or_value no_value (last_of 86 78 (fields_from a.at a.src.now 3)))
 unfolding keys_in keys_from last_key
 value s = s.requires.version_value
 
 -- VN is in the line
-within : (s : After-struct_known-1) → (let a = s.args in let v = s.args.version in (a.at ≤ v.at) × (v.at - a.at + v.len ≤ length a.src.now))
-within s = let a = s.args in value-within a.at a.src.now 86 78 (kept s.before.before.before).piece (kept s.before.before.before).has a.version (value s.before.before.before)
+within : (s : Start) → (let a = s.args in let v = s.args.version in (a.at ≤ v.at) × (v.at - a.at + v.len ≤ length a.src.now))
+within s = let a = s.args in value-within a.at a.src.now 86 78 (kept s).piece (kept s).has a.version (value s)
 
 -- and spells the version
-spelled : (c : tie.After-parse_version) → c.parse_version.result ≡ parsed_version_of (some (kept c.before.before.before.before).number)
+spelled : (c : After-parse_version) → c.parse_version.result ≡ parsed_version_of (some (kept (goal.at.After-parse_version c).Start).number)
 spelled c =
     let a = c.args in
     c.parse_version.ensures.is
-    ∙ ap (λ l. parsed_version_of (version l)) (value-bytes a.at a.src.now 86 78 (kept c.before.before.before.before).piece (kept c.before.before.before.before).has a.version (value c.before.before.before.before))
-    ∙ ap parsed_version_of (kept c.before.before.before.before).spells
+    ∙ ap (λ l. parsed_version_of (version l)) (value-bytes a.at a.src.now 86 78 (kept (goal.at.After-parse_version c).Start).piece (kept (goal.at.After-parse_version c).Start).has a.version (value (goal.at.After-parse_version c).Start))
+    ∙ ap parsed_version_of (kept (goal.at.After-parse_version c).Start).spells
 
 pub overflow_sub-from : goal.overflow_sub-from
-overflow_sub-from c = (within c).0
+overflow_sub-from c = (within (goal.at.overflow_sub-from c).Start).0
 
 pub overflow_add-from : goal.overflow_add-from
-overflow_add-from c = omega (arith, within c, c.requires.line_of.short)
+overflow_add-from c = omega (arith, within (goal.at.overflow_add-from c).Start, c.requires.line_of.short)
 
 pub slice_bounds-parse_version-end : goal.slice_bounds-parse_version-end
-slice_bounds-parse_version-end c = omega (arith, within c)
+slice_bounds-parse_version-end c = omega (arith, within (goal.at.slice_bounds-parse_version-end c).Start)
 
 pub returns-in-Is : goal.returns-in-Is
 returns-in-Is c =
-    let k = kept c.before.before.before.before.before.before in
-    sym (k.is ∙ ap (λ v. head.Header v 0) (version-is k.number c.in-Is.v (sym (spelled c.before.before) ∙ c.in-Is.is)))
+    let k = kept (goal.at.returns-in-Is c).Start in
+    sym (k.is ∙ ap (λ v. head.Header v 0) (version-is k.number c.in-Is.v (sym (spelled (goal.at.returns-in-Is c).After-parse_version) ∙ c.in-Is.is)))
 
 pub returns-in-Invalid : goal.returns-in-Invalid
 returns-in-Invalid c =
-    absurd (version-none (kept c.before.before.before.before.before.before).number (sym (spelled c.before.before) ∙ c.in-Invalid.is))
+    absurd (version-none (kept (goal.at.returns-in-Invalid c).Start).number (sym (spelled (goal.at.returns-in-Invalid c).After-parse_version) ∙ c.in-Invalid.is))

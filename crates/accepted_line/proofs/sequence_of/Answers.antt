@@ -19,59 +19,58 @@ use Rattle.format.specs.Decimal.{worth}
 use Rattle.decimal.specs.Number.{number_at_front}
 use Rattle.decimal.specs.declared.Number.TheVariants.{Is}
 use Rattle.accepted_line.proofs.sequence_of.Goals as goal
-use Rattle.accepted_line.proofs.sequence_of.Goals.{After-struct_known-1}
-use Rattle.accepted_line.proofs.sequence_of.Tie as tie
+use Rattle.accepted_line.proofs.sequence_of.Goals.{After-read_u64, Start}
 
 number_is : (n k m j : ℕ) → Is n k ≡ Is m j → n ≡ m
 number_is n k m j e = cc
 
-kept : (s : tie.Start) → (let a = s.args in OfReference a.at a.src.now (uncounted (head_of (line false (record { at = a.at; bytes = a.src.now })))))
+kept : (s : Start) → (let a = s.args in OfReference a.at a.src.now (uncounted (head_of (line false (record { at = a.at; bytes = a.src.now })))))
 unfolding Held
 kept s = (held false s.args.at s.args.src.now s.requires.line_of.accepted ReferenceSequence s.requires.line_of.kind).1
 
 -- the values that were found
-name : (s : After-struct_known-1) → (let a = s.args in a.keys.key ≡ or_value no_value (last_of 83 78 (fields_from a.at a.src.now 3)))
+name : (s : Start) → (let a = s.args in a.keys.key ≡ or_value no_value (last_of 83 78 (fields_from a.at a.src.now 3)))
 unfolding keys_in keys_from last_key
 name s = ap (λ k. k.key) s.requires.keys_value
 
-number : (s : tie.Start) → (let a = s.args in a.keys.number ≡ or_value no_value (last_of 76 78 (fields_from a.at a.src.now 3)))
+number : (s : Start) → (let a = s.args in a.keys.number ≡ or_value no_value (last_of 76 78 (fields_from a.at a.src.now 3)))
 unfolding keys_in keys_from last_number
 number s = ap (λ k. k.number) s.requires.keys_value
 
 -- LN is in the line
-within : (s : After-struct_known-1) → (let a = s.args in let v = s.args.keys.number in (a.at ≤ v.at) × (v.at - a.at + v.len ≤ length a.src.now))
-within s = let a = s.args in value-within a.at a.src.now 76 78 (kept s.before.before.before.before.before).size (kept s.before.before.before.before.before).has-size a.keys.number (number s.before.before.before.before.before)
+within : (s : Start) → (let a = s.args in let v = s.args.keys.number in (a.at ≤ v.at) × (v.at - a.at + v.len ≤ length a.src.now))
+within s = let a = s.args in value-within a.at a.src.now 76 78 (kept s).size (kept s).has-size a.keys.number (number s)
 
 -- and spells the number
-told : (c : tie.After-read_u64) → (let z = (kept c.before.before.before.before.before.before).size.bytes in c.read_u64.result ≡ Is (worth z) (length z))
+told : (c : After-read_u64) → (let z = (kept (goal.at.After-read_u64 c).Start).size.bytes in c.read_u64.result ≡ Is (worth z) (length z))
 told c =
     let a = c.args in
-    let k = kept c.before.before.before.before.before.before in
+    let k = kept (goal.at.After-read_u64 c).Start in
     c.read_u64.ensures.is
-    ∙ ap (number_at_front (2 ^ 64)) (value-bytes a.at a.src.now 76 78 k.size k.has-size a.keys.number (number c.before.before.before.before.before.before))
+    ∙ ap (number_at_front (2 ^ 64)) (value-bytes a.at a.src.now 76 78 k.size k.has-size a.keys.number (number (goal.at.After-read_u64 c).Start))
     ∙ front-digits (2 ^ 64) k.size.bytes k.spells k.fits
 
 pub overflow_sub-from : goal.overflow_sub-from
-overflow_sub-from c = (within c).0
+overflow_sub-from c = (within (goal.at.overflow_sub-from c).Start).0
 
 pub overflow_add-from : goal.overflow_add-from
-overflow_add-from c = omega (arith, within c, c.requires.line_of.short)
+overflow_add-from c = omega (arith, within (goal.at.overflow_add-from c).Start, c.requires.line_of.short)
 
 pub slice_bounds-read_u64-end : goal.slice_bounds-read_u64-end
-slice_bounds-read_u64-end c = omega (arith, within c)
+slice_bounds-read_u64-end c = omega (arith, within (goal.at.slice_bounds-read_u64-end c).Start)
 
 pub returns-in-Is : goal.returns-in-Is
 returns-in-Is c =
     let a = c.args in
-    let k = kept c.before.before.before.before.before.before.before.before in
-    ap₂ (λ p n. head.ReferenceSequence p n 0) (found-place a.at a.src.now 83 78 k.name k.has-name a.keys.key (name (goal.at.returns-in-Is c).After-struct_known-1))
-    (sym (number_is (worth k.size.bytes) (length k.size.bytes) c.in-Is.n c.in-Is.field-1 (sym (told c.before.before) ∙ c.in-Is.is)))
+    let k = kept (goal.at.returns-in-Is c).Start in
+    ap₂ (λ p n. head.ReferenceSequence p n 0) (found-place a.at a.src.now 83 78 k.name k.has-name a.keys.key (name (goal.at.returns-in-Is c).Start))
+    (sym (number_is (worth k.size.bytes) (length k.size.bytes) c.in-Is.n c.in-Is.field-1 (sym (told (goal.at.returns-in-Is c).After-read_u64) ∙ c.in-Is.is)))
     ∙ sym k.is
 
 pub returns-in-NoDigit : goal.returns-in-NoDigit
 returns-in-NoDigit c =
-    absurd (never (let e = sym (told c.before.before) ∙ c.in-NoDigit.is in cc))
+    absurd (never (let e = sym (told (goal.at.returns-in-NoDigit c).After-read_u64) ∙ c.in-NoDigit.is in cc))
 
 pub returns-in-TooLarge : goal.returns-in-TooLarge
 returns-in-TooLarge c =
-    absurd (never (let e = sym (told c.before.before) ∙ c.in-TooLarge.is in cc))
+    absurd (never (let e = sym (told (goal.at.returns-in-TooLarge c).After-read_u64) ∙ c.in-TooLarge.is in cc))

@@ -31,73 +31,72 @@ use Rattle.add_lines.specs.Lines.{added_text}
 use Rattle.add.specs.Added.{with_added, leaves_of, adding_on}
 use Rattle.add.proofs.On.{joined-on, joined-within, free-is, taken_is, count-is, on-used, on-many, on-few, written_is}
 use Rattle.add.proofs.add_after.Goals as goal
-use Rattle.add.proofs.add_after.Goals.{After-first_joined-first, After-new_count, After-slice_known-1}
-use Rattle.add.proofs.add_after.Tie as tie
+use Rattle.add.proofs.add_after.Goals.{After-first_joined-first, After-is_free-alone, After-is_taken, After-new_count, Start}
 
 -- the records, and what is given
-abbrev records : tie.Start → List Record
+abbrev records : Start → List Record
 records s = records_of s.args.text.now
 
-abbrev fields_of : tie.Start → List Field
+abbrev fields_of : Start → List Field
 fields_of s = (given s.args.fields.now).fields
 
-reads : (s : tie.Start) → read_text s.args.text.now ≡ accept (records s)
+reads : (s : Start) → read_text s.args.text.now ≡ accept (records s)
 reads s = accepted-reads s.args.text.now s.requires.text_value
 
 -- the IDs that are lent are those of the programs
-placed : (s : After-slice_known-1) → IdsInText s.args.text.now s.args.ids.now
+placed : (s : Start) → IdsInText s.args.text.now s.args.ids.now
 placed s = s.requires.ids_in_text.0
 
-abbrev ids : After-slice_known-1 → List (List ℕ)
+abbrev ids : Start → List (List ℕ)
 ids s = ids_at s.args.text.now s.args.ids.now
 
-count-are : (s : After-slice_known-1) → length s.args.ids.now / 3 ≡ length (programs (records s.before.before.before.before.before.before.before))
+count-are : (s : Start) → length s.args.ids.now / 3 ≡ length (programs (records s))
 count-are s =
-    let ps = programs (records s.before.before.before.before.before.before.before) in
+    let ps = programs (records s) in
     omega (arith, ids-length s.args.text.now s.args.ids.now (placed s), ap length s.requires.ids_in_text.1, length-map ps (λ p. p.id))
 
 -- the leaves, no more than the programs
-leaves-are : (s : tie.Start) → s.args.leaves.now ≡ leaves (links (programs (records s)))
+leaves-are : (s : Start) → s.args.leaves.now ≡ leaves (links (programs (records s)))
 unfolding leaves_of
 leaves-are s = s.requires.leaves_value.0
 
-counts : (s : After-slice_known-1) → (length s.args.ids.now / 3 ≤ 1024) × (length s.args.leaves.now ≤ 1024)
+counts : (s : Start) → (length s.args.ids.now / 3 ≤ 1024) × (length s.args.leaves.now ≤ 1024)
 counts s =
-    let ps = programs (records s.before.before.before.before.before.before.before) in
+    let ps = programs (records s) in
     let n = few-programs s.args.text.now s.requires.text_value in
-    (omega (arith, n, count-are s), omega (arith, n, ap length (leaves-are s.before.before.before.before.before.before.before), leaves-length (links ps), links-count ps))
+    (omega (arith, n, count-are s), omega (arith, n, ap length (leaves-are s), leaves-length (links ps), links-count ps))
 
 -- the prefix is free
-free : (c : tie.After-is_free-alone) → c.is_free-alone.result ≡ not (is_known (ordinal_from 0 c.args.prefix.now (programs (records c.before.before.before.before.before.before.before))))
+free : (c : After-is_free-alone) → c.is_free-alone.result ≡ not (is_known (ordinal_from 0 c.args.prefix.now (programs (records (goal.at.After-is_free-alone c).Start))))
 free c =
-    c.is_free-alone.ensures ∙ ap (λ xs. not (is_among c.args.prefix.now xs)) c.requires.ids_in_text.1 ∙ free-is c.args.text.now (records c.before.before.before.before.before.before.before) (reads c.before.before.before.before.before.before.before) c.args.prefix.now (fields_of c.before.before.before.before.before.before.before)
+    c.is_free-alone.ensures ∙ ap (λ xs. not (is_among c.args.prefix.now xs)) c.requires.ids_in_text.1 ∙ free-is c.args.text.now (records (goal.at.After-is_free-alone c).Start) (reads (goal.at.After-is_free-alone c).Start) c.args.prefix.now (fields_of (goal.at.After-is_free-alone c).Start)
 
 -- the first leaf whose ID is joined is one of them, or after them
 within : (c : After-first_joined-first) → c.first_joined-first.result ≤ length c.args.leaves.now
 within c = omega (arith, c.first_joined-first.ensures, joined-within (length c.args.leaves.now) c.is_free-alone.result)
 
 -- an ID of the new programs is used
-used-is : (c : tie.After-is_taken)
-    → c.is_taken.result ≡ used (programs (records c.before.before.before.before.before.before.before.before.before.before)) (programs (added c.args.prefix.now (fields_of c.before.before.before.before.before.before.before.before.before.before) (programs (records c.before.before.before.before.before.before.before.before.before.before))))
+used-is : (c : After-is_taken)
+    → c.is_taken.result ≡ used (programs (records (goal.at.After-is_taken c).Start)) (programs (added c.args.prefix.now (fields_of (goal.at.After-is_taken c).Start) (programs (records (goal.at.After-is_taken c).Start))))
 used-is c =
     let a = c.args in
     let ks = c.args.leaves.now in
     let alone = c.is_free-alone.result in
-    let own = ids_of (programs (records c.before.before.before.before.before.before.before.before.before.before)) in
+    let own = ids_of (programs (records (goal.at.After-is_taken c).Start)) in
     c.is_taken.ensures
     ∙ ap (λ xs. taken xs a.prefix.now (take (length ks - c.first_joined-first.result) (drop c.first_joined-first.result ks))) c.requires.ids_in_text.1
     ∙ ap (taken own a.prefix.now) (rest c.first_joined-first.result ks ∙ ap (λ n. drop n ks) c.first_joined-first.ensures ∙ joined-on ks alone)
-    ∙ ap (λ xs. taken own a.prefix.now (cond alone (drop 1 xs) xs)) (leaves-are c.before.before.before.before.before.before.before.before.before.before)
-    ∙ taken_is a.text.now (records c.before.before.before.before.before.before.before.before.before.before) (reads c.before.before.before.before.before.before.before.before.before.before) a.prefix.now (fields_of c.before.before.before.before.before.before.before.before.before.before) alone (free c.before.before.before)
+    ∙ ap (λ xs. taken own a.prefix.now (cond alone (drop 1 xs) xs)) (leaves-are (goal.at.After-is_taken c).Start)
+    ∙ taken_is a.text.now (records (goal.at.After-is_taken c).Start) (reads (goal.at.After-is_taken c).Start) a.prefix.now (fields_of (goal.at.After-is_taken c).Start) alone (free (goal.at.After-is_taken c).After-is_free-alone)
 
 -- how many there are with the new ones
 new_is : (c : After-new_count)
-    → c.new_count.result ≡ length (added c.args.prefix.now (fields_of c.before.before.before.before.before.before.before.before.before.before.before.before.before) (programs (records c.before.before.before.before.before.before.before.before.before.before.before.before.before)))
+    → c.new_count.result ≡ length (added c.args.prefix.now (fields_of (goal.at.After-new_count c).Start) (programs (records (goal.at.After-new_count c).Start)))
 new_is c =
     c.new_count.ensures
-    ∙ ap (λ n. cond (eqb n 0) 1 (length c.args.leaves.now)) (count-are (goal.at.overflow_add-count c).After-slice_known-1)
-    ∙ ap (λ xs. cond (eqb (length (programs (records c.before.before.before.before.before.before.before.before.before.before.before.before.before))) 0) 1 (length xs)) (leaves-are c.before.before.before.before.before.before.before.before.before.before.before.before.before)
-    ∙ count-is c.args.text.now (records c.before.before.before.before.before.before.before.before.before.before.before.before.before) (reads c.before.before.before.before.before.before.before.before.before.before.before.before.before) c.args.prefix.now (fields_of c.before.before.before.before.before.before.before.before.before.before.before.before.before)
+    ∙ ap (λ n. cond (eqb n 0) 1 (length c.args.leaves.now)) (count-are (goal.at.After-new_count c).Start)
+    ∙ ap (λ xs. cond (eqb (length (programs (records (goal.at.After-new_count c).Start))) 0) 1 (length xs)) (leaves-are (goal.at.After-new_count c).Start)
+    ∙ count-is c.args.text.now (records (goal.at.After-new_count c).Start) (reads (goal.at.After-new_count c).Start) c.args.prefix.now (fields_of (goal.at.After-new_count c).Start)
 
 -- no more are added than there are leaves, but for the one
 new-most : (n : ℕ) (empty : Bool) → cond empty 1 n ≤ 1 + n
@@ -105,7 +104,7 @@ new-most n true = omega arith
 new-most n false = omega arith
 
 pub is_free-alone-requires : goal.is_free-alone-requires
-is_free-alone-requires c = placed c
+is_free-alone-requires c = placed (goal.at.is_free-alone-requires c).Start
 
 pub offset_bounds-leaves-first : goal.offset_bounds-leaves-first
 offset_bounds-leaves-first c = omega (arith, within c)
@@ -117,49 +116,49 @@ pub slice_bounds-is_taken-start : goal.slice_bounds-is_taken-start
 slice_bounds-is_taken-start c = omega (arith, within c)
 
 pub is_taken-requires : goal.is_taken-requires
-is_taken-requires c = placed (goal.at.is_taken-requires c).After-slice_known-1
+is_taken-requires c = placed (goal.at.is_taken-requires c).Start
 
 pub returns-then-is_taken : goal.returns-then-is_taken
 returns-then-is_taken c =
     let a = c.args in
     let room = length a.out.now in
-    let told = refused-answer (adding_on (records c.before.before.before.before.before.before.before.before.before.before.before.before) a.prefix.now (fields_of c.before.before.before.before.before.before.before.before.before.before.before.before) room) a.out.now 18 (record { 0 = 0 })
-    (on-used (records c.before.before.before.before.before.before.before.before.before.before.before.before) a.prefix.now (fields_of c.before.before.before.before.before.before.before.before.before.before.before.before) room (sym (used-is c.before.before) ∙ c.if-is_taken.true)) in
+    let told = refused-answer (adding_on (records (goal.at.returns-then-is_taken c).Start) a.prefix.now (fields_of (goal.at.returns-then-is_taken c).Start) room) a.out.now 18 (record { 0 = 0 })
+    (on-used (records (goal.at.returns-then-is_taken c).Start) a.prefix.now (fields_of (goal.at.returns-then-is_taken c).Start) room (sym (used-is (goal.at.returns-then-is_taken c).After-is_taken) ∙ c.if-is_taken.true)) in
     record { answer = told.0; wrote = told.1 }
 
 pub overflow_add-count : goal.overflow_add-count
 overflow_add-count c =
-    omega (arith, counts (goal.at.overflow_add-count c).After-slice_known-1, c.new_count.ensures, new-most (length c.args.leaves.now) (eqb (length c.args.ids.now / 3) 0))
+    omega (arith, counts (goal.at.overflow_add-count c).Start, c.new_count.ensures, new-most (length c.args.leaves.now) (eqb (length c.args.ids.now / 3) 0))
 
 pub returns-then-count-new_count-gt1024 : goal.returns-then-count-new_count-gt1024
 returns-then-count-new_count-gt1024 c =
     let a = c.args in
     let room = length a.out.now in
-    let told = refused-answer (adding_on (records c.before.before.before.before.before.before.before.before.before.before.before.before.before.before) a.prefix.now (fields_of c.before.before.before.before.before.before.before.before.before.before.before.before.before.before) room) a.out.now 19 (record { 0 = 0 })
-    (on-many (records c.before.before.before.before.before.before.before.before.before.before.before.before.before.before) a.prefix.now (fields_of c.before.before.before.before.before.before.before.before.before.before.before.before.before.before) room (sym (used-is c.before.before.before.before) ∙ c.if-is_taken.false) (omega (arith, c.if-count-new_count-gt1024.true, new_is (goal.at.returns-then-count-new_count-gt1024 c).After-new_count, count-are (goal.at.returns-then-count-new_count-gt1024 c).After-slice_known-1))) in
+    let told = refused-answer (adding_on (records (goal.at.returns-then-count-new_count-gt1024 c).Start) a.prefix.now (fields_of (goal.at.returns-then-count-new_count-gt1024 c).Start) room) a.out.now 19 (record { 0 = 0 })
+    (on-many (records (goal.at.returns-then-count-new_count-gt1024 c).Start) a.prefix.now (fields_of (goal.at.returns-then-count-new_count-gt1024 c).Start) room (sym (used-is (goal.at.returns-then-count-new_count-gt1024 c).After-is_taken) ∙ c.if-is_taken.false) (omega (arith, c.if-count-new_count-gt1024.true, new_is (goal.at.returns-then-count-new_count-gt1024 c).After-new_count, count-are (goal.at.returns-then-count-new_count-gt1024 c).Start))) in
     record { answer = told.0; wrote = told.1 }
 
 pub write_added-requires : goal.write_added-requires
 write_added-requires c = record {
   text_value = c.requires.text_value;
   reads_by = c.requires.reads_by;
-  ids_in_text = placed (goal.at.write_added-requires c).After-slice_known-1;
-  leaves_len_bound = ((counts (goal.at.write_added-requires c).After-slice_known-1).1, λ e. c.requires.leaves_value.1 (omega (arith, eqb-false (length c.args.ids.now / 3) 0 e)));
+  ids_in_text = placed (goal.at.write_added-requires c).Start;
+  leaves_len_bound = ((counts (goal.at.write_added-requires c).Start).1, λ e. c.requires.leaves_value.1 (omega (arith, eqb-false (length c.args.ids.now / 3) 0 e)));
 }
 
 pub returns : goal.returns
 returns c =
     let a = c.args in
     let room = length a.out.now in
-    let rs = records c.before.before.before.before.before.before.before.before.before.before.before.before.before.before.before.before.before.before in
+    let rs = records (goal.at.returns c).Start in
     let alone = c.is_free-alone.result in
     let empty = eqb (length a.ids.now / 3) 0 in
-    let whole : with_added rs (added_text (ids (goal.at.returns c).After-slice_known-1) empty alone a.known.linked a.prefix.now a.fields.now a.leaves.now) ≡ tidy (rs ++ added a.prefix.now (fields_of c.before.before.before.before.before.before.before.before.before.before.before.before.before.before.before.before.before.before) (programs rs)) =
-    ap₂ (λ own xs. with_added rs (added_text own empty alone a.known.linked a.prefix.now a.fields.now xs)) c.requires.ids_in_text.1 (leaves-are c.before.before.before.before.before.before.before.before.before.before.before.before.before.before.before.before.before.before)
-    ∙ written_is rs a.prefix.now a.fields.now (fields_of c.before.before.before.before.before.before.before.before.before.before.before.before.before.before.before.before.before.before) (given-text a.fields.now c.requires.fields_value.0) empty alone a.known.linked (ap (λ m. eqb m 0) (count-are (goal.at.returns c).After-slice_known-1)) (free c.before.before.before.before.before.before.before.before.before.before.before) c.requires.fields_value.1 in
-    let on : writing room (unwritable 0 rs) (with_added rs (added_text (ids (goal.at.returns c).After-slice_known-1) empty alone a.known.linked a.prefix.now a.fields.now a.leaves.now)) ≡ adding_on rs a.prefix.now (fields_of c.before.before.before.before.before.before.before.before.before.before.before.before.before.before.before.before.before.before) room =
+    let whole : with_added rs (added_text (ids (goal.at.returns c).Start) empty alone a.known.linked a.prefix.now a.fields.now a.leaves.now) ≡ tidy (rs ++ added a.prefix.now (fields_of (goal.at.returns c).Start) (programs rs)) =
+    ap₂ (λ own xs. with_added rs (added_text own empty alone a.known.linked a.prefix.now a.fields.now xs)) c.requires.ids_in_text.1 (leaves-are (goal.at.returns c).Start)
+    ∙ written_is rs a.prefix.now a.fields.now (fields_of (goal.at.returns c).Start) (given-text a.fields.now c.requires.fields_value.0) empty alone a.known.linked (ap (λ m. eqb m 0) (count-are (goal.at.returns c).Start)) (free (goal.at.returns c).After-is_free-alone) c.requires.fields_value.1 in
+    let on : writing room (unwritable 0 rs) (with_added rs (added_text (ids (goal.at.returns c).Start) empty alone a.known.linked a.prefix.now a.fields.now a.leaves.now)) ≡ adding_on rs a.prefix.now (fields_of (goal.at.returns c).Start) room =
     ap (writing room (unwritable 0 rs)) whole
-    ∙ sym (on-few rs a.prefix.now (fields_of c.before.before.before.before.before.before.before.before.before.before.before.before.before.before.before.before.before.before) room (sym (used-is c.before.before.before.before.before.before.before.before) ∙ c.if-is_taken.false) (omega (arith, c.if-count-new_count-gt1024.false, new_is (goal.at.returns c).After-new_count, count-are (goal.at.returns c).After-slice_known-1))) in record {
+    ∙ sym (on-few rs a.prefix.now (fields_of (goal.at.returns c).Start) room (sym (used-is (goal.at.returns c).After-is_taken) ∙ c.if-is_taken.false) (omega (arith, c.if-count-new_count-gt1024.false, new_is (goal.at.returns c).After-new_count, count-are (goal.at.returns c).Start))) in record {
       answer = c.write_added.ensures.answer ∙ ap answer_of on;
       wrote = c.write_added.ensures.wrote ∙ ap (λ x. output_of x a.out.now) on;
     }

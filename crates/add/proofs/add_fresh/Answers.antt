@@ -27,22 +27,22 @@ use Rattle.add.specs.Added.{is_nothing, stray, leaves_of, adding_on}
 use Rattle.add.proofs.Prior.{nothing-none}
 use Rattle.add.proofs.Adding.{add-misformed, add-stray, add-tangled, add-on}
 use Rattle.add.proofs.add_fresh.Goals as goal
-use Rattle.add.proofs.add_fresh.Goals.{After-ordinals-1, After-slice_known-1, Else-not-is_in_form}
+use Rattle.add.proofs.add_fresh.Goals.{After-find_leaves-graph, After-is_stray, After-list_ids-count, Else-graph-ne0, Else-not-is_in_form, Start}
 use Rattle.add.proofs.add_fresh.Tie as tie
 
 -- the catalogue is the text's own
-own : (s : After-slice_known-1) → Current s.args.text.now s.args.catalogue.now
+own : (s : Start) → Current s.args.text.now s.args.catalogue.now
 unfolding checked_of
 own s = check-fresh s.args.text.now s.args.catalogue.now (ap checked_of s.requires.catalogue_value)
 
-opens : (s : After-slice_known-1) → Opened s.args.text.now s.args.catalogue.now
+opens : (s : Start) → Opened s.args.text.now s.args.catalogue.now
 opens s = opened s.args.text.now s.args.catalogue.now (own s).reads (own s).own
 
-abbrev start : tie.After-list_ids-count → tie.Start
+abbrev start : After-list_ids-count → tie.Start
 start c = c {-Start-}
 
-abbrev origin : tie.After-find_leaves-graph → tie.Start
-origin c = start c.before.before.before.before.before.before
+abbrev origin : After-find_leaves-graph → tie.Start
+origin c = start (goal.at.After-find_leaves-graph c).After-list_ids-count
 
 -- what is given is in form
 formed : (c : Else-not-is_in_form) → misformed c.args.prefix.now (given c.args.fields.now) ≡ false
@@ -50,53 +50,53 @@ formed c = not-true _ (sym c.is_in_form.ensures ∙ not-false c.is_in_form.resul
 
 -- ---- what is listed
 
-lists : (c : tie.After-list_ids-count) → ListsIds (start c).args.text.now c.list_ids-count.new.ids c.list_ids-count.result
+lists : (c : After-list_ids-count) → ListsIds (start c).args.text.now c.list_ids-count.new.ids c.list_ids-count.result
 lists c = c.list_ids-count.ensures
 
 -- a given PP that is no ID
-prior : (c : tie.After-is_stray)
-    → let a = (start c.before.before.before).args in
+prior : (c : After-is_stray)
+    → let a = (start (goal.at.After-is_stray c).After-list_ids-count).args in
     stray (ids_of (programs (records_of a.text.now))) (last_of 80 80 (given a.fields.now).fields) ≡ c.is_stray.result
 prior c =
-    sym (c.is_stray.ensures ∙ ap (λ ids. stray ids (last_of 80 80 (given (start c.before.before.before).args.fields.now).fields)) (lists c.before.before.before).are)
+    sym (c.is_stray.ensures ∙ ap (λ ids. stray ids (last_of 80 80 (given (start (goal.at.After-is_stray c).After-list_ids-count).args.fields.now).fields)) (lists (goal.at.After-is_stray c).After-list_ids-count).are)
 
 -- ---- what is found
 
-abbrev ps : tie.After-find_leaves-graph → List Program
+abbrev ps : After-find_leaves-graph → List Program
 ps c = programs (records_of (origin c).args.text.now)
 
-graph_is : (c : tie.After-find_leaves-graph) → c.find_leaves-graph.result ≡ graph_of (links (ps c))
+graph_is : (c : After-find_leaves-graph) → c.find_leaves-graph.result ≡ graph_of (links (ps c))
 graph_is c = c.find_leaves-graph.ensures (ps c) (opens (origin c)).few c.parents_of.ensures
 
-abbrev xs : (c : After-ordinals-1) → List ℕ
-xs c = leaves (links (ps c.before.before.before.before.before))
+abbrev xs : (c : Else-graph-ne0) → List ℕ
+xs c = leaves (links (ps (goal.at.Else-graph-ne0 c).After-find_leaves-graph))
 
-untangled : (c : After-ordinals-1) → tangled (links (ps c.before.before.before.before.before)) ≡ 0
-untangled c = sym (graph-refusal (links (ps c.before.before.before.before.before)) c.find_leaves-graph.result (graph_is c.before.before.before.before.before)) ∙ c.if-graph-ne0.false
+untangled : (c : Else-graph-ne0) → tangled (links (ps (goal.at.Else-graph-ne0 c).After-find_leaves-graph)) ≡ 0
+untangled c = sym (graph-refusal (links (ps (goal.at.Else-graph-ne0 c).After-find_leaves-graph)) c.find_leaves-graph.result (graph_is (goal.at.Else-graph-ne0 c).After-find_leaves-graph)) ∙ c.if-graph-ne0.false
 
-listed : (c : After-ordinals-1) → c.find_leaves-graph.result.leaves.list ≡ in_array (xs c)
-listed c = graph-list (links (ps c.before.before.before.before.before)) c.find_leaves-graph.result (graph_is c.before.before.before.before.before) c.if-graph-ne0.false
+listed : (c : Else-graph-ne0) → c.find_leaves-graph.result.leaves.list ≡ in_array (xs c)
+listed c = graph-list (links (ps (goal.at.Else-graph-ne0 c).After-find_leaves-graph)) c.find_leaves-graph.result (graph_is (goal.at.Else-graph-ne0 c).After-find_leaves-graph) c.if-graph-ne0.false
 
-counted : (c : After-ordinals-1) → c.find_leaves-graph.result.leaves.count ≡ length (xs c)
-counted c = graph-count (links (ps c.before.before.before.before.before)) c.find_leaves-graph.result (graph_is c.before.before.before.before.before) c.if-graph-ne0.false
+counted : (c : Else-graph-ne0) → c.find_leaves-graph.result.leaves.count ≡ length (xs c)
+counted c = graph-count (links (ps (goal.at.Else-graph-ne0 c).After-find_leaves-graph)) c.find_leaves-graph.result (graph_is (goal.at.Else-graph-ne0 c).After-find_leaves-graph) c.if-graph-ne0.false
 
 -- they are the leaves of the records, and there are some where there are programs
-leaves-are : (c : After-ordinals-1) → take c.find_leaves-graph.result.leaves.count c.find_leaves-graph.result.leaves.list ≡ leaves_of (records_of (origin c.before.before.before.before.before).args.text.now)
+leaves-are : (c : Else-graph-ne0) → take c.find_leaves-graph.result.leaves.count c.find_leaves-graph.result.leaves.list ≡ leaves_of (records_of (origin (goal.at.Else-graph-ne0 c).After-find_leaves-graph).args.text.now)
 unfolding leaves_of
 leaves-are c = front (xs c) c.find_leaves-graph.result.leaves.list c.find_leaves-graph.result.leaves.count (listed c) (counted c)
 
-some : (c : After-ordinals-1) → 0 < length (take (c.list_ids-count.result * 3) c.list_ids-count.last.1.1.0) → 0 < length (take c.find_leaves-graph.result.leaves.count c.find_leaves-graph.result.leaves.list)
+some : (c : Else-graph-ne0) → 0 < length (take (c.list_ids-count.result * 3) c.list_ids-count.last.1.1.0) → 0 < length (take c.find_leaves-graph.result.leaves.count c.find_leaves-graph.result.leaves.list)
 some c h =
-    let few = (opens (start c.before.before.before.before.before.before.before.before.before.before.before)).few in
+    let few = (opens (start (goal.at.Else-graph-ne0 c).After-list_ids-count)).few in
     let k = c.list_ids-count in
-    omega (arith, some-leaf (ps c.before.before.before.before.before) few (untangled c) (omega (arith, h, (lists c.before.before.before.before.before.before.before.before.before.before.before).counts, length-take (k.result * 3) k.last.1.1.0)), ap length (leaves-are c), (counted c), front-count (xs c) c.find_leaves-graph.result.leaves.list c.find_leaves-graph.result.leaves.count (listed c) (counted c))
+    omega (arith, some-leaf (ps (goal.at.Else-graph-ne0 c).After-find_leaves-graph) few (untangled c) (omega (arith, h, (lists (goal.at.Else-graph-ne0 c).After-list_ids-count).counts, length-take (k.result * 3) k.last.1.1.0)), ap length (leaves-are c), (counted c), front-count (xs c) c.find_leaves-graph.result.leaves.list c.find_leaves-graph.result.leaves.count (listed c) (counted c))
 
 pub returns-then-not-is_in_form : goal.returns-then-not-is_in_form
 returns-then-not-is_in_form c =
     let a = c.args in
     let room = length a.out.now in
     let told = refused-answer (adding a.text.now a.catalogue.now a.prefix.now a.fields.now room) a.out.now 26 (record { 0 = 0 })
-    (add-misformed a.text.now a.catalogue.now (own (goal.at.returns-then-not-is_in_form c).After-slice_known-1) a.prefix.now a.fields.now room (not-false _ (sym c.is_in_form.ensures ∙ not-true c.is_in_form.result c.if-not-is_in_form.true-raw))) in
+    (add-misformed a.text.now a.catalogue.now (own (goal.at.returns-then-not-is_in_form c).Start) a.prefix.now a.fields.now room (not-false _ (sym c.is_in_form.ensures ∙ not-true c.is_in_form.result c.if-not-is_in_form.true-raw))) in
     record { answer = told.0; wrote = told.1 }
 
 pub find_previous-previous-requires : goal.find_previous-previous-requires
@@ -104,23 +104,23 @@ find_previous-previous-requires c = let a = c.args in (in-form a.prefix.now (giv
 
 pub list_ids-count-requires : goal.list_ids-count-requires
 list_ids-count-requires c = record {
-  text_value = (opens (goal.at.list_ids-count-requires c).After-slice_known-1).accepted;
-  catalogue_value = (own (goal.at.list_ids-count-requires c).After-slice_known-1).own;
+  text_value = (opens (goal.at.list_ids-count-requires c).Start).accepted;
+  catalogue_value = (own (goal.at.list_ids-count-requires c).Start).own;
   in_bounds = omega arith;
 }
 
 pub overflow_mul-end : goal.overflow_mul-end
-overflow_mul-end c = omega (arith, (lists c.before.before).counts, (opens (start c.before.before)).few)
+overflow_mul-end c = omega (arith, (lists (goal.at.overflow_mul-end c).After-list_ids-count).counts, (opens (start (goal.at.overflow_mul-end c).After-list_ids-count)).few)
 
 pub slice_bounds-list-end : goal.slice_bounds-list-end
-slice_bounds-list-end c = (lists c.before.before).long
+slice_bounds-list-end c = (lists (goal.at.slice_bounds-list-end c).After-list_ids-count).long
 
 pub slice_bounds-ids-end : goal.slice_bounds-ids-end
-slice_bounds-ids-end c = let k = c.list_ids-count in sym (length-take-le (k.result * 3) k.new.ids (lists c.before.before.before).long)
+slice_bounds-ids-end c = let k = c.list_ids-count in sym (length-take-le (k.result * 3) k.new.ids (lists (goal.at.slice_bounds-ids-end c).After-list_ids-count).long)
 
 pub is_stray-requires : goal.is_stray-requires
 is_stray-requires c = record {
-  ids_in_text = (lists c.before.before.before).listed;
+  ids_in_text = (lists (goal.at.is_stray-requires c).After-list_ids-count).listed;
   previous_value = c.find_previous-previous.ensures;
 }
 
@@ -129,57 +129,57 @@ returns-then-is_stray c =
     let a = c.args in
     let room = length a.out.now in
     let told = refused-answer (adding a.text.now a.catalogue.now a.prefix.now a.fields.now room) a.out.now 22 (record { 0 = 0 })
-    (add-stray a.text.now a.catalogue.now (own (goal.at.returns-then-is_stray c).After-slice_known-1) a.prefix.now a.fields.now room (formed (goal.at.returns-then-is_stray c).Else-not-is_in_form) (prior c.before.before ∙ c.if-is_stray.true)) in
+    (add-stray a.text.now a.catalogue.now (own (goal.at.returns-then-is_stray c).Start) a.prefix.now a.fields.now room (formed (goal.at.returns-then-is_stray c).Else-not-is_in_form) (prior (goal.at.returns-then-is_stray c).After-is_stray ∙ c.if-is_stray.true)) in
     record { answer = told.0; wrote = told.1 }
 
 pub parents_of-requires : goal.parents_of-requires
-parents_of-requires c = let s = start c.before.before.before.before.before in record {
+parents_of-requires c = let s = start (goal.at.parents_of-requires c).After-list_ids-count in record {
   text_value = (opens s).accepted;
   catalogue_value = (own s).own;
 }
 
 pub find_leaves-graph-requires : goal.find_leaves-graph-requires
 find_leaves-graph-requires c =
-    let s = start c.before.before.before.before.before.before in
+    let s = start (goal.at.find_leaves-graph-requires c).After-list_ids-count in
     record { ps = programs (records_of s.args.text.now); few = (opens s).few; is = c.parents_of.ensures }
 
 pub returns-then-graph-ne0 : goal.returns-then-graph-ne0
 returns-then-graph-ne0 c =
-    let s = origin c.before.before.before in
+    let s = origin (goal.at.returns-then-graph-ne0 c).After-find_leaves-graph in
     let a = s.args in
     let room = length a.out.now in
     let n = c.find_leaves-graph.result.refusal in
     let told = refused-answer (adding a.text.now a.catalogue.now a.prefix.now a.fields.now room) a.out.now n (record { 0 = 0 })
-    (add-tangled a.text.now a.catalogue.now (own s) a.prefix.now a.fields.now room (formed (goal.at.returns-then-graph-ne0 c).Else-not-is_in_form) (prior c.before.before.before.before.before.before ∙ c.if-is_stray.false) n (graph-refusal (links (ps c.before.before.before)) c.find_leaves-graph.result (graph_is c.before.before.before)) c.if-graph-ne0.true) in
+    (add-tangled a.text.now a.catalogue.now (own s) a.prefix.now a.fields.now room (formed (goal.at.returns-then-graph-ne0 c).Else-not-is_in_form) (prior (goal.at.returns-then-graph-ne0 c).After-is_stray ∙ c.if-is_stray.false) n (graph-refusal (links (ps (goal.at.returns-then-graph-ne0 c).After-find_leaves-graph)) c.find_leaves-graph.result (graph_is (goal.at.returns-then-graph-ne0 c).After-find_leaves-graph)) c.if-graph-ne0.true) in
     record { answer = told.0; wrote = told.1 }
 
 pub slice_bounds-ordinals-end : goal.slice_bounds-ordinals-end
-slice_bounds-ordinals-end c = front-inside (xs c) c.find_leaves-graph.result.leaves.list c.find_leaves-graph.result.leaves.count (listed c) (counted c)
+slice_bounds-ordinals-end c = front-inside (xs (goal.at.slice_bounds-ordinals-end c).Else-graph-ne0) c.find_leaves-graph.result.leaves.list c.find_leaves-graph.result.leaves.count (listed (goal.at.slice_bounds-ordinals-end c).Else-graph-ne0) (counted (goal.at.slice_bounds-ordinals-end c).Else-graph-ne0)
 
 pub slice_bounds-leaves-end : goal.slice_bounds-leaves-end
-slice_bounds-leaves-end c = front-count (xs (goal.at.slice_bounds-leaves-end c).After-ordinals-1) c.find_leaves-graph.result.leaves.list c.find_leaves-graph.result.leaves.count (listed (goal.at.slice_bounds-leaves-end c).After-ordinals-1) (counted (goal.at.slice_bounds-leaves-end c).After-ordinals-1)
+slice_bounds-leaves-end c = front-count (xs (goal.at.slice_bounds-leaves-end c).Else-graph-ne0) c.find_leaves-graph.result.leaves.list c.find_leaves-graph.result.leaves.count (listed (goal.at.slice_bounds-leaves-end c).Else-graph-ne0) (counted (goal.at.slice_bounds-leaves-end c).Else-graph-ne0)
 
 pub add_after-requires : goal.add_after-requires
 add_after-requires c =
-    let s = start c.before.before.before.before.before.before.before.before.before.before.before.before.before.before in
+    let s = start (goal.at.add_after-requires c).After-list_ids-count in
     let a = s.args in record {
       text_value = (opens s).accepted;
       reads_by = s.pre.1;
-      ids_in_text = ((lists c.before.before.before.before.before.before.before.before.before.before.before.before.before.before).listed, (lists c.before.before.before.before.before.before.before.before.before.before.before.before.before.before).are);
+      ids_in_text = ((lists (goal.at.add_after-requires c).After-list_ids-count).listed, (lists (goal.at.add_after-requires c).After-list_ids-count).are);
       fields_value = (
         (in-form a.prefix.now (given a.fields.now) (formed (goal.at.add_after-requires c).Else-not-is_in_form)).stop,
         c.is_linked-linked.ensures ∙ ap is_nothing c.find_previous-previous.ensures ∙ nothing-none (last_of 80 80 (given a.fields.now).fields),
       );
-      leaves_value = (leaves-are (goal.at.add_after-requires c).After-ordinals-1, some (goal.at.add_after-requires c).After-ordinals-1);
+      leaves_value = (leaves-are (goal.at.add_after-requires c).Else-graph-ne0, some (goal.at.add_after-requires c).Else-graph-ne0);
     }
 
 pub returns : goal.returns
 returns c =
-    let s = origin c.before.before.before.before.before.before.before.before.before.before.before in
+    let s = origin (goal.at.returns c).After-find_leaves-graph in
     let a = s.args in
     let room = length a.out.now in
     let on : adding_on (records_of a.text.now) a.prefix.now (given a.fields.now).fields room ≡ adding a.text.now a.catalogue.now a.prefix.now a.fields.now room =
-    sym (add-on a.text.now a.catalogue.now (own s) a.prefix.now a.fields.now room (formed (goal.at.returns c).Else-not-is_in_form) (prior c.before.before.before.before.before.before.before.before.before.before.before.before.before.before ∙ c.if-is_stray.false) (untangled (goal.at.returns c).After-ordinals-1)) in record {
+    sym (add-on a.text.now a.catalogue.now (own s) a.prefix.now a.fields.now room (formed (goal.at.returns c).Else-not-is_in_form) (prior (goal.at.returns c).After-is_stray ∙ c.if-is_stray.false) (untangled (goal.at.returns c).Else-graph-ne0)) in record {
       answer = c.add_after.ensures.answer ∙ ap answer_of on;
       wrote = c.add_after.ensures.wrote ∙ ap (λ x. output_of x a.out.now) on;
     }

@@ -18,58 +18,58 @@ use Rattle.add.specs.declared.Plan.{Plan}
 use Rattle.add.proofs.Sizes.{with_size}
 use Rattle.add.proofs.Measured.{planned-refused, planned-is}
 use Rattle.add.proofs.write_added.Goals as goal
-use Rattle.add.proofs.write_added.Goals.{After-put_grown_text-arg-1, After-slice_known-1}
+use Rattle.add.proofs.write_added.Goals.{In-Is, Start}
 
 -- the records of the text, what is added, and the whole
-abbrev records : After-slice_known-1 → List Record
+abbrev records : Start → List Record
 records s = records_of s.args.text.now
 
-abbrev new_by : After-slice_known-1 → Plan → List ℕ
+abbrev new_by : Start → Plan → List ℕ
 new_by s p = let a = s.args in new_text a.text.now a.ids.now p.ways.shape a.prefix.now a.fields.now a.leaves.now
 
-abbrev new : After-slice_known-1 → List ℕ
+abbrev new : Start → List ℕ
 new s = let a = s.args in new_text a.text.now a.ids.now a.ways.shape a.prefix.now a.fields.now a.leaves.now
 
-abbrev whole : After-slice_known-1 → List ℕ
+abbrev whole : Start → List ℕ
 whole s = with_added (records s) (new s)
 
 -- what is measured
-abbrev sound : After-slice_known-1 → Plan
+abbrev sound : Start → Plan
 sound s = record { ways = s.args.ways; sizes = sizes_of (records s); more = length (new s) }
 
 -- its name can be written, and it fits
-fits : (p : After-put_grown_text-arg-1)
-    → (sound (goal.at.put_grown_text-n-requires p).After-slice_known-1 ≡ p.in-Is.plan) × (writing (length p.args.out.now) (unwritable 0 (records (goal.at.put_grown_text-n-requires p).After-slice_known-1)) (whole (goal.at.put_grown_text-n-requires p).After-slice_known-1) ≡ yes (whole (goal.at.put_grown_text-n-requires p).After-slice_known-1)) × (length (whole (goal.at.put_grown_text-n-requires p).After-slice_known-1) ≤ 16777216)
-    × (length (whole (goal.at.put_grown_text-n-requires p).After-slice_known-1) ≤ length p.args.out.now)
+fits : (p : In-Is)
+    → (sound (goal.at.In-Is p).Start ≡ p.in-Is.plan) × (writing (length p.args.out.now) (unwritable 0 (records (goal.at.In-Is p).Start)) (whole (goal.at.In-Is p).Start) ≡ yes (whole (goal.at.In-Is p).Start)) × (length (whole (goal.at.In-Is p).Start) ≤ 16777216)
+    × (length (whole (goal.at.In-Is p).Start) ≤ length p.args.out.now)
 fits p =
-    planned-is (sound (goal.at.put_grown_text-n-requires p).After-slice_known-1) p.in-Is.plan (length p.args.out.now) (unwritable 0 (records (goal.at.put_grown_text-n-requires p).After-slice_known-1)) (whole (goal.at.put_grown_text-n-requires p).After-slice_known-1) (sym p.measure_all.ensures ∙ p.in-Is.is)
+    planned-is (sound (goal.at.In-Is p).Start) p.in-Is.plan (length p.args.out.now) (unwritable 0 (records (goal.at.In-Is p).Start)) (whole (goal.at.In-Is p).Start) (sym p.measure_all.ensures ∙ p.in-Is.is)
 
 pub put_grown_text-n-requires : goal.put_grown_text-n-requires
 put_grown_text-n-requires c =
-    let f = fits c in
+    let f = fits (goal.at.put_grown_text-n-requires c).In-Is in
     let e = sym f.0 in
     let more = ap (λ q. q.more) e in record {
       text_value = c.requires.text_value;
       reads_by = subst (λ q. ReadsBy q.ways.strict c.args.text.now) f.0 c.requires.reads_by;
       sizes_value = ap (λ q. q.sizes) e;
-      more_value = (more ∙ ap (λ q. length (new_by (goal.at.put_grown_text-n-requires c).After-slice_known-1 q)) f.0, omega (arith, more, with_size (records (goal.at.put_grown_text-n-requires c).After-slice_known-1) (new (goal.at.put_grown_text-n-requires c).After-slice_known-1), f.2));
+      more_value = (more ∙ ap (λ q. length (new_by (goal.at.put_grown_text-n-requires c).Start q)) f.0, omega (arith, more, with_size (records (goal.at.put_grown_text-n-requires c).Start) (new (goal.at.put_grown_text-n-requires c).Start), f.2));
       ids_in_text = c.requires.ids_in_text;
-      leaves_in_bounds = omega (arith, f.3, ap (λ q. length (with_added (records (goal.at.put_grown_text-n-requires c).After-slice_known-1) (new_by (goal.at.put_grown_text-n-requires c).After-slice_known-1 q))) e);
+      leaves_in_bounds = omega (arith, f.3, ap (λ q. length (with_added (records (goal.at.put_grown_text-n-requires c).Start) (new_by (goal.at.put_grown_text-n-requires c).Start q))) e);
     }
 
 pub returns-in-Refused : goal.returns-in-Refused
 returns-in-Refused c =
     let n = c.in-Refused.n in
     let l = c.in-Refused.line in
-    let w = writing (length c.args.out.now) (unwritable 0 (records (goal.at.returns-in-Refused c).After-slice_known-1)) (whole (goal.at.returns-in-Refused c).After-slice_known-1) in
-    let told = refused-answer w c.args.out.now n l (planned-refused (sound (goal.at.returns-in-Refused c).After-slice_known-1) w n l (sym c.measure_all.ensures ∙ c.in-Refused.is)) in
+    let w = writing (length c.args.out.now) (unwritable 0 (records (goal.at.returns-in-Refused c).Start)) (whole (goal.at.returns-in-Refused c).Start) in
+    let told = refused-answer w c.args.out.now n l (planned-refused (sound (goal.at.returns-in-Refused c).Start) w n l (sym c.measure_all.ensures ∙ c.in-Refused.is)) in
     record { answer = told.0; wrote = told.1 }
 
 pub returns-in-Is : goal.returns-in-Is
 returns-in-Is c =
-    let f = fits (goal.at.returns-in-Is c).After-put_grown_text-arg-1 in
+    let f = fits (goal.at.returns-in-Is c).In-Is in
     let e = sym f.0 in
-    let told = written-answer (writing (length c.args.out.now) (unwritable 0 (records (goal.at.returns-in-Is c).After-slice_known-1)) (whole (goal.at.returns-in-Is c).After-slice_known-1)) c.args.out.now (whole (goal.at.returns-in-Is c).After-slice_known-1) c.put_grown_text-n.new.out
-    c.put_grown_text-n.result f.1 (c.put_grown_text-n.ensures.next ∙ ap (λ q. length (with_added (records (goal.at.returns-in-Is c).After-slice_known-1) (new_by (goal.at.returns-in-Is c).After-slice_known-1 q))) e)
-    (c.put_grown_text-n.ensures.wrote ∙ ap (λ q. over c.args.out.now 0 (with_added (records (goal.at.returns-in-Is c).After-slice_known-1) (new_by (goal.at.returns-in-Is c).After-slice_known-1 q))) e) in
+    let told = written-answer (writing (length c.args.out.now) (unwritable 0 (records (goal.at.returns-in-Is c).Start)) (whole (goal.at.returns-in-Is c).Start)) c.args.out.now (whole (goal.at.returns-in-Is c).Start) c.put_grown_text-n.new.out
+    c.put_grown_text-n.result f.1 (c.put_grown_text-n.ensures.next ∙ ap (λ q. length (with_added (records (goal.at.returns-in-Is c).Start) (new_by (goal.at.returns-in-Is c).Start q))) e)
+    (c.put_grown_text-n.ensures.wrote ∙ ap (λ q. over c.args.out.now 0 (with_added (records (goal.at.returns-in-Is c).Start) (new_by (goal.at.returns-in-Is c).Start q))) e) in
     record { answer = told.0; wrote = told.1 }

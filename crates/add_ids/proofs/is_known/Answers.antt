@@ -10,7 +10,7 @@ use Rattle.program_ids.proofs.Ids.{ids-length, ids-few}
 use Rattle.add_ids.specs.Taken.{joined, is_among}
 use Rattle.add_ids.proofs.Search.{known-end, known_step}
 use Rattle.add_ids.proofs.is_known.Goals as goal
-use Rattle.add_ids.proofs.is_known.Tie as tie
+use Rattle.add_ids.proofs.is_known.Goals.{After-is_joined}
 
 pub loop-k-init : goal.loop-k-init
 loop-k-init c = refl
@@ -19,7 +19,7 @@ pub overflow_cast-k : goal.overflow_cast-k
 overflow_cast-k c = omega (arith, ids-length c.args.text.now c.args.ids.now c.requires, ids-few c.args.text.now c.args.ids.now c.requires)
 
 -- the answer, by the ID that was compared
-step : (c : tie.After-is_joined goal.the-invariant-loop-k goal.the-decreases-loop-k) (b : Bool) → c.is_joined.result ≡ b
+step : (c : After-is_joined) (b : Bool) → c.is_joined.result ≡ b
     → let a = c.args in
     let ids = ids_at a.text.now a.ids.now in
     let made = joined a.prefix.now a.other.now in
@@ -33,7 +33,7 @@ step c b e =
     ∙ ap (λ b. b || is_among made (drop (l.k + 1) ids)) (sym (c.is_joined.ensures ∙ ap (same made) c.find_id-id.ensures.value) ∙ e)
 
 pub returns-then-is_joined : goal.returns-then-is_joined
-returns-then-is_joined c = sym (step c.before.before true c.if-is_joined.true)
+returns-then-is_joined c = sym (step (goal.at.returns-then-is_joined c).After-is_joined true c.if-is_joined.true)
 
 pub overflow_add-k : goal.overflow_add-k
 overflow_add-k c = omega arith
@@ -42,7 +42,7 @@ pub loop-k-smaller : goal.loop-k-smaller
 loop-k-smaller c = omega arith
 
 pub loop-k-preserved : goal.loop-k-preserved
-loop-k-preserved c = step c.before.before false c.if-is_joined.false
+loop-k-preserved c = step (goal.at.loop-k-preserved c).After-is_joined false c.if-is_joined.false
 
 pub returns : goal.returns
 returns c =

@@ -8,7 +8,7 @@ use Rattle.program_ids.specs.Ids.{ids_at}
 use Rattle.add_ids.specs.Taken.{joined, is_among, taken}
 use Rattle.add_ids.proofs.Search.{taken-end, taken_step}
 use Rattle.add_ids.proofs.is_taken.Goals as goal
-use Rattle.add_ids.proofs.is_taken.Tie as tie
+use Rattle.add_ids.proofs.is_taken.Goals.{After-is_known}
 
 pub loop-i-init : goal.loop-i-init
 loop-i-init c = refl
@@ -20,7 +20,7 @@ pub bounds-leaves-i : goal.bounds-leaves-i
 bounds-leaves-i c = omega arith
 
 -- the answer, by the made ID that was looked for
-step : (c : tie.After-is_known goal.the-invariant-loop-i goal.the-decreases-loop-i) (b : Bool) → c.is_known.result ≡ b
+step : (c : After-is_known) (b : Bool) → c.is_known.result ≡ b
     → let a = c.args in
     let ids = ids_at a.text.now a.ids.now in
     taken ids a.prefix.now a.leaves.now ≡ b || taken ids a.prefix.now (drop (c.loop-i.i + 1) a.leaves.now)
@@ -32,7 +32,7 @@ step c b e =
     ∙ ap (λ b. b || taken ids a.prefix.now (drop (l.i + 1) a.leaves.now)) (sym (c.is_known.ensures ∙ ap (λ id. is_among (joined a.prefix.now id) ids) c.find_id-id.ensures.value) ∙ e)
 
 pub returns-then-is_known : goal.returns-then-is_known
-returns-then-is_known c = sym (step c.before.before true c.if-is_known.true)
+returns-then-is_known c = sym (step (goal.at.returns-then-is_known c).After-is_known true c.if-is_known.true)
 
 pub overflow_add-i : goal.overflow_add-i
 overflow_add-i c = omega arith
@@ -41,7 +41,7 @@ pub loop-i-smaller : goal.loop-i-smaller
 loop-i-smaller c = omega arith
 
 pub loop-i-preserved : goal.loop-i-preserved
-loop-i-preserved c = step c.before.before false c.if-is_known.false
+loop-i-preserved c = step (goal.at.loop-i-preserved c).After-is_known false c.if-is_known.false
 
 pub returns : goal.returns
 returns c =

@@ -12,11 +12,10 @@ use Rattle.byte_slices.proofs.Before.{rest}
 use Rattle.record_parser.proofs.Walked.{Turned, turned, refused-here}
 use Rattle.add_input.proofs.Judged.{going_start, turn_end, turn-other, turn-refused, next-within, turn-barred, going}
 use Rattle.add_input.proofs.is_marred.Goals as goal
-use Rattle.add_input.proofs.is_marred.Goals.{Else-f-ne0}
-use Rattle.add_input.proofs.is_marred.Tie as tie
+use Rattle.add_input.proofs.is_marred.Goals.{After-parse_field-f, Else-f-ne0}
 
 -- what `parse_field` was lent is the rest of the fields
-answer : (c : tie.After-parse_field-f goal.the-invariant-loop-pos goal.the-decreases-loop-pos)
+answer : (c : After-parse_field-f)
     → c.parse_field-f.result ≡ parsed_of Program (field Program 0 (before 9 (drop (c.loop-pos.pos + 1) c.args.fields.now)))
 answer c =
     c.parse_field-f.ensures ∙ ap (λ s. parsed_of Program (field Program 0 (before 9 s))) (rest (c.loop-pos.pos + 1) c.args.fields.now)
@@ -25,7 +24,7 @@ answer c =
 turn : (c : Else-f-ne0)
     → Turned Program c.loop-pos.pos (drop (c.loop-pos.pos + 1) c.args.fields.now) c.parse_field-f.result
 turn c =
-    turned Program c.loop-pos.pos (drop (c.loop-pos.pos + 1) c.args.fields.now) c.parse_field-f.result (answer c.before.before.before) c.if-f-ne0.false
+    turned Program c.loop-pos.pos (drop (c.loop-pos.pos + 1) c.args.fields.now) c.parse_field-f.result (answer (goal.at.Else-f-ne0 c).After-parse_field-f) c.if-f-ne0.false
 
 -- it ends within the fields
 room : (c : Else-f-ne0)
@@ -44,7 +43,7 @@ pub returns-then-f-ne0 : goal.returns-then-f-ne0
 returns-then-f-ne0 c =
     let g = c.parse_field-f.result in
     let s = drop (c.loop-pos.pos + 1) c.args.fields.now in
-    sym (turn-refused c.args.fields.now c.loop-pos.pos c.loop-pos.invariant c.loop-pos-test.true c.if-fields-pos-ne9.false g.stop (refused-here Program c.loop-pos.pos s g (answer c.before.before.before) c.if-f-ne0.true) c.if-f-ne0.true)
+    sym (turn-refused c.args.fields.now c.loop-pos.pos c.loop-pos.invariant c.loop-pos-test.true c.if-fields-pos-ne9.false g.stop (refused-here Program c.loop-pos.pos s g (answer (goal.at.returns-then-f-ne0 c).After-parse_field-f) c.if-f-ne0.true) c.if-f-ne0.true)
 
 pub slice_bounds-is_barred-end : goal.slice_bounds-is_barred-end
 slice_bounds-is_barred-end c = sym (length-take-le _ _ c.loop-pos.invariant.within)

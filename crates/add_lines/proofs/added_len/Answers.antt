@@ -45,7 +45,7 @@ more c =
     let l = c.loop-i in
     let a = c.args in
     let id = c.find_id-id.result.now in
-    omega (arith, c.line_len-n.ensures, line-size l.first a.shape.linked a.prefix.now a.fields.now id, joining-most l.first id, linking-most a.shape.linked id, short (goal.at.overflow_add-n c).After-find_id-id, c.requires.text_len_bound)
+    omega (arith, c.line_len-n.ensures, line-size l.first a.shape.linked a.prefix.now a.fields.now id, joining-most l.first id, linking-most a.shape.linked id, short (goal.at.After-line_len-n c).After-find_id-id, c.requires.text_len_bound)
 
 pub overflow_add-n : goal.overflow_add-n
 overflow_add-n c = omega (arith, more c)

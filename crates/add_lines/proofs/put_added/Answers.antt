@@ -13,7 +13,7 @@ use Rattle.add_lines.specs.Line.{new_line}
 use Rattle.add_lines.specs.Lines.{new_lines, added_text}
 use Rattle.add_lines.proofs.Lines.{lines_more, lines-done, added-one, added-each}
 use Rattle.add_lines.proofs.put_added.Goals as goal
-use Rattle.add_lines.proofs.put_added.Goals.{After-put_program_line-arg-in-loop-i-1}
+use Rattle.add_lines.proofs.put_added.Goals.{After-find_id-id}
 
 pub put_program_line-requires : goal.put_program_line-requires
 put_program_line-requires c =
@@ -42,7 +42,7 @@ pub find_id-id-requires : goal.find_id-id-requires
 find_id-id-requires c = c.requires.ids_in_text
 
 -- the line of a step, and those still to come
-more : (c : After-put_program_line-arg-in-loop-i-1)
+more : (c : After-find_id-id)
     → let l = c.loop-i in
     let a = c.args in
     let ids = ids_at a.text.now a.ids.now in
@@ -63,7 +63,7 @@ more c =
     (e, omega (arith, l.invariant.1, ap length e, length-append xs ys))
 
 pub put_program_line-n-requires : goal.put_program_line-n-requires
-put_program_line-n-requires c = omega (arith, (more c).1, c.requires.leaves_in_bounds, c.loop-i.invariant.3)
+put_program_line-n-requires c = omega (arith, (more (goal.at.put_program_line-n-requires c).After-find_id-id).1, c.requires.leaves_in_bounds, c.loop-i.invariant.3)
 
 pub overflow_add-i : goal.overflow_add-i
 overflow_add-i c = omega arith
@@ -75,7 +75,7 @@ pub loop-i-preserved : goal.loop-i-preserved
 loop-i-preserved c =
     let l = c.loop-i in
     let a = c.args in
-    let m = more (goal.at.loop-i-preserved c).After-put_program_line-arg-in-loop-i-1 in
+    let m = more (goal.at.loop-i-preserved c).After-find_id-id in
     let xs = new_line l.first a.shape.linked a.prefix.now a.fields.now c.find_id-id.result.now in
     let ys = new_lines (ids_at a.text.now a.ids.now) false a.shape.linked a.prefix.now a.fields.now (drop (l.i + 1) a.leaves.now) in (
       omega arith,

@@ -13,15 +13,14 @@ use Rattle.binary_len.proofs.Grown.{longer}
 use Rattle.binary_len.specs.Step.{told, len_from, Resumes}
 use Rattle.binary_len.proofs.Resume.{from_start, from_cut, from_at, list-longer, resumes-as}
 use Rattle.binary_len.proofs.binary_len_from.Goals as goal
-use Rattle.binary_len.proofs.binary_len_from.Goals.{After-starts-arg-then-not-starts-2-1}
-use Rattle.binary_len.proofs.binary_len_from.Tie as tie
+use Rattle.binary_len.proofs.binary_len_from.Goals.{Else-not-starts, Then-not-starts}
 
 -- nothing has begun: the bytes start with `BAM` and 1, or not
-begins : (c : tie.Else-not-starts) → starts magic c.args.bytes.now ≡ true
+begins : (c : Else-not-starts) → starts magic c.args.bytes.now ≡ true
 unfolding magic
 begins c = sym c.starts.ensures ∙ not-false _ c.if-not-starts.false-raw
 
-other : (c : After-starts-arg-then-not-starts-2-1) → starts magic c.args.bytes.now ≡ false
+other : (c : Then-not-starts) → starts magic c.args.bytes.now ≡ false
 unfolding magic
 other c = sym c.starts.ensures ∙ not-true _ c.if-not-starts.true-raw
 
@@ -48,7 +47,7 @@ pub returns-then-starts : goal.returns-then-starts
 unfolding told Resumes magic
 returns-then-starts c =
     let a = c.args in record {
-      answer = sym (from_start a.from a.bytes.now c.if-from.false ∙ start-cut a.bytes.now (other (goal.at.returns-then-starts c).After-starts-arg-then-not-starts-2-1) (sym c.starts-then-not-starts.ensures ∙ c.if-starts.true));
+      answer = sym (from_start a.from a.bytes.now c.if-from.false ∙ start-cut a.bytes.now (other (goal.at.returns-then-starts c).Then-not-starts) (sym c.starts-then-not-starts.ensures ∙ c.if-starts.true));
       resumes = λ rest. refl;
     }
 
@@ -56,7 +55,7 @@ pub returns-then-not-starts : goal.returns-then-not-starts
 unfolding told Resumes magic
 returns-then-not-starts c =
     let a = c.args in record {
-      answer = sym (from_start a.from a.bytes.now c.if-from.false ∙ start-other a.bytes.now (other (goal.at.returns-then-not-starts c).After-starts-arg-then-not-starts-2-1) (sym c.starts-then-not-starts.ensures ∙ c.if-starts.false));
+      answer = sym (from_start a.from a.bytes.now c.if-from.false ∙ start-other a.bytes.now (other (goal.at.returns-then-not-starts c).Then-not-starts) (sym c.starts-then-not-starts.ensures ∙ c.if-starts.false));
       resumes = tt;
     }
 
@@ -64,7 +63,7 @@ pub returns-then-len-lt8 : goal.returns-then-len-lt8
 unfolding told Resumes
 returns-then-len-lt8 c =
     let a = c.args in record {
-      answer = sym (from_start a.from a.bytes.now c.if-from.false ∙ text-length-cut a.bytes.now (begins c.before.before) c.if-len-lt8.true);
+      answer = sym (from_start a.from a.bytes.now c.if-from.false ∙ text-length-cut a.bytes.now (begins (goal.at.returns-then-len-lt8 c).Else-not-starts) c.if-len-lt8.true);
       resumes = λ rest. refl;
     }
 
@@ -72,7 +71,7 @@ pub returns-then-len-end : goal.returns-then-len-end
 unfolding told Resumes number_at
 returns-then-len-end c =
     let a = c.args in record {
-      answer = sym (from_start a.from a.bytes.now c.if-from.false ∙ text-cut a.bytes.now (begins c.before.before.before.before) c.if-len-lt8.false c.get_u32.result c.get_u32.ensures c.if-len-end.true);
+      answer = sym (from_start a.from a.bytes.now c.if-from.false ∙ text-cut a.bytes.now (begins (goal.at.returns-then-len-end c).Else-not-starts) c.if-len-lt8.false c.get_u32.result c.get_u32.ensures c.if-len-end.true);
       resumes = λ rest. refl;
     }
 
@@ -80,7 +79,7 @@ pub returns-then-len-end-lt4 : goal.returns-then-len-end-lt4
 unfolding told Resumes number_at
 returns-then-len-end-lt4 c =
     let a = c.args in record {
-      answer = sym (from_start a.from a.bytes.now c.if-from.false ∙ count_cut a.bytes.now (begins c.before.before.before.before.before) c.if-len-lt8.false c.get_u32.result c.get_u32.ensures c.if-len-end.false (omega arith));
+      answer = sym (from_start a.from a.bytes.now c.if-from.false ∙ count_cut a.bytes.now (begins (goal.at.returns-then-len-end-lt4 c).Else-not-starts) c.if-len-lt8.false c.get_u32.result c.get_u32.ensures c.if-len-end.false (omega arith));
       resumes = λ rest. refl;
     }
 
@@ -93,10 +92,10 @@ returns c =
     let m = c.get_u32-count.result in record {
       answer = c.pass_references-2.ensures.answer ∙ ap (references_at s (8 + n + 4)) c.get_u32-count.ensures
           ∙ sym
-          (from_start a.from s c.if-from.false ∙ list_at s (begins c.before.before.before.before.before.before.before) c.if-len-lt8.false n c.get_u32.ensures c.if-len-end.false (omega arith));
+          (from_start a.from s c.if-from.false ∙ list_at s (begins (goal.at.returns c).Else-not-starts) c.if-len-lt8.false n c.get_u32.ensures c.if-len-end.false (omega arith));
       resumes = resumes-as s c.pass_references-2.result (λ u. references_at u (8 + n + 4) m) (len_from a.from)
           (λ rest. sym
-          (from_start a.from (s ++ rest) c.if-from.false ∙ list-longer s n (begins c.before.before.before.before.before.before.before) c.get_u32.ensures (omega arith) rest
+          (from_start a.from (s ++ rest) c.if-from.false ∙ list-longer s n (begins (goal.at.returns c).Else-not-starts) c.get_u32.ensures (omega arith) rest
           ∙ ap (references_at (s ++ rest) (8 + n + 4)) (sym c.get_u32-count.ensures)))
           c.pass_references-2.ensures.resumes;
     }

@@ -15,14 +15,14 @@ use Rattle.binary_references.specs.Next.{sq_from}
 use Rattle.binary_references.proofs.Next.{sq-all}
 use Rattle.binary_out.proofs.Whole.{binary-length, binary-over}
 use Rattle.binary_out.proofs.put_binary.Goals as goal
-use Rattle.binary_out.proofs.put_binary.Goals.{After-put_front-arg-1}
+use Rattle.binary_out.proofs.put_binary.Goals.{Start}
 
 -- the lines' list is the SQ list
-listed : (s : After-put_front-arg-1) → let a = s.args in sq_from a.strict a.text.now 0 ≡ sq_list (records_of a.text.now)
+listed : (s : Start) → let a = s.args in sq_from a.strict a.text.now 0 ≡ sq_list (records_of a.text.now)
 listed s = let a = s.args in sq-all a.strict a.text.now (records_of a.text.now) (accepted-reads a.text.now s.requires.text_value) s.requires.reads_by
 
 -- the whole fits
-room : (s : After-put_front-arg-1) → let a = s.args in 12 + a.n + length (list_bytes (sq_list (records_of a.text.now))) ≤ length a.out.now
+room : (s : Start) → let a = s.args in 12 + a.n + length (list_bytes (sq_list (records_of a.text.now))) ≤ length a.out.now
 room s =
     let rs = records_of s.args.text.now in
     omega (arith, s.requires.n_value, s.requires.text_in_bounds, binary-length (tidy rs) (sq_list rs))
@@ -30,7 +30,7 @@ room s =
 pub put_front-requires : goal.put_front-requires
 put_front-requires c = record {
   n_bound = c.requires.n_bound;
-  in_bounds = omega (arith, room c);
+  in_bounds = omega (arith, room (goal.at.put_front-requires c).Start);
 }
 
 pub put_text-requires : goal.put_text-requires
@@ -39,7 +39,7 @@ put_text-requires c = record {
   reads_by = c.requires.reads_by;
   sizes_value = c.requires.sizes_value;
   n_value = c.requires.n_value;
-  n_in_bounds = omega (arith, room (goal.at.put_text-requires c).After-put_front-arg-1, c.put_front.auto.0);
+  n_in_bounds = omega (arith, room (goal.at.put_text-requires c).Start, c.put_front.auto.0);
 }
 
 pub overflow_add-n : goal.overflow_add-n
@@ -47,7 +47,7 @@ overflow_add-n c = omega (arith, c.requires.n_bound)
 
 pub put_u32-requires : goal.put_u32-requires
 put_u32-requires c =
-    omega (arith, room (goal.at.put_u32-requires c).After-put_front-arg-1, c.put_front.auto.0, c.put_text.auto.1.1.1.1.0)
+    omega (arith, room (goal.at.put_u32-requires c).Start, c.put_front.auto.0, c.put_text.auto.1.1.1.1.0)
 
 pub overflow_add-n-2 : goal.overflow_add-n-2
 overflow_add-n-2 c = omega (arith, c.requires.n_bound)
@@ -56,7 +56,7 @@ pub put_list-requires : goal.put_list-requires
 put_list-requires c =
     let t = c.args.text.now in record {
       text_len_bound = text-fits t (records_of t) (accepted-reads t c.requires.text_value);
-      text_in_bounds = omega (arith, room (goal.at.put_list-requires c).After-put_front-arg-1, c.put_front.auto.0, c.put_text.auto.1.1.1.1.0, c.put_u32.auto.0, ap (λ l. length (list_bytes l)) (listed (goal.at.put_list-requires c).After-put_front-arg-1));
+      text_in_bounds = omega (arith, room (goal.at.put_list-requires c).Start, c.put_front.auto.0, c.put_text.auto.1.1.1.1.0, c.put_u32.auto.0, ap (λ l. length (list_bytes l)) (listed (goal.at.put_list-requires c).Start));
     }
 
 pub shape_of-out : goal.shape_of-out
@@ -68,7 +68,7 @@ returns c =
     let a = c.args in
     let rs = records_of a.text.now in
     c.put_list.ensures
-    ∙ ap (λ l. over c.put_u32.new.out (12 + a.n) (list_bytes l)) (listed (goal.at.returns c).After-put_front-arg-1)
+    ∙ ap (λ l. over c.put_u32.new.out (12 + a.n) (list_bytes l)) (listed (goal.at.returns c).Start)
     ∙ ap (λ o. over o (12 + a.n) (list_bytes (sq_list rs)))
     (c.put_u32.ensures ∙ ap (λ o. over o (8 + a.n) (little 4 a.count)) (c.put_text.ensures ∙ ap (λ o. over o 8 (tidy rs)) c.put_front.ensures))
     ∙ binary-over a.out.now (tidy rs) (sq_list rs) a.n a.count c.requires.n_value c.requires.count_value c.requires.text_in_bounds

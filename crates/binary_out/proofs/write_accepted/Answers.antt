@@ -23,7 +23,7 @@ use Rattle.tidy.proofs.Writing.{measured-bad, measured-is}
 use Rattle.binary_out.specs.Written.{binary_of, writing_binary}
 use Rattle.binary_out.proofs.Whole.{binary-length, out-bad, out-unfit, out-fits}
 use Rattle.binary_out.proofs.write_accepted.Goals as goal
-use Rattle.binary_out.proofs.write_accepted.Goals.{After-struct_known-1, After-total-n, Else-unfit-ne0, In-Is}
+use Rattle.binary_out.proofs.write_accepted.Goals.{After-measure_list-list, After-total-n, Else-unfit-ne0, In-Is}
 
 -- every name can be written, and the sizes are those of the tidy text
 measured : (c : In-Is)
@@ -38,10 +38,10 @@ sum : (c : In-Is) → total c.in-Is.sizes ≡ length (tidy (records_of c.args.te
 sum c = ap total (sym (measured c).1) ∙ total_size (records_of c.args.text.now)
 
 counted : (c : After-total-n) → length (tidy (records_of c.args.text.now)) ≡ c.total-n.result
-counted c = sym (c.total-n.ensures ∙ sum (goal.at.measure_list-list-requires c).In-Is)
+counted c = sym (c.total-n.ensures ∙ sum (goal.at.After-total-n c).In-Is)
 
 -- the list's size is that of the SQ list
-list-size : (c : After-struct_known-1)
+list-size : (c : After-measure_list-list)
     → let rs = records_of c.args.text.now in
     (c.measure_list-list.result.count ≡ length (sq_list rs)) × (c.measure_list-list.result.bytes ≡ length (list_bytes (sq_list rs)))
 unfolding list_size
@@ -51,10 +51,10 @@ list-size c =
     (ap (λ z. z.count) e, ap (λ z. z.bytes) e)
 
 -- and so is the whole header's
-whole : (c : After-struct_known-1) → length (binary_of c.args.text.now) ≡ c.total-n.result + 0 + (12 + c.measure_list-list.result.bytes)
+whole : (c : After-measure_list-list) → length (binary_of c.args.text.now) ≡ c.total-n.result + 0 + (12 + c.measure_list-list.result.bytes)
 whole c =
     let rs = records_of c.args.text.now in
-    omega (arith, counted (goal.at.overflow_add-besides c).After-total-n, (list-size c).1, binary-length (tidy rs) (sq_list rs))
+    omega (arith, counted (goal.at.After-measure_list-list c).After-total-n, (list-size c).1, binary-length (tidy rs) (sq_list rs))
 
 pub total-n-requires : goal.total-n-requires
 total-n-requires c =
@@ -74,7 +74,7 @@ returns-then-unfit-ne0 c =
     let a = c.args in
     let room = length a.out.now in
     let told = refused-answer (writing_binary a.text.now room) a.out.now c.fit-unfit.result (record { 0 = 0 })
-    (out-unfit a.text.now room (measured (goal.at.returns-then-unfit-ne0 c).In-Is).0 (c.total-n.result + 0) (12 + c.measure_list-list.result.bytes) c.fit-unfit.result (omega (arith, counted (goal.at.returns-then-unfit-ne0 c).After-total-n)) (whole (goal.at.returns-then-unfit-ne0 c).After-struct_known-1) c.fit-unfit.ensures c.if-unfit-ne0.true) in
+    (out-unfit a.text.now room (measured (goal.at.returns-then-unfit-ne0 c).In-Is).0 (c.total-n.result + 0) (12 + c.measure_list-list.result.bytes) c.fit-unfit.result (omega (arith, counted (goal.at.returns-then-unfit-ne0 c).After-total-n)) (whole (goal.at.returns-then-unfit-ne0 c).After-measure_list-list) c.fit-unfit.ensures c.if-unfit-ne0.true) in
     record { answer = told.0; wrote = told.1 }
 
 -- it fits
@@ -92,9 +92,9 @@ put_binary-requires c = record {
   reads_by = c.requires.reads_by;
   sizes_value = sym (measured (goal.at.put_binary-requires c).In-Is).1;
   n_value = sym (counted (goal.at.put_binary-requires c).After-total-n);
-  count_value = (list-size (goal.at.put_binary-requires c).After-struct_known-1).0;
+  count_value = (list-size (goal.at.put_binary-requires c).After-measure_list-list).0;
   n_bound = omega (arith, (fits (goal.at.put_binary-requires c).Else-unfit-ne0).0);
-  text_in_bounds = omega (arith, whole (goal.at.put_binary-requires c).After-struct_known-1, (fits (goal.at.put_binary-requires c).Else-unfit-ne0).1);
+  text_in_bounds = omega (arith, whole (goal.at.put_binary-requires c).After-measure_list-list, (fits (goal.at.put_binary-requires c).Else-unfit-ne0).1);
 }
 
 pub returns-in-Unwritable : goal.returns-in-Unwritable
@@ -112,6 +112,6 @@ returns-else-unfit-ne0 c =
     let a = c.args in
     let room = length a.out.now in
     let told = written-answer (writing_binary a.text.now room) a.out.now (binary_of a.text.now) c.put_binary.new.out (c.total-n.result + (12 + c.measure_list-list.result.bytes))
-    (out-fits a.text.now room (measured (goal.at.returns-else-unfit-ne0 c).In-Is).0 (c.total-n.result + 0) (12 + c.measure_list-list.result.bytes) c.fit-unfit.result (omega (arith, counted (goal.at.returns-else-unfit-ne0 c).After-total-n)) (whole (goal.at.returns-else-unfit-ne0 c).After-struct_known-1) c.fit-unfit.ensures c.if-unfit-ne0.false)
-    (omega (arith, whole (goal.at.returns-else-unfit-ne0 c).After-struct_known-1)) c.put_binary.ensures in
+    (out-fits a.text.now room (measured (goal.at.returns-else-unfit-ne0 c).In-Is).0 (c.total-n.result + 0) (12 + c.measure_list-list.result.bytes) c.fit-unfit.result (omega (arith, counted (goal.at.returns-else-unfit-ne0 c).After-total-n)) (whole (goal.at.returns-else-unfit-ne0 c).After-measure_list-list) c.fit-unfit.ensures c.if-unfit-ne0.false)
+    (omega (arith, whole (goal.at.returns-else-unfit-ne0 c).After-measure_list-list)) c.put_binary.ensures in
     record { answer = told.0; wrote = told.1 }

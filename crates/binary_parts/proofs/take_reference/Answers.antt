@@ -11,10 +11,10 @@ use Rattle.binary_parts.proofs.Taken.{reference-none, reference-open, reference-
 use Rattle.binary_parts.proofs.Places.{reference-none-at, reference-open-at, reference-whole-at}
 use borrow.Author.Rules.{rules}
 use Rattle.binary_parts.proofs.take_reference.Goals as goal
-use Rattle.binary_parts.proofs.take_reference.Tie as tie
+use Rattle.binary_parts.proofs.take_reference.Goals.{After-is_closed}
 
 -- whether a zero byte closes the name
-closes : (c : tie.After-is_closed)
+closes : (c : After-is_closed)
     → c.is_closed.result ≡ eqb (last_or 1 (take c.take_sized-run.result.len (drop c.take_sized-run.result.at c.args.bytes.now))) 0
 closes c =
     let s = c.args.bytes.now in
@@ -25,7 +25,7 @@ closes c =
 pub overflow_sub-result : goal.overflow_sub-result
 overflow_sub-result c =
     let q = c.take_sized-run.result in
-    run-some c.args.bytes.now q.at q.len c.take_sized-run.ensures.inside (sym (closes c.before.before.before.before) ∙ c.if-is_closed.true)
+    run-some c.args.bytes.now q.at q.len c.take_sized-run.ensures.inside (sym (closes (goal.at.overflow_sub-result c).After-is_closed) ∙ c.if-is_closed.true)
 
 pub returns-then-is_closed : goal.returns-then-is_closed
 returns-then-is_closed c =
@@ -34,10 +34,10 @@ returns-then-is_closed c =
     let q = c.take_sized-run.result in
     let n = c.take_number-size in record {
       taken = reference-at s a.at q c.take_sized-run.ensures.taken c.if-run.true (q.len - 1) n.result
-          (run-name s q.at q.len c.take_sized-run.ensures.inside (sym (closes c.before.before.before.before) ∙ c.if-is_closed.true)) n.ensures.taken;
+          (run-name s q.at q.len c.take_sized-run.ensures.inside (sym (closes (goal.at.returns-then-is_closed c).After-is_closed) ∙ c.if-is_closed.true)) n.ensures.taken;
       inside = n.ensures.inside;
       name = omega (arith, c.take_sized-run.ensures.inside);
-      is = reference-whole-at s a.at q c.take_sized-run.ensures.is n.result n.ensures.is c.if-run.true (sym (closes c.before.before.before.before) ∙ c.if-is_closed.true);
+      is = reference-whole-at s a.at q c.take_sized-run.ensures.is n.result n.ensures.is c.if-run.true (sym (closes (goal.at.returns-then-is_closed c).After-is_closed) ∙ c.if-is_closed.true);
     }
 
 pub returns-else-is_closed : goal.returns-else-is_closed
@@ -47,10 +47,10 @@ returns-else-is_closed c =
     let s = c.args.bytes.now in
     let q = c.take_sized-run.result in record {
       taken = reference-open s a.at q c.take_sized-run.ensures.taken c.if-run.true
-          (open-name (take q.len (drop q.at s)) (sym (closes c.before.before) ∙ c.if-is_closed.false));
+          (open-name (take q.len (drop q.at s)) (sym (closes (goal.at.returns-else-is_closed c).After-is_closed) ∙ c.if-is_closed.false));
       inside = search rules;
       name = search rules;
-      is = reference-open-at s a.at q c.take_sized-run.ensures.is (sym (closes c.before.before) ∙ c.if-is_closed.false);
+      is = reference-open-at s a.at q c.take_sized-run.ensures.is (sym (closes (goal.at.returns-else-is_closed c).After-is_closed) ∙ c.if-is_closed.false);
     }
 
 pub returns-else-run : goal.returns-else-run

@@ -13,10 +13,10 @@ use Rattle.binary_references.proofs.Next.{told-one, told_none, told-length}
 use Rattle.binary_bytes.proofs.Room.{reference-length}
 use Rattle.binary_put.proofs.Bytes.{behind}
 use Rattle.binary_put.proofs.put_list.Goals as goal
-use Rattle.binary_put.proofs.put_list.Goals.{After-struct_known-in-loop-r-1}
+use Rattle.binary_put.proofs.put_list.Goals.{Else-not-r}
 
 -- the reference of a step comes before the rest of the list
-listed : (e : After-struct_known-in-loop-r-1)
+listed : (e : Else-not-r)
     → let a = e.args in
     let r = e.next_reference-r.result in
     list_bytes (sq_from a.strict a.text.now e.loop-r.at) ≡ reference_bytes (told_reference a.text.now r) ++ list_bytes (sq_from a.strict a.text.now r.next)
@@ -27,7 +27,7 @@ listed e =
     ap list_bytes (e.next_reference-r.ensures.list ∙ told-one a.strict a.text.now r (not-false r.found e.if-not-r.false))
 
 -- and fits in the output
-room : (e : After-struct_known-in-loop-r-1)
+room : (e : Else-not-r)
     → let a = e.args in
     let r = e.next_reference-r.result in
     (length (reference_bytes (told_reference a.text.now r)) ≡ r.name.len + 9)
@@ -42,7 +42,7 @@ room e =
     (size, omega (arith, size, e.requires.text_in_bounds, ap length v.5, length-append v.0 (list_bytes (sq_from a.strict a.text.now e.loop-r.at)), ap length (listed e), length-append one rest))
 
 -- the name as it is lent
-named : (e : After-struct_known-in-loop-r-1)
+named : (e : Else-not-r)
     → let t = e.args.text.now in
     let r = e.next_reference-r.result in
     take (r.name.at + r.name.len - r.name.at) (drop r.name.at t) ≡ (told_reference t r).name
@@ -91,9 +91,9 @@ pub put_reference-o-requires : goal.put_reference-o-requires
 put_reference-o-requires c =
     let r = c.next_reference-r.result in
     let p = c.next_reference-r.ensures.place.name in
-    let size = ap length (named (goal.at.put_reference-o-requires c).After-struct_known-in-loop-r-1) ∙ told-length c.args.strict c.args.text.now r p in record {
+    let size = ap length (named (goal.at.put_reference-o-requires c).Else-not-r) ∙ told-length c.args.strict c.args.text.now r p in record {
       name_len_bound = omega (arith, size, p, c.requires.text_len_bound);
-      name_in_bounds = omega (arith, size, (room (goal.at.put_reference-o-requires c).After-struct_known-in-loop-r-1).1, c.loop-r.invariant.2, c.loop-r.invariant.3);
+      name_in_bounds = omega (arith, size, (room (goal.at.put_reference-o-requires c).Else-not-r).1, c.loop-r.invariant.2, c.loop-r.invariant.3);
     }
 
 pub loop-r-smaller : goal.loop-r-smaller
@@ -109,14 +109,14 @@ loop-r-preserved c =
     let r = c.next_reference-r.result in
     let one = reference_bytes (told_reference a.text.now r) in
     let rest = list_bytes (sq_from a.strict a.text.now r.next) in
-    let size = ap length (named (goal.at.loop-r-preserved c).After-struct_known-in-loop-r-1) ∙ told-length a.strict a.text.now r c.next_reference-r.ensures.place.name in (
+    let size = ap length (named (goal.at.loop-r-preserved c).Else-not-r) ∙ told-length a.strict a.text.now r c.next_reference-r.ensures.place.name in (
       v.0 ++ one,
       c.next_reference-r.ensures.place.within,
-      omega (arith, c.put_reference-o.ensures.next, size, v.2, (room (goal.at.loop-r-preserved c).After-struct_known-in-loop-r-1).0, length-append v.0 one),
+      omega (arith, c.put_reference-o.ensures.next, size, v.2, (room (goal.at.loop-r-preserved c).Else-not-r).0, length-append v.0 one),
       c.put_reference-o.auto.0 ∙ v.3,
       c.put_reference-o.ensures.wrote
-          ∙ ap (λ x. over c.loop-r.out c.loop-r.o (reference_bytes (record { name = x; size = r.length }))) (named (goal.at.loop-r-preserved c).After-struct_known-in-loop-r-1)
+          ∙ ap (λ x. over c.loop-r.out c.loop-r.o (reference_bytes (record { name = x; size = r.length }))) (named (goal.at.loop-r-preserved c).Else-not-r)
           ∙ ap (λ o. over o c.loop-r.o one) v.4
-          ∙ behind a.out.now a.start v.0 one c.loop-r.o v.2 (omega (arith, (room (goal.at.loop-r-preserved c).After-struct_known-in-loop-r-1).0, (room (goal.at.loop-r-preserved c).After-struct_known-in-loop-r-1).1)),
-      v.5 ∙ ap (λ x. v.0 ++ x) (listed (goal.at.loop-r-preserved c).After-struct_known-in-loop-r-1) ∙ sym (append_assoc v.0 one rest),
+          ∙ behind a.out.now a.start v.0 one c.loop-r.o v.2 (omega (arith, (room (goal.at.loop-r-preserved c).Else-not-r).0, (room (goal.at.loop-r-preserved c).Else-not-r).1)),
+      v.5 ∙ ap (λ x. v.0 ++ x) (listed (goal.at.loop-r-preserved c).Else-not-r) ∙ sym (append_assoc v.0 one rest),
     )

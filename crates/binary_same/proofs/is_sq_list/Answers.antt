@@ -8,10 +8,10 @@ use Rattle.binary_parts.specs.Parts.{reference_in}
 use Rattle.binary_references.specs.Next.{told_reference}
 use Rattle.binary_same.proofs.NextReference.{list-ends, still-whole, text-ends, one-differs, one_alike}
 use Rattle.binary_same.proofs.is_sq_list.Goals as goal
-use Rattle.binary_same.proofs.is_sq_list.Tie as tie
+use Rattle.binary_same.proofs.is_sq_list.Goals.{After-is_same}
 
 -- whether the two references are alike
-answered : (c : tie.After-is_same goal.the-invariant-loop-left goal.the-decreases-loop-left) (b : Bool) → c.is_same.result ≡ b
+answered : (c : After-is_same) (b : Bool) → c.is_same.result ≡ b
     → let a = c.args in
     same_reference (reference_in a.bytes.now c.take_reference-reference.result) (told_reference a.text.now c.next_reference-next.result) ≡ b
 answered c b e = sym c.is_same.ensures ∙ e
@@ -55,7 +55,7 @@ returns-then-not-is_same c =
     (c.loop-left.invariant.3
     ∙ one-differs a.bytes.now a.text.now a.strict c.loop-left.at c.loop-left.left c.loop-left.line c.loop-left.invariant.2 c.next_reference-next.result c.next_reference-next.ensures.list
     (omega (arith, c.if-left-eq0.false)) c.take_reference-reference.result c.take_reference-reference.ensures.taken (not-false c.next_reference-next.result.found c.if-not-next.false)
-    (answered c.before.before false (not-true c.is_same.result c.if-not-is_same.true-raw)))
+    (answered (goal.at.returns-then-not-is_same c).After-is_same false (not-true c.is_same.result c.if-not-is_same.true-raw)))
 
 pub overflow_sub-left : goal.overflow_sub-left
 overflow_sub-left c = omega (arith, c.if-left-eq0.false)
@@ -73,5 +73,5 @@ loop-left-preserved c =
       c.loop-left.invariant.3
           ∙ one_alike a.bytes.now a.text.now a.strict c.loop-left.at c.loop-left.left c.loop-left.line c.loop-left.invariant.2 c.next_reference-next.result c.next_reference-next.ensures.list
           (omega (arith, c.if-left-eq0.false)) c.take_reference-reference.result c.take_reference-reference.ensures.taken (not-false c.next_reference-next.result.found c.if-not-next.false)
-          (answered c.before.before true (not-false c.is_same.result c.if-not-is_same.false-raw)),
+          (answered (goal.at.loop-left-preserved c).After-is_same true (not-false c.is_same.result c.if-not-is_same.false-raw)),
     )

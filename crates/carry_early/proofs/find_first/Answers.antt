@@ -11,7 +11,7 @@ use Rattle.carry_early.specs.Early.{early_from, early_of}
 use Rattle.carry_early.specs.First.{start_of}
 use Rattle.carry_early.proofs.Early.{early-within, early-kept, early-skipped}
 use Rattle.carry_early.proofs.find_first.Goals as goal
-use Rattle.carry_early.proofs.find_first.Goals.{Else-early-eq0}
+use Rattle.carry_early.proofs.find_first.Goals.{After-judge_early-early}
 
 -- what is known of the whole, by the lines still to come
 record Left (t : List ℕ) (at line : ℕ) (strict : Bool) : Type 0 where
@@ -31,7 +31,7 @@ unfolding start_of
 end t at h k = let e : at ≡ length t = omega arith in e ∙ sym (ap (start_of (length t)) (ahead_none t at k))
 
 -- the next line starts after this one
-onward : (j : Else-early-eq0) → ((j.loop-at.at < j.judge_early-early.result.next) × (j.judge_early-early.result.next ≤ length j.args.text.now))
+onward : (j : After-judge_early-early) → ((j.loop-at.at < j.judge_early-early.result.next) × (j.judge_early-early.result.next ≤ length j.args.text.now))
 onward j =
     let e = j.judge_early-early.ensures in
     early-within j.args.text.now j.loop-at.at j.loop-at.strict j.loop-at-test.true _ _ _ e.strict e.refusal e.next
@@ -67,7 +67,7 @@ overflow_add-line c =
     omega (arith, c.loop-at.invariant.slow, c.loop-at.invariant.inside, c.requires)
 
 pub loop-at-smaller : goal.loop-at-smaller
-loop-at-smaller c = omega (arith, onward c)
+loop-at-smaller c = omega (arith, onward (goal.at.loop-at-smaller c).After-judge_early-early)
 
 pub loop-at-preserved : goal.loop-at-preserved
 loop-at-preserved c =
@@ -75,8 +75,8 @@ loop-at-preserved c =
     let e = c.judge_early-early.ensures in
     let k = early-skipped c.args.text.now c.loop-at.at c.loop-at.strict c.loop-at-test.true _ _ _ e.strict e.refusal e.next c.if-early-eq0.false in
     record {
-      inside = (onward c).1;
-      slow = omega (arith, i.slow, onward c);
+      inside = (onward (goal.at.loop-at-preserved c).After-judge_early-early).1;
+      slow = omega (arith, i.slow, onward (goal.at.loop-at-preserved c).After-judge_early-early);
       rest = sym (ap (λ x. x.rest) k) ∙ i.rest;
       rule = sym (ap (λ x. x.strict) k) ∙ i.rule;
       count = omega (arith, i.count, ap (λ x. length x.refusals) k);

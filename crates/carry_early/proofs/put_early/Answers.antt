@@ -11,7 +11,7 @@ use Rattle.accepted.proofs.Ahead.{ahead}
 use Rattle.carry_early.specs.Early.{early_from, early_of, rows_from}
 use Rattle.carry_early.proofs.Early.{early-within, early-some, early-ahead}
 use Rattle.carry_early.proofs.put_early.Goals as goal
-use Rattle.carry_early.proofs.put_early.Goals.{After-put_row-arg-1, In-loop-line}
+use Rattle.carry_early.proofs.put_early.Goals.{After-judge_early-early, In-loop-line}
 
 pub loop-line-init : goal.loop-line-init
 unfolding early_of lines
@@ -29,14 +29,14 @@ judge_early-early-requires c = record {
 }
 
 -- the line is skipped, and the next one starts after it
-skipped : (j : After-put_row-arg-1)
+skipped : (j : After-judge_early-early)
     → (let t = j.args.text.now in let r = j.judge_early-early.result in
     ((early_from j.loop-line.strict (ahead t j.loop-line.at)).refusals ≡ r.refusal ∷ (early_from r.strict (ahead t r.next)).refusals) × ((j.loop-line.at < r.next) × (r.next ≤ length t)))
 skipped j =
     let t = j.args.text.now in
     let e = j.judge_early-early.ensures in (
-      early-some t j.loop-line.at j.loop-line.strict (more (goal.at.overflow_cast-line j).In-loop-line) _ _ _ e.strict e.refusal e.next (omega (arith, j.loop-line.invariant.1, j.loop-line-test.true)),
-      early-within t j.loop-line.at j.loop-line.strict (more (goal.at.overflow_cast-line j).In-loop-line) _ _ _ e.strict e.refusal e.next,
+      early-some t j.loop-line.at j.loop-line.strict (more (goal.at.After-judge_early-early j).In-loop-line) _ _ _ e.strict e.refusal e.next (omega (arith, j.loop-line.invariant.1, j.loop-line-test.true)),
+      early-within t j.loop-line.at j.loop-line.strict (more (goal.at.After-judge_early-early j).In-loop-line) _ _ _ e.strict e.refusal e.next,
     )
 
 pub overflow_cast-line : goal.overflow_cast-line
@@ -45,14 +45,14 @@ overflow_cast-line c =
 
 pub put_row-requires : goal.put_row-requires
 put_row-requires c =
-    omega (arith, c.loop-line.invariant.1, c.loop-line.invariant.2, c.requires.count_in_bounds, ap length (skipped c).0)
+    omega (arith, c.loop-line.invariant.1, c.loop-line.invariant.2, c.requires.count_in_bounds, ap length (skipped (goal.at.put_row-requires c).After-judge_early-early).0)
 
 pub overflow_add-line : goal.overflow_add-line
 overflow_add-line c =
     omega (arith, c.loop-line.invariant.4, c.loop-line.invariant.0, c.requires.text_len_bound)
 
 pub loop-line-smaller : goal.loop-line-smaller
-loop-line-smaller c = omega (arith, c.loop-line.invariant.1, ap length (skipped (goal.at.loop-line-smaller c).After-put_row-arg-1).0)
+loop-line-smaller c = omega (arith, c.loop-line.invariant.1, ap length (skipped (goal.at.loop-line-smaller c).After-judge_early-early).0)
 
 rows-length : (l : ℕ) (ns : List ℕ) → length (rows_from l ns) ≡ length ns * 2
 unfolding rows_from
@@ -63,7 +63,7 @@ pub loop-line-preserved : goal.loop-line-preserved
 unfolding rows_from
 loop-line-preserved c =
     let i = c.loop-line.invariant in
-    let k = skipped (goal.at.loop-line-preserved c).After-put_row-arg-1 in
+    let k = skipped (goal.at.loop-line-preserved c).After-judge_early-early in
     let r = c.judge_early-early.result in
     let ns = (early_from r.strict (ahead c.args.text.now r.next)).refusals in
     let row = c.loop-line.line ∷ r.refusal ∷ [] in

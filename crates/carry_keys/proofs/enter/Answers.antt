@@ -19,7 +19,7 @@ use Rattle.key_index.proofs.HeldKeys.{entering-length}
 use Rattle.carry_keys.specs.Blocks.{head_keys, keyed_front, after_keyed, entered}
 use Rattle.carry_keys.proofs.Walk.{keys-most, after-end, after_none, after_on, entered-end, entered-none, entered_on, placed_at}
 use Rattle.carry_keys.proofs.enter.Goals as goal
-use Rattle.carry_keys.proofs.enter.Goals.{After-keys_in-n, After-slice_known-in-loop-n-1, Else-end-text}
+use Rattle.carry_keys.proofs.enter.Goals.{After-find_or_enter-found, After-keys_in-n, Else-end-text}
 
 -- there is a line ahead
 ahead : (c : Else-end-text) → c.loop-n.end < length c.args.text.now
@@ -70,14 +70,14 @@ is_busy-requires c =
     omega (arith, c.loop-n.invariant.1, c.loop-n.invariant.5, c.requires.text_len_bound)
 
 -- the area is as long as before
-long : (m : After-slice_known-in-loop-n-1)
+long : (m : After-find_or_enter-found)
     → length m.find_or_enter-found.new.area ≡ length m.args.area.now
 long m =
     let a = m.args in
     ap length m.find_or_enter-found.ensures.wrote ∙ entering-length a.seed true a.text.now m.loop-n.area m.parse_at-parsed.result.head ∙ m.loop-n.invariant.2
 
 pub shape_of-area-then-is_busy : goal.shape_of-area-then-is_busy
-shape_of-area-then-is_busy c = long (goal.at.shape_of-area-then-is_busy c).After-slice_known-in-loop-n-1
+shape_of-area-then-is_busy c = long (goal.at.shape_of-area-then-is_busy c).After-find_or_enter-found
 
 -- given up: plain numbers, and one key more was looked for
 pub returns-then-is_busy : goal.returns-then-is_busy
@@ -128,7 +128,7 @@ loop-n-preserved c =
     let area : after_entering a.seed true t c.loop-n.area (head_of (line a.strict (first_at at t))) ≡ c.find_or_enter-found.new.area = ap (after_entering a.seed true t c.loop-n.area) (sym c.parse_at-parsed.ensures.head) ∙ sym c.find_or_enter-found.ensures.wrote in (
       within c,
       omega (arith, sym next, next-within t at h),
-      long (goal.at.loop-n-preserved c).After-slice_known-in-loop-n-1,
+      long (goal.at.loop-n-preserved c).After-find_or_enter-found,
       v.3 ∙ after_on a.seed t at a.strict left k some less h ∙ ap (λ i. after_keyed a.strict k i t) next,
       v.4 ∙ entered_on a.seed t at a.strict c.loop-n.area left k some less h ∙ ap₂ (λ s i. entered a.seed a.strict t s (keyed_front a.strict k (lines_from i (drop i t)))) area next,
       omega (arith, sym next, next_more t at h, v.5),

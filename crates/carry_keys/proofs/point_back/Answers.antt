@@ -19,7 +19,7 @@ use Rattle.key_index.proofs.HeldKeys.{pointing-length}
 use Rattle.carry_keys.specs.Blocks.{earlier, pointed_back}
 use Rattle.carry_keys.proofs.Walk.{pointed-end, pointed-on, placed_at}
 use Rattle.carry_keys.proofs.point_back.Goals as goal
-use Rattle.carry_keys.proofs.point_back.Goals.{After-slice_known-in-loop-at-1, In-loop-at}
+use Rattle.carry_keys.proofs.point_back.Goals.{After-point_to_head-more, In-loop-at}
 
 -- there is a line ahead
 ahead : (c : In-loop-at) → c.loop-at.at < length c.args.text.now
@@ -52,14 +52,14 @@ is_busy-requires c =
     omega (arith, ahead (goal.at.is_busy-requires c).In-loop-at, c.loop-at.invariant.2, c.requires.text_len_bound)
 
 -- the area is as long as before
-long : (m : After-slice_known-in-loop-at-1)
+long : (m : After-point_to_head-more)
     → length m.point_to_head-more.new.area ≡ length m.args.area.now
 long m =
     let a = m.args in
     ap length m.point_to_head-more.ensures.wrote ∙ pointing-length a.seed a.text.now m.loop-at.area m.parse_at-parsed.result.head ∙ m.loop-at.invariant.0
 
 pub shape_of-area-then-is_busy : goal.shape_of-area-then-is_busy
-shape_of-area-then-is_busy c = long (goal.at.shape_of-area-then-is_busy c).After-slice_known-in-loop-at-1
+shape_of-area-then-is_busy c = long (goal.at.shape_of-area-then-is_busy c).After-point_to_head-more
 
 -- given up: plain numbers, and one key more was looked for
 pub returns-then-is_busy : goal.returns-then-is_busy
@@ -92,7 +92,7 @@ loop-at-preserved c =
     let area : after_pointing a.seed t c.loop-at.area (head_of (line a.strict (first_at at t))) ≡ c.point_to_head-more.new.area = ap (after_pointing a.seed t c.loop-at.area) (sym c.parse_at-parsed.ensures.head) ∙ sym c.point_to_head-more.ensures.wrote in
     let calm = calm-few a.seed.keyed c.loop-at.lines c.loop-at.slots c.point_to_head-more.result
     (ap (too_many a.seed.keyed c.loop-at.lines) (sym c.counted-slots.ensures) ∙ sym c.is_busy.ensures ∙ c.if-is_busy.false) v.3 in (
-      long (goal.at.loop-at-preserved c).After-slice_known-in-loop-at-1,
+      long (goal.at.loop-at-preserved c).After-point_to_head-more,
       v.1 ∙ pointed-on a.seed a.to t at a.strict c.loop-at.area c.loop-at-test.true (ahead (goal.at.loop-at-preserved c).In-loop-at) ∙ ap₂ (λ s k. pointed_back a.seed a.strict t s (earlier a.to (lines_from k (drop k t)))) area next,
       omega (arith, sym next, next_more t at (ahead (goal.at.loop-at-preserved c).In-loop-at), v.2),
       omega (arith, c.counted-slots.ensures, calm),

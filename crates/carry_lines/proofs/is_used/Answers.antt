@@ -45,7 +45,7 @@ returns-in-Program c =
 pub returns-in_default : goal.returns-in_default
 returns-in_default c =
     let a = c.args in
-    let e = elsewhere a.seed a.text.now a.area.now a.ids.now (ltb a.programs 1024) a.head c.in_default.keys2 in record {
+    let e = elsewhere a.seed a.text.now a.area.now a.ids.now (ltb a.programs 1024) a.head c.in_default.in_default-own.keys2 in record {
       used = ap not c.is_first_with_key.ensures.first ∙ e.0;
       wrote = e.1;
     }

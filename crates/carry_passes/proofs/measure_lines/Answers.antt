@@ -19,11 +19,10 @@ use Rattle.carry_passes.specs.Measured.{kept_measured}
 use Rattle.carry_passes.specs.declared.KeptSizes.TheVariants as measured
 use Rattle.carry_passes.proofs.MeasuredSteps.{names-bad, names_more, sizes-more, size_fits}
 use Rattle.carry_passes.proofs.measure_lines.Goals as goal
-use Rattle.carry_passes.proofs.measure_lines.Goals.{After-slice_known-in-loop-c-2-1}
-use Rattle.carry_passes.proofs.measure_lines.Tie as tie
+use Rattle.carry_passes.proofs.measure_lines.Goals.{After-next_line-step, At-loop-c}
 
 -- the line of a step
-turned : (c : After-slice_known-in-loop-c-2-1)
+turned : (c : After-next_line-step)
     → (let a = c.args in
     Turn a.b.strict a.text.now a.b.at c.loop-c.c c.next_line-step.result.end c.next_line-step.result.refusal)
 turned c =
@@ -33,7 +32,7 @@ turned c =
     c.next_line-step.ensures.end c.next_line-step.ensures.refusal
 
 -- line numbers are small
-small : (c : tie.At-loop-c goal.the-invariant-loop-c goal.the-decreases-loop-c) → ((c.loop-c.c.kept ≤ c.loop-c.c.line) × (c.loop-c.c.line ≤ 16777216) × (c.args.b.line ≤ 16777216))
+small : (c : At-loop-c) → ((c.loop-c.c.kept ≤ c.loop-c.c.line) × (c.loop-c.c.line ≤ 16777216) × (c.args.b.line ≤ 16777216))
 small c =
     let a = c.args in
     let l = c.loop-c in (
@@ -64,20 +63,20 @@ next_line-step-requires c = record {
 }
 
 pub slice_bounds-with_step-count : goal.slice_bounds-with_step-count
-slice_bounds-with_step-count c = (turned c).start
+slice_bounds-with_step-count c = (turned (goal.at.slice_bounds-with_step-count c).After-next_line-step).start
 
 pub slice_bounds-with_step-start : goal.slice_bounds-with_step-start
-slice_bounds-with_step-start c = (turned c).start
+slice_bounds-with_step-start c = (turned (goal.at.slice_bounds-with_step-start c).After-next_line-step).start
 
 pub slice_bounds-with_step-end : goal.slice_bounds-with_step-end
-slice_bounds-with_step-end c = (turned c).inside
+slice_bounds-with_step-end c = (turned (goal.at.slice_bounds-with_step-end c).After-next_line-step).inside
 
 pub with_step-grown-requires : goal.with_step-grown-requires
 with_step-grown-requires c =
     let a = c.args in
     let l = c.loop-c in
     let r = c.next_line-step.result in
-    let u = turned (goal.at.with_step-grown-requires c).After-slice_known-in-loop-c-2-1 in
+    let u = turned (goal.at.with_step-grown-requires c).After-next_line-step in
     let j = kind_at a.b.strict a.text.now a.b.at l.c r.end in
     let fits : length (tidy (kept_from a.text.now a.b)) ≤ 16777217 = omega (arith, first_small a.text.now a.b c.requires.first, c.requires.text_len_bound) in record {
       src_value = turn-read a.b.strict a.text.now a.b.at l.c r.end r.refusal u;
@@ -86,10 +85,10 @@ with_step-grown-requires c =
     }
 
 pub overflow_cast-result : goal.overflow_cast-result
-overflow_cast-result c = omega (arith, small c.before.before.before.before.before.before.before.before.before.before.before.before.before.before)
+overflow_cast-result c = omega (arith, small (goal.at.overflow_cast-result c).At-loop-c)
 
 pub overflow_add-result : goal.overflow_add-result
-overflow_add-result c = omega (arith, small c.before.before.before.before.before.before.before.before.before.before.before.before.before.before.before)
+overflow_add-result c = omega (arith, small (goal.at.overflow_add-result c).At-loop-c)
 
 pub shape_of-area-in_default : goal.shape_of-area-in_default
 shape_of-area-in_default c = c.next_line-step.ensures.room ∙ c.loop-c.invariant.3
@@ -103,13 +102,13 @@ returns-in_default c =
     let a = c.args in
     let l = c.loop-c in
     let r = c.next_line-step.result in
-    let bad = names-bad a.b.strict a.text.now a.b.at l.c r.end r.refusal (turned (goal.at.returns-in_default c).After-slice_known-in-loop-c-2-1) l.sizes (sym c.with_step-grown.ensures ∙ c.in_default.is) (a.b.line + l.c.line) in record {
+    let bad = names-bad a.b.strict a.text.now a.b.at l.c r.end r.refusal (turned (goal.at.returns-in_default c).After-next_line-step) l.sizes (sym c.with_step-grown.ensures ∙ c.in_default.is) (a.b.line + l.c.line) in record {
       measured = sym (ap (λ o. kept_measured o (sizes_of (kept_from a.text.now a.b)) (length (skipped_from a.text.now a.b))) (l.invariant.1 ∙ bad));
       room = c.next_line-step.ensures.room ∙ l.invariant.3;
     }
 
 pub loop-c-smaller : goal.loop-c-smaller
-loop-c-smaller c = omega (arith, c.loop-c-test.true, (turned (goal.at.loop-c-smaller c).After-slice_known-in-loop-c-2-1).onward, c.next_line-step.ensures.at)
+loop-c-smaller c = omega (arith, c.loop-c-test.true, (turned (goal.at.loop-c-smaller c).After-next_line-step).onward, c.next_line-step.ensures.at)
 
 pub loop-c-preserved : goal.loop-c-preserved
 loop-c-preserved c =
@@ -117,7 +116,7 @@ loop-c-preserved c =
     let b = c.args.b in
     let l = c.loop-c in
     let w = c.next_line-step in
-    let u = turned (goal.at.loop-c-preserved c).After-slice_known-in-loop-c-2-1 in
+    let u = turned (goal.at.loop-c-preserved c).After-next_line-step in
     let s = c.in-Is.next in
     let ls = lines_kept_from a.text.now b in
     let on = c.next_line-step.ensures.line in
@@ -133,7 +132,7 @@ loop-c-preserved c =
     )
 
 pub overflow_sub-result : goal.overflow_sub-result
-overflow_sub-result c = (small c.before.before.before.before).0
+overflow_sub-result c = (small (goal.at.overflow_sub-result c).At-loop-c).0
 
 pub shape_of-area : goal.shape_of-area
 shape_of-area c = c.loop-c.invariant.3

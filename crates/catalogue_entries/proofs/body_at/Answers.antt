@@ -134,4 +134,4 @@ returns-in-6 c =
     cc (field a.at a.s.now, c.place_at-in-6.ensures, c.in-6.is)
 
 pub returns-in_default : goal.returns-in_default
-returns-in_default c = let r = c.in_default.rest in sym (no_body _ _ (no_kind _ r.0.0.0.0.0.1 r.0.0.0.0.1 r.0.0.0.1 r.0.0.1 r.0.1 r.1))
+returns-in_default c = let r = c.in_default.in_default-own.rest in sym (no_body _ _ (no_kind _ r.0.0.0.0.0.1 r.0.0.0.0.1 r.0.0.0.1 r.0.0.1 r.0.1 r.1))

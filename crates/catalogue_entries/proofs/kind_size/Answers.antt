@@ -29,4 +29,4 @@ unfolding kind_size
 returns-in-6 c = sym (ap kind_size c.in-6.is)
 
 pub returns-in_default : goal.returns-in_default
-returns-in_default c = let r = c.in_default.rest in sym (no_kind _ r.0.0.0.0.0.1 r.0.0.0.0.1 r.0.0.0.1 r.0.0.1 r.0.1 r.1)
+returns-in_default c = let r = c.in_default.in_default-own.rest in sym (no_kind _ r.0.0.0.0.0.1 r.0.0.0.0.1 r.0.0.0.1 r.0.0.1 r.0.1 r.1)

@@ -15,11 +15,10 @@ use Rattle.catalogue_lines.specs.Parts.{own_entry, plain_head}
 use Rattle.catalogue_lines.proofs.LineEntries.{own-fits}
 use Rattle.catalogue_lines.proofs.Plain.{sequence-line}
 use Rattle.catalogue_lines.proofs.plain_line.Goals as goal
-use Rattle.catalogue_lines.proofs.plain_line.Goals.{In-Is}
-use Rattle.catalogue_lines.proofs.plain_line.Tie as tie
+use Rattle.catalogue_lines.proofs.plain_line.Goals.{In-Is, Start}
 
 -- an accepted line has three bytes
-long : (s : tie.Start) → 3 ≤ length s.args.src.now
+long : (s : Start) → 3 ≤ length s.args.src.now
 long s = three false s.args.at s.args.src.now s.requires.src_value
 
 -- what was recognised is the head of the line
@@ -34,14 +33,14 @@ told k =
     ∙ sym (ap head_of (sequence-line false a.at a.src.now k.if-src-ne83.false k.requires.src_value))
 
 pub bounds-src-1 : goal.bounds-src-1
-bounds-src-1 c = omega (arith, long c.before.before.before)
+bounds-src-1 c = omega (arith, long (goal.at.bounds-src-1 c).Start)
 
 pub returns-then-src-ne83 : goal.returns-then-src-ne83
 unfolding plain_head
 returns-then-src-ne83 c = refl
 
 pub parse_plain-requires : goal.parse_plain-requires
-parse_plain-requires c = long c.before.before.before.before
+parse_plain-requires c = long (goal.at.parse_plain-requires c).Start
 
 pub returns-in_default : goal.returns-in_default
 unfolding plain_head

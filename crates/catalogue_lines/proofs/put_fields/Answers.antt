@@ -17,7 +17,7 @@ use Rattle.catalogue_lines.specs.Matched.{met_in}
 use Rattle.catalogue_lines.proofs.Entries.{entry-then, wrote}
 use Rattle.catalogue_lines.proofs.NextField.{walked_start, walked_end, walked-key, walked-past, same_bytes, Turned, turned}
 use Rattle.catalogue_lines.proofs.put_fields.Goals as goal
-use Rattle.catalogue_lines.proofs.put_fields.Goals.{After-field_end-end, After-narrow, After-put_field-arg-1, After-shared_slice_known-2-1, In-loop-i}
+use Rattle.catalogue_lines.proofs.put_fields.Goals.{After-field_end-end, After-kept_value-v, After-narrow, After-slice_known-1, At-loop-i}
 
 -- the field of a step ends in the line
 reach : (f : After-field_end-end)
@@ -76,7 +76,7 @@ kept_value-v-requires c = record {
 }
 
 -- the field that is written
-field : (c : After-put_field-arg-1)
+field : (c : After-kept_value-v)
     → (let a = c.args in
     Turned a.at a.src.now a.kind c.loop-i.i c.field_end-end.result c.kept_value-v.result)
 field c =
@@ -85,17 +85,17 @@ field c =
     c.requires.src_bound (sym c.is_key.ensures ∙ c.if-is_key.false) (sym c.is_first_of_tag.ensures ∙ c.if-is_first_of_tag.true) c.kept_value-v.result c.kept_value-v.ensures
 
 pub narrow-requires : goal.narrow-requires
-narrow-requires c = (field c).fits
+narrow-requires c = (field (goal.at.narrow-requires c).After-kept_value-v).fits
 
 -- its entry, and those that are left
 bytes : (c : After-narrow)
     → (let a = c.args in
     field_bytes a.kind a.at a.src.now c.loop-i.i
     ≡ entry_bytes (entry.Field (get_or a.src.now (c.loop-i.i + 1) 0) (get_or a.src.now (c.loop-i.i + 2) 0) c.narrow.result) ++ field_bytes a.kind a.at a.src.now c.field_end-end.result)
-bytes c = (field (goal.at.put_field-requires c).After-put_field-arg-1).bytes c.narrow.result c.narrow.ensures
+bytes c = (field (goal.at.After-narrow c).After-kept_value-v).bytes c.narrow.result c.narrow.ensures
 
 -- what is left to write has room
-room : (l : In-loop-i)
+room : (l : At-loop-i)
     → (let a = l.args in l.loop-i.next + length (field_bytes a.kind a.at a.src.now l.loop-i.i) ≤ length l.loop-i.out)
 room l = omega (arith, l.loop-i.invariant.1, l.loop-i.invariant.3, l.requires.src_in_bounds)
 
@@ -103,18 +103,18 @@ room l = omega (arith, l.loop-i.invariant.1, l.loop-i.invariant.3, l.requires.sr
 eleven : (c : After-narrow) → (c.loop-i.next + 11 ≤ length c.loop-i.out)
 unfolding entry_size kind_byte kind_size
 eleven c =
-    omega (arith, room (goal.at.put_field-requires c).In-loop-i, entry-then _ _ _ (bytes c))
+    omega (arith, room (goal.at.After-narrow c).At-loop-i, entry-then _ _ _ (bytes c))
 
 pub put_field-requires : goal.put_field-requires
 put_field-requires c = eleven c
 
 -- the lent slice is no longer than a slice can be
-lent : (k : After-shared_slice_known-2-1) → length k.args.out.now ≤ 18446744073709551615
+lent : (k : After-slice_known-1) → length k.args.out.now ≤ 18446744073709551615
 lent k = omega arith
 
 pub overflow_add-next : goal.overflow_add-next
 overflow_add-next c =
-    omega (arith, eleven (goal.at.overflow_add-next c).After-narrow, c.loop-i.invariant.3, lent (goal.at.overflow_add-next c).After-shared_slice_known-2-1)
+    omega (arith, eleven (goal.at.overflow_add-next c).After-narrow, c.loop-i.invariant.3, lent (goal.at.overflow_add-next c).After-slice_known-1)
 
 pub loop-i-smaller-then-is_key : goal.loop-i-smaller-then-is_key
 loop-i-smaller-then-is_key c = omega (arith, reach (goal.at.loop-i-smaller-then-is_key c).After-field_end-end)
@@ -145,7 +145,7 @@ pub loop-i-preserved-then-is_first_of_tag : goal.loop-i-preserved-then-is_first_
 unfolding entry_size kind_byte kind_size
 loop-i-preserved-then-is_first_of_tag c =
     let a = c.args in
-    let w = wrote (entry.Field _ _ c.narrow.result) _ _ (bytes (goal.at.loop-i-preserved-then-is_first_of_tag c).After-narrow) c.loop-i.out c.put_field.new.out c.loop-i.next (c.loop-i.next + 11) (room (goal.at.loop-i-preserved-then-is_first_of_tag c).In-loop-i) refl c.put_field.ensures in (
+    let w = wrote (entry.Field _ _ c.narrow.result) _ _ (bytes (goal.at.loop-i-preserved-then-is_first_of_tag c).After-narrow) c.loop-i.out c.put_field.new.out c.loop-i.next (c.loop-i.next + 11) (room (goal.at.loop-i-preserved-then-is_first_of_tag c).At-loop-i) refl c.put_field.ensures in (
       walked-past (none? a.tables.now) a.at a.src.now a.kind c.loop-i.i c.loop-i.keys c.loop-i.invariant.0 (omega arith) c.field_end-end.result c.field_end-end.ensures (sym c.is_key.ensures ∙ c.if-is_key.false),
       w.0 ∙ c.loop-i.invariant.1,
       w.1 ∙ c.loop-i.invariant.2,

@@ -9,15 +9,15 @@ use Rattle.accepted_line.specs.declared.Form.{Form}
 use Rattle.accepted_line.proofs.Noting.{noting, noted-line}
 use Rattle.catalogue_entries.proofs.Written.{entry_length_lem}
 use Rattle.catalogue_lines.proofs.put_formed.Goals as goal
-use Rattle.catalogue_lines.proofs.put_formed.Tie as tie
+use Rattle.catalogue_lines.proofs.put_formed.Goals.{Start}
 
 -- the form of the line is `x`
-formed : (s : tie.Start) (x : Form) → s.args.form ≡ x → IsForm s.args.place.at s.args.src.now x
+formed : (s : Start) (x : Form) → s.args.form ≡ x → IsForm s.args.place.at s.args.src.now x
 formed s x e = subst (IsForm s.args.place.at s.args.src.now) e s.requires.form
 
 pub comment_entry-requires : goal.comment_entry-requires
 unfolding IsForm
-comment_entry-requires c = formed c.before.before.before.before.before _ c.in-Comment.is
+comment_entry-requires c = formed (goal.at.comment_entry-requires c).Start _ c.in-Comment.is
 
 pub put_entry-requires : goal.put_entry-requires
 put_entry-requires c =
@@ -26,7 +26,7 @@ put_entry-requires c =
 pub put_line_entries-requires : goal.put_line_entries-requires
 unfolding IsForm
 put_line_entries-requires c =
-    let i = formed c.before.before.before.before.before.before.before _ c.in-Once.is in record {
+    let i = formed (goal.at.put_line_entries-requires c).Start _ c.in-Once.is in record {
       line_of = i.0;
       kind_value = i.1;
       walkable = once-walkable c.args.place.at c.args.src.now i.2;
@@ -36,14 +36,14 @@ put_line_entries-requires c =
 pub note_tags-requires : goal.note_tags-requires
 unfolding IsForm
 note_tags-requires c =
-    let i = formed c.before.before.before.before.before _ c.in-Repeating.is in
+    let i = formed (goal.at.note_tags-requires c).Start _ c.in-Repeating.is in
     let told = noting c.in-Repeating.kind c.args.place.at c.args.src.now i.0 i.1 in
     record { at_field = told.0; each = told.1.0; line_bound = told.1.1.0; tables_len = told.1.1.1 }
 
 pub put_line_entries-requires-in-Repeating : goal.put_line_entries-requires-in-Repeating
 unfolding IsForm
 put_line_entries-requires-in-Repeating c =
-    let i = formed c.before.before.before.before.before.before.before.before.before _ c.in-Repeating.is in record {
+    let i = formed (goal.at.put_line_entries-requires-in-Repeating c).Start _ c.in-Repeating.is in record {
       line_of = i.0;
       kind_value = i.1;
       walkable = noted-line c.in-Repeating.kind c.args.place.at c.args.src.now i.0 i.1 _ c.note_tags.ensures;

@@ -12,9 +12,9 @@ use Rattle.catalogue_entries.proofs.Written.{entry_length_lem}
 use Rattle.catalogue_lines.specs.Line.{record_bytes, line_bytes}
 use Rattle.catalogue_lines.proofs.Plain.{plain-bytes}
 use Rattle.catalogue_lines.proofs.put_record.Goals as goal
-use Rattle.catalogue_lines.proofs.put_record.Goals.{After-put_entry-arg-1, After-shared_slice_known-1}
+use Rattle.catalogue_lines.proofs.put_record.Goals.{In-Is, Start}
 
-same : (s : After-shared_slice_known-1) → (let a = s.args in line_bytes a.strict a.number a.at a.src.now ≡ line_bytes false a.number a.at a.src.now)
+same : (s : Start) → (let a = s.args in line_bytes a.strict a.number a.at a.src.now ≡ line_bytes false a.number a.at a.src.now)
 same s = ap (record_bytes s.args.number) (line-lax s.args.strict (record { at = s.args.at; bytes = s.args.src.now }) s.requires.src_value)
 
 pub plain_line-requires : goal.plain_line-requires
@@ -24,7 +24,7 @@ plain_line-requires c = record {
 }
 
 -- the entry of a line that was recognised
-bytes : (k : After-put_entry-arg-1)
+bytes : (k : In-Is)
     → (let a = k.args in
     line_bytes a.strict a.number a.at a.src.now ≡ entry_bytes (ReferenceSequence k.in-Is.name k.in-Is.n a.number))
 bytes k =
@@ -34,23 +34,23 @@ bytes k =
 pub put_formed-requires : goal.put_formed-requires
 put_formed-requires c = record {
   form = c.form_of-form.ensures.right;
-  src_in_bounds = omega (arith, ap length (same (goal.at.put_formed-requires c).After-shared_slice_known-1), c.requires.src_in_bounds);
+  src_in_bounds = omega (arith, ap length (same (goal.at.put_formed-requires c).Start), c.requires.src_in_bounds);
 }
 
 pub returns-in_default : goal.returns-in_default
 returns-in_default c = record {
-  next = c.put_formed.ensures.next ∙ ap (λ l. c.args.o + length l) (sym (same (goal.at.returns-in_default c).After-shared_slice_known-1));
-  wrote = c.put_formed.ensures.wrote ∙ ap (over c.args.out.now c.args.o) (sym (same (goal.at.returns-in_default c).After-shared_slice_known-1));
+  next = c.put_formed.ensures.next ∙ ap (λ l. c.args.o + length l) (sym (same (goal.at.returns-in_default c).Start));
+  wrote = c.put_formed.ensures.wrote ∙ ap (over c.args.out.now c.args.o) (sym (same (goal.at.returns-in_default c).Start));
 }
 
 pub put_entry-requires : goal.put_entry-requires
 put_entry-requires c =
-    omega (arith, ap length (bytes c), entry_length_lem (ReferenceSequence c.in-Is.name c.in-Is.n c.args.number), c.requires.src_in_bounds)
+    omega (arith, ap length (bytes (goal.at.put_entry-requires c).In-Is), entry_length_lem (ReferenceSequence c.in-Is.name c.in-Is.n c.args.number), c.requires.src_in_bounds)
 
 pub returns : goal.returns
 returns c =
     let a = c.args in
     let l = entry_length_lem (ReferenceSequence c.in-Is.name c.in-Is.n a.number) in record {
-      next = omega (arith, c.put_entry.ensures.next, ap length (bytes (goal.at.returns c).After-put_entry-arg-1), l);
-      wrote = c.put_entry.ensures.wrote ∙ ap (over a.out.now a.o) (sym (bytes (goal.at.returns c).After-put_entry-arg-1));
+      next = omega (arith, c.put_entry.ensures.next, ap length (bytes (goal.at.returns c).In-Is), l);
+      wrote = c.put_entry.ensures.wrote ∙ ap (over a.out.now a.o) (sym (bytes (goal.at.returns c).In-Is));
     }

@@ -20,8 +20,7 @@ use Rattle.catalogue_lines.proofs.Starts.{match-within}
 use Rattle.catalogue_lines.proofs.Entries.{entry-then, compared}
 use Rattle.catalogue_lines.proofs.NextField.{walked_start, walked_end, walked-key, walked-past, same_bytes, Turned, turned}
 use Rattle.catalogue_lines.proofs.same_fields.Goals as goal
-use Rattle.catalogue_lines.proofs.same_fields.Goals.{After-field_end-end, After-shared_slice_known-3-1, Else-not-same_field}
-use Rattle.catalogue_lines.proofs.same_fields.Tie as tie
+use Rattle.catalogue_lines.proofs.same_fields.Goals.{After-field_end-end, After-kept_value-v, After-same_field, After-shared_slice_known-1, Else-not-same_field}
 
 -- the field of a step ends in the line
 reach : (f : After-field_end-end)
@@ -80,7 +79,7 @@ kept_value-v-requires c = record {
 }
 
 -- the field that is compared
-field : (c : tie.After-kept_value-v goal.the-invariant-loop-i goal.the-decreases-loop-i)
+field : (c : After-kept_value-v)
     → (let a = c.args in
     Turned a.at a.src.now a.kind c.loop-i.i c.field_end-end.result c.kept_value-v.result)
 field c =
@@ -89,13 +88,13 @@ field c =
     c.requires.src_bound (sym c.is_key.ensures ∙ c.if-is_key.false) (sym c.is_first_of_tag.ensures ∙ c.if-is_first_of_tag.true) c.kept_value-v.result c.kept_value-v.ensures
 
 pub narrow-requires : goal.narrow-requires
-narrow-requires c = (field c.before).ranges
+narrow-requires c = (field c).ranges
 
 pub same_field-requires : goal.same_field-requires
 same_field-requires c = c.loop-i.invariant.1
 
 -- its entry is compared, and those that are left
-told : (c : tie.After-same_field goal.the-invariant-loop-i goal.the-decreases-loop-i)
+told : (c : After-same_field)
     → (let a = c.args in
     (starts (field_bytes a.kind a.at a.src.now c.loop-i.i) (drop c.loop-i.next a.catalogue.now)
     ≡ (c.same_field.result && starts (field_bytes a.kind a.at a.src.now c.field_end-end.result) (drop (c.loop-i.next + 11) a.catalogue.now)))
@@ -103,7 +102,7 @@ told : (c : tie.After-same_field goal.the-invariant-loop-i goal.the-decreases-lo
 unfolding entry_size kind_byte kind_size
 told c =
     let a = c.args in
-    let q = (field c.before.before).bytes c.narrow.result c.narrow.ensures in (
+    let q = (field (goal.at.After-same_field c).After-kept_value-v).bytes c.narrow.result c.narrow.ensures in (
       compared (entry.Field _ _ c.narrow.result) _ _ q a.catalogue.now c.loop-i.next 11 refl
           ∙ ap (λ t. t && starts (field_bytes a.kind a.at a.src.now c.field_end-end.result) (drop (c.loop-i.next + 11) a.catalogue.now)) (sym c.same_field.ensures),
       entry-then (entry.Field _ _ c.narrow.result) _ _ q,
@@ -114,7 +113,7 @@ unfolding compared_of
 returns-then-not-same_field c =
     let a = c.args in
     let e : starts (field_bytes a.kind a.at a.src.now 3) (drop a.o a.catalogue.now) ≡ false =
-    c.loop-i.invariant.3 ∙ (told c.before.before).0 ∙ ap (λ b. b && starts (field_bytes a.kind a.at a.src.now c.field_end-end.result) (drop (c.loop-i.next + 11) a.catalogue.now)) (not-true c.same_field.result c.if-not-same_field.true-raw) in
+    c.loop-i.invariant.3 ∙ (told (goal.at.returns-then-not-same_field c).After-same_field).0 ∙ ap (λ b. b && starts (field_bytes a.kind a.at a.src.now c.field_end-end.result) (drop (c.loop-i.next + 11) a.catalogue.now)) (not-true c.same_field.result c.if-not-same_field.true-raw) in
     sym (ap (λ b. compared_of b (met_in a.kind a.at a.src.now a.o)) e)
 
 -- the entry is there
@@ -127,12 +126,12 @@ here c =
     omega (arith, match-within a.catalogue.now c.loop-i.next (entry_bytes e) c.loop-i.invariant.1 (sym c.same_field.ensures ∙ not-false c.same_field.result c.if-not-same_field.false-raw), entry_length_lem e)
 
 -- the catalogue is no longer than a slice can be
-lent : (k : After-shared_slice_known-3-1) → length k.args.catalogue.now ≤ 18446744073709551615
+lent : (k : After-shared_slice_known-1) → length k.args.catalogue.now ≤ 18446744073709551615
 lent k = omega arith
 
 pub overflow_add-next : goal.overflow_add-next
 overflow_add-next c =
-    omega (arith, here c, lent (goal.at.overflow_add-next c).After-shared_slice_known-3-1)
+    omega (arith, here c, lent (goal.at.overflow_add-next c).After-shared_slice_known-1)
 
 pub loop-i-smaller-then-is_key : goal.loop-i-smaller-then-is_key
 loop-i-smaller-then-is_key c = omega (arith, reach (goal.at.loop-i-smaller-then-is_key c).After-field_end-end)
@@ -166,8 +165,8 @@ loop-i-preserved-else-not-same_field c =
     let a = c.args in (
       walked-past (none? a.tables.now) a.at a.src.now a.kind c.loop-i.i c.loop-i.keys c.loop-i.invariant.0 (omega arith) c.field_end-end.result c.field_end-end.ensures (sym c.is_key.ensures ∙ c.if-is_key.false),
       here c,
-      omega (arith, c.loop-i.invariant.2, (told c.before.before).1),
-      c.loop-i.invariant.3 ∙ (told c.before.before).0 ∙ rw (not-false c.same_field.result c.if-not-same_field.false-raw) refl,
+      omega (arith, c.loop-i.invariant.2, (told (goal.at.loop-i-preserved-else-not-same_field c).After-same_field).1),
+      c.loop-i.invariant.3 ∙ (told (goal.at.loop-i-preserved-else-not-same_field c).After-same_field).0 ∙ rw (not-false c.same_field.result c.if-not-same_field.false-raw) refl,
     )
 
 pub loop-i-smaller : goal.loop-i-smaller

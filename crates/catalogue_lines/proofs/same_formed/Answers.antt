@@ -13,21 +13,21 @@ use Rattle.catalogue_lines.specs.Line.{line_bytes}
 use Rattle.catalogue_lines.proofs.Starts.{match-there, match-gone}
 use Rattle.catalogue_lines.proofs.LineEntries.{comment-long}
 use Rattle.catalogue_lines.proofs.same_formed.Goals as goal
-use Rattle.catalogue_lines.proofs.same_formed.Tie as tie
+use Rattle.catalogue_lines.proofs.same_formed.Goals.{After-same_entry, Start}
 
 -- the form of the line is `x`
-formed : (s : tie.Start) (x : Form) → s.args.form ≡ x → IsForm s.args.place.at s.args.src.now x
+formed : (s : Start) (x : Form) → s.args.form ≡ x → IsForm s.args.place.at s.args.src.now x
 formed s x e = subst (IsForm s.args.place.at s.args.src.now) e s.requires.form
 
 pub comment_entry-entry-requires : goal.comment_entry-entry-requires
 unfolding IsForm
-comment_entry-entry-requires c = formed c.before.before.before.before _ c.in-Comment.is
+comment_entry-entry-requires c = formed (goal.at.comment_entry-entry-requires c).Start _ c.in-Comment.is
 
 pub same_entry-requires : goal.same_entry-requires
 same_entry-requires c = c.requires.o_in_bounds
 
 -- the test is the line's
-told : (c : tie.After-same_entry)
+told : (c : After-same_entry)
     → (let a = c.args in starts (line_bytes false a.place.number a.place.at a.src.now) (drop a.o a.catalogue.now) ≡ c.same_entry.result)
 told c =
     let a = c.args in
@@ -37,13 +37,13 @@ pub returns-then-same_entry : goal.returns-then-same_entry
 unfolding IsForm
 returns-then-same_entry c =
     let a = c.args in
-    let i = formed c.before.before.before.before.before.before.before _ c.in-Comment.is in
-    match-there a.catalogue.now a.o _ (a.o + 13) (omega (arith, comment-long a.place.number a.place.at a.src.now i.accepted i.kind)) (told c.before.before ∙ c.if-same_entry.true)
+    let i = formed (goal.at.returns-then-same_entry c).Start _ c.in-Comment.is in
+    match-there a.catalogue.now a.o _ (a.o + 13) (omega (arith, comment-long a.place.number a.place.at a.src.now i.accepted i.kind)) (told (goal.at.returns-then-same_entry c).After-same_entry ∙ c.if-same_entry.true)
 
 pub same_line-requires : goal.same_line-requires
 unfolding IsForm
 same_line-requires c =
-    let i = formed c.before.before.before.before.before.before _ c.in-Once.is in record {
+    let i = formed (goal.at.same_line-requires c).Start _ c.in-Once.is in record {
       line_of = i.0;
       kind_value = i.1;
       walkable = once-walkable c.args.place.at c.args.src.now i.2;
@@ -53,14 +53,14 @@ same_line-requires c =
 pub note_tags-requires : goal.note_tags-requires
 unfolding IsForm
 note_tags-requires c =
-    let i = formed c.before.before.before.before.before _ c.in-Repeating.is in
+    let i = formed (goal.at.note_tags-requires c).Start _ c.in-Repeating.is in
     let told = noting c.in-Repeating.kind c.args.place.at c.args.src.now i.0 i.1 in
     record { at_field = told.0; each = told.1.0; line_bound = told.1.1.0; tables_len = told.1.1.1 }
 
 pub same_line-requires-in-Repeating : goal.same_line-requires-in-Repeating
 unfolding IsForm
 same_line-requires-in-Repeating c =
-    let i = formed c.before.before.before.before.before.before.before.before _ c.in-Repeating.is in record {
+    let i = formed (goal.at.same_line-requires-in-Repeating c).Start _ c.in-Repeating.is in record {
       line_of = i.0;
       kind_value = i.1;
       walkable = noted-line c.in-Repeating.kind c.args.place.at c.args.src.now i.0 i.1 _ c.note_tags.ensures;
@@ -70,7 +70,7 @@ same_line-requires-in-Repeating c =
 pub returns-else-same_entry : goal.returns-else-same_entry
 returns-else-same_entry c =
     let a = c.args in
-    match-gone a.catalogue.now a.o _ (told c.before.before ∙ c.if-same_entry.false)
+    match-gone a.catalogue.now a.o _ (told (goal.at.returns-else-same_entry c).After-same_entry ∙ c.if-same_entry.false)
 
 pub returns-in-Once : goal.returns-in-Once
 returns-in-Once c = c.same_line.ensures

@@ -18,8 +18,7 @@ use Rattle.catalogue_lines.proofs.LineEntries.{own, own-size, line-bytes}
 use Rattle.catalogue_lines.proofs.Starts.{match-there, match-gone}
 use Rattle.catalogue_lines.proofs.Entries.{entry-then, compared}
 use Rattle.catalogue_lines.proofs.same_line.Goals as goal
-use Rattle.catalogue_lines.proofs.same_line.Goals.{After-own_size-n}
-use Rattle.catalogue_lines.proofs.same_line.Tie as tie
+use Rattle.catalogue_lines.proofs.same_line.Goals.{After-own_size-n, After-same_entry, In-Same, Start}
 
 -- what an answer says
 same-says : (t : Bool) (m n : Met) → compared_of t m ≡ compare.Same n → (t ≡ true) × (m ≡ n)
@@ -33,22 +32,22 @@ differs-says true m e = absurd (never (cc))
 differs-says false m e = refl
 
 -- the entries of the line
-bytes : (s : tie.Start) → (let a = s.args in line_bytes false a.place.number a.place.at a.src.now ≡ entry_bytes (own a.place.number a.place.at a.src.now s.requires.line_of.accepted) ++ field_bytes a.kind a.place.at a.src.now 3)
+bytes : (s : Start) → (let a = s.args in line_bytes false a.place.number a.place.at a.src.now ≡ entry_bytes (own a.place.number a.place.at a.src.now s.requires.line_of.accepted) ++ field_bytes a.kind a.place.at a.src.now 3)
 bytes s = let a = s.args in line-bytes a.place.number a.place.at a.src.now s.requires.line_of.accepted a.kind s.requires.line_of.kind s.requires.kind_value
 
 -- how long they are, and how they are compared
-size : (c : tie.After-own_size-n) → (let a = c.args in c.own_size-n.result ≡ entry_size (own a.place.number a.place.at a.src.now c.requires.line_of.accepted))
+size : (c : After-own_size-n) → (let a = c.args in c.own_size-n.result ≡ entry_size (own a.place.number a.place.at a.src.now c.requires.line_of.accepted))
 size c =
     c.own_size-n.ensures ∙ sym (own-size c.args.place.number c.args.place.at c.args.src.now c.requires.line_of.accepted c.args.kind c.requires.line_of.kind)
 
 long : (c : After-own_size-n) → (let a = c.args in length (line_bytes false a.place.number a.place.at a.src.now) ≡ c.own_size-n.result + length (field_bytes a.kind a.place.at a.src.now 3))
 long c =
-    entry-then (own c.args.place.number c.args.place.at c.args.src.now c.requires.line_of.accepted) _ _ (bytes c.before.before.before.before.before) ∙ ap (λ m. m + length (field_bytes c.args.kind c.args.place.at c.args.src.now 3)) (sym (size c.before))
+    entry-then (own c.args.place.number c.args.place.at c.args.src.now c.requires.line_of.accepted) _ _ (bytes (goal.at.After-own_size-n c).Start) ∙ ap (λ m. m + length (field_bytes c.args.kind c.args.place.at c.args.src.now 3)) (sym (size c))
 
-told : (c : tie.After-own_size-n) → (let a = c.args in
+told : (c : After-own_size-n) → (let a = c.args in
     starts (line_bytes false a.place.number a.place.at a.src.now) (drop a.o a.catalogue.now)
     ≡ (starts (entry_bytes (own a.place.number a.place.at a.src.now c.requires.line_of.accepted)) (drop a.o a.catalogue.now) && starts (field_bytes a.kind a.place.at a.src.now 3) (drop (a.o + c.own_size-n.result) a.catalogue.now)))
-told c = compared (own c.args.place.number c.args.place.at c.args.src.now c.requires.line_of.accepted) _ _ (bytes c.before.before.before.before) c.args.catalogue.now c.args.o c.own_size-n.result (size c)
+told c = compared (own c.args.place.number c.args.place.at c.args.src.now c.requires.line_of.accepted) _ _ (bytes (goal.at.After-own_size-n c).Start) c.args.catalogue.now c.args.o c.own_size-n.result (size c)
 
 none_right : (t u : Bool) → u ≡ false → t && u ≡ false
 none_right true u e = e
@@ -70,10 +69,10 @@ pub returns-in_default : goal.returns-in_default
 returns-in_default c =
     let a = c.args in
     let e = differs-says _ _ (sym c.same_fields-compared.ensures ∙ c.in_default.is) in
-    match-gone a.catalogue.now a.o _ (told c.before.before.before.before ∙ none_right (starts (entry_bytes (own a.place.number a.place.at a.src.now c.requires.line_of.accepted)) (drop a.o a.catalogue.now)) (starts (field_bytes a.kind a.place.at a.src.now 3) (drop (a.o + c.own_size-n.result) a.catalogue.now)) e)
+    match-gone a.catalogue.now a.o _ (told (goal.at.returns-in_default c).After-own_size-n ∙ none_right (starts (entry_bytes (own a.place.number a.place.at a.src.now c.requires.line_of.accepted)) (drop a.o a.catalogue.now)) (starts (field_bytes a.kind a.place.at a.src.now 3) (drop (a.o + c.own_size-n.result) a.catalogue.now)) e)
 
 -- the entries of the other fields are there
-there : (k : tie.In-Same)
+there : (k : In-Same)
     → (let a = k.args in let n = k.own_size-n.result in
     (starts (field_bytes a.kind a.place.at a.src.now 3) (drop (a.o + n) a.catalogue.now) ≡ true) × (met_in a.kind a.place.at a.src.now (a.o + n) ≡ k.in-Same.met))
 there k = same-says _ _ k.in-Same.met (sym k.same_fields-compared.ensures ∙ k.in-Same.is)
@@ -82,22 +81,22 @@ pub line_entry-requires : goal.line_entry-requires
 unfolding met_in
 line_entry-requires c = record {
   line_of = c.requires.line_of;
-  keys_value = sym (ap (λ m. m.keys) (there c.before.before).1);
+  keys_value = sym (ap (λ m. m.keys) (there (goal.at.line_entry-requires c).In-Same).1);
 }
 
 pub same_entry-requires : goal.same_entry-requires
 same_entry-requires c = c.requires.o_in_bounds
 
 -- the own entry decides
-decides : (c : tie.After-same_entry)
+decides : (c : After-same_entry)
     → (let a = c.args in
     starts (line_bytes false a.place.number a.place.at a.src.now) (drop a.o a.catalogue.now) ≡ c.same_entry.result)
 decides c =
     let a = c.args in
-    told c.before.before.before.before.before.before
+    told (goal.at.After-same_entry c).After-own_size-n
     ∙ ap₂ (λ t u. t && u)
     (ap (λ d. starts (entry_bytes d) (drop a.o a.catalogue.now)) (sym c.line_entry.ensures) ∙ sym c.same_entry.ensures)
-    (there c.before.before.before).0
+    (there (goal.at.After-same_entry c).In-Same).0
     ∙ always c.same_entry.result
   where
     always : (t : Bool) → t && true ≡ t
@@ -108,9 +107,9 @@ pub returns-then-same_entry : goal.returns-then-same_entry
 unfolding met_in
 returns-then-same_entry c =
     let a = c.args in
-    match-there a.catalogue.now a.o _ _ (sym (ap (λ m. m.next) (there c.before.before.before.before.before).1) ∙ omega (arith, long (goal.at.returns-then-same_entry c).After-own_size-n)) (decides c.before.before ∙ c.if-same_entry.true)
+    match-there a.catalogue.now a.o _ _ (sym (ap (λ m. m.next) (there (goal.at.returns-then-same_entry c).In-Same).1) ∙ omega (arith, long (goal.at.returns-then-same_entry c).After-own_size-n)) (decides (goal.at.returns-then-same_entry c).After-same_entry ∙ c.if-same_entry.true)
 
 pub returns : goal.returns
 returns c =
     let a = c.args in
-    match-gone a.catalogue.now a.o _ (decides c.before.before ∙ c.if-same_entry.false)
+    match-gone a.catalogue.now a.o _ (decides (goal.at.returns c).After-same_entry ∙ c.if-same_entry.false)

@@ -13,7 +13,7 @@ use Rattle.catalogue_lines.specs.Matched.{matched}
 use Rattle.catalogue_lines.proofs.Starts.{match-there, match-gone}
 use Rattle.catalogue_lines.proofs.Plain.{plain-bytes}
 use Rattle.catalogue_lines.proofs.same_record.Goals as goal
-use Rattle.catalogue_lines.proofs.same_record.Tie as tie
+use Rattle.catalogue_lines.proofs.same_record.Goals.{After-same_entry, In-Is}
 
 pub plain_line-requires : goal.plain_line-requires
 plain_line-requires c = record {
@@ -22,7 +22,7 @@ plain_line-requires c = record {
 }
 
 -- the entry of a line that was recognised
-bytes : (k : tie.In-Is)
+bytes : (k : In-Is)
     → (let a = k.args in
     line_bytes a.strict a.number a.at a.src.now ≡ entry_bytes (ReferenceSequence k.in-Is.name k.in-Is.n a.number))
 bytes k =
@@ -45,20 +45,20 @@ pub same_entry-requires : goal.same_entry-requires
 same_entry-requires c = c.requires.o_in_bounds
 
 -- the test is the line's
-told : (c : tie.After-same_entry)
+told : (c : After-same_entry)
     → (let a = c.args in starts (line_bytes a.strict a.number a.at a.src.now) (drop a.o a.catalogue.now) ≡ c.same_entry.result)
 told c =
     let a = c.args in
-    ap (λ l. starts l (drop a.o a.catalogue.now)) (bytes c.before) ∙ sym c.same_entry.ensures
+    ap (λ l. starts l (drop a.o a.catalogue.now)) (bytes (goal.at.After-same_entry c).In-Is) ∙ sym c.same_entry.ensures
 
 pub returns-then-same_entry : goal.returns-then-same_entry
 unfolding entry_size kind_byte kind_size
 returns-then-same_entry c =
     let a = c.args in
     let l = entry_length_lem (ReferenceSequence c.in-Is.name c.in-Is.n a.number) in
-    match-there a.catalogue.now a.o _ (a.o + 21) (omega (arith, ap length (bytes c.before.before.before), l)) (told c.before.before ∙ c.if-same_entry.true)
+    match-there a.catalogue.now a.o _ (a.o + 21) (omega (arith, ap length (bytes (goal.at.returns-then-same_entry c).In-Is), l)) (told (goal.at.returns-then-same_entry c).After-same_entry ∙ c.if-same_entry.true)
 
 pub returns : goal.returns
 returns c =
     let a = c.args in
-    match-gone a.catalogue.now a.o _ (told c.before.before ∙ c.if-same_entry.false)
+    match-gone a.catalogue.now a.o _ (told (goal.at.returns c).After-same_entry ∙ c.if-same_entry.false)

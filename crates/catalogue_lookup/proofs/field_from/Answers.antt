@@ -20,8 +20,7 @@ use Rattle.catalogue_lookup.specs.declared.Found.TheVariants.{Nothing, At}
 use Rattle.catalogue_lookup.specs.Lookup.{first_entry, value_in}
 use Rattle.catalogue_lookup.proofs.Walks.{front-entry}
 use Rattle.catalogue_lookup.proofs.field_from.Goals as goal
-use Rattle.catalogue_lookup.proofs.field_from.Goals.{Joined-else-x-a}
-use Rattle.catalogue_lookup.proofs.field_from.Tie as tie
+use Rattle.catalogue_lookup.proofs.field_from.Goals.{In-Field}
 
 -- no field is first
 no_value_lem : (a b : ℕ) (es : List Entry) → OneOf (0 ∷ 1 ∷ 2 ∷ 3 ∷ 4 ∷ 5 ∷ []) (tag_of the_type (first_entry es)) → Nothing ≡ value_in a b es
@@ -51,37 +50,37 @@ pub loop-x-init : goal.loop-x-init
 loop-x-init c = refl
 
 -- the entry at `at` is a field
-first : (c : tie.In-Field goal.the-invariant-loop-x goal.the-decreases-loop-x) (a b : ℕ)
+first : (c : In-Field) (a b : ℕ)
     → value_in a b (entries_in (drop c.loop-x.at c.args.catalogue.now))
     ≡ cond (eqb c.in-Field.x a && eqb c.in-Field.y b) (At c.in-Field.p) (
     value_in a b (entries_in (drop (c.loop-x.at + 11) c.args.catalogue.now)))
 unfolding value_in
 first c a b = ap (value_in a b) (turn c.args.catalogue.now c.loop-x.at _ _ _ _ c.entry_at.ensures c.in-Field.is)
 
-passed : (c : Joined-else-x-a) → c.loop-x.at + 11 ≤ length c.args.catalogue.now
+passed : (c : In-Field) → c.loop-x.at + 11 ≤ length c.args.catalogue.now
 passed c = within _ _ _ _ _ _ c.entry_at.ensures c.in-Field.is
 
 pub returns-then-y-b : goal.returns-then-y-b
 returns-then-y-b c =
     let l = c.loop-x in
     let a = c.args in
-    sym (l.invariant ∙ first c.before.before.before a.a a.b ∙ simp (eq-eqb _ _ c.if-x-a.true, c.if-y-b.true-raw))
+    sym (l.invariant ∙ first (goal.at.returns-then-y-b c).In-Field a.a a.b ∙ simp (eq-eqb _ _ c.if-x-a.true, c.if-y-b.true-raw))
 
 pub overflow_add-at : goal.overflow_add-at
-overflow_add-at c = omega (arith, passed c)
+overflow_add-at c = omega (arith, passed (goal.at.overflow_add-at c).In-Field)
 
 pub loop-x-smaller : goal.loop-x-smaller
-loop-x-smaller c = omega (arith, passed c)
+loop-x-smaller c = omega (arith, passed (goal.at.loop-x-smaller c).In-Field)
 
 pub loop-x-preserved : goal.loop-x-preserved
 loop-x-preserved c =
     let l = c.loop-x in
     let a = c.args in
-    l.invariant ∙ first c.before.before a.a a.b ∙ ⊎_elim (λ w. simp (eq-eqb _ _ w.0.taken, w.1.left)) (λ w. simp (ne_eqb _ _ w.left)) c.else-x-a.branch
+    l.invariant ∙ first (goal.at.loop-x-preserved c).In-Field a.a a.b ∙ ⊎_elim (λ w. simp (eq-eqb _ _ w.0.taken, w.1.left)) (λ w. simp (ne_eqb _ _ w.left)) c.else-x-a.branch
 
 pub returns-in_default : goal.returns-in_default
 returns-in_default c =
     let l = c.loop-x in
     let a = c.args in
     let s = drop l.at a.catalogue.now in
-    no_value_lem a.a a.b (entries_in s) (subst (λ e. OneOf (0 ∷ 1 ∷ 2 ∷ 3 ∷ 4 ∷ 5 ∷ []) (tag_of the_type e)) (c.entry_at.ensures ∙ sym (front-entry s)) c.in_default.keys2) ∙ sym l.invariant
+    no_value_lem a.a a.b (entries_in s) (subst (λ e. OneOf (0 ∷ 1 ∷ 2 ∷ 3 ∷ 4 ∷ 5 ∷ []) (tag_of the_type e)) (c.entry_at.ensures ∙ sym (front-entry s)) c.in_default.in_default-own.keys2) ∙ sym l.invariant

@@ -25,4 +25,4 @@ unfolding entry_length
 returns-in-ReferenceSequence c = sym (ap entry_length c.in-ReferenceSequence.is)
 
 pub returns-in_default : goal.returns-in_default
-returns-in_default c = no_length c.args.e c.in_default.keys2
+returns-in_default c = no_length c.args.e c.in_default.in_default-own.keys2

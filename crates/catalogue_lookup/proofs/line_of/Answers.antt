@@ -41,4 +41,4 @@ unfolding entry_line
 returns-in-Comment c = sym (ap entry_line c.in-Comment.is)
 
 pub returns-in_default : goal.returns-in_default
-returns-in_default c = no_line c.args.e c.in_default.keys6
+returns-in_default c = no_line c.args.e c.in_default.in_default-own.keys6

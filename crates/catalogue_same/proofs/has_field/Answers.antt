@@ -14,11 +14,10 @@ use Rattle.catalogue_entries.specs.declared.Entry.TheVariants as entry
 use Rattle.catalogue_entries.specs.Entries.{place_bytes, entry_bytes}
 use Rattle.catalogue_same.proofs.Starts.{starts-byte}
 use Rattle.catalogue_same.proofs.has_field.Goals as goal
-use Rattle.catalogue_same.proofs.has_field.Goals.{Else-s-at-ne6}
-use Rattle.catalogue_same.proofs.has_field.Tie as tie
+use Rattle.catalogue_same.proofs.has_field.Goals.{Else-s-at-ne6, Start}
 
 -- byte by byte
-parts : (s : tie.Start)
+parts : (s : Start)
     → (let a = s.args in let c = s.args.s.now in
     starts (entry_bytes (entry.Field a.a a.b a.value)) (drop a.at c)
     ≡ (eqb 6 (get_or c a.at 0) && (eqb a.a (get_or c (a.at + 1) 0) && (eqb a.b (get_or c (a.at + 2) 0) && starts (little 4 a.value.at ++ little 4 a.value.len) (drop (a.at + 3) c)))))
@@ -36,7 +35,7 @@ parts s =
     ∙ ap (λ n. eqb a.b (get_or c (a.at + 2) 0) && starts xs (drop n c)) (add_assoc a.at 2 1)))
 
 pub returns-then-s-at-ne6 : goal.returns-then-s-at-ne6
-returns-then-s-at-ne6 c = sym (parts c.before.before.before.before ∙ rw (ne_eqb 6 _ (λ e. c.if-s-at-ne6.true (sym e))) refl)
+returns-then-s-at-ne6 c = sym (parts (goal.at.returns-then-s-at-ne6 c).Start ∙ rw (ne_eqb 6 _ (λ e. c.if-s-at-ne6.true (sym e))) refl)
 
 -- the byte of kind is there
 kind : (c : Else-s-at-ne6) → (let a = c.args in eqb 6 (get_or a.s.now a.at 0) ≡ true)
@@ -44,12 +43,12 @@ kind c = eq-eqb 6 _ (sym c.if-s-at-ne6.false)
 
 pub returns-then-s-at : goal.returns-then-s-at
 returns-then-s-at c =
-    sym (parts c.before.before.before.before.before.before ∙ rw (kind (goal.at.returns-then-s-at c).Else-s-at-ne6, ne_eqb c.args.a _ (λ e. c.if-s-at.true (sym e))) refl)
+    sym (parts (goal.at.returns-then-s-at c).Start ∙ rw (kind (goal.at.returns-then-s-at c).Else-s-at-ne6, ne_eqb c.args.a _ (λ e. c.if-s-at.true (sym e))) refl)
 
 pub returns-then-s-at-2 : goal.returns-then-s-at-2
 returns-then-s-at-2 c =
-    sym (parts c.before.before.before.before.before.before.before.before ∙ rw (kind (goal.at.returns-then-s-at-2 c).Else-s-at-ne6, eq-eqb c.args.a _ (sym c.if-s-at.false), ne_eqb c.args.b _ (λ e. c.if-s-at-2.true (sym e))) refl)
+    sym (parts (goal.at.returns-then-s-at-2 c).Start ∙ rw (kind (goal.at.returns-then-s-at-2 c).Else-s-at-ne6, eq-eqb c.args.a _ (sym c.if-s-at.false), ne_eqb c.args.b _ (λ e. c.if-s-at-2.true (sym e))) refl)
 
 pub returns : goal.returns
 returns c =
-    c.has_numbers.ensures ∙ sym (parts c.before.before.before.before.before.before.before.before.before ∙ rw (kind (goal.at.returns c).Else-s-at-ne6, eq-eqb c.args.a _ (sym c.if-s-at.false), eq-eqb c.args.b _ (sym c.if-s-at-2.false)) refl)
+    c.has_numbers.ensures ∙ sym (parts (goal.at.returns c).Start ∙ rw (kind (goal.at.returns c).Else-s-at-ne6, eq-eqb c.args.a _ (sym c.if-s-at.false), eq-eqb c.args.b _ (sym c.if-s-at-2.false)) refl)

@@ -6,7 +6,7 @@ use native.Mathlib.Omega.{arith}
 use Rattle.decimal.specs.Number.{number_at_front}
 use Rattle.decimal.proofs.Front.{done, done_none, done-is, digit-yes, digit_low, digit-high, front-start, turn, turn_end, turn-stop, turn-large}
 use Rattle.decimal.proofs.read_up_to.Goals as goal
-use Rattle.decimal.proofs.read_up_to.Tie as tie
+use Rattle.decimal.proofs.read_up_to.Goals.{Left-loop-i}
 
 pub loop-i-init : goal.loop-i-init
 loop-i-init c = (omega arith, omega arith, front-start _ _)
@@ -48,7 +48,7 @@ loop-i-preserved c =
     (omega arith, omega arith, l.invariant.2 ∙ turn _ _ _ _ (omega arith) (digit-yes _ (omega arith) (omega arith)))
 
 -- read to the end, or to a byte that is no digit
-left : (c : tie.Left-loop-i goal.the-invariant-loop-i goal.the-decreases-loop-i)
+left : (c : Left-loop-i)
     → number_at_front (suc c.args.max) c.args.s.now
     ≡ done (suc c.args.max) c.loop-i.n c.loop-i.i
 left c =
@@ -61,7 +61,7 @@ left c =
     c.loop-i-test.branch
 
 pub returns-then-i-eq0 : goal.returns-then-i-eq0
-returns-then-i-eq0 c = sym (left c.before ∙ ap (done _ _) c.if-i-eq0.true ∙ done_none _ _)
+returns-then-i-eq0 c = sym (left (goal.at.returns-then-i-eq0 c).Left-loop-i ∙ ap (done _ _) c.if-i-eq0.true ∙ done_none _ _)
 
 pub returns : goal.returns
-returns c = sym (left c.before ∙ done-is _ _ _ (omega arith) (omega arith))
+returns c = sym (left (goal.at.returns c).Left-loop-i ∙ done-is _ _ _ (omega arith) (omega arith))

@@ -16,11 +16,10 @@ use Rattle.fault_lines.specs.Links.{links_in}
 use Rattle.fault_lines.proofs.Rows.{with-line, turn-rows, programs-within, row-none, row_one, row-over}
 use Rattle.fault_lines.proofs.put_lines.Invariants.{to_come}
 use Rattle.fault_lines.proofs.put_lines.Goals as goal
-use Rattle.fault_lines.proofs.put_lines.Goals.{After-next_line-arg-in-loop-c-1}
-use Rattle.fault_lines.proofs.put_lines.Tie as tie
+use Rattle.fault_lines.proofs.put_lines.Goals.{After-next_line-step, After-step_fault-n, At-loop-c}
 
 -- the line of a step
-turned : (c : tie.After-next_line-step goal.the-invariant-loop-c goal.the-decreases-loop-c)
+turned : (c : After-next_line-step)
     → (let l = c.loop-c in let a = c.args in Turn a.b.strict a.text.now a.b.at l.c c.next_line-step.result.end c.next_line-step.result.refusal)
 turned c =
     let l = c.loop-c in
@@ -29,7 +28,7 @@ turned c =
     c.next_line-step.ensures.end c.next_line-step.ensures.refusal
 
 -- its rows, and those after it
-come : (c : tie.After-step_fault-n goal.the-invariant-loop-c goal.the-decreases-loop-c)
+come : (c : After-step_fault-n)
     → (let l = c.loop-c in let a = c.args in let d = c.next_line-step.result.next in
     to_come a.text.now a.b a.parents.now l.c ≡ rows (if_faulty (a.b.line + l.c.line) c.step_fault-n.result (faults_from (links_in a.parents.now) (a.b.line + d.line) d.programs (drop d.line (lines_kept_from a.text.now a.b)))))
 come c =
@@ -37,11 +36,11 @@ come c =
     let a = c.args in
     let b = c.args.b in
     let w = c.next_line-step in
-    turn-rows b.strict a.text.now b.at l.area l.ids l.c l.invariant.0 _ _ w.result.next w.ensures.next w.ensures.line w.result.end w.result.refusal (turned c.before.before.before.before.before.before.before.before.before.before)
+    turn-rows b.strict a.text.now b.at l.area l.ids l.c l.invariant.0 _ _ w.result.next w.ensures.next w.ensures.line w.result.end w.result.refusal (turned (goal.at.After-step_fault-n c).After-next_line-step)
     (links_in a.parents.now) b.line c.plain_fault-plain.result c.step_fault-n.result c.plain_fault-plain.ensures c.step_fault-n.ensures
 
 -- line numbers are small
-small : (c : After-next_line-arg-in-loop-c-1) → ((c.loop-c.c.line ≤ 16777216) × (c.args.b.line ≤ 16777216))
+small : (c : At-loop-c) → ((c.loop-c.c.line ≤ 16777216) × (c.args.b.line ≤ 16777216))
 small c =
     let l = c.loop-c in
     (omega (arith, l.invariant.0.slow, l.invariant.0.inside, c.requires.text_len_bound), omega (arith, c.requires.first.slow, c.requires.first.inside, c.requires.text_len_bound))
@@ -73,26 +72,26 @@ next_line-step-requires c = record {
 }
 
 pub overflow_cast-line : goal.overflow_cast-line
-overflow_cast-line c = omega (arith, small (goal.at.overflow_cast-line c).After-next_line-arg-in-loop-c-1)
+overflow_cast-line c = omega (arith, small (goal.at.overflow_cast-line c).At-loop-c)
 
 pub overflow_add-line : goal.overflow_add-line
-overflow_add-line c = omega (arith, small (goal.at.overflow_add-line c).After-next_line-arg-in-loop-c-1)
+overflow_add-line c = omega (arith, small (goal.at.overflow_add-line c).At-loop-c)
 
 pub slice_bounds-plain_fault-count : goal.slice_bounds-plain_fault-count
-slice_bounds-plain_fault-count c = (turned c.before.before.before.before.before.before.before).start
+slice_bounds-plain_fault-count c = (turned (goal.at.slice_bounds-plain_fault-count c).After-next_line-step).start
 
 pub slice_bounds-plain_fault-start : goal.slice_bounds-plain_fault-start
-slice_bounds-plain_fault-start c = (turned c.before.before.before.before.before.before.before).start
+slice_bounds-plain_fault-start c = (turned (goal.at.slice_bounds-plain_fault-start c).After-next_line-step).start
 
 pub slice_bounds-plain_fault-end : goal.slice_bounds-plain_fault-end
-slice_bounds-plain_fault-end c = (turned c.before.before.before.before.before.before.before).inside
+slice_bounds-plain_fault-end c = (turned (goal.at.slice_bounds-plain_fault-end c).After-next_line-step).inside
 
 pub plain_fault-plain-requires : goal.plain_fault-plain-requires
 plain_fault-plain-requires c =
     let a = c.args in
     let l = c.loop-c in
     let r = c.next_line-step.result in
-    let u = turned c.before.before.before.before.before.before.before.before in record {
+    let u = turned (goal.at.plain_fault-plain-requires c).After-next_line-step in record {
       src_value = turn-read a.b.strict a.text.now a.b.at l.c r.end r.refusal u;
       src_bound = omega (arith, u.size, u.inside, c.requires.text_len_bound);
     }
@@ -109,19 +108,19 @@ step_fault-n-requires c =
         arith,
         e,
         c.requires.parents_len,
-        with-line b.strict a.text.now b.at l.area l.ids l.c l.invariant.0 _ _ w.result.next w.ensures.next w.ensures.line w.result.end w.result.refusal (turned c.before.before.before.before.before.before.before.before.before.before) (links_in a.parents.now),
+        with-line b.strict a.text.now b.at l.area l.ids l.c l.invariant.0 _ _ w.result.next w.ensures.next w.ensures.line w.result.end w.result.refusal (turned (goal.at.step_fault-n-requires c).After-next_line-step) (links_in a.parents.now),
         programs-within b.strict a.text.now b.at _ _ w.result.next w.ensures.next,
       );
     }
 
 pub loop-c-smaller-then-n-eq0 : goal.loop-c-smaller-then-n-eq0
-loop-c-smaller-then-n-eq0 c = omega (arith, c.loop-c-test.true, (turned c.before.before.before.before.before.before.before.before.before.before.before.before).onward, c.next_line-step.ensures.at)
+loop-c-smaller-then-n-eq0 c = omega (arith, c.loop-c-test.true, (turned (goal.at.loop-c-smaller-then-n-eq0 c).After-next_line-step).onward, c.next_line-step.ensures.at)
 
 pub loop-c-preserved-then-n-eq0 : goal.loop-c-preserved-then-n-eq0
 loop-c-preserved-then-n-eq0 c =
     let l = c.loop-c in
     let w = c.next_line-step in
-    let e = come c.before.before ∙ row-none _ _ l.row l.table c.step_fault-n.result c.if-n-eq0.true in (
+    let e = come (goal.at.loop-c-preserved-then-n-eq0 c).After-step_fault-n ∙ row-none _ _ l.row l.table c.step_fault-n.result c.if-n-eq0.true in (
       w.ensures.next,
       omega (arith, l.invariant.1, ap length e),
       ap (over l.table (l.row * 2)) (sym e) ∙ l.invariant.2,
@@ -134,13 +133,13 @@ loop-c-preserved-then-n-eq0 c =
 pub put_row-requires : goal.put_row-requires
 put_row-requires c =
     let l = c.loop-c in
-    omega (arith, l.invariant.1, ap length (come c.before.before.before ∙ row_one _ _ l.row l.table c.step_fault-n.result c.if-n-eq0.false))
+    omega (arith, l.invariant.1, ap length (come (goal.at.put_row-requires c).After-step_fault-n ∙ row_one _ _ l.row l.table c.step_fault-n.result c.if-n-eq0.false))
 
 pub overflow_add-row : goal.overflow_add-row
-overflow_add-row c = omega (arith, small (goal.at.overflow_add-row c).After-next_line-arg-in-loop-c-1, c.loop-c.invariant.3)
+overflow_add-row c = omega (arith, small (goal.at.overflow_add-row c).At-loop-c, c.loop-c.invariant.3)
 
 pub loop-c-smaller : goal.loop-c-smaller
-loop-c-smaller c = omega (arith, c.loop-c-test.true, (turned c.before.before.before.before.before.before.before.before.before.before.before.before.before.before.before.before).onward, c.next_line-step.ensures.at)
+loop-c-smaller c = omega (arith, c.loop-c-test.true, (turned (goal.at.loop-c-smaller c).After-next_line-step).onward, c.next_line-step.ensures.at)
 
 pub loop-c-preserved : goal.loop-c-preserved
 loop-c-preserved c =
@@ -148,7 +147,7 @@ loop-c-preserved c =
     let w = c.next_line-step in
     let a = c.args in
     let p = c.put_row in
-    let e = come c.before.before.before.before.before.before in
+    let e = come (goal.at.loop-c-preserved c).After-step_fault-n in
     let n = c.step_fault-n.result in
     let h = c.if-n-eq0.false in
     let room = c.loop-c.invariant.1 in (

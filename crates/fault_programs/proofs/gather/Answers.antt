@@ -17,10 +17,10 @@ use Rattle.carry_passes.proofs.Steps.{turn-read}
 use Rattle.fault_programs.specs.Plain.{plain_count}
 use Rattle.fault_programs.proofs.KeptPrograms.{plain-judged, one-le, programs_in, programs-done, programs-same, programs-one, programs-more, programs-room, ReadProgram, is-program, line-says, turn-stands, Noting, noting-none, noting-more, noting-all, all-taken}
 use Rattle.fault_programs.proofs.gather.Goals as goal
-use Rattle.fault_programs.proofs.gather.Goals.{After-one_if-plain, After-slice_known-in-loop-c-2-1, Else-c-i}
+use Rattle.fault_programs.proofs.gather.Goals.{After-next_line-step, After-one_if-plain, Else-c-i}
 
 -- the line of a step
-turned : (c : After-slice_known-in-loop-c-2-1)
+turned : (c : After-next_line-step)
     → (let l = c.loop-c in let a = c.args in Turn a.b.strict a.text.now a.b.at l.c c.next_line-step.result.end c.next_line-step.result.refusal)
 turned c =
     let l = c.loop-c in
@@ -48,20 +48,20 @@ next_line-step-requires c = record {
 }
 
 pub slice_bounds-plain_fault-count : goal.slice_bounds-plain_fault-count
-slice_bounds-plain_fault-count c = (turned c).start
+slice_bounds-plain_fault-count c = (turned (goal.at.slice_bounds-plain_fault-count c).After-next_line-step).start
 
 pub slice_bounds-plain_fault-start : goal.slice_bounds-plain_fault-start
-slice_bounds-plain_fault-start c = (turned c).start
+slice_bounds-plain_fault-start c = (turned (goal.at.slice_bounds-plain_fault-start c).After-next_line-step).start
 
 pub slice_bounds-plain_fault-end : goal.slice_bounds-plain_fault-end
-slice_bounds-plain_fault-end c = (turned c).inside
+slice_bounds-plain_fault-end c = (turned (goal.at.slice_bounds-plain_fault-end c).After-next_line-step).inside
 
 pub plain_fault-requires : goal.plain_fault-requires
 plain_fault-requires c =
     let a = c.args in
     let l = c.loop-c in
     let r = c.next_line-step.result in
-    let u = turned (goal.at.plain_fault-requires c).After-slice_known-in-loop-c-2-1 in record {
+    let u = turned (goal.at.plain_fault-requires c).After-next_line-step in record {
       src_value = turn-read a.b.strict a.text.now a.b.at l.c r.end r.refusal u;
       src_bound = omega (arith, u.size, u.inside, c.requires.text_len_bound);
     }
@@ -75,7 +75,7 @@ overflow_add-plain c =
     omega (arith, l.invariant.2, l.invariant.0.slow, l.invariant.0.inside, c.requires.text_len_bound, c.one_if-plain.ensures, one-le c.plain_fault.result)
 
 pub loop-c-smaller-then-c-i : goal.loop-c-smaller-then-c-i
-loop-c-smaller-then-c-i c = omega (arith, c.loop-c-test.true, (turned (goal.at.loop-c-smaller-then-c-i c).After-slice_known-in-loop-c-2-1).onward, c.next_line-step.ensures.at)
+loop-c-smaller-then-c-i c = omega (arith, c.loop-c-test.true, (turned (goal.at.loop-c-smaller-then-c-i c).After-next_line-step).onward, c.next_line-step.ensures.at)
 
 -- the faults that are counted, one line further
 counted : (c : After-one_if-plain)
@@ -86,7 +86,7 @@ counted c =
     let a = c.args in
     let b = c.args.b in
     let w = c.next_line-step in
-    let u = turned (goal.at.overflow_add-plain c).After-slice_known-in-loop-c-2-1 in
+    let u = turned (goal.at.After-one_if-plain c).After-next_line-step in
     let ls = lines_kept_from a.text.now b in
     let m = c.plain_fault.result in (
       omega (
@@ -106,7 +106,7 @@ loop-c-preserved-then-c-i c =
     let a = c.args in
     let b = c.args.b in
     let w = c.next_line-step in
-    let u = turned (goal.at.loop-c-preserved-then-c-i c).After-slice_known-in-loop-c-2-1 in
+    let u = turned (goal.at.loop-c-preserved-then-c-i c).After-next_line-step in
     let n = counted (goal.at.loop-c-preserved-then-c-i c).After-one_if-plain in (
       w.ensures.next,
       n.0,
@@ -119,22 +119,22 @@ loop-c-preserved-then-c-i c =
     )
 
 pub slice_bounds-places_of-count : goal.slice_bounds-places_of-count
-slice_bounds-places_of-count c = (turned (goal.at.slice_bounds-places_of-count c).After-slice_known-in-loop-c-2-1).start
+slice_bounds-places_of-count c = (turned (goal.at.slice_bounds-places_of-count c).After-next_line-step).start
 
 pub slice_bounds-places_of-start : goal.slice_bounds-places_of-start
-slice_bounds-places_of-start c = (turned (goal.at.slice_bounds-places_of-start c).After-slice_known-in-loop-c-2-1).start
+slice_bounds-places_of-start c = (turned (goal.at.slice_bounds-places_of-start c).After-next_line-step).start
 
 pub slice_bounds-places_of-end : goal.slice_bounds-places_of-end
-slice_bounds-places_of-end c = (turned (goal.at.slice_bounds-places_of-end c).After-slice_known-in-loop-c-2-1).inside
+slice_bounds-places_of-end c = (turned (goal.at.slice_bounds-places_of-end c).After-next_line-step).inside
 
 -- the program of a step
-one : (c : Else-c-i) → ReadProgram (turned (goal.at.slice_bounds-places_of-count c).After-slice_known-in-loop-c-2-1).judged
+one : (c : Else-c-i) → ReadProgram (turned (goal.at.Else-c-i c).After-next_line-step).judged
 one c =
     let l = c.loop-c in
     let a = c.args in
     let b = c.args.b in
     let w = c.next_line-step in
-    let u = turned (goal.at.slice_bounds-places_of-count c).After-slice_known-in-loop-c-2-1 in
+    let u = turned (goal.at.Else-c-i c).After-next_line-step in
     programs-one b.strict a.text.now b.at l.area l.ids l.c l.invariant.0 _ _ w.result.next w.ensures.next w.ensures.line u.judged u.more c.if-c-i.false
 
 room : (c : Else-c-i) → c.loop-c.c.programs < 1024
@@ -143,7 +143,7 @@ room c =
     let a = c.args in
     let b = c.args.b in
     let w = c.next_line-step in
-    let u = turned (goal.at.slice_bounds-places_of-count c).After-slice_known-in-loop-c-2-1 in
+    let u = turned (goal.at.Else-c-i c).After-next_line-step in
     programs-room b.strict a.text.now b.at l.area l.ids l.c l.invariant.0 _ _ w.result.next w.ensures.next w.ensures.line u.judged u.more c.if-c-i.false
 
 pub places_of-noted-requires : goal.places_of-noted-requires
@@ -151,7 +151,7 @@ places_of-noted-requires c =
     let a = c.args in
     let l = c.loop-c in
     let w = c.next_line-step in
-    let u = turned (goal.at.places_of-noted-requires c).After-slice_known-in-loop-c-2-1 in
+    let u = turned (goal.at.places_of-noted-requires c).After-next_line-step in
     let p = one (goal.at.places_of-noted-requires c).Else-c-i in
     fielded a.b.strict _ p.is (is-program a.b.strict a.text.now a.b.at l.c w.result.end w.result.refusal u p) (omega (arith, u.size, u.inside, c.requires.text_len_bound))
 
@@ -180,7 +180,7 @@ pub bounds-widths-i : goal.bounds-widths-i
 bounds-widths-i c = omega (arith, room (goal.at.bounds-widths-i c).Else-c-i)
 
 pub loop-c-smaller : goal.loop-c-smaller
-loop-c-smaller c = omega (arith, c.loop-c-test.true, (turned (goal.at.loop-c-smaller c).After-slice_known-in-loop-c-2-1).onward, c.next_line-step.ensures.at)
+loop-c-smaller c = omega (arith, c.loop-c-test.true, (turned (goal.at.loop-c-smaller c).After-next_line-step).onward, c.next_line-step.ensures.at)
 
 pub loop-c-preserved : goal.loop-c-preserved
 unfolding notes_of
@@ -190,7 +190,7 @@ loop-c-preserved c =
     let b = c.args.b in
     let t = c.args.text.now in
     let w = c.next_line-step in
-    let u = turned (goal.at.loop-c-preserved c).After-slice_known-in-loop-c-2-1 in
+    let u = turned (goal.at.loop-c-preserved c).After-next_line-step in
     let p = one (goal.at.loop-c-preserved c).Else-c-i in
     let i = is-program b.strict t b.at l.c w.result.end w.result.refusal u p in
     let n = counted (goal.at.loop-c-preserved c).After-one_if-plain in (

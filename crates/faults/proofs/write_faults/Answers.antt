@@ -14,7 +14,7 @@ use Rattle.carry_passes.proofs.Split.{early-rows}
 use Rattle.format.specs.Faults.{faults_in, faulting}
 use Rattle.faults.proofs.AnswerCases.{told-short, told-fits, refused_all, written_all, counts-small, left, all-rows, few, inside, count-length, front_length, within, left_is, all-count}
 use Rattle.faults.proofs.write_faults.Goals as goal
-use Rattle.faults.proofs.write_faults.Goals.{After-put_early-arg-1, After-struct_known-2-1}
+use Rattle.faults.proofs.write_faults.Goals.{After-count_links, Else-table-lines}
 
 pub slice_bounds-parents-end : goal.slice_bounds-parents-end
 slice_bounds-parents-end c = let a = c.args in inside a.text.now a.b c.requires.first a.links c.requires.links
@@ -31,7 +31,7 @@ count_links-requires c =
     }
 
 -- line numbers are small
-small : (c : After-struct_known-2-1)
+small : (c : After-count_links)
     → (let a = c.args in (a.links.plain ≤ 16777216) × ((c.count_links.result ≤ 1024) × (a.b.line ≤ 16777216)))
 small c =
     let a = c.args in
@@ -40,26 +40,26 @@ small c =
     (omega (arith, front_length a.text.now a.b f a.links c.requires.links, few a.text.now a.b f))
 
 -- two numbers per faulty line
-counted : (c : After-struct_known-2-1)
+counted : (c : After-count_links)
     → (let a = c.args in length (rows (faults_in (carried_lines a.text.now))) ≡ (a.b.line + (a.links.plain + c.count_links.result)) * 2)
 counted c =
     let a = c.args in
     all-count a.text.now a.b c.requires.first a.links c.requires.links c.count_links.result c.count_links.ensures
 
 pub overflow_add-lines : goal.overflow_add-lines
-overflow_add-lines c = omega (arith, small c)
+overflow_add-lines c = omega (arith, small (goal.at.overflow_add-lines c).After-count_links)
 
 pub overflow_add-lines-2 : goal.overflow_add-lines-2
-overflow_add-lines-2 c = omega (arith, small c)
+overflow_add-lines-2 c = omega (arith, small (goal.at.overflow_add-lines-2 c).After-count_links)
 
 pub overflow_mul-lines : goal.overflow_mul-lines
-overflow_mul-lines c = omega (arith, small c)
+overflow_mul-lines c = omega (arith, small (goal.at.overflow_mul-lines c).After-count_links)
 
 pub returns-then-table-lines : goal.returns-then-table-lines
 returns-then-table-lines c =
     let a = c.args in
     let t = c.args.text.now in
-    let told = refused_all (faulting t (length a.table.now)) a.table.now 20 (record { 0 = 0 }) (told-short t (length a.table.now) c.requires.text_len_bound (omega (arith, counted (goal.at.returns-then-table-lines c).After-struct_known-2-1, c.if-table-lines.true))) in
+    let told = refused_all (faulting t (length a.table.now)) a.table.now 20 (record { 0 = 0 }) (told-short t (length a.table.now) c.requires.text_len_bound (omega (arith, counted (goal.at.returns-then-table-lines c).After-count_links, c.if-table-lines.true))) in
     record { answer = told.0; listed = told.1 }
 
 pub put_early-requires : goal.put_early-requires
@@ -76,12 +76,12 @@ pub slice_bounds-put_lines-end-2 : goal.slice_bounds-put_lines-end-2
 slice_bounds-put_lines-end-2 c = let a = c.args in count-length a.text.now a.b c.requires.first a.links c.requires.links
 
 -- there is room for the rows from the first line that is kept on
-room : (c : After-put_early-arg-1) → (let a = c.args in a.b.line * 2 + length (left a.text.now a.b c.requires.first) ≤ length a.table.now)
+room : (c : Else-table-lines) → (let a = c.args in a.b.line * 2 + length (left a.text.now a.b c.requires.first) ≤ length a.table.now)
 room c =
     let a = c.args in
     let t = c.args.text.now in
     let f = c.requires.first in
-    omega (arith, counted (goal.at.put_early-requires c).After-struct_known-2-1, c.if-table-lines.false, ap length (all-rows t a.b f), length-append (rows_from 0 (early_of t).refusals) (left t a.b f), early-rows t a.b f)
+    omega (arith, counted (goal.at.Else-table-lines c).After-count_links, c.if-table-lines.false, ap length (all-rows t a.b f), length-append (rows_from 0 (early_of t).refusals) (left t a.b f), early-rows t a.b f)
 
 pub put_lines-requires : goal.put_lines-requires
 put_lines-requires c =
@@ -94,7 +94,7 @@ put_lines-requires c =
       fresh = record { some = c.requires.in_bounds; room = omega arith; held = held_none (start plain_seed t 2048) 2048 };
       within = within t a.b f a.links k;
       parents_len = front_length t a.b f a.links k;
-      b_in_bounds = omega (arith, room (goal.at.put_lines-requires c).After-put_early-arg-1, ap length (left_is t a.b f a.links k), c.put_early.auto);
+      b_in_bounds = omega (arith, room (goal.at.put_lines-requires c).Else-table-lines, ap length (left_is t a.b f a.links k), c.put_early.auto);
     }
 
 pub returns : goal.returns
@@ -104,7 +104,7 @@ returns c =
     let b = c.args.b in
     let f = c.requires.first in
     let k = c.requires.links in
-    let n = counted (goal.at.returns c).After-struct_known-2-1 in
+    let n = counted (goal.at.returns c).After-count_links in
     let early = rows_from 0 (early_of t).refusals in
     let half : b.line + (a.links.plain + c.count_links.result) ≡ length (rows (faults_in (carried_lines t))) / 2 = omega (arith, n) in
     let told = written_all (faulting t (length a.table.now)) a.table.now (rows (faults_in (carried_lines t))) _ _
@@ -112,6 +112,6 @@ returns c =
     (c.put_lines.ensures
     ∙ ap₂ (λ o xs. over o (b.line * 2) xs) c.put_early.ensures (left_is t b f a.links k)
     ∙ ap (λ m. over (over a.table.now 0 early) m (left t b f)) (let z : b.line * 2 ≡ 0 + length early = omega (arith, early-rows t b f) in z)
-    ∙ over-over a.table.now 0 early (left t b f) (omega (arith, room (goal.at.returns c).After-put_early-arg-1, early-rows t b f))
+    ∙ over-over a.table.now 0 early (left t b f) (omega (arith, room (goal.at.returns c).Else-table-lines, early-rows t b f))
     ∙ ap (over a.table.now 0) (sym (all-rows t b f))) in
     record { answer = told.0; listed = told.1 }

@@ -13,10 +13,10 @@ use Rattle.field.specs.declared.ParsedField.{ParsedField}
 use Rattle.byte_slices.proofs.Before.{rest}
 use Rattle.field.proofs.Place.{colon_at, field-in-place, place_short, place-tag, place-colon, colon-none, colon-other, colon-value}
 use Rattle.field.proofs.parse_field.Goals as goal
-use Rattle.field.proofs.parse_field.Tie as tie
+use Rattle.field.proofs.parse_field.Goals.{Else-not-is_tag}
 
 -- where the tag was found: what is due is the colon
-tagged : (c : tie.Else-not-is_tag)
+tagged : (c : Else-not-is_tag)
     → field c.args.kind 0 (before 9 c.args.src.now)
     ≡ colon_at
     c.args.kind
@@ -54,7 +54,7 @@ returns-then-src-eq2 c =
     ∙ sym
     (ap
     (parsed_of i.kind)
-    (tagged c.before.before.before ∙ colon-none i.kind _ _ 3 i.src.now c.if-src-eq2.true))
+    (tagged (goal.at.returns-then-src-eq2 c).Else-not-is_tag ∙ colon-none i.kind _ _ 3 i.src.now c.if-src-eq2.true))
 
 pub returns-then-src-ne58 : goal.returns-then-src-ne58
 unfolding parsed_of
@@ -64,7 +64,7 @@ returns-then-src-ne58 c =
     ∙ sym
     (ap
     (parsed_of i.kind)
-    (tagged c.before.before.before.before.before ∙ colon-other i.kind _ _ 3 i.src.now (omega arith) c.if-src-ne58.true))
+    (tagged (goal.at.returns-then-src-ne58 c).Else-not-is_tag ∙ colon-other i.kind _ _ 3 i.src.now (omega arith) c.if-src-ne58.true))
 
 -- what is read from the rest of the slice is read from the piece
 at_value : (k : Kind) (s : List ℕ) (r : ParsedField)
@@ -80,5 +80,5 @@ returns c =
     i.kind
     i.src.now
     _
-    (tagged c.before.before.before.before.before.before ∙ colon-value i.kind _ _ 3 i.src.now (omega arith) c.if-src-ne58.false)
+    (tagged (goal.at.returns c).Else-not-is_tag ∙ colon-value i.kind _ _ 3 i.src.now (omega arith) c.if-src-ne58.false)
     c.parse_field_value.ensures

@@ -28,4 +28,4 @@ returns-in-Header c =
     c.is_same_tag.ensures ∙ sym (ap (λ k. is_version k a.a a.b) c.in-Header.is)
 
 pub returns-in-ReferenceSequence : goal.returns-in-ReferenceSequence
-returns-in-ReferenceSequence c = let a = c.args in sym (elsewhere a.a a.b a.kind c.in-ReferenceSequence.keys2)
+returns-in-ReferenceSequence c = let a = c.args in sym (elsewhere a.a a.b a.kind c.in-ReferenceSequence.in-ReferenceSequence-own.keys2)

@@ -52,4 +52,4 @@ returns-else-is_same_tag c =
     ∙ sym (ap (λ k. is_wide k a.a a.b) c.in-Program.is)
 
 pub returns-in-Header : goal.returns-in-Header
-returns-in-Header c = let a = c.args in sym (elsewhere a.a a.b a.kind c.in-Header.keys4)
+returns-in-Header c = let a = c.args in sym (elsewhere a.a a.b a.kind c.in-Header.in-Header-own.keys4)

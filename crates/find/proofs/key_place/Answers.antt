@@ -33,4 +33,4 @@ unfolding key_place
 returns-in-Program c = sym (ap key_place c.in-Program.is)
 
 pub returns-in_default : goal.returns-in_default
-returns-in_default c = no_key_lem c.args.e c.in_default.keys4
+returns-in_default c = no_key_lem c.args.e c.in_default.in_default-own.keys4

@@ -10,7 +10,7 @@ use Rattle.key_at.specs.Word.{word}
 use Rattle.key_at.proofs.Word.{same_none}
 use Rattle.key_at.proofs.Same.{short-same, longer-differs, low-differs, goes_on, byte-differs}
 use Rattle.key_at.proofs.is_at.Goals as goal
-use Rattle.key_at.proofs.is_at.Goals.{After-shared_slice_known-in-loop-i-1}
+use Rattle.key_at.proofs.is_at.Goals.{In-loop-i}
 
 pub returns-then-text-end : goal.returns-then-text-end
 returns-then-text-end c = let a = c.args in short-same a.key.now a.text.now a.at c.if-text-end.true
@@ -30,24 +30,24 @@ bounds-key-i c = omega arith
 -- ---- in a step of the loop
 
 -- the text has this byte
-within : (c : After-shared_slice_known-in-loop-i-1) → c.args.at + c.loop-i.i < length c.args.text.now
+within : (c : In-loop-i) → c.args.at + c.loop-i.i < length c.args.text.now
 within c = omega (arith, c.loop-i-test.true, c.if-text-end.false)
 
 pub overflow_add-at : goal.overflow_add-at
-overflow_add-at c = omega (arith, within c)
+overflow_add-at c = omega (arith, within (goal.at.overflow_add-at c).In-loop-i)
 
 pub bounds-text-at : goal.bounds-text-at
-bounds-text-at c = within (goal.at.bounds-text-at c).After-shared_slice_known-in-loop-i-1
+bounds-text-at c = within (goal.at.bounds-text-at c).In-loop-i
 
 pub returns-then-text-at : goal.returns-then-text-at
 returns-then-text-at c =
     let a = c.args in
-    sym (c.loop-i.invariant.1 ∙ byte-differs a.key.now a.text.now c.loop-i.i (a.at + c.loop-i.i) c.loop-i-test.true (within (goal.at.returns-then-text-at c).After-shared_slice_known-in-loop-i-1) c.if-text-at.true)
+    sym (c.loop-i.invariant.1 ∙ byte-differs a.key.now a.text.now c.loop-i.i (a.at + c.loop-i.i) c.loop-i-test.true (within (goal.at.returns-then-text-at c).In-loop-i) c.if-text-at.true)
 
 pub returns-then-b-lt32 : goal.returns-then-b-lt32
 returns-then-b-lt32 c =
     let a = c.args in
-    sym (c.loop-i.invariant.1 ∙ low-differs a.key.now a.text.now c.loop-i.i (a.at + c.loop-i.i) c.loop-i-test.true (within (goal.at.returns-then-b-lt32 c).After-shared_slice_known-in-loop-i-1) (omega (arith, c.if-text-at.false, c.if-b-lt32.true)))
+    sym (c.loop-i.invariant.1 ∙ low-differs a.key.now a.text.now c.loop-i.i (a.at + c.loop-i.i) c.loop-i-test.true (within (goal.at.returns-then-b-lt32 c).In-loop-i) (omega (arith, c.if-text-at.false, c.if-b-lt32.true)))
 
 pub overflow_add-i : goal.overflow_add-i
 overflow_add-i c = omega arith
@@ -62,7 +62,7 @@ loop-i-preserved c =
     let z : a.at + i + 1 ≡ a.at + (i + 1) = omega arith in (
       omega arith,
       c.loop-i.invariant.1
-          ∙ goes_on a.key.now a.text.now i (a.at + i) c.loop-i-test.true (within (goal.at.loop-i-preserved c).After-shared_slice_known-in-loop-i-1) (omega (arith, c.if-text-at.false, c.if-b-lt32.false)) c.if-text-at.false
+          ∙ goes_on a.key.now a.text.now i (a.at + i) c.loop-i-test.true (within (goal.at.loop-i-preserved c).In-loop-i) (omega (arith, c.if-text-at.false, c.if-b-lt32.false)) c.if-text-at.false
           ∙ ap (λ m. same (drop (i + 1) a.key.now) (word (drop m a.text.now))) z,
     )
 

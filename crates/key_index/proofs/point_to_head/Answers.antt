@@ -10,44 +10,43 @@ use Rattle.key_index.specs.Keyed.{sought_by, looks_by}
 use Rattle.key_index.proofs.Keys.{key-inside, key-offset, sought-by-key, looks-by-key}
 use Rattle.key_index.proofs.Looking.{known-below, offset-small}
 use Rattle.key_index.proofs.point_to_head.Goals as goal
-use Rattle.key_index.proofs.point_to_head.Goals.{After-key_of-key, In-Known}
-use Rattle.key_index.proofs.point_to_head.Tie as tie
+use Rattle.key_index.proofs.point_to_head.Goals.{After-key_of-key, After-look_for-looked, In-Known}
 
 -- looking for the head's key ended as the definition says
-ended : (c : tie.After-look_for-looked)
+ended : (c : After-look_for-looked)
     → let a = c.args in
     c.look_for-looked.result.sought ≡ sought_of a.seed a.text.now a.area.now a.head
 ended c =
     let a = c.args in
     c.look_for-looked.ensures.sought ∙ ap (sought_by a.seed a.text.now a.area.now) c.key_of-key.ensures ∙ sought-by-key a.seed a.text.now a.area.now a.head
 
-looked : (c : tie.After-look_for-looked)
+looked : (c : After-look_for-looked)
     → let a = c.args in
     c.look_for-looked.result.slots ≡ looks_of a.seed a.text.now a.area.now a.head
 looked c =
     let a = c.args in
     c.look_for-looked.ensures.slots ∙ ap (looks_by a.seed a.text.now a.area.now) c.key_of-key.ensures ∙ looks-by-key a.seed a.text.now a.area.now a.head
 
-place : (c : tie.After-key_of-key) → c.key_of-key.result.place.at ≡ offset_of c.args.head
+place : (c : After-key_of-key) → c.key_of-key.result.place.at ≡ offset_of c.args.head
 place c = ap (λ k. k.place.at) c.key_of-key.ensures ∙ key-offset c.args.head
 
 -- the slot that holds the key is one of the slots
 below : (c : In-Known) → c.in-Known.i < length c.args.area.now
 below c =
-    known-below c.args.seed c.args.text.now c.args.area.now c.args.head c.in-Known.i c.requires.area_nonzero (sym (ended c.before.before) ∙ c.in-Known.is)
+    known-below c.args.seed c.args.text.now c.args.area.now c.args.head c.in-Known.i c.requires.area_nonzero (sym (ended (goal.at.In-Known c).After-look_for-looked) ∙ c.in-Known.is)
 
 small : (c : After-key_of-key) → c.key_of-key.result.place.at < 16777216
 small c =
-    omega (arith, place c.before, offset-small (length c.args.text.now) c.args.head c.requires.key_in_text)
+    omega (arith, place c, offset-small (length c.args.text.now) c.args.head c.requires.key_in_text)
 
 -- what the slots become, by how the search ended
-told : (c : tie.After-look_for-looked) (s : Sought) → c.look_for-looked.result.sought ≡ s
+told : (c : After-look_for-looked) (s : Sought) → c.look_for-looked.result.sought ≡ s
     → let a = c.args in
     pointed c.key_of-key.result.place.at a.area.now s ≡ after_pointing a.seed a.text.now a.area.now a.head
 unfolding after_pointing
 told c s e =
     let a = c.args in
-    ap₂ (λ at k. pointed at a.area.now k) (place c.before) (sym e ∙ ended c)
+    ap₂ (λ at k. pointed at a.area.now k) (place (goal.at.After-look_for-looked c).After-key_of-key) (sym e ∙ ended c)
 
 pub look_for-looked-requires : goal.look_for-looked-requires
 look_for-looked-requires c =
@@ -81,20 +80,20 @@ bounds-area-i-in-Known c = below (goal.at.bounds-area-i-in-Known c).In-Known
 pub returns-in-Known : goal.returns-in-Known
 unfolding pointed value
 returns-in-Known c = record {
-  slots = looked c.before.before.before;
-  wrote = told c.before.before.before (Known c.in-Known.i) c.in-Known.is;
+  slots = looked (goal.at.returns-in-Known c).After-look_for-looked;
+  wrote = told (goal.at.returns-in-Known c).After-look_for-looked (Known c.in-Known.i) c.in-Known.is;
 }
 
 pub returns-in-Free : goal.returns-in-Free
 unfolding pointed
 returns-in-Free c = record {
-  slots = looked c.before.before;
-  wrote = told c.before.before (Free c.in-Free.field-0) c.in-Free.is;
+  slots = looked (goal.at.returns-in-Free c).After-look_for-looked;
+  wrote = told (goal.at.returns-in-Free c).After-look_for-looked (Free c.in-Free.field-0) c.in-Free.is;
 }
 
 pub returns-in-Full : goal.returns-in-Full
 unfolding pointed
 returns-in-Full c = record {
-  slots = looked c.before.before;
-  wrote = told c.before.before Full c.in-Full.is;
+  slots = looked (goal.at.returns-in-Full c).After-look_for-looked;
+  wrote = told (goal.at.returns-in-Full c).After-look_for-looked Full c.in-Full.is;
 }

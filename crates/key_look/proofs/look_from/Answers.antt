@@ -8,7 +8,7 @@ use Rattle.format.specs.Slots.{around}
 use Rattle.key_look.specs.Sought.{tells_print, look_along, sought_from, looks_from}
 use Rattle.key_look.proofs.Looking.{at-empty, at-hit, at_other, at_next, at-end, looks-empty, looks-hit, looks-other, looks-end}
 use Rattle.key_look.proofs.look_from.Goals as goal
-use Rattle.key_look.proofs.look_from.Tie as tie
+use Rattle.key_look.proofs.look_from.Goals.{After-slot_tells}
 
 pub nonzero_rem-at : goal.nonzero_rem-at
 nonzero_rem-at c = omega arith
@@ -51,7 +51,7 @@ returns-then-slot-eq0 c =
     }
 
 -- what the slot holds
-tells : (c : tie.After-slot_tells goal.the-invariant-loop-slots goal.the-decreases-loop-slots)
+tells : (c : After-slot_tells)
     → let a = c.args in
     c.slot_tells.result ≡ tells_print a.text.now a.print a.id.now (get_or a.area.now c.loop-slots.at 0)
 unfolding tells_print
@@ -64,7 +64,7 @@ returns-then-slot_tells c =
     let s : ℕ = a.number % length a.area.now in
     let hit = tells_print a.text.now a.print a.id.now in
     let h : c.loop-slots.slots < length a.area.now = omega arith in
-    let told = sym (tells c.before.before) ∙ c.if-slot_tells.true in
+    let told = sym (tells (goal.at.returns-then-slot_tells c).After-slot_tells) ∙ c.if-slot_tells.true in
     let looked = looks-hit a.area.now s c.loop-slots.slots v.1 hit c.loop-slots.at v.3 h c.if-slot-eq0.false told in record {
       sought = sym (v.4 ∙ at-hit a.area.now s c.loop-slots.slots v.1 hit c.loop-slots.at v.3 h c.if-slot-eq0.false told);
       slots = sym (v.5 ∙ ap (λ m. c.loop-slots.slots + m) looked);
@@ -84,7 +84,7 @@ loop-slots-preserved c =
     let i : ℕ = c.loop-slots.slots in
     let at : ℕ = c.loop-slots.at in
     let h : i < n = omega arith in
-    let other = sym (tells c.before.before.before) ∙ c.if-slot_tells.false in
+    let other = sym (tells (goal.at.loop-slots-preserved c).After-slot_tells) ∙ c.if-slot_tells.false in
     let m : c.next-at.result < n = omega (arith, c.next-at.ensures, mod-lt (at + 1) {m = n} (omega arith)) in
     let looked = v.5 ∙ ap (λ m. i + m) (looks-other a.area.now s i v.1 hit at v.3 h c.if-slot-eq0.false other) in (
       omega arith,

@@ -12,7 +12,7 @@ use Rattle.accepted_line.proofs.fields.Place.{next-at, bounds}
 use Rattle.merge_fields.specs.Kept.{is_passed, kept_from, told_field, told_fields}
 use Rattle.merge_fields.proofs.KeptFields.{kept-end, kept-later, kept-passed, kept_next}
 use Rattle.merge_fields.proofs.next_field.Goals as goal
-use Rattle.merge_fields.proofs.next_field.Goals.{After-field_end-end, After-struct_known-1}
+use Rattle.merge_fields.proofs.next_field.Goals.{After-field_end-end, After-kept_value-v}
 
 -- the field of a step ends in the line
 reach : (f : After-field_end-end)
@@ -59,7 +59,7 @@ kept_value-v-requires c = record {
 }
 
 -- the field that is found
-field : (c : After-struct_known-1)
+field : (c : After-kept_value-v)
     → (let a = c.args in let v = c.kept_value-v.result in
     (kept_from a.at a.line.now c.loop-i.i ≡ record { tag₀ = get_or a.line.now (c.loop-i.i + 1) 0; tag₁ = get_or a.line.now (c.loop-i.i + 2) 0; value = record { at = v.at; bytes = take v.len (drop (v.at - a.at) a.line.now) } } ∷ kept_from a.at a.line.now c.field_end-end.result)
     × (a.at ≤ v.at) × (v.at - a.at + v.len ≤ length a.line.now))
@@ -69,17 +69,17 @@ field c =
     (sym c.is_passed.ensures ∙ not-true c.is_passed.result c.if-not-is_passed.true-raw) (sym c.is_first_of_tag.ensures ∙ c.if-is_first_of_tag.true) c.kept_value-v.result c.kept_value-v.ensures
 
 pub overflow_sub-result : goal.overflow_sub-result
-overflow_sub-result c = omega (arith, (field c).1)
+overflow_sub-result c = omega (arith, (field (goal.at.overflow_sub-result c).After-kept_value-v).1)
 
 pub returns-then-is_first_of_tag : goal.returns-then-is_first_of_tag
 unfolding told_fields told_field
 returns-then-is_first_of_tag c =
     let a = c.args in
     let v = c.kept_value-v.result in
-    let z : v.at ≡ a.at + (v.at - a.at) = omega (arith, (field c).1) in record {
-      list = c.loop-i.invariant.2 ∙ (field c).0 ∙ ap (λ n. record { tag₀ = get_or a.line.now (c.loop-i.i + 1) 0; tag₁ = get_or a.line.now (c.loop-i.i + 2) 0; value = record { at = n; bytes = take v.len (drop (v.at - a.at) a.line.now) } } ∷ kept_from a.at a.line.now c.field_end-end.result) z;
+    let z : v.at ≡ a.at + (v.at - a.at) = omega (arith, (field (goal.at.returns-then-is_first_of_tag c).After-kept_value-v).1) in record {
+      list = c.loop-i.invariant.2 ∙ (field (goal.at.returns-then-is_first_of_tag c).After-kept_value-v).0 ∙ ap (λ n. record { tag₀ = get_or a.line.now (c.loop-i.i + 1) 0; tag₁ = get_or a.line.now (c.loop-i.i + 2) 0; value = record { at = n; bytes = take v.len (drop (v.at - a.at) a.line.now) } } ∷ kept_from a.at a.line.now c.field_end-end.result) z;
       place = record {
-        value = (field c).2;
+        value = (field (goal.at.returns-then-is_first_of_tag c).After-kept_value-v).2;
         here = next-at (none? a.tables.now) a.at a.line.now c.loop-i.i c.loop-i.invariant.0 (omega arith) c.field_end-end.result c.field_end-end.ensures;
         onward = λ e. omega (arith, reach (goal.at.returns-then-is_first_of_tag c).After-field_end-end, c.loop-i.invariant.1);
       };

@@ -10,7 +10,7 @@ use Rattle.merge_fields.specs.Kept.{kept_from, told_field}
 use Rattle.merge_fields.proofs.KeptFields.{told-one, told_none}
 use Rattle.merge_fields.proofs.Walks.{both_end, first_ends, second-ends, both-go-on}
 use Rattle.merge_fields.proofs.same_walks.Goals as goal
-use Rattle.merge_fields.proofs.same_walks.Tie as tie
+use Rattle.merge_fields.proofs.same_walks.Goals.{After-same_field}
 
 pub loop-f-init : goal.loop-f-init
 loop-f-init c = (c.requires.walkable.start, c.requires.walkable_2.start, refl)
@@ -58,7 +58,7 @@ same_field-requires c = record {
 }
 
 -- the fields of a step decide, and then those that are left
-told : (c : tie.After-same_field goal.the-invariant-loop-f goal.the-decreases-loop-f)
+told : (c : After-same_field)
     → (let a = c.args in
     keeps_fields (kept_from a.at_a a.a.now 3) (kept_from a.at_b a.b.now 3)
     ≡ c.same_field.result && keeps_fields (kept_from a.at_a a.a.now c.next_field-f.result.next) (kept_from a.at_b a.b.now c.next_field-g.result.next))
@@ -78,7 +78,7 @@ told c =
 pub returns-then-not-same_field : goal.returns-then-not-same_field
 returns-then-not-same_field c =
     let a = c.args in
-    sym (told c.before.before ∙ ap (λ b. b && keeps_fields (kept_from a.at_a a.a.now c.next_field-f.result.next) (kept_from a.at_b a.b.now c.next_field-g.result.next)) (not-true c.same_field.result c.if-not-same_field.true-raw))
+    sym (told (goal.at.returns-then-not-same_field c).After-same_field ∙ ap (λ b. b && keeps_fields (kept_from a.at_a a.a.now c.next_field-f.result.next) (kept_from a.at_b a.b.now c.next_field-g.result.next)) (not-true c.same_field.result c.if-not-same_field.true-raw))
 
 pub loop-f-smaller : goal.loop-f-smaller
 loop-f-smaller c =
@@ -90,5 +90,5 @@ loop-f-preserved c =
     let a = c.args in (
       c.next_field-f.ensures.place.here,
       c.next_field-g.ensures.place.here,
-      told c.before.before ∙ ap (λ b. b && keeps_fields (kept_from a.at_a a.a.now c.next_field-f.result.next) (kept_from a.at_b a.b.now c.next_field-g.result.next)) (not-false c.same_field.result c.if-not-same_field.false-raw),
+      told (goal.at.loop-f-preserved c).After-same_field ∙ ap (λ b. b && keeps_fields (kept_from a.at_a a.a.now c.next_field-f.result.next) (kept_from a.at_b a.b.now c.next_field-g.result.next)) (not-false c.same_field.result c.if-not-same_field.false-raw),
     )

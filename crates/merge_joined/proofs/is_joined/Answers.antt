@@ -17,7 +17,7 @@ use Rattle.merge_joined.specs.declared.Left.{Left}
 use Rattle.merge_joined.specs.Passing.{Passed}
 use Rattle.merge_joined.proofs.Laws.{behind-front, turn-less}
 use Rattle.merge_joined.proofs.is_joined.Goals as goal
-use Rattle.merge_joined.proofs.is_joined.Tie as tie
+use Rattle.merge_joined.proofs.is_joined.Goals.{After-pass_ordered-left}
 
 pub pass_front-front-requires : goal.pass_front-front-requires
 pass_front-front-requires c = record {
@@ -50,7 +50,7 @@ pass_ordered-left-requires c =
     }
 
 -- after the ordered references what is left decides
-ordered : (c : tie.After-pass_ordered-left goal.the-invariant-loop-left goal.the-decreases-loop-left) → (let a = c.args in invariant-loop a.a.now a.b.now a.m.now a.of c.pass_ordered-left.result c.pass_ordered-left.result)
+ordered : (c : After-pass_ordered-left) → (let a = c.args in invariant-loop a.a.now a.b.now a.m.now a.of c.pass_ordered-left.result c.pass_ordered-left.result)
 ordered c =
     let a = c.args in
     let p = c.pass_ordered-left.ensures in (
@@ -74,7 +74,7 @@ blocked a b m of left₀ left x h t p = (
 
 pub pass_block-left-requires : goal.pass_block-left-requires
 pass_block-left-requires c =
-    let h = ordered c.before.before in record {
+    let h = ordered (goal.at.pass_block-left-requires c).After-pass_ordered-left in record {
       readable = c.requires;
       reached = h.1;
       good_value = (h.2 c.if-left.true, c.if-left.true);
@@ -84,8 +84,8 @@ pub loop-left-init : goal.loop-left-init
 loop-left-init c =
     let a = c.args in
     ⊎_elim
-    (λ w. subst (λ x. invariant-loop a.a.now a.b.now a.m.now a.of x x) (sym w.2) (blocked a.a.now a.b.now a.m.now a.of c.pass_ordered-left.result c.pass_ordered-left.result w.1.result (ordered c.before.before) w.0.taken w.1.ensures.0))
-    (λ w. subst (λ x. invariant-loop a.a.now a.b.now a.m.now a.of x x) (sym w.1) (ordered c.before.before))
+    (λ w. subst (λ x. invariant-loop a.a.now a.b.now a.m.now a.of x x) (sym w.2) (blocked a.a.now a.b.now a.m.now a.of c.pass_ordered-left.result c.pass_ordered-left.result w.1.result (ordered (goal.at.loop-left-init c).After-pass_ordered-left) w.0.taken w.1.ensures.0))
+    (λ w. subst (λ x. invariant-loop a.a.now a.b.now a.m.now a.of x x) (sym w.1) (ordered (goal.at.loop-left-init c).After-pass_ordered-left))
     c.if-left.branch
 
 pub pass_block-left-requires-in-loop-left : goal.pass_block-left-requires-in-loop-left

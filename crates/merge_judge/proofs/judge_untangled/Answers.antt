@@ -12,22 +12,21 @@ use Rattle.merge_judge.specs.Judged.{verdict_of}
 use Rattle.merge_judge.proofs.Listed.{list-is, list-apart}
 use Rattle.merge_judge.proofs.Steps.{judged-30, judged-31, judged-first, judged-second, judged-merged, first-list, second-list}
 use Rattle.merge_judge.proofs.judge_untangled.Goals as goal
-use Rattle.merge_judge.proofs.judge_untangled.Goals.{After-in_m-1, Else-not-is_assigned}
-use Rattle.merge_judge.proofs.judge_untangled.Tie as tie
+use Rattle.merge_judge.proofs.judge_untangled.Goals.{After-is_assigned, After-is_joined, Else-not-is_assigned, Else-not-is_joined}
 
 -- the SQ lists are those of the records
-lists : (c : tie.After-is_joined) → (let a = c.args in c.is_joined.result ≡ is_joined (sq_list (records_of a.a.now)) (sq_list (records_of a.b.now)) (sq_list (records_of a.m.now)))
+lists : (c : After-is_joined) → (let a = c.args in c.is_joined.result ≡ is_joined (sq_list (records_of a.a.now)) (sq_list (records_of a.b.now)) (sq_list (records_of a.m.now)))
 lists c =
     let a = c.args in
     c.is_joined.ensures
     ∙ ap₂ (λ x y. is_joined x y (sq_from a.of.merged.strict a.m.now 0)) (list-is a.a.now a.of.a c.requires.untangled) (list-is a.b.now a.of.b c.requires.untangled_2)
     ∙ ap (is_joined (sq_list (records_of a.a.now)) (sq_list (records_of a.b.now))) (list-is a.m.now a.of.merged c.requires.untangled_3)
 
-joins : (c : After-in_m-1) → (let a = c.args in is_joined (sq_list (records_of a.a.now)) (sq_list (records_of a.b.now)) (sq_list (records_of a.m.now)) ≡ true)
-joins c = sym (lists c.before.before.before.before.before) ∙ not-false c.is_joined.result c.if-not-is_joined.false-raw
+joins : (c : Else-not-is_joined) → (let a = c.args in is_joined (sq_list (records_of a.a.now)) (sq_list (records_of a.b.now)) (sq_list (records_of a.m.now)) ≡ true)
+joins c = sym (lists (goal.at.Else-not-is_joined c).After-is_joined) ∙ not-false c.is_joined.result c.if-not-is_joined.false-raw
 
 -- as many programs as shapes
-assigns : (c : tie.After-is_assigned)
+assigns : (c : After-is_assigned)
     → (let a = c.args in c.is_assigned.result ≡ assigned (length (shapes (records_of a.a.now))) (length (shapes (records_of a.b.now))) (length (shapes (records_of a.m.now))) a.list_a.now a.list_b.now)
 assigns c =
     let a = c.args in
@@ -37,7 +36,7 @@ assigns c =
 
 assigned-all : (c : Else-not-is_assigned)
     → (let a = c.args in assigned (length (shapes (records_of a.a.now))) (length (shapes (records_of a.b.now))) (length (shapes (records_of a.m.now))) a.list_a.now a.list_b.now ≡ true)
-assigned-all c = sym (assigns c.before.before) ∙ not-false c.is_assigned.result c.if-not-is_assigned.false-raw
+assigned-all c = sym (assigns (goal.at.Else-not-is_assigned c).After-is_assigned) ∙ not-false c.is_assigned.result c.if-not-is_assigned.false-raw
 
 pub is_joined-requires : goal.is_joined-requires
 is_joined-requires c =
@@ -54,7 +53,7 @@ pub returns-then-not-is_joined : goal.returns-then-not-is_joined
 unfolding verdict_of
 returns-then-not-is_joined c =
     let a = c.args in
-    sym (ap verdict_of (judged-30 (records_of a.a.now) (records_of a.b.now) (records_of a.m.now) a.list_a.now a.list_b.now (sym (lists c.before.before) ∙ not-true c.is_joined.result c.if-not-is_joined.true-raw)))
+    sym (ap verdict_of (judged-30 (records_of a.a.now) (records_of a.b.now) (records_of a.m.now) a.list_a.now a.list_b.now (sym (lists (goal.at.returns-then-not-is_joined c).After-is_joined) ∙ not-true c.is_joined.result c.if-not-is_joined.true-raw)))
 
 pub is_assigned-requires : goal.is_assigned-requires
 is_assigned-requires c = count-few c.args.m.now c.args.of.merged c.requires.untangled_3
@@ -63,7 +62,7 @@ pub returns-then-not-is_assigned : goal.returns-then-not-is_assigned
 unfolding verdict_of
 returns-then-not-is_assigned c =
     let a = c.args in
-    sym (ap verdict_of (judged-31 (records_of a.a.now) (records_of a.b.now) (records_of a.m.now) a.list_a.now a.list_b.now (joins (goal.at.returns-then-not-is_assigned c).After-in_m-1) (sym (assigns c.before.before) ∙ not-true c.is_assigned.result c.if-not-is_assigned.true-raw)))
+    sym (ap verdict_of (judged-31 (records_of a.a.now) (records_of a.b.now) (records_of a.m.now) a.list_a.now a.list_b.now (joins (goal.at.returns-then-not-is_assigned c).Else-not-is_joined) (sym (assigns (goal.at.returns-then-not-is_assigned c).After-is_assigned) ∙ not-true c.is_assigned.result c.if-not-is_assigned.true-raw)))
 
 pub has_images-requires : goal.has_images-requires
 has_images-requires c =
@@ -79,7 +78,7 @@ pub returns-then-not-has_images : goal.returns-then-not-has_images
 unfolding verdict_of
 returns-then-not-has_images c =
     let a = c.args in
-    sym (ap verdict_of (judged-first (records_of a.a.now) (records_of a.b.now) (records_of a.m.now) a.list_a.now a.list_b.now (joins (goal.at.returns-then-not-has_images c).After-in_m-1) (assigned-all (goal.at.returns-then-not-has_images c).Else-not-is_assigned) (sym c.has_images.ensures ∙ not-true c.has_images.result c.if-not-has_images.true-raw)))
+    sym (ap verdict_of (judged-first (records_of a.a.now) (records_of a.b.now) (records_of a.m.now) a.list_a.now a.list_b.now (joins (goal.at.returns-then-not-has_images c).Else-not-is_joined) (assigned-all (goal.at.returns-then-not-has_images c).Else-not-is_assigned) (sym c.has_images.ensures ∙ not-true c.has_images.result c.if-not-has_images.true-raw)))
 
 pub has_images-requires-2 : goal.has_images-requires-2
 has_images-requires-2 c =
@@ -95,10 +94,10 @@ pub returns-then-not-has_images-2 : goal.returns-then-not-has_images-2
 unfolding verdict_of
 returns-then-not-has_images-2 c =
     let a = c.args in
-    sym (ap verdict_of (judged-second (records_of a.a.now) (records_of a.b.now) (records_of a.m.now) a.list_a.now a.list_b.now (joins (goal.at.returns-then-not-has_images-2 c).After-in_m-1) (assigned-all (goal.at.returns-then-not-has_images-2 c).Else-not-is_assigned) (sym c.has_images.ensures ∙ not-false c.has_images.result c.if-not-has_images.false-raw) (sym c.has_images-2.ensures ∙ not-true c.has_images-2.result c.if-not-has_images-2.true-raw)))
+    sym (ap verdict_of (judged-second (records_of a.a.now) (records_of a.b.now) (records_of a.m.now) a.list_a.now a.list_b.now (joins (goal.at.returns-then-not-has_images-2 c).Else-not-is_joined) (assigned-all (goal.at.returns-then-not-has_images-2 c).Else-not-is_assigned) (sym c.has_images.ensures ∙ not-false c.has_images.result c.if-not-has_images.false-raw) (sym c.has_images-2.ensures ∙ not-true c.has_images-2.result c.if-not-has_images-2.true-raw)))
 
 pub returns : goal.returns
 unfolding verdict_of
 returns c =
     let a = c.args in
-    sym (ap verdict_of (judged-merged (records_of a.a.now) (records_of a.b.now) (records_of a.m.now) a.list_a.now a.list_b.now (joins (goal.at.returns c).After-in_m-1) (assigned-all (goal.at.returns c).Else-not-is_assigned) (sym c.has_images.ensures ∙ not-false c.has_images.result c.if-not-has_images.false-raw) (sym c.has_images-2.ensures ∙ not-false c.has_images-2.result c.if-not-has_images-2.false-raw)))
+    sym (ap verdict_of (judged-merged (records_of a.a.now) (records_of a.b.now) (records_of a.m.now) a.list_a.now a.list_b.now (joins (goal.at.returns c).Else-not-is_joined) (assigned-all (goal.at.returns c).Else-not-is_assigned) (sym c.has_images.ensures ∙ not-false c.has_images.result c.if-not-has_images.false-raw) (sym c.has_images-2.ensures ∙ not-false c.has_images-2.result c.if-not-has_images-2.false-raw)))

@@ -13,7 +13,7 @@ use Rattle.merge_fields.specs.Kept.{kept_from}
 use Rattle.merge_programs.specs.declared.Member.{Member}
 use Rattle.merge_programs.specs.Members.{line_at, shape_at, IsMember}
 use Rattle.merge_programs.proofs.is_image.Goals as goal
-use Rattle.merge_programs.proofs.is_image.Tie as tie
+use Rattle.merge_programs.proofs.is_image.Goals.{After-same_fields}
 
 -- the part of the text that a line is lent as
 lent_is : (t : List ℕ) (p : Member) → take (p.at + p.len - p.at) (drop p.at t) ≡ line_at t p
@@ -30,7 +30,7 @@ same_fields-requires c =
     }
 
 -- the fields decide, and then the parents
-told : (c : tie.After-same_fields)
+told : (c : After-same_fields)
     → (let a = c.args in
     is_image a.list.now (shape_at a.a.now a.p) (shape_at a.m.now a.image) ≡ c.same_fields.result && keeps_parent a.list.now (link_of a.p.parent) (link_of a.image.parent))
 unfolding is_image shape_at
@@ -42,10 +42,10 @@ told c =
 pub returns-then-not-same_fields : goal.returns-then-not-same_fields
 returns-then-not-same_fields c =
     let a = c.args in
-    sym (told c.before.before ∙ ap (λ b. b && keeps_parent a.list.now (link_of a.p.parent) (link_of a.image.parent)) (not-true c.same_fields.result c.if-not-same_fields.true-raw))
+    sym (told (goal.at.returns-then-not-same_fields c).After-same_fields ∙ ap (λ b. b && keeps_parent a.list.now (link_of a.p.parent) (link_of a.image.parent)) (not-true c.same_fields.result c.if-not-same_fields.true-raw))
 
 pub returns : goal.returns
 returns c =
     let a = c.args in
     c.keeps_parent.ensures
-    ∙ sym (told c.before.before.before ∙ ap (λ b. b && keeps_parent a.list.now (link_of a.p.parent) (link_of a.image.parent)) (not-false c.same_fields.result c.if-not-same_fields.false-raw))
+    ∙ sym (told (goal.at.returns c).After-same_fields ∙ ap (λ b. b && keeps_parent a.list.now (link_of a.p.parent) (link_of a.image.parent)) (not-false c.same_fields.result c.if-not-same_fields.false-raw))

@@ -9,7 +9,7 @@ use Rattle.binary_references.proofs.Next.{told-one, told_none}
 use Rattle.merge_references.specs.Joining.{From}
 use Rattle.merge_references.proofs.Names.{met-none, met-same, met-other, met-past, from_next}
 use Rattle.merge_references.proofs.look_from.Goals as goal
-use Rattle.merge_references.proofs.look_from.Tie as tie
+use Rattle.merge_references.proofs.look_from.Goals.{After-same_name}
 
 pub loop-q-init : goal.loop-q-init
 loop-q-init c = (c.requires.from, refl)
@@ -35,7 +35,7 @@ same_name-requires c = record {
 }
 
 -- the reference of a step comes first
-first : (c : tie.After-same_name goal.the-invariant-loop-q goal.the-decreases-loop-q)
+first : (c : After-same_name)
     → (let a = c.args in let r = c.next_reference-r.result in
     sq_from a.strict a.a.now c.loop-q.at ≡ told_reference a.a.now r ∷ sq_from a.strict a.a.now r.next)
 first c =
@@ -44,7 +44,7 @@ first c =
     c.next_reference-r.ensures.list ∙ told-one a.strict a.a.now r (not-false r.found c.if-not-r.false)
 
 -- and those after it are the last of the text
-behind : (c : tie.After-same_name goal.the-invariant-loop-q goal.the-decreases-loop-q) → (let a = c.args in From a.strict a.a.now c.next_reference-r.result.next)
+behind : (c : After-same_name) → (let a = c.args in From a.strict a.a.now c.next_reference-r.result.next)
 behind c =
     let a = c.args in
     from_next a.strict a.a.now c.loop-q.at c.next_reference-r.result.next _ c.loop-q.invariant.0 (first c) c.next_reference-r.ensures.place.within
@@ -52,15 +52,15 @@ behind c =
 pub returns-then-q-r : goal.returns-then-q-r
 unfolding told_reference
 returns-then-q-r c = record {
-  met = sym (c.loop-q.invariant.1 ∙ met-same (told_reference c.args.b.now c.args.q) _ _ _ (first c.before.before.before.before.before) (sym c.same_name.ensures ∙ c.if-same_name.true) c.if-q-r.true);
-  behind = behind c.before.before.before.before.before;
+  met = sym (c.loop-q.invariant.1 ∙ met-same (told_reference c.args.b.now c.args.q) _ _ _ (first (goal.at.returns-then-q-r c).After-same_name) (sym c.same_name.ensures ∙ c.if-same_name.true) c.if-q-r.true);
+  behind = behind (goal.at.returns-then-q-r c).After-same_name;
 }
 
 pub returns-then-same_name : goal.returns-then-same_name
 unfolding told_reference
 returns-then-same_name c = record {
-  met = sym (c.loop-q.invariant.1 ∙ met-other (told_reference c.args.b.now c.args.q) _ _ _ (first c.before.before.before.before.before) (sym c.same_name.ensures ∙ c.if-same_name.true) c.if-q-r.false);
-  behind = behind c.before.before.before.before.before;
+  met = sym (c.loop-q.invariant.1 ∙ met-other (told_reference c.args.b.now c.args.q) _ _ _ (first (goal.at.returns-then-same_name c).After-same_name) (sym c.same_name.ensures ∙ c.if-same_name.true) c.if-q-r.false);
+  behind = behind (goal.at.returns-then-same_name c).After-same_name;
 }
 
 pub loop-q-smaller : goal.loop-q-smaller
@@ -69,4 +69,4 @@ loop-q-smaller c =
 
 pub loop-q-preserved : goal.loop-q-preserved
 loop-q-preserved c =
-    (behind c.before.before, c.loop-q.invariant.1 ∙ met-past (told_reference c.args.b.now c.args.q) _ _ _ (first c.before.before) (sym c.same_name.ensures ∙ c.if-same_name.false))
+    (behind (goal.at.loop-q-preserved c).After-same_name, c.loop-q.invariant.1 ∙ met-past (told_reference c.args.b.now c.args.q) _ _ _ (first (goal.at.loop-q-preserved c).After-same_name) (sym c.same_name.ensures ∙ c.if-same_name.false))

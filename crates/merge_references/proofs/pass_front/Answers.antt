@@ -10,7 +10,7 @@ use Rattle.binary_references.specs.Next.{sq_from, told_reference}
 use Rattle.binary_references.proofs.Next.{told-one, told_none}
 use Rattle.merge_references.proofs.Lists.{front-end, front-short, front-turn}
 use Rattle.merge_references.proofs.pass_front.Goals as goal
-use Rattle.merge_references.proofs.pass_front.Tie as tie
+use Rattle.merge_references.proofs.pass_front.Goals.{After-same_reference, Else-not-r}
 
 pub loop-r-init : goal.loop-r-init
 loop-r-init c = (omega arith, omega arith, λ l. refl)
@@ -36,7 +36,7 @@ next_reference-n-requires c = record {
 }
 
 -- the reference of a step comes first
-first : (c : tie.Else-not-r goal.the-invariant-loop-r goal.the-decreases-loop-r)
+first : (c : Else-not-r)
     → (let a = c.args in let r = c.next_reference-r.result in
     sq_from a.strict_a a.a.now c.loop-r.at ≡ told_reference a.a.now r ∷ sq_from a.strict_a a.a.now r.next)
 first e =
@@ -48,7 +48,7 @@ pub returns-then-not-n : goal.returns-then-not-n
 returns-then-not-n c =
     let a = c.args in
     let y = c.next_reference-n.result in record {
-      rest = λ l. c.loop-r.invariant.2 l ∙ front-short _ _ l _ _ (first c.before.before.before.before) (c.next_reference-n.ensures.list ∙ told_none a.strict_m a.m.now y (not-true y.found c.if-not-n.true));
+      rest = λ l. c.loop-r.invariant.2 l ∙ front-short _ _ l _ _ (first (goal.at.returns-then-not-n c).Else-not-r) (c.next_reference-n.ensures.list ∙ told_none a.strict_m a.m.now y (not-true y.found c.if-not-n.true));
       within = c.loop-r.invariant.1;
     }
 
@@ -59,7 +59,7 @@ same_reference-requires c = record {
 }
 
 -- it is compared with the next of the merged list, and then those that are left
-told : (c : tie.After-same_reference goal.the-invariant-loop-r goal.the-decreases-loop-r) (l : List Reference)
+told : (c : After-same_reference) (l : List Reference)
     → (let a = c.args in let x = c.next_reference-r.result in let y = c.next_reference-n.result in
     same_references (sq_from a.strict_m a.m.now 0) (sq_from a.strict_a a.a.now 0 ++ l)
     ≡ c.same_reference.result && same_references (sq_from a.strict_m a.m.now y.next) (sq_from a.strict_a a.a.now x.next ++ l))
@@ -68,7 +68,7 @@ told c l =
     let x = c.next_reference-r.result in
     let y = c.next_reference-n.result in
     c.loop-r.invariant.2 l
-    ∙ front-turn _ _ l (told_reference a.a.now x) (sq_from a.strict_a a.a.now x.next) (first c.before.before.before.before) (told_reference a.m.now y) (sq_from a.strict_m a.m.now y.next)
+    ∙ front-turn _ _ l (told_reference a.a.now x) (sq_from a.strict_a a.a.now x.next) (first (goal.at.After-same_reference c).Else-not-r) (told_reference a.m.now y) (sq_from a.strict_m a.m.now y.next)
     (c.next_reference-n.ensures.list ∙ told-one a.strict_m a.m.now y (not-false y.found c.if-not-n.false))
     ∙ ap (λ t. t && same_references (sq_from a.strict_m a.m.now y.next) (sq_from a.strict_a a.a.now x.next ++ l)) (sym c.same_reference.ensures)
 
@@ -77,7 +77,7 @@ returns-then-not-same_reference c =
     let a = c.args in
     let x = c.next_reference-r.result in
     let y = c.next_reference-n.result in record {
-      rest = λ l. told c.before.before l ∙ ap (λ t. t && same_references (sq_from a.strict_m a.m.now y.next) (sq_from a.strict_a a.a.now x.next ++ l)) (not-true c.same_reference.result c.if-not-same_reference.true-raw);
+      rest = λ l. told (goal.at.returns-then-not-same_reference c).After-same_reference l ∙ ap (λ t. t && same_references (sq_from a.strict_m a.m.now y.next) (sq_from a.strict_a a.a.now x.next ++ l)) (not-true c.same_reference.result c.if-not-same_reference.true-raw);
       within = c.loop-r.invariant.1;
     }
 
@@ -90,4 +90,4 @@ loop-r-preserved c =
     let a = c.args in
     let x = c.next_reference-r.result in
     let y = c.next_reference-n.result in
-    (c.next_reference-r.ensures.place.within, c.next_reference-n.ensures.place.within, λ l. told c.before.before l ∙ ap (λ t. t && same_references (sq_from a.strict_m a.m.now y.next) (sq_from a.strict_a a.a.now x.next ++ l)) (not-false c.same_reference.result c.if-not-same_reference.false-raw))
+    (c.next_reference-r.ensures.place.within, c.next_reference-n.ensures.place.within, λ l. told (goal.at.loop-r-preserved c).After-same_reference l ∙ ap (λ t. t && same_references (sq_from a.strict_m a.m.now y.next) (sq_from a.strict_a a.a.now x.next ++ l)) (not-false c.same_reference.result c.if-not-same_reference.false-raw))

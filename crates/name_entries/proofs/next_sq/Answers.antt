@@ -7,8 +7,7 @@ use Rattle.catalogue_entries.proofs.Walk.{turn-within}
 use Rattle.name_entries.specs.Next.{next_sq}
 use Rattle.name_entries.proofs.NextEntry.{next-end, next_here, next-on}
 use Rattle.name_entries.proofs.next_sq.Goals as goal
-use Rattle.name_entries.proofs.next_sq.Goals.{Else-len-eq0}
-use Rattle.name_entries.proofs.next_sq.Tie as tie
+use Rattle.name_entries.proofs.next_sq.Goals.{After-size-len, Else-len-eq0}
 
 pub loop-e-init : goal.loop-e-init
 loop-e-init c = (omega arith, refl)
@@ -19,17 +18,17 @@ pass_fields-at-requires c = omega arith
 -- ---- in a step of the loop
 
 -- from the place after the fields
-from : (c : tie.After-size-len goal.the-invariant-loop-e goal.the-decreases-loop-e) → next_sq c.args.catalogue.now c.args.start ≡ next_sq c.args.catalogue.now c.pass_fields-at.result
+from : (c : After-size-len) → next_sq c.args.catalogue.now c.args.start ≡ next_sq c.args.catalogue.now c.pass_fields-at.result
 from c = c.loop-e.invariant.1 ∙ c.pass_fields-at.ensures.2
 
 pub returns-then-len-eq0 : goal.returns-then-len-eq0
 returns-then-len-eq0 c =
-    sym (from c.before.before ∙ next-end c.args.catalogue.now c.pass_fields-at.result c.size-len.result c.entry_at-e.result c.entry_at-e.ensures c.size-len.ensures c.if-len-eq0.true)
+    sym (from (goal.at.returns-then-len-eq0 c).After-size-len ∙ next-end c.args.catalogue.now c.pass_fields-at.result c.size-len.result c.entry_at-e.result c.entry_at-e.ensures c.size-len.ensures c.if-len-eq0.true)
 
 pub returns-then-kind_of-eq-REFERENCE_SEQUENCE : goal.returns-then-kind_of-eq-REFERENCE_SEQUENCE
 returns-then-kind_of-eq-REFERENCE_SEQUENCE c =
     sym
-    (from c.before.before.before.before
+    (from (goal.at.returns-then-kind_of-eq-REFERENCE_SEQUENCE c).After-size-len
     ∙ next_here c.args.catalogue.now c.pass_fields-at.result c.size-len.result c.entry_at-e.result c.entry_at-e.ensures c.size-len.ensures c.if-len-eq0.false
     (sym c.kind_of.ensures ∙ c.if-kind_of-eq-REFERENCE_SEQUENCE.true))
 
@@ -46,7 +45,7 @@ loop-e-smaller c = omega (arith, within (goal.at.loop-e-smaller c).Else-len-eq0,
 pub loop-e-preserved : goal.loop-e-preserved
 loop-e-preserved c = (
   omega (arith, within (goal.at.loop-e-preserved c).Else-len-eq0),
-  from c.before.before.before.before
+  from (goal.at.loop-e-preserved c).After-size-len
       ∙ next-on c.args.catalogue.now c.pass_fields-at.result c.size-len.result c.entry_at-e.result c.entry_at-e.ensures c.size-len.ensures c.if-len-eq0.false
       (λ q. c.if-kind_of-eq-REFERENCE_SEQUENCE.false (c.kind_of.ensures ∙ q)),
 )

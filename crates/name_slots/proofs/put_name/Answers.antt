@@ -10,18 +10,18 @@ use Rattle.format.specs.NameIndex.{hash_from, first, enter}
 use Rattle.name_index.proofs.SlotCount.{power-some}
 use Rattle.name_slots.specs.Filled.{value_of}
 use Rattle.name_slots.proofs.put_name.Goals as goal
-use Rattle.name_slots.proofs.put_name.Goals.{After-hash-number, After-slice_known-1, After-struct_known-1}
+use Rattle.name_slots.proofs.put_name.Goals.{After-first_slot-first, After-hash-number, Start}
 
 -- the name
-abbrev name : After-slice_known-1 → List ℕ
+abbrev name : Start → List ℕ
 name s = take s.args.p.len (drop s.args.p.at s.args.text.now)
 
-number : (c : After-hash-number) → c.hash-number.result ≡ hash_from 0 (name (goal.at.first_slot-first-requires c).After-slice_known-1)
+number : (c : After-hash-number) → c.hash-number.result ≡ hash_from 0 (name (goal.at.After-hash-number c).Start)
 number c = c.hash-number.ensures ∙ ap (hash_from 0) c.bytes_at.ensures
 
-begins : (c : After-struct_known-1) → c.first_slot-first.result ≡ first (length c.args.slots.now) (name (goal.at.value-v-requires c).After-slice_known-1)
+begins : (c : After-first_slot-first) → c.first_slot-first.result ≡ first (length c.args.slots.now) (name (goal.at.After-first_slot-first c).Start)
 unfolding first
-begins c = c.first_slot-first.ensures ∙ ap (λ h. h % length c.args.slots.now) (number (goal.at.value-v-requires c).After-hash-number)
+begins c = c.first_slot-first.ensures ∙ ap (λ h. h % length c.args.slots.now) (number (goal.at.After-first_slot-first c).After-hash-number)
 
 pub enter-requires : goal.enter-requires
 enter-requires c =
@@ -34,7 +34,7 @@ pub returns : goal.returns
 unfolding enter
 returns c =
     let a = c.args in record {
-      at = c.enter.ensures.at ∙ ap (λ i. seat i a.slots.now) (begins (goal.at.returns c).After-struct_known-1);
+      at = c.enter.ensures.at ∙ ap (λ i. seat i a.slots.now) (begins (goal.at.returns c).After-first_slot-first);
       wrote = c.enter.ensures.wrote
-          ∙ ap₂ (λ i v. set a.slots.now (seat i a.slots.now) v) (begins (goal.at.returns c).After-struct_known-1) (c.value-v.ensures ∙ ap (λ h. value_of a.ordinals a.k h (a.p.at % 16777216)) (number (goal.at.returns c).After-hash-number));
+          ∙ ap₂ (λ i v. set a.slots.now (seat i a.slots.now) v) (begins (goal.at.returns c).After-first_slot-first) (c.value-v.ensures ∙ ap (λ h. value_of a.ordinals a.k h (a.p.at % 16777216)) (number (goal.at.returns c).After-hash-number));
     }

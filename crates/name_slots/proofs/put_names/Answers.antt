@@ -23,7 +23,7 @@ use Rattle.name_entries.proofs.NextEntry.{sq-within}
 use Rattle.name_slots.proofs.Filling.{entered, entered_all, seated-all, seated-on}
 use Rattle.name_slots.proofs.Noted.{note-on}
 use Rattle.name_slots.proofs.put_names.Goals as goal
-use Rattle.name_slots.proofs.put_names.Goals.{After-put_name-arg-1}
+use Rattle.name_slots.proofs.put_names.Goals.{In-ReferenceSequence}
 
 pub loop-p-init : goal.loop-p-init
 loop-p-init c = (omega arith, omega arith, refl, refl, refl, refl)
@@ -34,17 +34,17 @@ next_sq-at-requires c = omega arith
 -- ---- an SQ entry
 
 -- what it is
-abbrev entry : After-put_name-arg-1 → Entry
+abbrev entry : In-ReferenceSequence → Entry
 entry c = ReferenceSequence c.in-ReferenceSequence.p c.in-ReferenceSequence.field-1 c.in-ReferenceSequence.field-2
 
-found : (c : After-put_name-arg-1) → entry c ≡ entry_of (drop c.next_sq-at.result c.args.catalogue.now)
+found : (c : In-ReferenceSequence) → entry c ≡ entry_of (drop c.next_sq-at.result c.args.catalogue.now)
 found c = sym c.in-ReferenceSequence.is ∙ c.entry_at-e.ensures
 
-is-sq : (c : After-put_name-arg-1) → kind_byte (entry c) ≡ 2
+is-sq : (c : In-ReferenceSequence) → kind_byte (entry c) ≡ 2
 unfolding kind_byte
 is-sq c = refl
 
-within : (c : After-put_name-arg-1) → c.next_sq-at.result + 21 ≤ length c.args.catalogue.now
+within : (c : In-ReferenceSequence) → c.next_sq-at.result + 21 ≤ length c.args.catalogue.now
 within c =
     sq-within c.args.catalogue.now c.loop-p.at c.next_sq-at.result c.next_sq-at.ensures (entry c) (found c) (is-sq c)
 
@@ -57,7 +57,7 @@ put_name-slot-requires c =
     }
 
 -- the slot that its name enters
-abbrev place : After-put_name-arg-1 → ℕ
+abbrev place : In-ReferenceSequence → ℕ
 place c =
     let slots = c.loop-p.slots in
     let p = c.in-ReferenceSequence.p in
@@ -80,10 +80,10 @@ pub overflow_add-k : goal.overflow_add-k
 overflow_add-k c = omega (arith, c.loop-p.inv.0, c.loop-p.inv.1, c.requires.catalogue_len_bound)
 
 pub overflow_add-at : goal.overflow_add-at
-overflow_add-at c = omega (arith, within (goal.at.overflow_add-at c).After-put_name-arg-1)
+overflow_add-at c = omega (arith, within (goal.at.overflow_add-at c).In-ReferenceSequence)
 
 pub loop-p-smaller : goal.loop-p-smaller
-loop-p-smaller c = omega (arith, within (goal.at.loop-p-smaller c).After-put_name-arg-1, c.next_sq-at.ensures)
+loop-p-smaller c = omega (arith, within (goal.at.loop-p-smaller c).In-ReferenceSequence, c.next_sq-at.ensures)
 
 pub loop-p-preserved : goal.loop-p-preserved
 unfolding name_in start_in
@@ -94,17 +94,17 @@ loop-p-preserved c =
     let rest = entries_in (drop (c.next_sq-at.result + 21) a.catalogue.now) in
     let noted : c.if-k-notes.notes ≡ set c.loop-p.notes c.loop-p.k slot.result =
     ⊎_elim (λ w. w.1) (λ w. w.1 ∙ sym (set_out c.loop-p.notes c.loop-p.k slot.result w.0.left)) c.if-k-notes.branch in (
-      within (goal.at.loop-p-preserved c).After-put_name-arg-1,
+      within (goal.at.loop-p-preserved c).In-ReferenceSequence,
       omega (arith, c.loop-p.inv.1, c.next_sq-at.ensures),
       ap length is ∙ enter-length _ _ _ ∙ c.loop-p.inv.2,
       ap length noted ∙ length-set c.loop-p.notes c.loop-p.k slot.result ∙ c.loop-p.inv.3,
       c.loop-p.inv.4
-          ∙ entered a.catalogue.now c.loop-p.at c.next_sq-at.result c.next_sq-at.ensures (entry (goal.at.loop-p-preserved c).After-put_name-arg-1) (found (goal.at.loop-p-preserved c).After-put_name-arg-1) a.ordinals a.text.now c.loop-p.k c.loop-p.slots (is-sq (goal.at.loop-p-preserved c).After-put_name-arg-1)
+          ∙ entered a.catalogue.now c.loop-p.at c.next_sq-at.result c.next_sq-at.ensures (entry (goal.at.loop-p-preserved c).In-ReferenceSequence) (found (goal.at.loop-p-preserved c).In-ReferenceSequence) a.ordinals a.text.now c.loop-p.k c.loop-p.slots (is-sq (goal.at.loop-p-preserved c).In-ReferenceSequence)
           ∙ ap (entering a.ordinals a.text.now (c.loop-p.k + 1) rest) (sym is),
       c.loop-p.inv.5
           ∙ note-on c.loop-p.notes c.if-k-notes.notes c.loop-p.k slot.result
-          (seated-on a.catalogue.now c.loop-p.at c.next_sq-at.result c.next_sq-at.ensures (entry (goal.at.loop-p-preserved c).After-put_name-arg-1) (found (goal.at.loop-p-preserved c).After-put_name-arg-1) a.ordinals a.text.now c.loop-p.k c.loop-p.slots (is-sq (goal.at.loop-p-preserved c).After-put_name-arg-1)
-          ∙ ap (λ after. place (goal.at.loop-p-preserved c).After-put_name-arg-1 ∷ seats a.ordinals a.text.now (c.loop-p.k + 1) rest after) (sym is))
+          (seated-on a.catalogue.now c.loop-p.at c.next_sq-at.result c.next_sq-at.ensures (entry (goal.at.loop-p-preserved c).In-ReferenceSequence) (found (goal.at.loop-p-preserved c).In-ReferenceSequence) a.ordinals a.text.now c.loop-p.k c.loop-p.slots (is-sq (goal.at.loop-p-preserved c).In-ReferenceSequence)
+          ∙ ap (λ after. place (goal.at.loop-p-preserved c).In-ReferenceSequence ∷ seats a.ordinals a.text.now (c.loop-p.k + 1) rest after) (sym is))
           slot.ensures.at noted,
     )
 
@@ -129,7 +129,7 @@ not-sq (Field a b p) h q = omega (arith, q)
 pub returns-in_default : goal.returns-in_default
 returns-in_default c =
     let a = c.args in
-    let none = not-sq c.entry_at-e.result c.in_default.keys2 in record {
+    let none = not-sq c.entry_at-e.result c.in_default.in_default-own.keys2 in record {
       wrote = sym
           (c.loop-p.invariant.4
           ∙ entered_all a.catalogue.now c.loop-p.at c.next_sq-at.result c.next_sq-at.ensures c.entry_at-e.result c.entry_at-e.ensures a.ordinals a.text.now c.loop-p.k c.loop-p.slots none);

@@ -16,37 +16,36 @@ use Rattle.format.specs.Summed.{summed}
 use Rattle.format.specs.Batch.{batching}
 use Rattle.names.proofs.Batched.{batch-refused, batch-long, batch-work, batch-room, batch-all, few, short, many, told, told-refusal, told-answer}
 use Rattle.names.proofs.names.Goals as goal
-use Rattle.names.proofs.names.Goals.{After-count-m, After-slice_known-2-1, After-slot_count-n, Else-list-gt-LONGEST}
-use Rattle.names.proofs.names.Tie as tie
+use Rattle.names.proofs.names.Goals.{After-count-m, After-slot_count-n, In-Fresh, Start}
 
 -- ---- once the check passed
 
 -- the catalogue is the text's own
-own : (c : tie.In-Fresh) → let a = c.args in Current a.text.now a.catalogue.now
+own : (c : In-Fresh) → let a = c.args in Current a.text.now a.catalogue.now
 own c = let a = c.args in check-fresh a.text.now a.catalogue.now (sym c.check.ensures ∙ c.in-Fresh.is)
 
 -- the names of its SQ
-abbrev names : Else-list-gt-LONGEST → List (List ℕ)
+abbrev names : In-Fresh → List (List ℕ)
 names c = let a = c.args in names_in a.text.now (entries_in a.catalogue.now)
 
-abbrev batch : After-slice_known-2-1 → Answer (List ℕ × List ℕ × ℕ)
+abbrev batch : Start → Answer (List ℕ × List ℕ × ℕ)
 batch s = batching s.args.text.now s.args.catalogue.now s.args.list.now (length s.args.work.now) (length s.args.out.now)
 
 -- how many there are
-number : (c : After-count-m) → c.count-m.result ≡ length (names (goal.at.overflow_cast-m c).Else-list-gt-LONGEST)
-number c = let a = c.args in c.count-m.ensures ∙ many a.text.now a.catalogue.now (own c.before.before.before)
+number : (c : After-count-m) → c.count-m.result ≡ length (names (goal.at.After-count-m c).In-Fresh)
+number c = let a = c.args in c.count-m.ensures ∙ many a.text.now a.catalogue.now (own (goal.at.After-count-m c).In-Fresh)
 
 few-names : (c : After-count-m) → c.count-m.result ≤ 16777216
-few-names c = let a = c.args in omega (arith, number c, few a.text.now a.catalogue.now (own c.before.before.before))
+few-names c = let a = c.args in omega (arith, number c, few a.text.now a.catalogue.now (own (goal.at.After-count-m c).In-Fresh))
 
 -- how many slots
-slots : (c : After-slot_count-n) → c.slot_count-n.result ≡ slot_count (length (names (goal.at.overflow_cast-n c).Else-list-gt-LONGEST))
-slots c = c.slot_count-n.ensures ∙ ap slot_count (number (goal.at.overflow_cast-n c).After-count-m)
+slots : (c : After-slot_count-n) → c.slot_count-n.result ≡ slot_count (length (names (goal.at.After-slot_count-n c).In-Fresh))
+slots c = c.slot_count-n.ensures ∙ ap slot_count (number (goal.at.After-slot_count-n c).After-count-m)
 
 pub returns-then-list-gt-LONGEST : goal.returns-then-list-gt-LONGEST
 returns-then-list-gt-LONGEST c =
     let a = c.args in
-    let told = told-refusal (batch (goal.at.returns-then-list-gt-LONGEST c).After-slice_known-2-1) a.work.now a.out.now 1 (record { 0 = 0 }) (batch-long a.text.now a.catalogue.now (own c.before.before) a.list.now (length a.work.now) (length a.out.now) c.if-list-gt-LONGEST.true) in
+    let told = told-refusal (batch (goal.at.returns-then-list-gt-LONGEST c).Start) a.work.now a.out.now 1 (record { 0 = 0 }) (batch-long a.text.now a.catalogue.now (own (goal.at.returns-then-list-gt-LONGEST c).In-Fresh) a.list.now (length a.work.now) (length a.out.now) c.if-list-gt-LONGEST.true) in
     record { answer = told.0; slots = told.1.0; found = told.1.1 }
 
 pub overflow_cast-m : goal.overflow_cast-m
@@ -58,15 +57,15 @@ slot_count-n-requires c = few-names c
 pub returns-then-room-n : goal.returns-then-room-n
 returns-then-room-n c =
     let a = c.args in
-    let told = told-refusal (batch (goal.at.returns-then-room-n c).After-slice_known-2-1) a.work.now a.out.now 20 (record { 0 = 0 })
-    (batch-work a.text.now a.catalogue.now (own c.before.before.before.before.before) a.list.now (length a.work.now) (length a.out.now) c.if-list-gt-LONGEST.false (omega (arith, slots (goal.at.returns-then-room-n c).After-slot_count-n, c.if-room-n.true))) in
+    let told = told-refusal (batch (goal.at.returns-then-room-n c).Start) a.work.now a.out.now 20 (record { 0 = 0 })
+    (batch-work a.text.now a.catalogue.now (own (goal.at.returns-then-room-n c).In-Fresh) a.list.now (length a.work.now) (length a.out.now) c.if-list-gt-LONGEST.false (omega (arith, slots (goal.at.returns-then-room-n c).After-slot_count-n, c.if-room-n.true))) in
     record { answer = told.0; slots = told.1.0; found = told.1.1 }
 
 pub returns-then-out-count : goal.returns-then-out-count
 returns-then-out-count c =
     let a = c.args in
-    let told = told-refusal (batch (goal.at.returns-then-out-count c).After-slice_known-2-1) a.work.now a.out.now 20 (record { 0 = 0 })
-    (batch-room a.text.now a.catalogue.now (own c.before.before.before.before.before.before.before) a.list.now (length a.work.now) (length a.out.now) c.if-list-gt-LONGEST.false (omega (arith, slots (goal.at.returns-then-out-count c).After-slot_count-n, c.if-room-n.false)) (omega (arith, c.count_names-count.ensures, c.if-out-count.true))) in
+    let told = told-refusal (batch (goal.at.returns-then-out-count c).Start) a.work.now a.out.now 20 (record { 0 = 0 })
+    (batch-room a.text.now a.catalogue.now (own (goal.at.returns-then-out-count c).In-Fresh) a.list.now (length a.work.now) (length a.out.now) c.if-list-gt-LONGEST.false (omega (arith, slots (goal.at.returns-then-out-count c).After-slot_count-n, c.if-room-n.false)) (omega (arith, c.count_names-count.ensures, c.if-out-count.true))) in
     record { answer = told.0; slots = told.1.0; found = told.1.1 }
 
 pub slice_bounds-answer-end-in-Fresh : goal.slice_bounds-answer-end-in-Fresh
@@ -81,32 +80,32 @@ pub answer-looks-requires : goal.answer-looks-requires
 answer-looks-requires c =
     let a = c.args in
     record {
-      short = short a.text.now a.catalogue.now (own c.before.before.before.before.before.before.before.before.before);
+      short = short a.text.now a.catalogue.now (own (goal.at.answer-looks-requires c).In-Fresh);
       short-list = c.if-list-gt-LONGEST.false;
-      few = few a.text.now a.catalogue.now (own c.before.before.before.before.before.before.before.before.before);
+      few = few a.text.now a.catalogue.now (own (goal.at.answer-looks-requires c).In-Fresh);
       size = length-take-le c.slot_count-n.result a.work.now c.if-room-n.false ∙ slots (goal.at.answer-looks-requires c).After-slot_count-n;
       room = length-take-le c.count_names-count.result a.out.now c.if-out-count.false ∙ c.count_names-count.ensures;
       count = number (goal.at.answer-looks-requires c).After-count-m;
-      told = told a.text.now a.catalogue.now (own c.before.before.before.before.before.before.before.before.before);
+      told = told a.text.now a.catalogue.now (own (goal.at.answer-looks-requires c).In-Fresh);
     }
 
 pub returns-in-Refused : goal.returns-in-Refused
 returns-in-Refused c =
     let a = c.args in
     let g = c.n-1.given in
-    let told = told-refusal (batch (goal.at.returns-in-Refused c).After-slice_known-2-1) a.work.now a.out.now c.in-Refused.n c.in-Refused.line
+    let told = told-refusal (batch (goal.at.returns-in-Refused c).Start) a.work.now a.out.now c.in-Refused.n c.in-Refused.line
     (batch-refused a.text.now a.catalogue.now a.list.now (length a.work.now) (length a.out.now) c.in-Refused.n c.in-Refused.line.0 (refused-by a.text.now a.catalogue.now c.check.ensures c.in-Refused.n c.in-Refused.line c.in-Refused.is)) in
     record { answer = told.0; slots = told.1.0; found = told.1.1 }
 
 pub returns-else-out-count : goal.returns-else-out-count
 returns-else-out-count c =
     let a = c.args in
-    let xs = names (goal.at.returns-else-out-count c).Else-list-gt-LONGEST in
+    let xs = names (goal.at.returns-else-out-count c).In-Fresh in
     let found = map (name_ordinal xs) (asked a.list.now) in
     let count : c.count_names-count.result ≡ length found = c.count_names-count.ensures ∙ sym (length-map (asked a.list.now) (name_ordinal xs)) in
     let many : c.slot_count-n.result ≡ length (index xs) = slots (goal.at.returns-else-out-count c).After-slot_count-n ∙ sym (index-length xs) in
-    let told = told-answer (batch (goal.at.returns-else-out-count c).After-slice_known-2-1) a.work.now a.out.now found (index xs) (summed (looks xs) (asked a.list.now))
-    (batch-all a.text.now a.catalogue.now (own c.before.before.before.before.before.before.before.before.before.before.before.before.before.before) a.list.now (length a.work.now) (length a.out.now) c.if-list-gt-LONGEST.false (omega (arith, slots (goal.at.returns-else-out-count c).After-slot_count-n, c.if-room-n.false)) (omega (arith, c.count_names-count.ensures, c.if-out-count.false)))
+    let told = told-answer (batch (goal.at.returns-else-out-count c).Start) a.work.now a.out.now found (index xs) (summed (looks xs) (asked a.list.now))
+    (batch-all a.text.now a.catalogue.now (own (goal.at.returns-else-out-count c).In-Fresh) a.list.now (length a.work.now) (length a.out.now) c.if-list-gt-LONGEST.false (omega (arith, slots (goal.at.returns-else-out-count c).After-slot_count-n, c.if-room-n.false)) (omega (arith, c.count_names-count.ensures, c.if-out-count.false)))
     c.count_names-count.result count c.answer-looks.result c.answer-looks.ensures.looks
     (c.answer-looks.new.slots ++ drop c.slot_count-n.result a.work.now) (c.answer-looks.new.out ++ drop c.count_names-count.result a.out.now)
     (ap₂ (λ l m. l ++ drop m a.work.now) c.answer-looks.ensures.slots many) (ap₂ (λ l m. l ++ drop m a.out.now) c.answer-looks.ensures.found count) in

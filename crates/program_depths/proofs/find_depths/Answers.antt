@@ -71,55 +71,55 @@ returns-then-not-learn c =
     let ps = c.args.parents.now in
     none ps (deep-cycle ps c.requires.parents_value c.loop-i.i c.loop-i-test.true (c.learn.ensures.endless (is_false c.learn.result c.if-not-learn.true-raw)))
 
-abbrev start : (c : tie.Else-not-learn goal.the-invariant-loop-i goal.the-decreases-loop-i) → tie.Start invariant-loop decreases-loop
+abbrev start : (c : Else-not-learn) → tie.Start invariant-loop decreases-loop
 start c = c {-Start-}
 
-abbrev ps : (c : tie.Else-not-learn goal.the-invariant-loop-i goal.the-decreases-loop-i) → List ℕ
+abbrev ps : (c : Else-not-learn) → List ℕ
 ps c = (start c).args.parents.now
 
-abbrev i : (c : tie.Else-not-learn goal.the-invariant-loop-i goal.the-decreases-loop-i) → ℕ
+abbrev i : (c : Else-not-learn) → ℕ
 i c = c.loop-i.i
 
 abbrev ds : (c : Else-not-learn) → List ℕ
 ds c = c.learn.new.depths
 
-here : (c : tie.Else-not-learn goal.the-invariant-loop-i goal.the-decreases-loop-i) → (i c) < length (ps c)
+here : (c : Else-not-learn) → (i c) < length (ps c)
 here c = c.loop-i-test.true
 
-known : (c : Else-not-learn) → get_or (ds c) (i c.before) 0 ≡ 4294967295 → ⊥
+known : (c : Else-not-learn) → get_or (ds c) (i c) 0 ≡ 4294967295 → ⊥
 known c = c.learn.ensures.known (is_true c.learn.result c.if-not-learn.false-raw)
 
-noted : (c : Else-not-learn) → KnownRight (ps c.before) (ds c)
+noted : (c : Else-not-learn) → KnownRight (ps c) (ds c)
 noted c = c.learn.ensures.noted
 
-right : (c : Else-not-learn) → (get_or (ds c) (i c.before) 0 ≡ deep (ps c.before) (i c.before)) × (deep (ps c.before) (i c.before) < length (ps c.before))
-right c = (noted c) (i c.before) (here c.before) (known c)
+right : (c : Else-not-learn) → (get_or (ds c) (i c) 0 ≡ deep (ps c) (i c)) × (deep (ps c) (i c) < length (ps c))
+right c = (noted c) (i c) (here c) (known c)
 
 pub offset_bounds-list-i : goal.offset_bounds-list-i
-offset_bounds-list-i c = omega (arith, here c, {-Else1_unread-} (start c {-Else1_unread-}).requires.1)
+offset_bounds-list-i c = omega (arith, here (goal.at.offset_bounds-list-i c).Else-not-learn, (start (goal.at.offset_bounds-list-i c).Else-not-learn).requires.1)
 
 pub bounds-list-i : goal.bounds-list-i
-bounds-list-i c = omega (arith, here c, {-Else1_unread-} (start c {-Else1_unread-}).requires.1)
+bounds-list-i c = omega (arith, here (goal.at.bounds-list-i c).Else-not-learn, (start (goal.at.bounds-list-i c).Else-not-learn).requires.1)
 
 pub overflow_add-sum : goal.overflow_add-sum
-overflow_add-sum c = omega (arith, here c.before, (start c.before).requires.1, (right c).0, (right c).1, c.loop-i.invariant.1)
+overflow_add-sum c = omega (arith, here c, (start c).requires.1, (right c).0, (right c).1, c.loop-i.invariant.1)
 
 pub overflow_add-i : goal.overflow_add-i
-overflow_add-i c = omega (arith, here c.before, (start c.before).requires.1)
+overflow_add-i c = omega (arith, here c, (start c).requires.1)
 
 pub loop-i-smaller : goal.loop-i-smaller
-loop-i-smaller c = omega (arith, here c.before)
+loop-i-smaller c = omega (arith, here c)
 
 pub loop-i-preserved : goal.loop-i-preserved
 loop-i-preserved c =
     let l = c.loop-i in (
-      omega (arith, here c.before),
-      omega (arith, here c.before, (start c.before).requires.1, (right c).0, (right c).1, l.inv.1),
-      omega (arith, l.inv.2, (right c).0, sum-turn (ps c.before) (i c.before) (here c.before)),
+      omega (arith, here c),
+      omega (arith, here c, (start c).requires.1, (right c).0, (right c).1, l.inv.1),
+      omega (arith, l.inv.2, (right c).0, sum-turn (ps c) (i c) (here c)),
       noted c,
-      reached-more (ds c) (i c.before) (reached-kept l.list (ds c) (i c.before) c.learn.ensures.kept l.inv.4) (known c),
+      reached-more (ds c) (i c) (reached-kept l.list (ds c) (i c) c.learn.ensures.kept l.inv.4) (known c),
       c.learn.ensures.sized ∙ l.inv.5,
-      behind-kept l.list (ds c) (length (ps c.before)) c.learn.ensures.kept l.inv.6,
+      behind-kept l.list (ds c) (length (ps c)) c.learn.ensures.kept l.inv.6,
     )
 
 pub returns : goal.returns

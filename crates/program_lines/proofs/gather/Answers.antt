@@ -4,10 +4,10 @@ use native.Mathlib.Omega.{arith}
 use borrow.Author.Tests.{not-true, not-false}
 use Rattle.program_lines.proofs.Listed.{listed-none, listed-all, listed-room, listed-fields, listed_more}
 use Rattle.program_lines.proofs.gather.Goals as goal
-use Rattle.program_lines.proofs.gather.Goals.{After-struct_known-in-loop-p-1}
+use Rattle.program_lines.proofs.gather.Goals.{Else-not-p}
 
 -- what the line of a step is
-room : (c : After-struct_known-in-loop-p-1) → c.loop-p.count < 1024
+room : (c : Else-not-p) → c.loop-p.count < 1024
 room c =
     let l = c.loop-p in
     let r = c.next_program-p.result in
@@ -48,46 +48,46 @@ pub overflow_cast-starts : goal.overflow_cast-starts
 overflow_cast-starts c = omega (arith, c.next_program-p.ensures.place.line, c.loop-p.invariant.fits)
 
 pub offset_bounds-starts-count : goal.offset_bounds-starts-count
-offset_bounds-starts-count c = omega (arith, room (goal.at.offset_bounds-starts-count c).After-struct_known-in-loop-p-1)
+offset_bounds-starts-count c = omega (arith, room (goal.at.offset_bounds-starts-count c).Else-not-p)
 
 pub bounds-starts-count : goal.bounds-starts-count
-bounds-starts-count c = room (goal.at.bounds-starts-count c).After-struct_known-in-loop-p-1
+bounds-starts-count c = room (goal.at.bounds-starts-count c).Else-not-p
 
 pub overflow_cast-sizes : goal.overflow_cast-sizes
 overflow_cast-sizes c = omega (arith, c.next_program-p.ensures.place.line, c.loop-p.invariant.fits)
 
 pub offset_bounds-sizes-count : goal.offset_bounds-sizes-count
-offset_bounds-sizes-count c = omega (arith, room (goal.at.offset_bounds-sizes-count c).After-struct_known-in-loop-p-1)
+offset_bounds-sizes-count c = omega (arith, room (goal.at.offset_bounds-sizes-count c).Else-not-p)
 
 pub bounds-sizes-count : goal.bounds-sizes-count
-bounds-sizes-count c = room (goal.at.bounds-sizes-count c).After-struct_known-in-loop-p-1
+bounds-sizes-count c = room (goal.at.bounds-sizes-count c).Else-not-p
 
 pub offset_bounds-ats-count : goal.offset_bounds-ats-count
-offset_bounds-ats-count c = omega (arith, room (goal.at.offset_bounds-ats-count c).After-struct_known-in-loop-p-1)
+offset_bounds-ats-count c = omega (arith, room (goal.at.offset_bounds-ats-count c).Else-not-p)
 
 pub bounds-ats-count : goal.bounds-ats-count
-bounds-ats-count c = room (goal.at.bounds-ats-count c).After-struct_known-in-loop-p-1
+bounds-ats-count c = room (goal.at.bounds-ats-count c).Else-not-p
 
 pub offset_bounds-lens-count : goal.offset_bounds-lens-count
-offset_bounds-lens-count c = omega (arith, room (goal.at.offset_bounds-lens-count c).After-struct_known-in-loop-p-1)
+offset_bounds-lens-count c = omega (arith, room (goal.at.offset_bounds-lens-count c).Else-not-p)
 
 pub bounds-lens-count : goal.bounds-lens-count
-bounds-lens-count c = room (goal.at.bounds-lens-count c).After-struct_known-in-loop-p-1
+bounds-lens-count c = room (goal.at.bounds-lens-count c).Else-not-p
 
 pub offset_bounds-from-count : goal.offset_bounds-from-count
-offset_bounds-from-count c = omega (arith, room (goal.at.offset_bounds-from-count c).After-struct_known-in-loop-p-1)
+offset_bounds-from-count c = omega (arith, room (goal.at.offset_bounds-from-count c).Else-not-p)
 
 pub bounds-from-count : goal.bounds-from-count
-bounds-from-count c = room (goal.at.bounds-from-count c).After-struct_known-in-loop-p-1
+bounds-from-count c = room (goal.at.bounds-from-count c).Else-not-p
 
 pub offset_bounds-widths-count : goal.offset_bounds-widths-count
-offset_bounds-widths-count c = omega (arith, room (goal.at.offset_bounds-widths-count c).After-struct_known-in-loop-p-1)
+offset_bounds-widths-count c = omega (arith, room (goal.at.offset_bounds-widths-count c).Else-not-p)
 
 pub bounds-widths-count : goal.bounds-widths-count
-bounds-widths-count c = room (goal.at.bounds-widths-count c).After-struct_known-in-loop-p-1
+bounds-widths-count c = room (goal.at.bounds-widths-count c).Else-not-p
 
 pub overflow_add-count : goal.overflow_add-count
-overflow_add-count c = omega (arith, room (goal.at.overflow_add-count c).After-struct_known-in-loop-p-1)
+overflow_add-count c = omega (arith, room (goal.at.overflow_add-count c).Else-not-p)
 
 pub loop-p-smaller : goal.loop-p-smaller
 loop-p-smaller c =

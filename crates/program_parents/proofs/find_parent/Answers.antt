@@ -15,7 +15,7 @@ use Rattle.program_ids.specs.Ids.{ids_at}
 use Rattle.program_ids.specs.Search.{id_ordinal_from, named_of}
 use Rattle.program_parents.specs.Parents.{stranger, or_stranger, parent_of}
 use Rattle.program_parents.proofs.find_parent.Goals as goal
-use Rattle.program_parents.proofs.find_parent.Tie as tie
+use Rattle.program_parents.proofs.find_parent.Goals.{After-find_program}
 
 -- a program that is found, as a parent's number
 number : Named → ℕ
@@ -35,7 +35,7 @@ parent-found t ids p n h e =
     let z : p.at + p.len - p.at ≡ p.len = omega arith in
     rw (ne_eqb p.at 4294967295 h) (sym (number-named (id_ordinal_from (bytes_at t p) 0 ids)) ∙ ap (λ m. number (named_of (id_ordinal_from (take m (drop p.at t)) 0 ids))) (sym z) ∙ ap number (sym e))
 
-answered : (c : tie.After-find_program) (n : Named) → c.find_program.result ≡ n
+answered : (c : After-find_program) (n : Named) → c.find_program.result ≡ n
     → let a = c.args in
     parent_of a.text.now (ids_at a.text.now a.ids.now) a.previous ≡ number n
 answered c n e =
@@ -51,8 +51,8 @@ slice_bounds-find_program-end c = omega (arith, c.requires.somewhere c.if-previo
 
 pub returns-in-Nobody : goal.returns-in-Nobody
 unfolding number stranger
-returns-in-Nobody c = sym (answered c.before.before Nobody c.in-Nobody.is)
+returns-in-Nobody c = sym (answered (goal.at.returns-in-Nobody c).After-find_program Nobody c.in-Nobody.is)
 
 pub returns-in-Is : goal.returns-in-Is
 unfolding number
-returns-in-Is c = sym (answered c.before.before (Is c.in-Is.k) c.in-Is.is)
+returns-in-Is c = sym (answered (goal.at.returns-in-Is c).After-find_program (Is c.in-Is.k) c.in-Is.is)

@@ -13,32 +13,32 @@ use Rattle.program_parents.specs.Placed.{PlacesOf}
 use Rattle.program_parents.proofs.Numbers.{Found, found_none, found_all, found-stray, found-known}
 use Rattle.program_parents.proofs.Own.{own-count, own-few, own-ats, own-lens, from-whole, widths-whole, own-placed, own_room, listed-ids, listed-are, listed-inside, listed-length, own-somewhere, own-parent}
 use Rattle.program_parents.proofs.find_parents.Goals as goal
-use Rattle.program_parents.proofs.find_parents.Goals.{After-shared_slice_known-5-1}
+use Rattle.program_parents.proofs.find_parents.Goals.{Start}
 
 -- ---- what is lent
 
 -- what the arrays hold
-abbrev held : After-shared_slice_known-5-1 → Programs
+abbrev held : Start → Programs
 held s = programs_in s.args.ats.now s.args.lens.now s.args.from.now s.args.widths.now s.args.count
 
 -- there are at most 1,024
-few : (s : After-shared_slice_known-5-1) → s.args.count ≤ 1024
+few : (s : Start) → s.args.count ≤ 1024
 few s = own-few s.args.text.now s.requires.ps (held s) s.requires.are
 
 pub slice_bounds-list_ids-end : goal.slice_bounds-list_ids-end
-slice_bounds-list_ids-end c = sym (own-ats c.args.text.now c.requires.ps (held c) c.requires.are)
+slice_bounds-list_ids-end c = sym (own-ats c.args.text.now c.requires.ps (held (goal.at.slice_bounds-list_ids-end c).Start) c.requires.are)
 
 pub slice_bounds-list_ids-end-2 : goal.slice_bounds-list_ids-end-2
-slice_bounds-list_ids-end-2 c = sym (own-lens c.args.text.now c.requires.ps (held c) c.requires.are)
+slice_bounds-list_ids-end-2 c = sym (own-lens c.args.text.now c.requires.ps (held (goal.at.slice_bounds-list_ids-end-2 c).Start) c.requires.are)
 
 pub list_ids-requires : goal.list_ids-requires
 list_ids-requires c = record {
-  places_in_text = own-placed c.args.text.now c.requires.ps (held (goal.at.list_ids-requires c).After-shared_slice_known-5-1) c.requires.are;
-  ats_in_bounds = own_room c.args.text.now c.requires.ps (held (goal.at.list_ids-requires c).After-shared_slice_known-5-1) c.requires.are;
+  places_in_text = own-placed c.args.text.now c.requires.ps (held (goal.at.list_ids-requires c).Start) c.requires.are;
+  ats_in_bounds = own_room c.args.text.now c.requires.ps (held (goal.at.list_ids-requires c).Start) c.requires.are;
 }
 
 pub overflow_mul-end : goal.overflow_mul-end
-overflow_mul-end c = omega (arith, few (goal.at.overflow_mul-end c).After-shared_slice_known-5-1)
+overflow_mul-end c = omega (arith, few (goal.at.overflow_mul-end c).Start)
 
 pub loop-i-init : goal.loop-i-init
 loop-i-init c = (λ ps x. found_none ps, omega arith)
@@ -50,49 +50,49 @@ abbrev zeros : List ℕ
 zeros = replicate 3072 0
 
 -- the arrays of the PPs are long enough
-from-long : (s : After-shared_slice_known-5-1) → s.args.count ≤ length s.args.from.now
+from-long : (s : Start) → s.args.count ≤ length s.args.from.now
 from-long s = omega (arith, few s, from-whole s.args.text.now s.requires.ps (held s) s.requires.are)
 
-widths-long : (s : After-shared_slice_known-5-1) → s.args.count ≤ length s.args.widths.now
+widths-long : (s : Start) → s.args.count ≤ length s.args.widths.now
 widths-long s = omega (arith, few s, widths-whole s.args.text.now s.requires.ps (held s) s.requires.are)
 
 pub offset_bounds-from-i : goal.offset_bounds-from-i
-offset_bounds-from-i c = omega (arith, few (goal.at.offset_bounds-from-i c).After-shared_slice_known-5-1)
+offset_bounds-from-i c = omega (arith, few (goal.at.offset_bounds-from-i c).Start)
 
 pub bounds-from-i : goal.bounds-from-i
-bounds-from-i c = omega (arith, from-long (goal.at.bounds-from-i c).After-shared_slice_known-5-1)
+bounds-from-i c = omega (arith, from-long (goal.at.bounds-from-i c).Start)
 
 pub offset_bounds-widths-i : goal.offset_bounds-widths-i
-offset_bounds-widths-i c = omega (arith, few (goal.at.offset_bounds-widths-i c).After-shared_slice_known-5-1)
+offset_bounds-widths-i c = omega (arith, few (goal.at.offset_bounds-widths-i c).Start)
 
 pub bounds-widths-i : goal.bounds-widths-i
-bounds-widths-i c = omega (arith, widths-long (goal.at.bounds-widths-i c).After-shared_slice_known-5-1)
+bounds-widths-i c = omega (arith, widths-long (goal.at.bounds-widths-i c).Start)
 
 pub slice_bounds-ids-end : goal.slice_bounds-ids-end
 slice_bounds-ids-end c =
     let l = c.list_ids in
-    listed-inside c.args.text.now c.requires.ps (held (goal.at.slice_bounds-ids-end c).After-shared_slice_known-5-1) c.requires.are zeros l.new.list (omega arith) l.ensures
+    listed-inside c.args.text.now c.requires.ps (held (goal.at.slice_bounds-ids-end c).Start) c.requires.are zeros l.new.list (omega arith) l.ensures
 
 pub slice_bounds-find_parent-end : goal.slice_bounds-find_parent-end
 slice_bounds-find_parent-end c =
     let l = c.list_ids in
-    listed-length c.args.text.now c.requires.ps (held (goal.at.slice_bounds-find_parent-end c).After-shared_slice_known-5-1) c.requires.are zeros l.new.list (omega arith) l.ensures
+    listed-length c.args.text.now c.requires.ps (held (goal.at.slice_bounds-find_parent-end c).Start) c.requires.are zeros l.new.list (omega arith) l.ensures
 
 pub find_parent-parent-requires : goal.find_parent-parent-requires
 find_parent-parent-requires c =
     let l = c.list_ids in record {
-      ids_in_text = listed-ids c.args.text.now c.requires.ps (held (goal.at.find_parent-parent-requires c).After-shared_slice_known-5-1) c.requires.are zeros l.new.list (omega arith) l.ensures;
-      somewhere = own-somewhere c.args.text.now c.requires.ps (held (goal.at.find_parent-parent-requires c).After-shared_slice_known-5-1) c.requires.are c.loop-i.i (omega arith);
+      ids_in_text = listed-ids c.args.text.now c.requires.ps (held (goal.at.find_parent-parent-requires c).Start) c.requires.are zeros l.new.list (omega arith) l.ensures;
+      somewhere = own-somewhere c.args.text.now c.requires.ps (held (goal.at.find_parent-parent-requires c).Start) c.requires.are c.loop-i.i (omega arith);
     }
 
 pub offset_bounds-list-i : goal.offset_bounds-list-i
-offset_bounds-list-i c = omega (arith, few (goal.at.offset_bounds-list-i c).After-shared_slice_known-5-1)
+offset_bounds-list-i c = omega (arith, few (goal.at.offset_bounds-list-i c).Start)
 
 pub bounds-list-i : goal.bounds-list-i
-bounds-list-i c = omega (arith, few (goal.at.bounds-list-i c).After-shared_slice_known-5-1)
+bounds-list-i c = omega (arith, few (goal.at.bounds-list-i c).Start)
 
 pub overflow_add-i : goal.overflow_add-i
-overflow_add-i c = omega (arith, few (goal.at.overflow_add-i c).After-shared_slice_known-5-1)
+overflow_add-i c = omega (arith, few (goal.at.overflow_add-i c).Start)
 
 pub loop-i-smaller : goal.loop-i-smaller
 loop-i-smaller c = omega (arith, c.loop-i-test.true)
@@ -103,8 +103,8 @@ loop-i-preserved c =
     let l = c.loop-i in
     let b = c.list_ids in
     let p = c.find_parent-parent in
-    let more : (ps : List Program) (x : PlacesOf t ps (held (goal.at.loop-i-preserved c).After-shared_slice_known-5-1)) → (l.i < length ps) × (p.result ≡ link_number (get_or (links ps) l.i root)) =
-    λ ps x. (omega (arith, own-count t ps (held (goal.at.loop-i-preserved c).After-shared_slice_known-5-1) x), p.ensures ∙ own-parent t ps (held (goal.at.loop-i-preserved c).After-shared_slice_known-5-1) x l.i (omega arith) c.requires.fits _ (listed-are t ps (held (goal.at.loop-i-preserved c).After-shared_slice_known-5-1) x zeros b.new.list (omega arith) b.ensures)) in (
+    let more : (ps : List Program) (x : PlacesOf t ps (held (goal.at.loop-i-preserved c).Start)) → (l.i < length ps) × (p.result ≡ link_number (get_or (links ps) l.i root)) =
+    λ ps x. (omega (arith, own-count t ps (held (goal.at.loop-i-preserved c).Start) x), p.ensures ∙ own-parent t ps (held (goal.at.loop-i-preserved c).Start) x l.i (omega arith) c.requires.fits _ (listed-are t ps (held (goal.at.loop-i-preserved c).Start) x zeros b.new.list (omega arith) b.ensures)) in (
       (λ ps x. ⊎_elim
           (λ w. subst (λ d. Found ps (set l.list l.i p.result) d (l.i + 1)) (sym w.1) (found-stray ps x.few l.list l.dangling l.i (l.invariant.0 ps x) (more ps x).0 p.result (more ps x).1 w.0.taken))
           (λ w. subst (λ d. Found ps (set l.list l.i p.result) d (l.i + 1)) (sym w.1) (found-known ps x.few l.list l.dangling l.i (l.invariant.0 ps x) (more ps x).0 p.result (more ps x).1 w.0.left))
@@ -115,5 +115,5 @@ loop-i-preserved c =
 pub returns : goal.returns
 returns c = λ ps x.
     let l = c.loop-i in
-    let m = own-count c.args.text.now ps (held (goal.at.returns c).After-shared_slice_known-5-1) x in
+    let m = own-count c.args.text.now ps (held (goal.at.returns c).Start) x in
     found_all ps l.list l.dangling l.i c.args.count (l.invariant.0 ps x) (omega (arith, m, c.loop-i-test.false, l.invariant.1)) m

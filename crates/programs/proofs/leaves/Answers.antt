@@ -16,36 +16,35 @@ use Rattle.read.proofs.Fresh.{Current, refused-by, fresh-by}
 use Rattle.program_parents.proofs.Opened.{Opened, opened}
 use Rattle.programs.proofs.Chained.{leaves-refused, leaves-tangled, leaves-own, refused-leaves, written-leaves}
 use Rattle.programs.proofs.leaves.Goals as goal
-use Rattle.programs.proofs.leaves.Goals.{After-list-1}
-use Rattle.programs.proofs.leaves.Tie as tie
+use Rattle.programs.proofs.leaves.Goals.{After-find_leaves-graph, Else-graph-ne0, In-Fresh}
 
 -- the catalogue is the text's own
-own : (c : tie.In-Fresh) → let a = c.args in Current a.text.now a.catalogue.now
+own : (c : In-Fresh) → let a = c.args in Current a.text.now a.catalogue.now
 own c = let a = c.args in fresh-by a.text.now a.catalogue.now c.check.ensures c.in-Fresh.is
 
-opens : (c : tie.In-Fresh) → let a = c.args in Opened a.text.now a.catalogue.now
+opens : (c : In-Fresh) → let a = c.args in Opened a.text.now a.catalogue.now
 opens c = let a = c.args in opened a.text.now a.catalogue.now (own c).reads (own c).own
 
 pub parents_of-requires : goal.parents_of-requires
 parents_of-requires c = record {
-  text_value = (opens c.before).accepted;
-  catalogue_value = (own c.before).own;
+  text_value = (opens c).accepted;
+  catalogue_value = (own c).own;
 }
 
 pub find_leaves-graph-requires : goal.find_leaves-graph-requires
 find_leaves-graph-requires c = record {
   ps = programs (records_of c.args.text.now);
-  few = (opens c.before.before).few;
+  few = (opens (goal.at.find_leaves-graph-requires c).In-Fresh).few;
   is = c.parents_of.ensures;
 }
 
 -- the programs of the text
-abbrev ps : tie.After-find_leaves-graph → List Program
+abbrev ps : After-find_leaves-graph → List Program
 ps c = programs (records_of c.args.text.now)
 
 -- what is found along their parents
-graph_is : (c : tie.After-find_leaves-graph) → c.find_leaves-graph.result ≡ graph_of (links (ps c))
-graph_is c = c.find_leaves-graph.ensures (ps c) (opens c.before.before).few c.parents_of.ensures
+graph_is : (c : After-find_leaves-graph) → c.find_leaves-graph.result ≡ graph_of (links (ps c))
+graph_is c = c.find_leaves-graph.ensures (ps c) (opens (goal.at.After-find_leaves-graph c).In-Fresh).few c.parents_of.ensures
 
 pub returns-then-graph-ne0 : goal.returns-then-graph-ne0
 returns-then-graph-ne0 c =
@@ -53,41 +52,41 @@ returns-then-graph-ne0 c =
     let room = length a.out.now in
     let g = c.find_leaves-graph.result in
     let told = refused-leaves (leafing a.text.now a.catalogue.now room) a.out.now g.refusal (record { 0 = 0 })
-    (leaves-tangled a.text.now a.catalogue.now (own c.before.before.before.before.before) room g.refusal (graph-refusal (links (ps c.before.before.before)) g (graph_is c.before.before.before)) c.if-graph-ne0.true) in
+    (leaves-tangled a.text.now a.catalogue.now (own (goal.at.returns-then-graph-ne0 c).In-Fresh) room g.refusal (graph-refusal (links (ps (goal.at.returns-then-graph-ne0 c).After-find_leaves-graph)) g (graph_is (goal.at.returns-then-graph-ne0 c).After-find_leaves-graph)) c.if-graph-ne0.true) in
     record { answer = told.0; wrote = told.1 }
 
 pub slice_bounds-list-end : goal.slice_bounds-list-end
 slice_bounds-list-end c =
     let g = c.find_leaves-graph.result in
-    lent-inside (ps c.before.before.before.before.before) (opens c.before.before.before.before.before.before.before).few g.parents (graph-parents (links (ps c.before.before.before.before.before)) g (graph_is c.before.before.before.before.before))
+    lent-inside (ps (goal.at.slice_bounds-list-end c).After-find_leaves-graph) (opens (goal.at.slice_bounds-list-end c).In-Fresh).few g.parents (graph-parents (links (ps (goal.at.slice_bounds-list-end c).After-find_leaves-graph)) g (graph_is (goal.at.slice_bounds-list-end c).After-find_leaves-graph))
 
 pub slice_bounds-hops-end : goal.slice_bounds-hops-end
 slice_bounds-hops-end c =
     let g = c.find_leaves-graph.result in
-    lent-count (ps c.before.before.before.before.before.before) (opens c.before.before.before.before.before.before.before.before).few g.parents (graph-parents (links (ps c.before.before.before.before.before.before)) g (graph_is c.before.before.before.before.before.before))
+    lent-count (ps (goal.at.slice_bounds-hops-end c).After-find_leaves-graph) (opens (goal.at.slice_bounds-hops-end c).In-Fresh).few g.parents (graph-parents (links (ps (goal.at.slice_bounds-hops-end c).After-find_leaves-graph)) g (graph_is (goal.at.slice_bounds-hops-end c).After-find_leaves-graph))
 
 pub hops-hops-requires : goal.hops-hops-requires
 hops-hops-requires c =
     let g = c.find_leaves-graph.result in
-    let q = graph-parents (links (ps c.before.before.before.before.before.before)) g (graph_is c.before.before.before.before.before.before) in record {
-      parents_value = lent-within (ps c.before.before.before.before.before.before) (opens c.before.before.before.before.before.before.before.before).few g.parents q (graph-undangled (links (ps c.before.before.before.before.before.before)) g (graph_is c.before.before.before.before.before.before) c.if-graph-ne0.false);
-      parents_len_bound = lent-few (ps c.before.before.before.before.before.before) (opens c.before.before.before.before.before.before.before.before).few g.parents q;
+    let q = graph-parents (links (ps (goal.at.hops-hops-requires c).After-find_leaves-graph)) g (graph_is (goal.at.hops-hops-requires c).After-find_leaves-graph) in record {
+      parents_value = lent-within (ps (goal.at.hops-hops-requires c).After-find_leaves-graph) (opens (goal.at.hops-hops-requires c).In-Fresh).few g.parents q (graph-undangled (links (ps (goal.at.hops-hops-requires c).After-find_leaves-graph)) g (graph_is (goal.at.hops-hops-requires c).After-find_leaves-graph) c.if-graph-ne0.false);
+      parents_len_bound = lent-few (ps (goal.at.hops-hops-requires c).After-find_leaves-graph) (opens (goal.at.hops-hops-requires c).In-Fresh).few g.parents q;
     }
 
-abbrev xs : (e : After-list-1) → List ℕ
-xs e = leaves (links (ps e.before.before.before.before.before))
+abbrev xs : (e : Else-graph-ne0) → List ℕ
+xs e = leaves (links (ps (goal.at.Else-graph-ne0 e).After-find_leaves-graph))
 
-listed : (e : After-list-1) → e.find_leaves-graph.result.leaves.list ≡ in_array (xs e)
-listed e = graph-list (links (ps e.before.before.before.before.before)) e.find_leaves-graph.result (graph_is e.before.before.before.before.before) e.if-graph-ne0.left
+listed : (e : Else-graph-ne0) → e.find_leaves-graph.result.leaves.list ≡ in_array (xs e)
+listed e = graph-list (links (ps (goal.at.Else-graph-ne0 e).After-find_leaves-graph)) e.find_leaves-graph.result (graph_is (goal.at.Else-graph-ne0 e).After-find_leaves-graph) e.if-graph-ne0.left
 
-counted : (e : After-list-1) → e.find_leaves-graph.result.leaves.count ≡ length (xs e)
-counted e = graph-count (links (ps e.before.before.before.before.before)) e.find_leaves-graph.result (graph_is e.before.before.before.before.before) e.if-graph-ne0.left
+counted : (e : Else-graph-ne0) → e.find_leaves-graph.result.leaves.count ≡ length (xs e)
+counted e = graph-count (links (ps (goal.at.Else-graph-ne0 e).After-find_leaves-graph)) e.find_leaves-graph.result (graph_is (goal.at.Else-graph-ne0 e).After-find_leaves-graph) e.if-graph-ne0.left
 
 pub slice_bounds-ordinals-end : goal.slice_bounds-ordinals-end
-slice_bounds-ordinals-end c = front-inside (xs (goal.at.slice_bounds-ordinals-end c).After-list-1) c.find_leaves-graph.result.leaves.list c.find_leaves-graph.result.leaves.count (listed (goal.at.slice_bounds-ordinals-end c).After-list-1) (counted (goal.at.slice_bounds-ordinals-end c).After-list-1)
+slice_bounds-ordinals-end c = front-inside (xs (goal.at.slice_bounds-ordinals-end c).Else-graph-ne0) c.find_leaves-graph.result.leaves.list c.find_leaves-graph.result.leaves.count (listed (goal.at.slice_bounds-ordinals-end c).Else-graph-ne0) (counted (goal.at.slice_bounds-ordinals-end c).Else-graph-ne0)
 
 pub slice_bounds-put_ordinals-end : goal.slice_bounds-put_ordinals-end
-slice_bounds-put_ordinals-end c = front-count (xs (goal.at.slice_bounds-put_ordinals-end c).After-list-1) c.find_leaves-graph.result.leaves.list c.find_leaves-graph.result.leaves.count (listed (goal.at.slice_bounds-put_ordinals-end c).After-list-1) (counted (goal.at.slice_bounds-put_ordinals-end c).After-list-1)
+slice_bounds-put_ordinals-end c = front-count (xs (goal.at.slice_bounds-put_ordinals-end c).Else-graph-ne0) c.find_leaves-graph.result.leaves.list c.find_leaves-graph.result.leaves.count (listed (goal.at.slice_bounds-put_ordinals-end c).Else-graph-ne0) (counted (goal.at.slice_bounds-put_ordinals-end c).Else-graph-ne0)
 
 pub returns-in-Refused : goal.returns-in-Refused
 returns-in-Refused c =
@@ -103,11 +102,11 @@ returns-else-graph-ne0 c =
     let a = c.args in
     let room = length a.out.now in
     let g = c.find_leaves-graph.result in
-    let is = graph_is c.before.before.before.before.before.before.before.before.before.before.before.before.before.before.before in
-    let sum = c.hops-hops.ensures ∙ ap hops (lent-links (ps c.before.before.before.before.before.before.before.before.before.before.before.before.before.before.before) (opens c.before.before.before.before.before.before.before.before.before.before.before.before.before.before.before.before.before).few g.parents (graph-parents (links (ps c.before.before.before.before.before.before.before.before.before.before.before.before.before.before.before)) g is) (graph-undangled (links (ps c.before.before.before.before.before.before.before.before.before.before.before.before.before.before.before)) g is c.if-graph-ne0.false)) in
-    let found = front (xs (goal.at.returns-else-graph-ne0 c).After-list-1) g.leaves.list g.leaves.count (listed (goal.at.returns-else-graph-ne0 c).After-list-1) (counted (goal.at.returns-else-graph-ne0 c).After-list-1) in
-    let told = written-leaves c.hops-hops.result (leafing a.text.now a.catalogue.now room) room (xs (goal.at.returns-else-graph-ne0 c).After-list-1) a.out.now
-    (leaves-own a.text.now a.catalogue.now (own c.before.before.before.before.before.before.before.before.before.before.before.before.before.before.before.before.before) room (sym (graph-refusal (links (ps c.before.before.before.before.before.before.before.before.before.before.before.before.before.before.before)) g is) ∙ c.if-graph-ne0.false) ∙ ap (λ k. then (fitting room (xs (goal.at.returns-else-graph-ne0 c).After-list-1)) (λ ys. yes (ys, k))) (sym sum)) in record {
+    let is = graph_is (goal.at.returns-else-graph-ne0 c).After-find_leaves-graph in
+    let sum = c.hops-hops.ensures ∙ ap hops (lent-links (ps (goal.at.returns-else-graph-ne0 c).After-find_leaves-graph) (opens (goal.at.returns-else-graph-ne0 c).In-Fresh).few g.parents (graph-parents (links (ps (goal.at.returns-else-graph-ne0 c).After-find_leaves-graph)) g is) (graph-undangled (links (ps (goal.at.returns-else-graph-ne0 c).After-find_leaves-graph)) g is c.if-graph-ne0.false)) in
+    let found = front (xs (goal.at.returns-else-graph-ne0 c).Else-graph-ne0) g.leaves.list g.leaves.count (listed (goal.at.returns-else-graph-ne0 c).Else-graph-ne0) (counted (goal.at.returns-else-graph-ne0 c).Else-graph-ne0) in
+    let told = written-leaves c.hops-hops.result (leafing a.text.now a.catalogue.now room) room (xs (goal.at.returns-else-graph-ne0 c).Else-graph-ne0) a.out.now
+    (leaves-own a.text.now a.catalogue.now (own (goal.at.returns-else-graph-ne0 c).In-Fresh) room (sym (graph-refusal (links (ps (goal.at.returns-else-graph-ne0 c).After-find_leaves-graph)) g is) ∙ c.if-graph-ne0.false) ∙ ap (λ k. then (fitting room (xs (goal.at.returns-else-graph-ne0 c).Else-graph-ne0)) (λ ys. yes (ys, k))) (sym sum)) in record {
       answer = c.with_hops.ensures ∙ ap (λ x. with_hops x c.hops-hops.result) (c.put_ordinals.ensures.answer ∙ ap (λ ys. answer_of (fitting room ys)) found) ∙ told.0;
       wrote = c.put_ordinals.ensures.wrote ∙ ap (λ ys. output_of (fitting room ys) a.out.now) found ∙ told.1;
     }

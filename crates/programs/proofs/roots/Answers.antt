@@ -14,7 +14,7 @@ use Rattle.read.proofs.Fresh.{Current, refused-by, fresh-by}
 use Rattle.program_parents.proofs.Opened.{Opened, opened}
 use Rattle.programs.proofs.Chained.{roots-refused, rooted}
 use Rattle.programs.proofs.roots.Goals as goal
-use Rattle.programs.proofs.roots.Goals.{After-list-1, After-put_ordinals-arg-1, In-Fresh}
+use Rattle.programs.proofs.roots.Goals.{After-parents_of-parents, After-roots-found, In-Fresh}
 
 -- the catalogue is the text's own
 own : (c : In-Fresh) → let a = c.args in Current a.text.now a.catalogue.now
@@ -30,29 +30,29 @@ parents_of-parents-requires c = record {
 }
 
 -- the programs of the text
-abbrev ps : After-list-1 → List Program
+abbrev ps : After-parents_of-parents → List Program
 ps c = programs (records_of c.args.text.now)
 
 pub slice_bounds-list-end : goal.slice_bounds-list-end
-slice_bounds-list-end c = lent-inside (ps c) (opens (goal.at.slice_bounds-list-end c).In-Fresh).few c.parents_of-parents.result c.parents_of-parents.ensures
+slice_bounds-list-end c = lent-inside (ps (goal.at.slice_bounds-list-end c).After-parents_of-parents) (opens (goal.at.slice_bounds-list-end c).In-Fresh).few c.parents_of-parents.result c.parents_of-parents.ensures
 
 pub slice_bounds-roots-end : goal.slice_bounds-roots-end
-slice_bounds-roots-end c = lent-count (ps (goal.at.slice_bounds-roots-end c).After-list-1) (opens (goal.at.slice_bounds-roots-end c).In-Fresh).few c.parents_of-parents.result c.parents_of-parents.ensures
+slice_bounds-roots-end c = lent-count (ps (goal.at.slice_bounds-roots-end c).After-parents_of-parents) (opens (goal.at.slice_bounds-roots-end c).In-Fresh).few c.parents_of-parents.result c.parents_of-parents.ensures
 
 pub roots-found-requires : goal.roots-found-requires
-roots-found-requires c = lent-few (ps (goal.at.roots-found-requires c).After-list-1) (opens (goal.at.roots-found-requires c).In-Fresh).few c.parents_of-parents.result c.parents_of-parents.ensures
+roots-found-requires c = lent-few (ps (goal.at.roots-found-requires c).After-parents_of-parents) (opens (goal.at.roots-found-requires c).In-Fresh).few c.parents_of-parents.result c.parents_of-parents.ensures
 
 -- what is found: the roots in an array
-found : (c : After-put_ordinals-arg-1) → let xs = roots (links (ps (goal.at.slice_bounds-ordinals-end c).After-list-1)) in (c.roots-found.result.list ≡ in_array xs) × (c.roots-found.result.count ≡ length xs)
+found : (c : After-roots-found) → let xs = roots (links (ps (goal.at.After-roots-found c).After-parents_of-parents)) in (c.roots-found.result.list ≡ in_array xs) × (c.roots-found.result.count ≡ length xs)
 found c =
-    let l = lent-roots (ps (goal.at.slice_bounds-ordinals-end c).After-list-1) (opens (goal.at.slice_bounds-ordinals-end c).In-Fresh).few c.parents_of-parents.result c.parents_of-parents.ensures in
+    let l = lent-roots (ps (goal.at.After-roots-found c).After-parents_of-parents) (opens (goal.at.After-roots-found c).In-Fresh).few c.parents_of-parents.result c.parents_of-parents.ensures in
     (c.roots-found.ensures.0 ∙ ap in_array l, c.roots-found.ensures.1 ∙ ap length l)
 
 pub slice_bounds-ordinals-end : goal.slice_bounds-ordinals-end
-slice_bounds-ordinals-end c = front-inside (roots (links (ps (goal.at.slice_bounds-ordinals-end c).After-list-1))) c.roots-found.result.list c.roots-found.result.count (found c).0 (found c).1
+slice_bounds-ordinals-end c = front-inside (roots (links (ps (goal.at.slice_bounds-ordinals-end c).After-parents_of-parents))) c.roots-found.result.list c.roots-found.result.count (found (goal.at.slice_bounds-ordinals-end c).After-roots-found).0 (found (goal.at.slice_bounds-ordinals-end c).After-roots-found).1
 
 pub slice_bounds-put_ordinals-end : goal.slice_bounds-put_ordinals-end
-slice_bounds-put_ordinals-end c = front-count (roots (links (ps (goal.at.slice_bounds-put_ordinals-end c).After-list-1))) c.roots-found.result.list c.roots-found.result.count (found (goal.at.slice_bounds-put_ordinals-end c).After-put_ordinals-arg-1).0 (found (goal.at.slice_bounds-put_ordinals-end c).After-put_ordinals-arg-1).1
+slice_bounds-put_ordinals-end c = front-count (roots (links (ps (goal.at.slice_bounds-put_ordinals-end c).After-parents_of-parents))) c.roots-found.result.list c.roots-found.result.count (found (goal.at.slice_bounds-put_ordinals-end c).After-roots-found).0 (found (goal.at.slice_bounds-put_ordinals-end c).After-roots-found).1
 
 pub returns-in-Refused : goal.returns-in-Refused
 returns-in-Refused c =
@@ -67,9 +67,9 @@ pub returns-in-Fresh : goal.returns-in-Fresh
 returns-in-Fresh c =
     let a = c.args in
     let room = length a.out.now in
-    let xs = roots (links (ps (goal.at.returns-in-Fresh c).After-list-1)) in
+    let xs = roots (links (ps (goal.at.returns-in-Fresh c).After-parents_of-parents)) in
     let is =
-    ap (fitting room) (front xs c.roots-found.result.list c.roots-found.result.count (found (goal.at.returns-in-Fresh c).After-put_ordinals-arg-1).0 (found (goal.at.returns-in-Fresh c).After-put_ordinals-arg-1).1) ∙ sym (rooted a.text.now a.catalogue.now (own (goal.at.returns-in-Fresh c).In-Fresh) room) in record {
+    ap (fitting room) (front xs c.roots-found.result.list c.roots-found.result.count (found (goal.at.returns-in-Fresh c).After-roots-found).0 (found (goal.at.returns-in-Fresh c).After-roots-found).1) ∙ sym (rooted a.text.now a.catalogue.now (own (goal.at.returns-in-Fresh c).In-Fresh) room) in record {
       answer = c.put_ordinals.ensures.answer ∙ ap answer_of is;
       wrote = c.put_ordinals.ensures.wrote ∙ ap (λ x. output_of x a.out.now) is;
     }

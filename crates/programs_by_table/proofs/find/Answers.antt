@@ -10,44 +10,44 @@ use Rattle.program_parents.proofs.Own.{few-programs}
 use Rattle.program_parents.proofs.Road.{lent-count, lent-inside, lent-few, lent-within}
 use Rattle.programs_by_table.proofs.Finding.{found-dangling, found-cycle, found-leaves}
 use Rattle.programs_by_table.proofs.find.Goals as goal
-use Rattle.programs_by_table.proofs.find.Tie as tie
+use Rattle.programs_by_table.proofs.find.Goals.{After-parents_of-parents}
 
 -- the programs of the text, and that they are few
-abbrev ps : tie.After-parents_of-parents → List Program
+abbrev ps : After-parents_of-parents → List Program
 ps f = programs (records_of f.args.text.now)
 
-few : (f : tie.After-parents_of-parents) → length (ps f) ≤ 1024
+few : (f : After-parents_of-parents) → length (ps f) ≤ 1024
 few f = few-programs f.args.text.now f.requires.text_value
 
 pub returns-then-parents : goal.returns-then-parents
 returns-then-parents c =
-    found-dangling (ps c.before.before.before) (few c.before.before.before) c.parents_of-parents.result c.parents_of-parents.ensures c.if-parents.true c.nothing.result c.nothing.ensures
+    found-dangling (ps (goal.at.returns-then-parents c).After-parents_of-parents) (few (goal.at.returns-then-parents c).After-parents_of-parents) c.parents_of-parents.result c.parents_of-parents.ensures c.if-parents.true c.nothing.result c.nothing.ensures
 
 pub slice_bounds-list-end : goal.slice_bounds-list-end
 slice_bounds-list-end c =
-    lent-inside (ps c.before.before.before) (few c.before.before.before) c.parents_of-parents.result c.parents_of-parents.ensures
+    lent-inside (ps (goal.at.slice_bounds-list-end c).After-parents_of-parents) (few (goal.at.slice_bounds-list-end c).After-parents_of-parents) c.parents_of-parents.result c.parents_of-parents.ensures
 
 pub slice_bounds-links-end : goal.slice_bounds-links-end
 slice_bounds-links-end c =
-    lent-count (ps c.before.before.before.before) (few c.before.before.before.before) c.parents_of-parents.result c.parents_of-parents.ensures
+    lent-count (ps (goal.at.slice_bounds-links-end c).After-parents_of-parents) (few (goal.at.slice_bounds-links-end c).After-parents_of-parents) c.parents_of-parents.result c.parents_of-parents.ensures
 
 pub find_depths-known-requires : goal.find_depths-known-requires
 find_depths-known-requires c = record {
-  parents_value = lent-within (ps c.before.before.before.before) (few c.before.before.before.before) c.parents_of-parents.result c.parents_of-parents.ensures c.if-parents.false;
-  parents_len_bound = lent-few (ps c.before.before.before.before) (few c.before.before.before.before) c.parents_of-parents.result c.parents_of-parents.ensures;
+  parents_value = lent-within (ps (goal.at.find_depths-known-requires c).After-parents_of-parents) (few (goal.at.find_depths-known-requires c).After-parents_of-parents) c.parents_of-parents.result c.parents_of-parents.ensures c.if-parents.false;
+  parents_len_bound = lent-few (ps (goal.at.find_depths-known-requires c).After-parents_of-parents) (few (goal.at.find_depths-known-requires c).After-parents_of-parents) c.parents_of-parents.result c.parents_of-parents.ensures;
 }
 
 pub returns-then-known : goal.returns-then-known
 returns-then-known c =
-    found-cycle (ps c.before.before.before.before.before.before.before) (few c.before.before.before.before.before.before.before) c.parents_of-parents.result c.parents_of-parents.ensures c.if-parents.false (sym (cycle-is _ c.find_depths-known.result c.find_depths-known.ensures) ∙ c.if-known.true) c.nothing-then-known.result c.nothing-then-known.ensures
+    found-cycle (ps (goal.at.returns-then-known c).After-parents_of-parents) (few (goal.at.returns-then-known c).After-parents_of-parents) c.parents_of-parents.result c.parents_of-parents.ensures c.if-parents.false (sym (cycle-is _ c.find_depths-known.result c.find_depths-known.ensures) ∙ c.if-known.true) c.nothing-then-known.result c.nothing-then-known.ensures
 
 pub leaves-leaves-requires : goal.leaves-leaves-requires
 leaves-leaves-requires c = record {
-  parents_value = lent-within (ps c.before.before.before.before.before.before) (few c.before.before.before.before.before.before) c.parents_of-parents.result c.parents_of-parents.ensures c.if-parents.false;
-  parents_len_bound = lent-few (ps c.before.before.before.before.before.before) (few c.before.before.before.before.before.before) c.parents_of-parents.result c.parents_of-parents.ensures;
+  parents_value = lent-within (ps (goal.at.leaves-leaves-requires c).After-parents_of-parents) (few (goal.at.leaves-leaves-requires c).After-parents_of-parents) c.parents_of-parents.result c.parents_of-parents.ensures c.if-parents.false;
+  parents_len_bound = lent-few (ps (goal.at.leaves-leaves-requires c).After-parents_of-parents) (few (goal.at.leaves-leaves-requires c).After-parents_of-parents) c.parents_of-parents.result c.parents_of-parents.ensures;
 }
 
 pub returns : goal.returns
 returns c =
-    found-leaves (ps c.before.before.before.before.before.before.before.before) (few c.before.before.before.before.before.before.before.before) c.parents_of-parents.result c.parents_of-parents.ensures c.if-parents.false c.find_depths-known.result c.find_depths-known.ensures c.if-known.false
+    found-leaves (ps (goal.at.returns c).After-parents_of-parents) (few (goal.at.returns c).After-parents_of-parents) c.parents_of-parents.result c.parents_of-parents.ensures c.if-parents.false c.find_depths-known.result c.find_depths-known.ensures c.if-known.false
     c.leaves-leaves.result c.leaves-leaves.ensures

@@ -16,7 +16,7 @@ use Rattle.programs_by_table.specs.Plans.{table_plan_of}
 use Rattle.format.specs.Table.{leafing_table}
 use Rattle.programs_by_table.proofs.Tabled.{stopped-says, planned-says, table-refused, table-tangled, table-short, table_fits}
 use Rattle.programs_by_table.proofs.make_plan.Goals as goal
-use Rattle.programs_by_table.proofs.make_plan.Goals.{After-put_ordinals-arg-1, In-Fresh}
+use Rattle.programs_by_table.proofs.make_plan.Goals.{Else-seats-found, In-Fresh}
 use Rattle.programs_by_table.proofs.make_plan.Tie as tie
 
 abbrev t : (c : In-Fresh) → List ℕ
@@ -67,29 +67,29 @@ returns-then-seats-found c =
       wrote = r.wrote;
     }
 
-abbrev asked : (w : After-put_ordinals-arg-1) → tie.After-find
+abbrev asked : (w : Else-seats-found) → tie.After-find
 asked w = w {-After_find-}
 
-abbrev told : (w : After-put_ordinals-arg-1) → tie.After-enum-told
+abbrev told : (w : Else-seats-found) → tie.After-enum-told
 told w = (asked w).before
 
-untangled : (w : After-put_ordinals-arg-1) → (asked w).find.result.refusal ≡ 0
+untangled : (w : Else-seats-found) → (asked w).find.result.refusal ≡ 0
 untangled w = w.if-found-ne0.left
 
-abbrev xs : (w : After-put_ordinals-arg-1) → List ℕ
+abbrev xs : (w : Else-seats-found) → List ℕ
 xs w = leaves (ls (told w))
 
 -- the front of the array
-inside : (w : After-put_ordinals-arg-1) → (asked w).find.result.leaves.count ≤ length (asked w).find.result.leaves.list
+inside : (w : Else-seats-found) → (asked w).find.result.leaves.count ≤ length (asked w).find.result.leaves.list
 inside w = front-inside (xs w) (asked w).find.result.leaves.list (asked w).find.result.leaves.count ((asked w).find.ensures.listed (untangled w)) ((asked w).find.ensures.counted (untangled w))
 
 pub slice_bounds-ordinals-end : goal.slice_bounds-ordinals-end
-slice_bounds-ordinals-end c = inside c
+slice_bounds-ordinals-end c = inside (goal.at.slice_bounds-ordinals-end c).Else-seats-found
 
 pub slice_bounds-put_ordinals-end : goal.slice_bounds-put_ordinals-end
 slice_bounds-put_ordinals-end c =
-    let f = (asked (goal.at.slice_bounds-put_ordinals-end c).After-put_ordinals-arg-1).find in
-    front-count (xs (goal.at.slice_bounds-put_ordinals-end c).After-put_ordinals-arg-1) f.result.leaves.list f.result.leaves.count (f.ensures.listed (untangled (goal.at.slice_bounds-put_ordinals-end c).After-put_ordinals-arg-1)) (f.ensures.counted (untangled (goal.at.slice_bounds-put_ordinals-end c).After-put_ordinals-arg-1))
+    let f = (asked (goal.at.slice_bounds-put_ordinals-end c).Else-seats-found).find in
+    front-count (xs (goal.at.slice_bounds-put_ordinals-end c).Else-seats-found) f.result.leaves.list f.result.leaves.count (f.ensures.listed (untangled (goal.at.slice_bounds-put_ordinals-end c).Else-seats-found)) (f.ensures.counted (untangled (goal.at.slice_bounds-put_ordinals-end c).Else-seats-found))
 
 pub returns-in-Refused : goal.returns-in-Refused
 returns-in-Refused c =
@@ -103,13 +103,13 @@ returns-in-Refused c =
 
 pub returns-else-seats-found : goal.returns-else-seats-found
 returns-else-seats-found c =
-    let e = told (goal.at.returns-else-seats-found c).After-put_ordinals-arg-1 in
-    let f = (asked (goal.at.returns-else-seats-found c).After-put_ordinals-arg-1).find in
-    let z = untangled (goal.at.returns-else-seats-found c).After-put_ordinals-arg-1 in
+    let e = told (goal.at.returns-else-seats-found c).Else-seats-found in
+    let f = (asked (goal.at.returns-else-seats-found c).Else-seats-found).find in
+    let z = untangled (goal.at.returns-else-seats-found c).Else-seats-found in
     let out = e.before.before.before.before.before.before.args.out.now in
     let wide : f.result.count ≤ seats e = c.if-seats-found.false in
-    let found = front (xs (goal.at.returns-else-seats-found c).After-put_ordinals-arg-1) f.result.leaves.list f.result.leaves.count (f.ensures.listed z) (f.ensures.counted z) in
-    let b = fitting (room e) (xs (goal.at.returns-else-seats-found c).After-put_ordinals-arg-1) in
+    let found = front (xs (goal.at.returns-else-seats-found c).Else-seats-found) f.result.leaves.list f.result.leaves.count (f.ensures.listed z) (f.ensures.counted z) in
+    let b = fitting (room e) (xs (goal.at.returns-else-seats-found c).Else-seats-found) in
     let r = planned-says (ls e) f.result f.ensures z (leafing_table (t e) (s e) (room e) (seats e)) b out c.put_ordinals.new.out c.planned.result
     (table_fits (t e) (s e) (room e) (seats e) (own e) (sym f.ensures.refusal ∙ z) (omega (arith, wide, f.ensures.count z)))
     (c.put_ordinals.ensures.wrote ∙ ap (λ ys. output_of (fitting (room e) ys) out) found)

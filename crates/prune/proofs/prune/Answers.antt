@@ -24,8 +24,7 @@ use Rattle.prune_marks.specs.Marks.{needed_marks}
 use Rattle.tidy.specs.Written.{writing_marked}
 use Rattle.prune.proofs.Pruning.{prune-refused, prune-high, prune-tangled, prune-on}
 use Rattle.prune.proofs.prune.Goals as goal
-use Rattle.prune.proofs.prune.Goals.{After-list-1, After-parents_of-found, In-Fresh}
-use Rattle.prune.proofs.prune.Tie as tie
+use Rattle.prune.proofs.prune.Goals.{After-has_high-high, After-parents_of-found, Else-found, Else-high, In-Fresh}
 
 -- the catalogue is the text's own
 own : (c : In-Fresh) → let a = c.args in Current a.text.now a.catalogue.now
@@ -36,41 +35,41 @@ opens c = let a = c.args in opened a.text.now a.catalogue.now (own c).reads (own
 
 -- ---- the parents
 
-abbrev ps : tie.After-parents_of-found → List Program
+abbrev ps : After-parents_of-found → List Program
 ps f = programs (records_of f.args.text.now)
 
-abbrev ls : tie.After-parents_of-found → List Link
+abbrev ls : After-parents_of-found → List Link
 ls f = links (ps f)
 
-few : (f : After-parents_of-found) → length (ps f.before) ≤ 1024
-few f = (opens (goal.at.has_high-high-requires f).In-Fresh).few
+few : (f : After-parents_of-found) → length (ps f) ≤ 1024
+few f = (opens (goal.at.After-parents_of-found f).In-Fresh).few
 
-dangles : (f : After-parents_of-found) → any is_dangling (ls f.before) ≡ f.parents_of-found.result.dangling
+dangles : (f : After-parents_of-found) → any is_dangling (ls f) ≡ f.parents_of-found.result.dangling
 unfolding parents_of
 dangles f = sym (ap (λ q. q.dangling) f.parents_of-found.ensures)
 
-counts : (f : tie.After-parents_of-found) → f.parents_of-found.result.count ≡ length (ls f)
+counts : (f : After-parents_of-found) → f.parents_of-found.result.count ≡ length (ls f)
 unfolding parents_of
 counts f = ap (λ q. q.count) f.parents_of-found.ensures
 
 -- is some ordinal too high?
-high : (h : tie.After-has_high-high) → any (leb (length (ls h.before))) h.args.used.now ≡ h.has_high-high.result
-high h = sym (h.has_high-high.ensures ∙ ap (λ n. any (leb n) h.args.used.now) (counts h.before))
+high : (h : After-has_high-high) → any (leb (length (ls (goal.at.After-has_high-high h).After-parents_of-found))) h.args.used.now ≡ h.has_high-high.result
+high h = sym (h.has_high-high.ensures ∙ ap (λ n. any (leb n) h.args.used.now) (counts (goal.at.After-has_high-high h).After-parents_of-found))
 
-low : (e : tie.Else-high) → any (leb (length (ls e.before.before))) e.args.used.now ≡ false
-low e = high e.before ∙ e.if-high.false
+low : (e : Else-high) → any (leb (length (ls (goal.at.Else-high e).After-parents_of-found))) e.args.used.now ≡ false
+low e = high (goal.at.Else-high e).After-has_high-high ∙ e.if-high.false
 
-abbrev lent : (e : After-list-1) → List ℕ
+abbrev lent : (e : Else-found) → List ℕ
 lent e = take e.parents_of-found.result.count e.parents_of-found.result.list
 
-linked : (e : After-list-1) → any is_dangling (ls e.before.before.before.before.before) ≡ false
-linked e = dangles (goal.at.slice_bounds-list-end e).After-parents_of-found ∙ e.if-found.left
+linked : (e : Else-found) → any is_dangling (ls (goal.at.Else-found e).After-parents_of-found) ≡ false
+linked e = dangles (goal.at.Else-found e).After-parents_of-found ∙ e.if-found.left
 
-says : (e : After-list-1) → links_of (lent e) ≡ ls e.before.before.before.before.before
-says e = lent-links (ps e.before.before.before.before.before) (few (goal.at.slice_bounds-list-end e).After-parents_of-found) e.parents_of-found.result e.parents_of-found.ensures e.if-found.left
+says : (e : Else-found) → links_of (lent e) ≡ ls (goal.at.Else-found e).After-parents_of-found
+says e = lent-links (ps (goal.at.Else-found e).After-parents_of-found) (few (goal.at.Else-found e).After-parents_of-found) e.parents_of-found.result e.parents_of-found.ensures e.if-found.left
 
 -- is there a cycle?
-loops : (e : After-list-1) → loops_from (links_of (lent e)) 0 (links_of (lent e)) ≡ loops_from (ls e.before.before.before.before.before) 0 (ls e.before.before.before.before.before)
+loops : (e : Else-found) → loops_from (links_of (lent e)) 0 (links_of (lent e)) ≡ loops_from (ls (goal.at.Else-found e).After-parents_of-found) 0 (ls (goal.at.Else-found e).After-parents_of-found)
 loops e = ap (λ l. loops_from l 0 l) (says e)
 
 -- what the depths say of it
@@ -89,7 +88,7 @@ returns-then-high c =
     let a = c.args in
     let room = length a.out.now in
     let told = refused-answer (pruning a.text.now a.catalogue.now a.used.now room) a.out.now 25 (record { 0 = 0 })
-    (prune-high a.text.now a.catalogue.now a.used.now room (own (goal.at.returns-then-high c).In-Fresh) (high c.before.before ∙ c.if-high.true)) in
+    (prune-high a.text.now a.catalogue.now a.used.now room (own (goal.at.returns-then-high c).In-Fresh) (high (goal.at.returns-then-high c).After-has_high-high ∙ c.if-high.true)) in
     record { answer = told.0; wrote = told.1 }
 
 pub returns-then-found : goal.returns-then-found
@@ -97,23 +96,23 @@ returns-then-found c =
     let a = c.args in
     let room = length a.out.now in
     let told = refused-answer (pruning a.text.now a.catalogue.now a.used.now room) a.out.now 22 (record { 0 = 0 })
-    (prune-tangled a.text.now a.catalogue.now a.used.now room (own (goal.at.returns-then-found c).In-Fresh) (low c.before.before) 22 (sym (tangled-dangling (ls c.before.before.before.before) (dangles (goal.at.returns-then-found c).After-parents_of-found ∙ c.if-found.true))) (λ q. omega arith)) in
+    (prune-tangled a.text.now a.catalogue.now a.used.now room (own (goal.at.returns-then-found c).In-Fresh) (low (goal.at.returns-then-found c).Else-high) 22 (sym (tangled-dangling (ls (goal.at.returns-then-found c).After-parents_of-found) (dangles (goal.at.returns-then-found c).After-parents_of-found ∙ c.if-found.true))) (λ q. omega arith)) in
     record { answer = told.0; wrote = told.1 }
 
 pub slice_bounds-list-end : goal.slice_bounds-list-end
 slice_bounds-list-end c =
-    lent-inside (ps c.before.before.before.before.before) (few (goal.at.slice_bounds-list-end c).After-parents_of-found) c.parents_of-found.result c.parents_of-found.ensures
+    lent-inside (ps (goal.at.slice_bounds-list-end c).After-parents_of-found) (few (goal.at.slice_bounds-list-end c).After-parents_of-found) c.parents_of-found.result c.parents_of-found.ensures
 
 pub slice_bounds-links-end : goal.slice_bounds-links-end
 slice_bounds-links-end c =
-    lent-count (ps c.before.before.before.before.before.before) (few (goal.at.slice_bounds-links-end c).After-parents_of-found) c.parents_of-found.result c.parents_of-found.ensures
+    lent-count (ps (goal.at.slice_bounds-links-end c).After-parents_of-found) (few (goal.at.slice_bounds-links-end c).After-parents_of-found) c.parents_of-found.result c.parents_of-found.ensures
 
 pub find_depths-depths-requires : goal.find_depths-depths-requires
 find_depths-depths-requires c =
     let q = c.parents_of-found.result in
     let is = c.parents_of-found.ensures in record {
-      parents_value = lent-within (ps c.before.before.before.before.before.before) (few (goal.at.find_depths-depths-requires c).After-parents_of-found) q is c.if-found.false;
-      parents_len_bound = lent-few (ps c.before.before.before.before.before.before) (few (goal.at.find_depths-depths-requires c).After-parents_of-found) q is;
+      parents_value = lent-within (ps (goal.at.find_depths-depths-requires c).After-parents_of-found) (few (goal.at.find_depths-depths-requires c).After-parents_of-found) q is c.if-found.false;
+      parents_len_bound = lent-few (ps (goal.at.find_depths-depths-requires c).After-parents_of-found) (few (goal.at.find_depths-depths-requires c).After-parents_of-found) q is;
     }
 
 pub returns-then-depths : goal.returns-then-depths
@@ -121,18 +120,18 @@ returns-then-depths c =
     let a = c.args in
     let room = length a.out.now in
     let told = refused-answer (pruning a.text.now a.catalogue.now a.used.now room) a.out.now 23 (record { 0 = 0 })
-    (prune-tangled a.text.now a.catalogue.now a.used.now room (own (goal.at.returns-then-depths c).In-Fresh) (low c.before.before.before.before.before.before) 23
-    (sym (tangled-loops (ls c.before.before.before.before.before.before.before.before) true (linked (goal.at.returns-then-depths c).After-list-1) (sym (loops (goal.at.returns-then-depths c).After-list-1) ∙ sym (cycle-is _ _ c.find_depths-depths.ensures) ∙ c.if-depths.true))) (λ q. omega arith)) in
+    (prune-tangled a.text.now a.catalogue.now a.used.now room (own (goal.at.returns-then-depths c).In-Fresh) (low (goal.at.returns-then-depths c).Else-high) 23
+    (sym (tangled-loops (ls (goal.at.returns-then-depths c).After-parents_of-found) true (linked (goal.at.returns-then-depths c).Else-found) (sym (loops (goal.at.returns-then-depths c).Else-found) ∙ sym (cycle-is _ _ c.find_depths-depths.ensures) ∙ c.if-depths.true))) (λ q. omega arith)) in
     record { answer = told.0; wrote = told.1 }
 
 pub mark_needed-marks-requires : goal.mark_needed-marks-requires
 mark_needed-marks-requires c =
     let q = c.parents_of-found.result in
     let is = c.parents_of-found.ensures in record {
-      parents_value = lent-within (ps c.before.before.before.before.before.before.before.before) (few (goal.at.mark_needed-marks-requires c).After-parents_of-found) q is c.if-found.false;
+      parents_value = lent-within (ps (goal.at.mark_needed-marks-requires c).After-parents_of-found) (few (goal.at.mark_needed-marks-requires c).After-parents_of-found) q is c.if-found.false;
       parents_value_2 = sym (cycle-is _ _ c.find_depths-depths.ensures) ∙ c.if-depths.false;
-      parents_len_bound = lent-few (ps c.before.before.before.before.before.before.before.before) (few (goal.at.mark_needed-marks-requires c).After-parents_of-found) q is;
-      used_value = ap (λ n. any (leb n) c.args.used.now) (sym (lent-count (ps c.before.before.before.before.before.before.before.before) (few (goal.at.mark_needed-marks-requires c).After-parents_of-found) q is) ∙ counts c.before.before.before.before.before.before.before.before) ∙ low c.before.before.before.before.before.before;
+      parents_len_bound = lent-few (ps (goal.at.mark_needed-marks-requires c).After-parents_of-found) (few (goal.at.mark_needed-marks-requires c).After-parents_of-found) q is;
+      used_value = ap (λ n. any (leb n) c.args.used.now) (sym (lent-count (ps (goal.at.mark_needed-marks-requires c).After-parents_of-found) (few (goal.at.mark_needed-marks-requires c).After-parents_of-found) q is) ∙ counts (goal.at.mark_needed-marks-requires c).After-parents_of-found) ∙ low (goal.at.mark_needed-marks-requires c).Else-high;
     }
 
 pub write_marked-requires : goal.write_marked-requires
@@ -156,9 +155,9 @@ returns-else-depths c =
     let a = c.args in
     let room = length a.out.now in
     let marks = c.mark_needed-marks.result in
-    let whole : tangled (ls c.before.before.before.before.before.before.before.before.before.before.before.before.before.before) ≡ 0 = tangled-loops (ls c.before.before.before.before.before.before.before.before.before.before.before.before.before.before) false (linked (goal.at.returns-else-depths c).After-list-1) (sym (loops (goal.at.returns-else-depths c).After-list-1) ∙ sym (cycle-is _ _ c.find_depths-depths.ensures) ∙ c.if-depths.false) in
+    let whole : tangled (ls (goal.at.returns-else-depths c).After-parents_of-found) ≡ 0 = tangled-loops (ls (goal.at.returns-else-depths c).After-parents_of-found) false (linked (goal.at.returns-else-depths c).Else-found) (sym (loops (goal.at.returns-else-depths c).Else-found) ∙ sym (cycle-is _ _ c.find_depths-depths.ensures) ∙ c.if-depths.false) in
     let on : writing_marked a.text.now marks room ≡ pruning a.text.now a.catalogue.now a.used.now room =
-    sym (prune-on a.text.now a.catalogue.now a.used.now room (own (goal.at.returns-else-depths c).In-Fresh) (low c.before.before.before.before.before.before.before.before.before.before.before.before) whole (few (goal.at.returns-else-depths c).After-parents_of-found) marks (c.mark_needed-marks.ensures ∙ ap (λ l. needed_marks l a.used.now) (says (goal.at.returns-else-depths c).After-list-1))) in record {
+    sym (prune-on a.text.now a.catalogue.now a.used.now room (own (goal.at.returns-else-depths c).In-Fresh) (low (goal.at.returns-else-depths c).Else-high) whole (few (goal.at.returns-else-depths c).After-parents_of-found) marks (c.mark_needed-marks.ensures ∙ ap (λ l. needed_marks l a.used.now) (says (goal.at.returns-else-depths c).Else-found))) in record {
       answer = c.write_marked.ensures.answer ∙ ap answer_of on;
       wrote = c.write_marked.ensures.wrote ∙ ap (λ x. output_of x a.out.now) on;
     }

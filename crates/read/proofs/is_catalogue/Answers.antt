@@ -11,21 +11,21 @@ use Rattle.catalogue_lines.specs.Matched.{matched, Reached}
 use Rattle.catalogue_lines.proofs.Reached.{reached-start, reached-within, reached-on, reached-off, reached-end}
 use Rattle.read.proofs.Walking.{walking_start, walking-end, text-size, Lent, lent}
 use Rattle.read.proofs.is_catalogue.Goals as goal
-use Rattle.read.proofs.is_catalogue.Tie as tie
+use Rattle.read.proofs.is_catalogue.Goals.{After-first_line-cut, After-same_record}
 
 -- the next line
-next : (c : tie.After-first_line-cut goal.the-invariant-loop-at goal.the-decreases-loop-at)
+next : (c : After-first_line-cut)
     → let a = c.args in
     Lent a.strict a.text.now c.loop-at.at c.loop-at.invariant.0 c.loop-at-test.true c.first_line-cut.result
 next c =
     lent c.args.strict c.args.text.now c.loop-at.at c.loop-at.invariant.0 c.loop-at-test.true c.first_line-cut.result c.requires c.first_line-cut.ensures
 
-compared : (c : tie.After-same_record goal.the-invariant-loop-at goal.the-decreases-loop-at)
-    → c.same_record.result ≡ matched c.loop-at.o (drop c.loop-at.o c.args.kept.now) (record_bytes (length c.loop-at.invariant.0.done) (read (next c.before.before.before).turn.here))
+compared : (c : After-same_record)
+    → c.same_record.result ≡ matched c.loop-at.o (drop c.loop-at.o c.args.kept.now) (record_bytes (length c.loop-at.invariant.0.done) (read (next (goal.at.After-same_record c).After-first_line-cut).turn.here))
 compared c =
     c.same_record.ensures
     ∙ ap (matched c.loop-at.o (drop c.loop-at.o c.args.kept.now))
-    (ap (record_bytes c.loop-at.line) (next c.before.before.before).line-is ∙ ap (λ n. record_bytes n (read (next c.before.before.before).turn.here)) c.loop-at.invariant.2)
+    (ap (record_bytes c.loop-at.line) (next (goal.at.After-same_record c).After-first_line-cut).line-is ∙ ap (λ n. record_bytes n (read (next (goal.at.After-same_record c).After-first_line-cut).turn.here)) c.loop-at.invariant.2)
 
 pub loop-at-init : goal.loop-at-init
 unfolding walking_start
@@ -41,7 +41,7 @@ pub slice_bounds-first_line-end : goal.slice_bounds-first_line-end
 slice_bounds-first_line-end c = omega arith
 
 pub overflow_add-end : goal.overflow_add-end
-overflow_add-end c = omega (arith, (next c.before.before).inside)
+overflow_add-end c = omega (arith, (next (goal.at.overflow_add-end c).After-first_line-cut).inside)
 
 pub slice_bounds-same_record-count : goal.slice_bounds-same_record-count
 slice_bounds-same_record-count c = omega arith
@@ -50,13 +50,13 @@ pub slice_bounds-same_record-start : goal.slice_bounds-same_record-start
 slice_bounds-same_record-start c = omega arith
 
 pub slice_bounds-same_record-end : goal.slice_bounds-same_record-end
-slice_bounds-same_record-end c = omega (arith, (next c.before.before).inside)
+slice_bounds-same_record-end c = omega (arith, (next (goal.at.slice_bounds-same_record-end c).After-first_line-cut).inside)
 
 pub same_record-requires : goal.same_record-requires
 same_record-requires c =
     let a = c.args in record {
-      src_value = (next c.before.before.before).accepted;
-      src_bound = (next c.before.before.before).ranges;
+      src_value = (next (goal.at.same_record-requires c).After-first_line-cut).accepted;
+      src_bound = (next (goal.at.same_record-requires c).After-first_line-cut).ranges;
       o_in_bounds = reached-within a.kept.now c.loop-at.invariant.0.done c.loop-at.o c.loop-at.invariant.1;
     }
 
@@ -65,11 +65,11 @@ returns-in_default c =
     let a = c.args in
     let w = c.loop-at.invariant.0 in
     sym
-    (ap (λ rs. same a.kept.now (catalogue rs)) (next c.before.before.before.before.before).turn.whole_is
-    ∙ reached-off a.kept.now w.done c.loop-at.o c.loop-at.invariant.1 (next c.before.before.before.before.before).turn.here (sym (compared c.before.before) ∙ c.in_default.is) (next c.before.before.before.before.before).turn.others)
+    (ap (λ rs. same a.kept.now (catalogue rs)) (next (goal.at.returns-in_default c).After-first_line-cut).turn.whole_is
+    ∙ reached-off a.kept.now w.done c.loop-at.o c.loop-at.invariant.1 (next (goal.at.returns-in_default c).After-first_line-cut).turn.here (sym (compared (goal.at.returns-in_default c).After-same_record) ∙ c.in_default.is) (next (goal.at.returns-in_default c).After-first_line-cut).turn.others)
 
 pub overflow_add-at : goal.overflow_add-at
-overflow_add-at c = omega (arith, (next c.before.before.before.before.before.before).inside)
+overflow_add-at c = omega (arith, (next (goal.at.overflow_add-at c).After-first_line-cut).inside)
 
 pub overflow_add-line : goal.overflow_add-line
 overflow_add-line c =
@@ -77,15 +77,15 @@ overflow_add-line c =
     omega (arith, c.loop-at.invariant.2, w.few, w.inside, text-size c.args.strict c.args.text.now c.requires)
 
 pub loop-at-smaller : goal.loop-at-smaller
-loop-at-smaller c = omega (arith, (next c.before.before.before.before.before.before).inside)
+loop-at-smaller c = omega (arith, (next (goal.at.loop-at-smaller c).After-first_line-cut).inside)
 
 pub loop-at-preserved : goal.loop-at-preserved
 loop-at-preserved c =
     let a = c.args in
     let w = c.loop-at.invariant.0 in
     let n = c.in-Upto.next in
-    rw (next c.before.before.before.before.before.before).cut-is
-    ((next c.before.before.before.before.before.before).turn.next, subst (λ d. Reached a.kept.now d n) (sym (next c.before.before.before.before.before.before).turn.done-is) (reached-on a.kept.now w.done c.loop-at.o c.loop-at.invariant.1 (next c.before.before.before.before.before.before).turn.here n (sym (compared c.before.before.before) ∙ c.in-Upto.is)), omega (arith, c.loop-at.invariant.2, (next c.before.before.before.before.before.before).turn.count-is))
+    rw (next (goal.at.loop-at-preserved c).After-first_line-cut).cut-is
+    ((next (goal.at.loop-at-preserved c).After-first_line-cut).turn.next, subst (λ d. Reached a.kept.now d n) (sym (next (goal.at.loop-at-preserved c).After-first_line-cut).turn.done-is) (reached-on a.kept.now w.done c.loop-at.o c.loop-at.invariant.1 (next (goal.at.loop-at-preserved c).After-first_line-cut).turn.here n (sym (compared (goal.at.loop-at-preserved c).After-same_record) ∙ c.in-Upto.is)), omega (arith, c.loop-at.invariant.2, (next (goal.at.loop-at-preserved c).After-first_line-cut).turn.count-is))
 
 pub returns : goal.returns
 returns c =

@@ -8,10 +8,10 @@ use Rattle.accepted.specs.Read.{records_of}
 use Rattle.read_judge.proofs.Whole.{Told, text-refused, text-accepted}
 use Rattle.read.proofs.AnswerCases.{read-refused, read_short, read_fits, refused-answer, written-answer}
 use Rattle.read.proofs.read_judged.Goals as goal
-use Rattle.read.proofs.read_judged.Tie as tie
+use Rattle.read.proofs.read_judged.Goals.{In-Accepted}
 
 -- the text is accepted, and `n` is its catalogue's length
-accepted : (c : tie.In-Accepted)
+accepted : (c : In-Accepted)
     → let t = c.args.text.now in
     Told t c.in-Accepted.size c.in-Accepted.once
 accepted c =
@@ -22,13 +22,13 @@ returns-then-kept-size c =
     let a = c.args in
     let room = length a.kept.now in
     let told = refused-answer (reading a.text.now room) a.kept.now 20 (record { 0 = 0 })
-    (read_short a.text.now room (records_of a.text.now) (accepted c.before.before).reads (omega (arith, (accepted c.before.before).size, c.if-kept-size.true))) in
+    (read_short a.text.now room (records_of a.text.now) (accepted (goal.at.returns-then-kept-size c).In-Accepted).reads (omega (arith, (accepted (goal.at.returns-then-kept-size c).In-Accepted).size, c.if-kept-size.true))) in
     record { answer = told.0; wrote = told.1 }
 
 pub put_catalogue-requires : goal.put_catalogue-requires
 put_catalogue-requires c = record {
-  accepted_text = record { rule = (accepted c.before.before.before).rule; reads = (accepted c.before.before.before).reads };
-  text_in_bounds = omega (arith, (accepted c.before.before.before).size, c.if-kept-size.false);
+  accepted_text = record { rule = (accepted (goal.at.put_catalogue-requires c).In-Accepted).rule; reads = (accepted (goal.at.put_catalogue-requires c).In-Accepted).reads };
+  text_in_bounds = omega (arith, (accepted (goal.at.put_catalogue-requires c).In-Accepted).size, c.if-kept-size.false);
 }
 
 pub returns-in-Refused : goal.returns-in-Refused
@@ -44,6 +44,6 @@ returns-else-kept-size c =
     let a = c.args in
     let room = length a.kept.now in
     let told = written-answer (reading a.text.now room) a.kept.now (catalogue (records_of a.text.now)) c.put_catalogue.new.out c.in-Accepted.size
-    (read_fits a.text.now room (records_of a.text.now) (accepted c.before.before.before.before.before.before).reads (omega (arith, (accepted c.before.before.before.before.before.before).size, c.if-kept-size.false)))
-    (accepted c.before.before.before.before.before.before).size c.put_catalogue.ensures in
+    (read_fits a.text.now room (records_of a.text.now) (accepted (goal.at.returns-else-kept-size c).In-Accepted).reads (omega (arith, (accepted (goal.at.returns-else-kept-size c).In-Accepted).size, c.if-kept-size.false)))
+    (accepted (goal.at.returns-else-kept-size c).In-Accepted).size c.put_catalogue.ensures in
     record { answer = told.0; wrote = told.1 }

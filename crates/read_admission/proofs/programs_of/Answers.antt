@@ -24,4 +24,4 @@ unfolding programs_of
 returns-in-Program c = sym (ap programs_of c.in-Program.is)
 
 pub returns-in_default : goal.returns-in_default
-returns-in_default c = no_program_lem c.args.head c.in_default.keys2
+returns-in_default c = no_program_lem c.args.head c.in_default.in_default-own.keys2

@@ -11,25 +11,25 @@ use Rattle.record.specs.contracts.Head.{the_type}
 use Rattle.record.specs.Head.{head_of}
 use Rattle.read_judge.proofs.Parsing.{head_read, head-refused, parsed-known, parsed-read, parsed-again}
 use Rattle.read_judge.proofs.parse_lenient.Goals as goal
-use Rattle.read_judge.proofs.parse_lenient.Tie as tie
+use Rattle.read_judge.proofs.parse_lenient.Goals.{Else-not-once, Start}
 
 -- the line
-abbrev piece : tie.Start → Piece
+abbrev piece : Start → Piece
 piece s = record { at = s.args.at; bytes = s.args.line.now }
 
 -- by the strict rule
-strictly : (c : tie.Else-not-once) → c.parse_record-head.result ≡ head_of (line true (piece c.before.before.before))
-strictly c = c.parse_record-head.ensures ∙ ap (λ s. head_of (line s (piece c.before.before.before))) (not-false _ c.if-not-once.false-raw)
+strictly : (c : Else-not-once) → c.parse_record-head.result ≡ head_of (line true (piece (goal.at.Else-not-once c).Start))
+strictly c = c.parse_record-head.ensures ∙ ap (λ s. head_of (line s (piece (goal.at.Else-not-once c).Start))) (not-false _ c.if-not-once.false-raw)
 
 pub returns-then-not-once : goal.returns-then-not-once
 returns-then-not-once c =
-    parsed-known c.args.once (piece c.before.before.before.before) c.parse_record-head.result (not-true _ c.if-not-once.true-raw) c.parse_record-head.ensures
+    parsed-known c.args.once (piece (goal.at.returns-then-not-once c).Start) c.parse_record-head.result (not-true _ c.if-not-once.true-raw) c.parse_record-head.ensures
 
 pub returns-in_default : goal.returns-in_default
 returns-in_default c =
-    parsed-read c.args.once (piece c.before.before.before.before.before) c.parse_record-head.result (not-false _ c.if-not-once.false-raw) c.parse_record-head.ensures
-    (head_read (line true (piece c.before.before.before.before.before)) (subst (λ x. OneOf (1 ∷ 2 ∷ 3 ∷ 4 ∷ 5 ∷ []) (tag_of the_type x)) (strictly c.before.before) c.in_default.keys2))
+    parsed-read c.args.once (piece (goal.at.returns-in_default c).Start) c.parse_record-head.result (not-false _ c.if-not-once.false-raw) c.parse_record-head.ensures
+    (head_read (line true (piece (goal.at.returns-in_default c).Start)) (subst (λ x. OneOf (1 ∷ 2 ∷ 3 ∷ 4 ∷ 5 ∷ []) (tag_of the_type x)) (strictly (goal.at.returns-in_default c).Else-not-once) c.in_default.in_default-own.keys2))
 
 pub returns : goal.returns
 returns c =
-    parsed-again c.args.once (piece c.before.before.before.before.before.before) c.parse_record.result c.parse_record.ensures (head-refused (line true (piece c.before.before.before.before.before.before)) _ (sym (strictly c.before.before.before) ∙ c.in-Refused.is))
+    parsed-again c.args.once (piece (goal.at.returns c).Start) c.parse_record.result c.parse_record.ensures (head-refused (line true (piece (goal.at.returns c).Start)) _ (sym (strictly (goal.at.returns c).Else-not-once) ∙ c.in-Refused.is))

@@ -19,8 +19,7 @@ use Rattle.byte_slices.proofs.Lines.{upto_le}
 use Rattle.byte_slices.proofs.Before.{before-length}
 use Rattle.read_repeat_rule.proofs.First.{starts-long, first-here, first_next, first-none}
 use Rattle.read_repeat_rule.proofs.first_version.Goals as goal
-use Rattle.read_repeat_rule.proofs.first_version.Goals.{After-row_known-2-1, After-upto, Else-end-stop, Then-is_version}
-use Rattle.read_repeat_rule.proofs.first_version.Tie as tie
+use Rattle.read_repeat_rule.proofs.first_version.Goals.{After-upto, Else-end-stop, Joined-is_version, Then-end-stop, Then-is_version}
 
 -- the end of a front
 drop-take : (k m n : ℕ) (l : List ℕ) → n ≡ k + m → drop k (take n l) ≡ take m (drop k l)
@@ -93,7 +92,7 @@ three c =
     long _ c.loop-from.at c.upto.result c.loop-from.invariant.0 c.upto.ensures _ c.is_version.ensures c.if-is_version.true
 
 -- what was found in this step
-came : (c : tie.Joined-is_version goal.the-invariant-loop-from goal.the-decreases-loop-from)
+came : (c : Joined-is_version)
     → let s = c.args.src.now in
     ((c.is_version.result ≡ true) × (c.if-is_version.from ≡ c.loop-from.at + 3) × (c.if-is_version.stop ≡ c.loop-from.at + c.upto.result))
     ⊎ ((c.is_version.result ≡ false) × (c.if-is_version.from ≡ length s) × (c.if-is_version.stop ≡ length s))
@@ -109,15 +108,15 @@ further : (c : Else-end-stop)
     (next ≤ length s) × (c.if-is_version.from ≡ length s) × (c.if-is_version.stop ≡ length s)
     × (first_version (cut 9 (drop c.loop-from.at s)) ≡ first_version (cut 9 (drop next s)))
 further c =
-    onward _ c.loop-from.at c.upto.result c.loop-from.invariant.0 c.upto.ensures _ c.is_version.ensures _ _ (came c.before.before) c.if-end-stop.false
+    onward _ c.loop-from.at c.upto.result c.loop-from.invariant.0 c.upto.ensures _ c.is_version.ensures _ _ (came (goal.at.Else-end-stop c).Joined-is_version) c.if-end-stop.false
 
-ends : (c : After-row_known-2-1)
+ends : (c : Then-end-stop)
     → let s = c.args.src.now in
     (c.if-is_version.from ≤ c.if-is_version.stop) × (c.if-is_version.stop ≤ length s)
     × (version (take (c.if-is_version.stop - c.if-is_version.from) (drop c.if-is_version.from s)) ≡ first_version (cut 9 s))
 ends c =
-    let b = bounds _ c.loop-from.at c.upto.result c.loop-from.invariant.0 c.upto.ensures _ c.is_version.ensures _ _ (came c.before.before.before.before) in
-    (b.0, b.1, ended _ c.loop-from.at c.upto.result c.loop-from.invariant.0 c.upto.ensures _ c.is_version.ensures _ _ (came c.before.before.before.before) c.if-end-stop.true ∙ sym c.loop-from.invariant.3)
+    let b = bounds _ c.loop-from.at c.upto.result c.loop-from.invariant.0 c.upto.ensures _ c.is_version.ensures _ _ (came (goal.at.Then-end-stop c).Joined-is_version) in
+    (b.0, b.1, ended _ c.loop-from.at c.upto.result c.loop-from.invariant.0 c.upto.ensures _ c.is_version.ensures _ _ (came (goal.at.Then-end-stop c).Joined-is_version) c.if-end-stop.true ∙ sym c.loop-from.invariant.3)
 
 pub loop-from-init : goal.loop-from-init
 loop-from-init c = (omega arith, refl, refl, refl)
@@ -156,13 +155,13 @@ pub loop-from-preserved : goal.loop-from-preserved
 loop-from-preserved c = let f = further c in (f.0, f.1, f.2, c.loop-from.invariant.3 ∙ f.3)
 
 pub slice_bounds-parse_version-count : goal.slice_bounds-parse_version-count
-slice_bounds-parse_version-count c = (ends c).0
+slice_bounds-parse_version-count c = (ends (goal.at.slice_bounds-parse_version-count c).Then-end-stop).0
 
 pub slice_bounds-parse_version-start : goal.slice_bounds-parse_version-start
-slice_bounds-parse_version-start c = omega (arith, ends c)
+slice_bounds-parse_version-start c = omega (arith, ends (goal.at.slice_bounds-parse_version-start c).Then-end-stop)
 
 pub slice_bounds-parse_version-end : goal.slice_bounds-parse_version-end
-slice_bounds-parse_version-end c = omega (arith, ends c)
+slice_bounds-parse_version-end c = omega (arith, ends (goal.at.slice_bounds-parse_version-end c).Then-end-stop)
 
 pub returns : goal.returns
-returns c = c.parse_version.ensures.is ∙ ap parsed_version_of (ends (goal.at.returns c).After-row_known-2-1).2
+returns c = c.parse_version.ensures.is ∙ ap parsed_version_of (ends (goal.at.returns c).Then-end-stop).2

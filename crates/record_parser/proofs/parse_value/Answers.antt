@@ -39,4 +39,4 @@ returns-in-ReferenceSequence c =
 pub returns-in-Header : goal.returns-in-Header
 returns-in-Header c =
     let a = c.args in
-    c.parse_fields.ensures ∙ sym (ap head_of (fields-body a.strict a.kind (a.at + 3) (drop 3 a.src.now) c.in-Header.keys3))
+    c.parse_fields.ensures ∙ sym (ap head_of (fields-body a.strict a.kind (a.at + 3) (drop 3 a.src.now) c.in-Header.in-Header-own.keys3))

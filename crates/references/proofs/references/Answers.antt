@@ -13,11 +13,11 @@ use Rattle.read.proofs.Fresh.{Current, refused-by, fresh-by}
 use Rattle.format.specs.Referencing.{rows, referencing}
 use Rattle.references.proofs.OwnCatalogue.{rows-refused, rows_are, count-is, few, rows_fit, rows_short, rows_all, told-refusal, told-answer}
 use Rattle.references.proofs.references.Goals as goal
-use Rattle.references.proofs.references.Goals.{After-put_rows-arg-1, After-slice_known-1, In-Fresh}
+use Rattle.references.proofs.references.Goals.{Else-table-count, In-Fresh, Start}
 
 -- ---- once the check passed
 
-abbrev answer : After-slice_known-1 → Answer (List ℕ × ℕ)
+abbrev answer : Start → Answer (List ℕ × ℕ)
 answer s = referencing s.args.text.now s.args.catalogue.now (length s.args.table.now)
 
 -- the catalogue is the text's own
@@ -30,24 +30,24 @@ overflow_mul-count c = omega (arith, c.count-count.ensures, few c.args.text.now 
 pub returns-then-table-count : goal.returns-then-table-count
 returns-then-table-count c =
     let a = c.args in
-    let told = told-refusal (answer (goal.at.returns-then-table-count c).After-slice_known-1) a.table.now 20 (record { 0 = 0 })
+    let told = told-refusal (answer (goal.at.returns-then-table-count c).Start) a.table.now 20 (record { 0 = 0 })
     (rows_short a.text.now a.catalogue.now (own (goal.at.returns-then-table-count c).In-Fresh) (length a.table.now) (omega (arith, c.if-table-count.true, c.count-count.ensures))) in
     record { answer = told.0; wrote = told.1 }
 
 -- the table has room
-space : (c : After-put_rows-arg-1) → let a = c.args in 3 * counted 2 (entries_in a.catalogue.now) ≤ length a.table.now
+space : (c : Else-table-count) → let a = c.args in 3 * counted 2 (entries_in a.catalogue.now) ≤ length a.table.now
 space c = omega (arith, c.if-table-count.false, c.count-count.ensures)
 
 pub put_rows-requires : goal.put_rows-requires
 put_rows-requires c =
     let a = c.args in
-    rows_fit a.text.now a.catalogue.now (own (goal.at.put_rows-requires c).In-Fresh) (length a.table.now) (space c)
+    rows_fit a.text.now a.catalogue.now (own (goal.at.put_rows-requires c).In-Fresh) (length a.table.now) (space (goal.at.put_rows-requires c).Else-table-count)
 
 pub returns-in-Refused : goal.returns-in-Refused
 returns-in-Refused c =
     let a = c.args in
     let g = c.n-1.given in
-    let told = told-refusal (answer (goal.at.returns-in-Refused c).After-slice_known-1) a.table.now c.in-Refused.n c.in-Refused.line
+    let told = told-refusal (answer (goal.at.returns-in-Refused c).Start) a.table.now c.in-Refused.n c.in-Refused.line
     (rows-refused a.text.now a.catalogue.now (length a.table.now) c.in-Refused.n c.in-Refused.line.0 (refused-by a.text.now a.catalogue.now c.check.ensures c.in-Refused.n c.in-Refused.line c.in-Refused.is)) in
     record { answer = told.0; wrote = told.1 }
 
@@ -55,7 +55,7 @@ pub returns-else-table-count : goal.returns-else-table-count
 returns-else-table-count c =
     let a = c.args in
     let sq = of_kind 2 (records_of a.text.now) in
-    let told = told-answer (answer (goal.at.returns-else-table-count c).After-slice_known-1) a.table.now (rows sq) (length sq) (rows_all a.text.now a.catalogue.now (own (goal.at.returns-else-table-count c).In-Fresh) (length a.table.now) (space (goal.at.returns-else-table-count c).After-put_rows-arg-1))
+    let told = told-answer (answer (goal.at.returns-else-table-count c).Start) a.table.now (rows sq) (length sq) (rows_all a.text.now a.catalogue.now (own (goal.at.returns-else-table-count c).In-Fresh) (length a.table.now) (space (goal.at.returns-else-table-count c).Else-table-count))
     c.count-count.result (c.count-count.ensures ∙ count-is a.text.now a.catalogue.now (own (goal.at.returns-else-table-count c).In-Fresh))
     c.put_rows.new.table (c.put_rows.ensures ∙ ap (over a.table.now 0) (rows_are a.text.now a.catalogue.now (own (goal.at.returns-else-table-count c).In-Fresh))) in
     record { answer = told.0; wrote = told.1 }

@@ -9,7 +9,7 @@ use Rattle.format.specs.Bytes.{same}
 use Rattle.replay_answers.specs.Answers.{hex_of, hex_word}
 use Rattle.replay_answers.proofs.Hex.{hex-some, hex-other, hex-none, hex-step, hex-end}
 use Rattle.replay_answers.proofs.is_hex.Goals as goal
-use Rattle.replay_answers.proofs.is_hex.Tie as tie
+use Rattle.replay_answers.proofs.is_hex.Goals.{After-is_pair}
 
 pub returns-then-bytes-eq0 : goal.returns-then-bytes-eq0
 returns-then-bytes-eq0 c =
@@ -41,12 +41,12 @@ pub is_pair-requires : goal.is_pair-requires
 is_pair-requires c = omega arith
 
 -- what is left to compare after a step
-left : tie.After-is_pair goal.the-invariant-loop-i goal.the-decreases-loop-i → Bool
+left : After-is_pair → Bool
 left p =
     let a = p.args in
     same (drop (2 * (p.loop-i.i + 1)) a.s.now) (hex_of (drop (p.loop-i.i + 1) a.bytes.now))
 
-turned : (p : tie.After-is_pair goal.the-invariant-loop-i goal.the-decreases-loop-i)
+turned : (p : After-is_pair)
     → (let a = p.args in same a.s.now (hex_word a.bytes.now) ≡ (p.is_pair.result && left p))
 unfolding left
 turned p =
@@ -55,7 +55,7 @@ turned p =
 
 pub returns-then-not-is_pair : goal.returns-then-not-is_pair
 unfolding left
-returns-then-not-is_pair c = sym (turned c.before.before ∙ ap (λ t. t && left c.before.before) (not-true c.is_pair.result c.if-not-is_pair.true-raw))
+returns-then-not-is_pair c = sym (turned (goal.at.returns-then-not-is_pair c).After-is_pair ∙ ap (λ t. t && left (goal.at.returns-then-not-is_pair c).After-is_pair) (not-true c.is_pair.result c.if-not-is_pair.true-raw))
 
 pub overflow_add-i : goal.overflow_add-i
 overflow_add-i c = omega arith
@@ -66,7 +66,7 @@ loop-i-smaller c = omega arith
 pub loop-i-preserved : goal.loop-i-preserved
 unfolding left
 loop-i-preserved c =
-    (omega arith, c.loop-i.invariant.1, turned c.before.before ∙ ap (λ t. t && left c.before.before) (not-false c.is_pair.result c.if-not-is_pair.false-raw))
+    (omega arith, c.loop-i.invariant.1, turned (goal.at.loop-i-preserved c).After-is_pair ∙ ap (λ t. t && left (goal.at.loop-i-preserved c).After-is_pair) (not-false c.is_pair.result c.if-not-is_pair.false-raw))
 
 pub returns : goal.returns
 returns c =

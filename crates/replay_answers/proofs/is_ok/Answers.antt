@@ -11,10 +11,10 @@ use Rattle.replay_cases.specs.Cases.{word_in}
 use Rattle.replay_answers.specs.Answers.{word_is, ok_is}
 use Rattle.replay_answers.proofs.Hex.{empty}
 use Rattle.replay_answers.proofs.is_ok.Goals as goal
-use Rattle.replay_answers.proofs.is_ok.Tie as tie
+use Rattle.replay_answers.proofs.is_ok.Goals.{After-same}
 
 -- the word is compared
-told : (p : tie.After-same) → (let a = p.args in p.same.result ≡ word_is a.line.now a.at (111 ∷ 107 ∷ []))
+told : (p : After-same) → (let a = p.args in p.same.result ≡ word_is a.line.now a.at (111 ∷ 107 ∷ []))
 unfolding word_is
 told p = p.same.ensures ∙ ap (λ x. same x (111 ∷ 107 ∷ [])) p.word.ensures.value
 
@@ -22,7 +22,7 @@ pub returns-then-not-same : goal.returns-then-not-same
 unfolding ok_is
 returns-then-not-same c =
     let a = c.args in
-    sym (ap (λ t. cond t (none? (word_in (a.at + a.n + 1) a.line.now)) false) (sym (told c.before.before) ∙ not-true c.same.result c.if-not-same.true-raw))
+    sym (ap (λ t. cond t (none? (word_in (a.at + a.n + 1) a.line.now)) false) (sym (told (goal.at.returns-then-not-same c).After-same) ∙ not-true c.same.result c.if-not-same.true-raw))
 
 pub returns : goal.returns
 unfolding ok_is
@@ -30,4 +30,4 @@ returns c =
     let a = c.args in
     ap (λ s. eqb (length s) 0) c.word-2.ensures.value
     ∙ empty (word_in (a.at + a.n + 1) a.line.now)
-    ∙ sym (ap (λ t. cond t (none? (word_in (a.at + a.n + 1) a.line.now)) false) (sym (told c.before.before.before) ∙ not-false c.same.result c.if-not-same.false-raw))
+    ∙ sym (ap (λ t. cond t (none? (word_in (a.at + a.n + 1) a.line.now)) false) (sym (told (goal.at.returns c).After-same) ∙ not-false c.same.result c.if-not-same.false-raw))

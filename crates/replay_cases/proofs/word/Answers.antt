@@ -19,5 +19,5 @@ returns c =
     let place : start ≡ length line - length rest = omega (arith, length-drop start line, ap length here, c.word_start-start.ensures.0) in record {
       short = omega (arith, length-take (c.until-end.result - start) (drop start line), length-drop start line);
       value = ap (λ n. take n (drop start line)) long ∙ ap (λ s. take (upto 32 s) s) here;
-      place = ap (λ n. (a.line.ptr.0, n + a.line.ptr.1)) place;
+      place = ap (λ n. (a.line.ref_ptr.0, n + a.line.ref_ptr.1)) place;
     }

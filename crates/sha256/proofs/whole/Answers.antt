@@ -10,7 +10,7 @@ pub loop-i-init : goal.loop-i-init
 loop-i-init c = (omega arith, begun-none c.args.text.now _ _ c.initial-s.ensures)
 
 pub overflow_mul-i : goal.overflow_mul-i
-overflow_mul-i c = omega (arith, c.before.before.before.before.well-formed.0.0)
+overflow_mul-i c = omega (arith, c.well_formed.0.0)
 
 pub compress-s-requires : goal.compress-s-requires
 compress-s-requires c = omega arith

@@ -10,21 +10,21 @@ use Rattle.read_judge.proofs.Whole.{Told, text-refused, text-accepted}
 use Rattle.read.proofs.AnswerCases.{refused-answer}
 use Rattle.tidy.proofs.Writing.{tidy-refused, tidy-accepted}
 use Rattle.tidy.proofs.tidy_judged.Goals as goal
-use Rattle.tidy.proofs.tidy_judged.Goals.{After-write_accepted-arg-1}
+use Rattle.tidy.proofs.tidy_judged.Goals.{In-Accepted}
 
 -- the text is accepted
-told : (c : After-write_accepted-arg-1) → Told c.args.text.now c.in-Accepted.field-0 c.in-Accepted.once
+told : (c : In-Accepted) → Told c.args.text.now c.in-Accepted.field-0 c.in-Accepted.once
 told c =
     text-accepted c.args.text.now c.in-Accepted.field-0 c.in-Accepted.once (sym c.requires ∙ c.in-Accepted.is)
 
-accepted : (c : After-write_accepted-arg-1) → is_accepted (read_text c.args.text.now) ≡ true
+accepted : (c : In-Accepted) → is_accepted (read_text c.args.text.now) ≡ true
 unfolding is_accepted
 accepted c = ap is_accepted (told c).reads
 
 pub write_accepted-requires : goal.write_accepted-requires
 write_accepted-requires c = record {
-  text_value = accepted c;
-  reads_by = (told c).rule;
+  text_value = accepted (goal.at.write_accepted-requires c).In-Accepted;
+  reads_by = (told (goal.at.write_accepted-requires c).In-Accepted).rule;
 }
 
 pub returns-in-Refused : goal.returns-in-Refused
@@ -38,7 +38,7 @@ returns-in-Refused c =
 pub returns-in-Accepted : goal.returns-in-Accepted
 returns-in-Accepted c =
     let a = c.args in
-    let e = sym (tidy-accepted a.text.now (length a.out.now) (accepted (goal.at.returns-in-Accepted c).After-write_accepted-arg-1)) in record {
+    let e = sym (tidy-accepted a.text.now (length a.out.now) (accepted (goal.at.returns-in-Accepted c).In-Accepted)) in record {
       answer = c.write_accepted.ensures.answer ∙ ap answer_of e;
       wrote = c.write_accepted.ensures.wrote ∙ ap (λ x. output_of x a.out.now) e;
     }

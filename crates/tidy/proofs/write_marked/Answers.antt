@@ -20,39 +20,39 @@ use Rattle.tidy.proofs.Writing.{measured-bad, measured-is}
 use Rattle.tidy_text.specs.Sifted.{is_marked, sifted}
 use Rattle.tidy_text.proofs.Sifting.{sifted-small}
 use Rattle.tidy.proofs.write_marked.Goals as goal
-use Rattle.tidy.proofs.write_marked.Goals.{After-slice_known-1, After-total-n, In-Is}
+use Rattle.tidy.proofs.write_marked.Goals.{After-total-n, In-Is, Start}
 
 -- all records, and those that stay
-abbrev all : After-slice_known-1 → List Record
+abbrev all : Start → List Record
 all s = records_of s.args.text.now
 
-abbrev stay : After-slice_known-1 → List Record
+abbrev stay : Start → List Record
 stay s = sifted (is_marked s.args.marks.now) 0 (all s)
 
-abbrev asked : After-slice_known-1 → Answer (List ℕ)
+abbrev asked : Start → Answer (List ℕ)
 asked s = writing (length s.args.out.now) (unwritable 0 (all s)) (tidy (stay s))
 
 -- every name can be written, and the sizes are those of the text
-measured : (c : In-Is) → ((unwritable 0 (all (goal.at.total-n-requires c).After-slice_known-1) ≡ none) × (sizes_of (stay (goal.at.total-n-requires c).After-slice_known-1) ≡ c.in-Is.sizes))
+measured : (c : In-Is) → ((unwritable 0 (all (goal.at.In-Is c).Start) ≡ none) × (sizes_of (stay (goal.at.In-Is c).Start) ≡ c.in-Is.sizes))
 measured c =
-    measured-is (unwritable 0 (all (goal.at.total-n-requires c).After-slice_known-1)) (sizes_of (stay (goal.at.total-n-requires c).After-slice_known-1)) c.in-Is.sizes (sym c.measure_marked.ensures.is ∙ c.in-Is.is)
+    measured-is (unwritable 0 (all (goal.at.In-Is c).Start)) (sizes_of (stay (goal.at.In-Is c).Start)) c.in-Is.sizes (sym c.measure_marked.ensures.is ∙ c.in-Is.is)
 
 -- how many bytes it has
-sum : (c : In-Is) → total c.in-Is.sizes ≡ length (tidy (stay (goal.at.total-n-requires c).After-slice_known-1))
-sum c = ap total (sym (measured c).1) ∙ total_size (stay (goal.at.total-n-requires c).After-slice_known-1)
+sum : (c : In-Is) → total c.in-Is.sizes ≡ length (tidy (stay (goal.at.In-Is c).Start))
+sum c = ap total (sym (measured c).1) ∙ total_size (stay (goal.at.In-Is c).Start)
 
-counted : (c : After-total-n) → length (tidy (stay (goal.at.fit-unfit-requires c).After-slice_known-1)) ≡ c.total-n.result
-counted c = sym (c.total-n.ensures ∙ sum (goal.at.fit-unfit-requires c).In-Is)
+counted : (c : After-total-n) → length (tidy (stay (goal.at.After-total-n c).Start)) ≡ c.total-n.result
+counted c = sym (c.total-n.ensures ∙ sum (goal.at.After-total-n c).In-Is)
 
 pub total-n-requires : goal.total-n-requires
 total-n-requires c =
     let a = c.args in
-    omega (arith, sum c, sifted-small (is_marked a.marks.now) 0 (all (goal.at.total-n-requires c).After-slice_known-1), (tidy-small a.strict a.text.now (opened a.strict a.text.now c.requires.text_value c.requires.reads_by)).1)
+    omega (arith, sum c, sifted-small (is_marked a.marks.now) 0 (all (goal.at.total-n-requires c).Start), (tidy-small a.strict a.text.now (opened a.strict a.text.now c.requires.text_value c.requires.reads_by)).1)
 
 pub returns-then-unfit-ne0 : goal.returns-then-unfit-ne0
 returns-then-unfit-ne0 c =
-    let told = refused-answer (asked (goal.at.returns-then-unfit-ne0 c).After-slice_known-1) c.args.out.now c.fit-unfit.result (record { 0 = 0 })
-    (write-unfit (length c.args.out.now) (unwritable 0 (all (goal.at.returns-then-unfit-ne0 c).After-slice_known-1)) (tidy (stay (goal.at.returns-then-unfit-ne0 c).After-slice_known-1)) (measured (goal.at.returns-then-unfit-ne0 c).In-Is).0 (c.total-n.result + 0) c.fit-unfit.result (omega (arith, counted (goal.at.returns-then-unfit-ne0 c).After-total-n)) c.fit-unfit.ensures c.if-unfit-ne0.true) in
+    let told = refused-answer (asked (goal.at.returns-then-unfit-ne0 c).Start) c.args.out.now c.fit-unfit.result (record { 0 = 0 })
+    (write-unfit (length c.args.out.now) (unwritable 0 (all (goal.at.returns-then-unfit-ne0 c).Start)) (tidy (stay (goal.at.returns-then-unfit-ne0 c).Start)) (measured (goal.at.returns-then-unfit-ne0 c).In-Is).0 (c.total-n.result + 0) c.fit-unfit.result (omega (arith, counted (goal.at.returns-then-unfit-ne0 c).After-total-n)) c.fit-unfit.ensures c.if-unfit-ne0.true) in
     record { answer = told.0; wrote = told.1 }
 
 pub put_marked-n-requires : goal.put_marked-n-requires
@@ -67,13 +67,13 @@ put_marked-n-requires c =
 pub returns-in-Unwritable : goal.returns-in-Unwritable
 returns-in-Unwritable c =
     let l = c.in-Unwritable.line in
-    let told = refused-answer (asked (goal.at.returns-in-Unwritable c).After-slice_known-1) c.args.out.now 24 l
-    (write-bad (length c.args.out.now) (unwritable 0 (all (goal.at.returns-in-Unwritable c).After-slice_known-1)) (tidy (stay (goal.at.returns-in-Unwritable c).After-slice_known-1)) l.0 (measured-bad (unwritable 0 (all (goal.at.returns-in-Unwritable c).After-slice_known-1)) (sizes_of (stay (goal.at.returns-in-Unwritable c).After-slice_known-1)) l (sym c.measure_marked.ensures.is ∙ c.in-Unwritable.is))) in
+    let told = refused-answer (asked (goal.at.returns-in-Unwritable c).Start) c.args.out.now 24 l
+    (write-bad (length c.args.out.now) (unwritable 0 (all (goal.at.returns-in-Unwritable c).Start)) (tidy (stay (goal.at.returns-in-Unwritable c).Start)) l.0 (measured-bad (unwritable 0 (all (goal.at.returns-in-Unwritable c).Start)) (sizes_of (stay (goal.at.returns-in-Unwritable c).Start)) l (sym c.measure_marked.ensures.is ∙ c.in-Unwritable.is))) in
     record { answer = told.0; wrote = told.1 }
 
 pub returns-else-unfit-ne0 : goal.returns-else-unfit-ne0
 returns-else-unfit-ne0 c =
-    let told = written-answer (asked (goal.at.returns-else-unfit-ne0 c).After-slice_known-1) c.args.out.now (tidy (stay (goal.at.returns-else-unfit-ne0 c).After-slice_known-1)) c.put_marked-n.new.out c.put_marked-n.result
-    (write-fits (length c.args.out.now) (unwritable 0 (all (goal.at.returns-else-unfit-ne0 c).After-slice_known-1)) (tidy (stay (goal.at.returns-else-unfit-ne0 c).After-slice_known-1)) (measured (goal.at.returns-else-unfit-ne0 c).In-Is).0 (c.total-n.result + 0) c.fit-unfit.result (omega (arith, counted (goal.at.returns-else-unfit-ne0 c).After-total-n)) c.fit-unfit.ensures c.if-unfit-ne0.false)
+    let told = written-answer (asked (goal.at.returns-else-unfit-ne0 c).Start) c.args.out.now (tidy (stay (goal.at.returns-else-unfit-ne0 c).Start)) c.put_marked-n.new.out c.put_marked-n.result
+    (write-fits (length c.args.out.now) (unwritable 0 (all (goal.at.returns-else-unfit-ne0 c).Start)) (tidy (stay (goal.at.returns-else-unfit-ne0 c).Start)) (measured (goal.at.returns-else-unfit-ne0 c).In-Is).0 (c.total-n.result + 0) c.fit-unfit.result (omega (arith, counted (goal.at.returns-else-unfit-ne0 c).After-total-n)) c.fit-unfit.ensures c.if-unfit-ne0.false)
     c.put_marked-n.ensures.next c.put_marked-n.ensures.wrote in
     record { answer = told.0; wrote = told.1 }

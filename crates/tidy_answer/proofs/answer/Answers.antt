@@ -8,7 +8,7 @@ use Rattle.format.specs.Program.{refusal, said, program}
 use Rattle.tidy_answer.proofs.Refusal.{refusal-fits}
 use Rattle.tidy_answer.proofs.ProgramOutput.{program-long, program-taken, told-refused, told-count}
 use Rattle.tidy_answer.proofs.answer.Goals as goal
-use Rattle.tidy_answer.proofs.answer.Tie as tie
+use Rattle.tidy_answer.proofs.answer.Goals.{After-tidy}
 
 pub put_refusal-requires : goal.put_refusal-requires
 put_refusal-requires c = refusal-fits _ _ _ (omega arith)
@@ -25,7 +25,7 @@ pub put_refusal-requires-in-Refused : goal.put_refusal-requires-in-Refused
 put_refusal-requires-in-Refused c = refusal-fits _ _ _ (omega arith)
 
 -- what the program writes is what the tidying call answered
-taken : (c : tie.After-tidy) → (let a = c.args in
+taken : (c : After-tidy) → (let a = c.args in
     (program a.text.now ≡ said (tidying a.text.now (length a.out.now))))
 taken c =
     let a = c.args in
@@ -35,7 +35,7 @@ taken c =
 pub returns-in-Count : goal.returns-in-Count
 returns-in-Count c =
     let a = c.args in
-    let e = sym (taken c.before.before) in
+    let e = sym (taken (goal.at.returns-in-Count c).After-tidy) in
     let told = told-count (tidying a.text.now (length a.out.now)) c.in-Count.n (sym c.tidy.ensures.answer ∙ c.in-Count.is) in record {
       next = told.0 ∙ ap length e;
       wrote = c.tidy.ensures.wrote ∙ told.1 a.out.now ∙ ap (over a.out.now 0) e;
@@ -46,7 +46,7 @@ returns-in-Refused c =
     let g = c.n-in-Refused-1.given in
     let a = c.args in
     let told = told-refused (tidying a.text.now (length a.out.now)) c.in-Refused.n c.in-Refused.line (sym c.tidy.ensures.answer ∙ c.in-Refused.is) in
-    let e : refusal c.in-Refused.n c.in-Refused.line.0 ≡ program a.text.now = sym (taken c.before.before.before.before ∙ told.0) in
+    let e : refusal c.in-Refused.n c.in-Refused.line.0 ≡ program a.text.now = sym (taken (goal.at.returns-in-Refused c).After-tidy ∙ told.0) in
     let kept : c.tidy.new.out ≡ a.out.now = c.tidy.ensures.wrote ∙ told.1 a.out.now in record {
       next = c.put_refusal-in-Refused.ensures.next ∙ ap length e;
       wrote = c.put_refusal-in-Refused.ensures.wrote ∙ ap (λ o. over o 0 (refusal c.in-Refused.n c.in-Refused.line.0)) kept ∙ ap (over a.out.now 0) e;

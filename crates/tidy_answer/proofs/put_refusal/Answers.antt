@@ -8,48 +8,48 @@ use Rattle.format.specs.Program.{spelled_refused, spelled_line, refusal}
 use Rattle.tidy_answer.proofs.Refusal.{refusal-size, refusal-wrote}
 use borrow.Author.Rules.{rules}
 use Rattle.tidy_answer.proofs.put_refusal.Goals as goal
-use Rattle.tidy_answer.proofs.put_refusal.Goals.{After-put_bytes-arg-3-1, After-slice_known-5-1}
+use Rattle.tidy_answer.proofs.put_refusal.Goals.{After-write_u32-at-2, Start}
 
 -- the whole line fits, piece by piece
-size : (s : After-put_bytes-arg-3-1) → length (refusal s.args.n s.args.line.0) ≡ 8 + length (written s.args.n) + 6 + length (written s.args.line.0) + 1
+size : (s : Start) → length (refusal s.args.n s.args.line.0) ≡ 8 + length (written s.args.n) + 6 + length (written s.args.line.0) + 1
 size s = refusal-size s.args.n s.args.line.0
 
 pub put_bytes-requires : goal.put_bytes-requires
-put_bytes-requires c = omega (arith, c.requires, size c)
+put_bytes-requires c = omega (arith, c.requires, size (goal.at.put_bytes-requires c).Start)
 
 pub write_u32-at-requires : goal.write_u32-at-requires
 write_u32-at-requires c =
-    omega (arith, c.requires, size (goal.at.write_u32-at-requires c).After-put_bytes-arg-3-1, c.put_bytes.auto.0)
+    omega (arith, c.requires, size (goal.at.write_u32-at-requires c).Start, c.put_bytes.auto.0)
 
 pub put_bytes-requires-2 : goal.put_bytes-requires-2
 put_bytes-requires-2 c =
-    omega (arith, c.requires, size (goal.at.put_bytes-requires-2 c).After-put_bytes-arg-3-1, c.put_bytes.auto.0, c.write_u32-at.auto.0, c.write_u32-at.ensures.next)
+    omega (arith, c.requires, size (goal.at.put_bytes-requires-2 c).Start, c.put_bytes.auto.0, c.write_u32-at.auto.0, c.write_u32-at.ensures.next)
 
 pub overflow_add-at : goal.overflow_add-at
 overflow_add-at c =
-    search (rules, c.requires, size (goal.at.overflow_add-at c).After-put_bytes-arg-3-1, c.write_u32-at.ensures.next)
+    search (rules, c.requires, size (goal.at.overflow_add-at c).Start, c.write_u32-at.ensures.next)
 
 pub write_u32-at-requires-2 : goal.write_u32-at-requires-2
 write_u32-at-requires-2 c =
-    omega (arith, c.requires, size (goal.at.write_u32-at-requires-2 c).After-put_bytes-arg-3-1, c.put_bytes.auto.0, c.write_u32-at.auto.0, c.write_u32-at.ensures.next, c.put_bytes-2.auto.0)
+    omega (arith, c.requires, size (goal.at.write_u32-at-requires-2 c).Start, c.put_bytes.auto.0, c.write_u32-at.auto.0, c.write_u32-at.ensures.next, c.put_bytes-2.auto.0)
 
 -- the four writes before the LF
-before : (c : After-slice_known-5-1)
+before : (c : After-write_u32-at-2)
     → ((c.write_u32-at-2.result + 1 ≡ length (refusal c.args.n c.args.line.0))
     × (length c.write_u32-at-2.new.out ≡ length c.args.out.now))
 before c =
-    (omega (arith, size (goal.at.bounds-out-at c).After-put_bytes-arg-3-1, c.write_u32-at.ensures.next, c.write_u32-at-2.ensures.next), c.write_u32-at-2.auto.0 ∙ c.put_bytes-2.auto.0 ∙ c.write_u32-at.auto.0 ∙ c.put_bytes.auto.0)
+    (omega (arith, size (goal.at.After-write_u32-at-2 c).Start, c.write_u32-at.ensures.next, c.write_u32-at-2.ensures.next), c.write_u32-at-2.auto.0 ∙ c.put_bytes-2.auto.0 ∙ c.write_u32-at.auto.0 ∙ c.put_bytes.auto.0)
 
 pub bounds-out-at : goal.bounds-out-at
 bounds-out-at c =
-    omega (arith, c.requires, before c)
+    omega (arith, c.requires, before (goal.at.bounds-out-at c).After-write_u32-at-2)
 
 pub overflow_add-result : goal.overflow_add-result
 overflow_add-result c =
-    search (rules, c.requires, before c)
+    search (rules, c.requires, before (goal.at.overflow_add-result c).After-write_u32-at-2)
 
 pub shape_of-out : goal.shape_of-out
-shape_of-out c = simp length-set (before c).1
+shape_of-out c = simp length-set (before (goal.at.shape_of-out c).After-write_u32-at-2).1
 
 pub returns : goal.returns
 unfolding spelled_refused spelled_line
@@ -57,7 +57,7 @@ returns c =
     let a = c.args in
     let whole =
     refusal-wrote a.out.now a.n a.line.0 c.requires c.put_bytes.new.out c.write_u32-at.new.out c.put_bytes-2.new.out c.write_u32-at-2.new.out c.write_u32-at.result c.write_u32-at-2.result
-    (refl, c.put_bytes.ensures) c.write_u32-at.ensures (refl, c.put_bytes-2.ensures) c.write_u32-at-2.ensures (before c).1 in record {
-      next = (before c).0;
+    (refl, c.put_bytes.ensures) c.write_u32-at.ensures (refl, c.put_bytes-2.ensures) c.write_u32-at-2.ensures (before (goal.at.returns c).After-write_u32-at-2).1 in record {
+      next = (before (goal.at.returns c).After-write_u32-at-2).0;
       wrote = whole.1;
     }

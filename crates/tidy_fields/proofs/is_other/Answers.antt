@@ -8,26 +8,26 @@ use Rattle.format.specs.Bytes.{none?}
 use Rattle.accepted_line.specs.Next.{is_first}
 use Rattle.accepted_line.proofs.fields.Place.{bounds}
 use Rattle.tidy_fields.proofs.is_other.Goals as goal
-use Rattle.tidy_fields.proofs.is_other.Goals.{After-shared_slice_known-2-1}
+use Rattle.tidy_fields.proofs.is_other.Goals.{Start}
 
 -- the field has a tag
-reach : (s : After-shared_slice_known-2-1) → (let a = s.args in a.i + 4 ≤ length a.line.now)
+reach : (s : Start) → (let a = s.args in a.i + 4 ≤ length a.line.now)
 reach s =
     let a = s.args in
     let b = bounds (none? a.tables.now) a.at a.line.now a.i s.requires.at_field s.requires.i_in_bounds _ refl in
     omega (arith, b)
 
 pub overflow_add-i : goal.overflow_add-i
-overflow_add-i c = omega (arith, reach c)
+overflow_add-i c = omega (arith, reach (goal.at.overflow_add-i c).Start)
 
 pub bounds-line-i : goal.bounds-line-i
-bounds-line-i c = omega (arith, reach (goal.at.bounds-line-i c).After-shared_slice_known-2-1)
+bounds-line-i c = omega (arith, reach (goal.at.bounds-line-i c).Start)
 
 pub overflow_add-i-2 : goal.overflow_add-i-2
-overflow_add-i-2 c = omega (arith, reach (goal.at.overflow_add-i-2 c).After-shared_slice_known-2-1)
+overflow_add-i-2 c = omega (arith, reach (goal.at.overflow_add-i-2 c).Start)
 
 pub bounds-line-i-2 : goal.bounds-line-i-2
-bounds-line-i-2 c = omega (arith, reach (goal.at.bounds-line-i-2 c).After-shared_slice_known-2-1)
+bounds-line-i-2 c = omega (arith, reach (goal.at.bounds-line-i-2 c).Start)
 
 pub returns-then-is_key : goal.returns-then-is_key
 returns-then-is_key c =

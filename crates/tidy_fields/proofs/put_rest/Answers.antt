@@ -14,7 +14,7 @@ use Rattle.tidy_fields.specs.Others.{others_text}
 use Rattle.tidy_parts.proofs.Wrote.{Wrote, wrote-onward, wrote_then, wrote_one}
 use Rattle.tidy_fields.proofs.Others.{rest_text, rest_all, rest-none, rest-past, rest_more, rest-size, value-inside}
 use Rattle.tidy_fields.proofs.put_rest.Goals as goal
-use Rattle.tidy_fields.proofs.put_rest.Goals.{After-field_end-end, After-loop-i, After-struct_known-1}
+use Rattle.tidy_fields.proofs.put_rest.Goals.{After-field_end-end, After-kept_value-v, At-loop-i}
 
 -- the field of a step ends in the line
 reach : (f : After-field_end-end)
@@ -67,7 +67,7 @@ kept_value-v-requires c = record {
 }
 
 -- the value of the field is in the line
-value : (c : After-struct_known-1)
+value : (c : After-kept_value-v)
     → (let a = c.args in let v = c.kept_value-v.result in
     (a.at ≤ v.at) × (v.at - a.at + v.len ≤ length a.line.now))
 value c =
@@ -75,13 +75,13 @@ value c =
     value-inside (none? a.tables.now) a.at a.line.now a.kind c.loop-i.i c.loop-i.invariant.0 (omega arith) c.field_end-end.result c.field_end-end.ensures (sym c.is_other.ensures ∙ c.if-is_other.true) c.kept_value-v.result c.kept_value-v.ensures
 
 pub overflow_sub-v : goal.overflow_sub-v
-overflow_sub-v c = (value c).0
+overflow_sub-v c = (value (goal.at.overflow_sub-v c).After-kept_value-v).0
 
 pub put_field-n-requires : goal.put_field-n-requires
 put_field-n-requires c =
     let a = c.args in
     let size = rest-size (none? a.tables.now) a.at a.line.now a.kind c.loop-i.i c.loop-i.invariant.0 (omega arith) c.field_end-end.result c.field_end-end.ensures (sym c.is_other.ensures ∙ c.if-is_other.true) c.kept_value-v.result c.kept_value-v.ensures in record {
-      len_in_bounds = (value c).1;
+      len_in_bounds = (value (goal.at.put_field-n-requires c).After-kept_value-v).1;
       len_in_bounds_2 = omega (arith, c.requires.line_in_bounds, c.loop-i.invariant.1, c.loop-i.invariant.3, size);
     }
 
@@ -113,7 +113,7 @@ loop-i-preserved c =
     (onward (goal.at.loop-i-preserved c).After-field_end-end, ap (λ x. c.loop-i.n + length x) (sym e) ∙ c.loop-i.invariant.1, ap (over c.loop-i.out c.loop-i.n) (sym e) ∙ c.loop-i.invariant.2, c.loop-i.invariant.3)
 
 -- all of them are written
-written : (l : After-loop-i)
+written : (l : At-loop-i)
     → (let a = l.args in length a.line.now ≤ l.loop-i.i → Wrote a.out.now a.o l.loop-i.out l.loop-i.n (others_text a.kind a.at a.line.now))
 written l h =
     let a = l.args in
@@ -122,11 +122,11 @@ written l h =
 
 pub bounds-out-n : goal.bounds-out-n
 bounds-out-n c =
-    omega (arith, (written c c.loop-i-test.false).0, c.loop-i.invariant.3, c.requires.line_in_bounds)
+    omega (arith, (written (goal.at.bounds-out-n c).At-loop-i c.loop-i-test.false).0, c.loop-i.invariant.3, c.requires.line_in_bounds)
 
 pub returns : goal.returns
 returns c =
-    let w = written c c.loop-i-test.false in
+    let w = written (goal.at.returns c).At-loop-i c.loop-i-test.false in
     let a = c.args in
     let others = others_text a.kind a.at a.line.now in
     let told = wrote_then a.out.now a.o _ _ _ _ others (10 ∷ []) w

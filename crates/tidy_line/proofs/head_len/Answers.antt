@@ -7,14 +7,13 @@ use Rattle.record.specs.declared.Head.{Head}
 use Rattle.tidy_line.specs.Heads.{place_length, head_length}
 use Rattle.tidy_parts.proofs.Sizes.{version-size}
 use Rattle.tidy_line.proofs.head_len.Goals as goal
-use Rattle.tidy_line.proofs.head_len.Goals.{After-len_u64, After-version_len}
-use Rattle.tidy_line.proofs.head_len.Tie as tie
+use Rattle.tidy_line.proofs.head_len.Goals.{After-len_u64, After-version_len, Start}
 
 -- the head is `d`, and its key is short
-short : (s : tie.Start) (d : Head) → s.args.head ≡ d → place_length d ≤ 16777216
+short : (s : Start) (d : Head) → s.args.head ≡ d → place_length d ≤ 16777216
 short s d e = subst (λ h. place_length h ≤ 16777216) e s.requires.1
 
-length-by : (s : tie.Start) (d : Head) → s.args.head ≡ d → (n : ℕ) → n ≡ head_length d s.args.others → n ≡ head_length s.args.head s.args.others
+length-by : (s : Start) (d : Head) → s.args.head ≡ d → (n : ℕ) → n ≡ head_length d s.args.others → n ≡ head_length s.args.head s.args.others
 length-by s d e n q = q ∙ ap (λ h. head_length h s.args.others) (sym e)
 
 -- a version is short
@@ -23,7 +22,7 @@ version-short c = let v = c.in-Header.v in omega (arith, c.version_len.ensures, 
 
 -- a number is
 number_short : (c : After-len_u64) → (c.len_u64.result ≤ 20) × (c.in-ReferenceSequence.p.len ≤ 16777216)
-number_short c = (omega (arith, c.len_u64.ensures, written-short c.in-ReferenceSequence.n), short c.before.before _ c.in-ReferenceSequence.is)
+number_short c = (omega (arith, c.len_u64.ensures, written-short c.in-ReferenceSequence.n), short (goal.at.After-len_u64 c).Start _ c.in-ReferenceSequence.is)
 
 pub overflow_add-result : goal.overflow_add-result
 overflow_add-result c = omega (arith, version-short c)
@@ -32,7 +31,7 @@ pub overflow_add-result-in-Header : goal.overflow_add-result-in-Header
 overflow_add-result-in-Header c = omega (arith, version-short c, c.requires.0)
 
 pub overflow_add-result-in-ReferenceSequence : goal.overflow_add-result-in-ReferenceSequence
-overflow_add-result-in-ReferenceSequence c = omega (arith, short c.before _ c.in-ReferenceSequence.is)
+overflow_add-result-in-ReferenceSequence c = omega (arith, short (goal.at.overflow_add-result-in-ReferenceSequence c).Start _ c.in-ReferenceSequence.is)
 
 pub overflow_add-result-in-ReferenceSequence-2 : goal.overflow_add-result-in-ReferenceSequence-2
 overflow_add-result-in-ReferenceSequence-2 c = omega (arith, number_short c)
@@ -41,39 +40,39 @@ pub overflow_add-result-in-ReferenceSequence-3 : goal.overflow_add-result-in-Ref
 overflow_add-result-in-ReferenceSequence-3 c = omega (arith, number_short c, c.requires.0)
 
 pub overflow_add-result-in-ReadGroup : goal.overflow_add-result-in-ReadGroup
-overflow_add-result-in-ReadGroup c = omega (arith, short c.before _ c.in-ReadGroup.is)
+overflow_add-result-in-ReadGroup c = omega (arith, short (goal.at.overflow_add-result-in-ReadGroup c).Start _ c.in-ReadGroup.is)
 
 pub overflow_add-result-in-ReadGroup-2 : goal.overflow_add-result-in-ReadGroup-2
-overflow_add-result-in-ReadGroup-2 c = omega (arith, short c.before _ c.in-ReadGroup.is, c.requires.0)
+overflow_add-result-in-ReadGroup-2 c = omega (arith, short (goal.at.overflow_add-result-in-ReadGroup-2 c).Start _ c.in-ReadGroup.is, c.requires.0)
 
 pub overflow_add-result-in-Program : goal.overflow_add-result-in-Program
-overflow_add-result-in-Program c = omega (arith, short c.before _ c.in-Program.is)
+overflow_add-result-in-Program c = omega (arith, short (goal.at.overflow_add-result-in-Program c).Start _ c.in-Program.is)
 
 pub overflow_add-result-in-Program-2 : goal.overflow_add-result-in-Program-2
-overflow_add-result-in-Program-2 c = omega (arith, short c.before _ c.in-Program.is, c.requires.0)
+overflow_add-result-in-Program-2 c = omega (arith, short (goal.at.overflow_add-result-in-Program-2 c).Start _ c.in-Program.is, c.requires.0)
 
 pub returns-in-Refused : goal.returns-in-Refused
 unfolding head_length
-returns-in-Refused c = length-by c.before _ c.in-Refused.is _ refl
+returns-in-Refused c = length-by (goal.at.returns-in-Refused c).Start _ c.in-Refused.is _ refl
 
 pub returns-in-Header : goal.returns-in-Header
 unfolding head_length
 returns-in-Header c =
-    length-by c.before.before _ c.in-Header.is _ (ap (λ n. 8 + n + c.args.others) c.version_len.ensures)
+    length-by (goal.at.returns-in-Header c).Start _ c.in-Header.is _ (ap (λ n. 8 + n + c.args.others) c.version_len.ensures)
 
 pub returns-in-ReferenceSequence : goal.returns-in-ReferenceSequence
 unfolding head_length
 returns-in-ReferenceSequence c =
-    length-by c.before.before _ c.in-ReferenceSequence.is _ (ap (λ n. 12 + c.in-ReferenceSequence.p.len + n + c.args.others) c.len_u64.ensures)
+    length-by (goal.at.returns-in-ReferenceSequence c).Start _ c.in-ReferenceSequence.is _ (ap (λ n. 12 + c.in-ReferenceSequence.p.len + n + c.args.others) c.len_u64.ensures)
 
 pub returns-in-ReadGroup : goal.returns-in-ReadGroup
 unfolding head_length
-returns-in-ReadGroup c = length-by c.before _ c.in-ReadGroup.is _ refl
+returns-in-ReadGroup c = length-by (goal.at.returns-in-ReadGroup c).Start _ c.in-ReadGroup.is _ refl
 
 pub returns-in-Program : goal.returns-in-Program
 unfolding head_length
-returns-in-Program c = length-by c.before _ c.in-Program.is _ refl
+returns-in-Program c = length-by (goal.at.returns-in-Program c).Start _ c.in-Program.is _ refl
 
 pub returns-in-Comment : goal.returns-in-Comment
 unfolding head_length
-returns-in-Comment c = length-by c.before _ c.in-Comment.is _ refl
+returns-in-Comment c = length-by (goal.at.returns-in-Comment c).Start _ c.in-Comment.is _ refl

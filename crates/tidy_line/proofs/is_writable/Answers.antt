@@ -26,8 +26,7 @@ use Rattle.tidy_line.specs.Heads.{head_writable}
 use Rattle.tidy_line.proofs.Heads.{Told, told, place-bytes}
 use Rattle.tidy_line.proofs.Sizes.{kind_of_head}
 use Rattle.tidy_line.proofs.is_writable.Goals as goal
-use Rattle.tidy_line.proofs.is_writable.Goals.{After-struct_known-1, In-ReferenceSequence}
-use Rattle.tidy_line.proofs.is_writable.Tie as tie
+use Rattle.tidy_line.proofs.is_writable.Goals.{After-find_value-name, In-ReferenceSequence, Start}
 
 sn : is_tag 83 78 ≡ true
 unfolding is_tag letter digit between
@@ -44,7 +43,7 @@ nameless at s (head.Program p n) h = refl
 nameless at s (head.Comment p) h = refl
 
 -- what the head of the line says
-shown : (s : tie.Start) → (let a = s.args in Told a.at a.src.now a.kind (uncounted (head_of (line false (record { at = a.at; bytes = a.src.now })))))
+shown : (s : Start) → (let a = s.args in Told a.at a.src.now a.kind (uncounted (head_of (line false (record { at = a.at; bytes = a.src.now })))))
 shown s = let a = s.args in told a.at a.src.now s.requires.line_of.accepted a.kind s.requires.line_of.kind s.requires.kind_value _ _ refl refl
 
 -- an SQ has a name
@@ -53,14 +52,14 @@ unfolding Held
 kept c = (held false c.args.at c.args.src.now c.requires.line_of.accepted kind.ReferenceSequence (c.requires.line_of.kind ∙ c.in-ReferenceSequence.is)).1
 
 -- the value that was found
-value : (c : After-struct_known-1) → (let a = c.args in c.find_value-name.result ≡ or_value no_value (last_of 83 78 (fields_from a.at a.src.now 3)))
+value : (c : After-find_value-name) → (let a = c.args in c.find_value-name.result ≡ or_value no_value (last_of 83 78 (fields_from a.at a.src.now 3)))
 unfolding last_in
 value c = c.find_value-name.ensures
 
-within : (c : After-struct_known-1) → (let a = c.args in let v = c.find_value-name.result in (a.at ≤ v.at) × (v.at - a.at + v.len ≤ length a.src.now))
+within : (c : After-find_value-name) → (let a = c.args in let v = c.find_value-name.result in (a.at ≤ v.at) × (v.at - a.at + v.len ≤ length a.src.now))
 within c =
     let a = c.args in
-    value-within a.at a.src.now 83 78 (kept (goal.at.overflow_sub-from c).In-ReferenceSequence).name (kept (goal.at.overflow_sub-from c).In-ReferenceSequence).has-name c.find_value-name.result (value c)
+    value-within a.at a.src.now 83 78 (kept (goal.at.After-find_value-name c).In-ReferenceSequence).name (kept (goal.at.After-find_value-name c).In-ReferenceSequence).has-name c.find_value-name.result (value c)
 
 pub find_value-name-requires : goal.find_value-name-requires
 find_value-name-requires c = record {
@@ -70,13 +69,13 @@ find_value-name-requires c = record {
 }
 
 pub overflow_sub-from : goal.overflow_sub-from
-overflow_sub-from c = (within c).0
+overflow_sub-from c = (within (goal.at.overflow_sub-from c).After-find_value-name).0
 
 pub overflow_add-from : goal.overflow_add-from
-overflow_add-from c = omega (arith, within c, c.requires.line_of.short)
+overflow_add-from c = omega (arith, within (goal.at.overflow_add-from c).After-find_value-name, c.requires.line_of.short)
 
 pub slice_bounds-is_name-end : goal.slice_bounds-is_name-end
-slice_bounds-is_name-end c = omega (arith, within c)
+slice_bounds-is_name-end c = omega (arith, within (goal.at.slice_bounds-is_name-end c).After-find_value-name)
 
 pub returns-in-ReferenceSequence : goal.returns-in-ReferenceSequence
 unfolding head_writable
@@ -84,10 +83,10 @@ returns-in-ReferenceSequence c =
     let a = c.args in
     let k = kept (goal.at.returns-in-ReferenceSequence c).In-ReferenceSequence in
     c.is_name.ensures
-    ∙ ap is_name (value-bytes a.at a.src.now 83 78 k.name k.has-name c.find_value-name.result (value (goal.at.returns-in-ReferenceSequence c).After-struct_known-1) ∙ sym (place-bytes a.at a.src.now k.name k.has-name.stands))
-    ∙ sym ((shown c.before.before.before.before.before.before.before.before).writable ∙ ap (head_writable a.at a.src.now) k.is)
+    ∙ ap is_name (value-bytes a.at a.src.now 83 78 k.name k.has-name c.find_value-name.result (value (goal.at.returns-in-ReferenceSequence c).After-find_value-name) ∙ sym (place-bytes a.at a.src.now k.name k.has-name.stands))
+    ∙ sym ((shown (goal.at.returns-in-ReferenceSequence c).Start).writable ∙ ap (head_writable a.at a.src.now) k.is)
 
 pub returns-in_default : goal.returns-in_default
 returns-in_default c =
     let a = c.args in
-    sym ((shown c.before.before.before.before).writable ∙ nameless a.at a.src.now _ (subst (λ k. OneOf (0 ∷ 2 ∷ 3 ∷ 4 ∷ []) (tag_of Kind.the_type k)) (sym (shown c.before.before.before.before).kind-is) c.in_default.keys2))
+    sym ((shown (goal.at.returns-in_default c).Start).writable ∙ nameless a.at a.src.now _ (subst (λ k. OneOf (0 ∷ 2 ∷ 3 ∷ 4 ∷ []) (tag_of Kind.the_type k)) (sym (shown (goal.at.returns-in_default c).Start).kind-is) c.in_default.in_default-own.keys2))

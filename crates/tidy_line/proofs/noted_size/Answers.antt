@@ -7,10 +7,10 @@ use Rattle.accepted_line.proofs.Noting.{noting, noted-line}
 use Rattle.tidy_line.specs.Line.{line_size}
 use Rattle.tidy_line.specs.declared.Size.TheVariants.{Is}
 use Rattle.tidy_line.proofs.noted_size.Goals as goal
-use Rattle.tidy_line.proofs.noted_size.Goals.{After-tables-3-1}
+use Rattle.tidy_line.proofs.noted_size.Goals.{After-note_tags}
 
 -- its tables
-tables : (n : After-tables-3-1) → (let a = n.args in Walkable a.at a.src.now n.note_tags.new.tables)
+tables : (n : After-note_tags) → (let a = n.args in Walkable a.at a.src.now n.note_tags.new.tables)
 tables n =
     let a = n.args in
     noted-line a.kind a.at a.src.now n.requires.line_of n.requires.kind_value _ n.note_tags.ensures
@@ -24,7 +24,7 @@ pub is_writable-requires : goal.is_writable-requires
 is_writable-requires c = record {
   line_of = c.requires.line_of;
   kind_value = c.requires.kind_value;
-  walkable = tables c;
+  walkable = tables (goal.at.is_writable-requires c).After-note_tags;
 }
 
 pub returns-then-not-is_writable : goal.returns-then-not-is_writable
@@ -33,13 +33,13 @@ returns-then-not-is_writable c = rw (sym c.is_writable.ensures ∙ not-true c.is
 
 pub find_keys-keys-requires : goal.find_keys-keys-requires
 find_keys-keys-requires c = record {
-  walkable = tables (goal.at.find_keys-keys-requires c).After-tables-3-1;
+  walkable = tables (goal.at.find_keys-keys-requires c).After-note_tags;
   src_bound = omega (arith, c.requires.line_of.short);
 }
 
 pub other_fields_len-others-requires : goal.other_fields_len-others-requires
 other_fields_len-others-requires c = record {
-  walkable = tables (goal.at.other_fields_len-others-requires c).After-tables-3-1;
+  walkable = tables (goal.at.other_fields_len-others-requires c).After-note_tags;
   line_bound = c.requires.line_of.short;
 }
 

@@ -22,7 +22,7 @@ use Rattle.tidy_line.specs.declared.Size.TheVariants.{Is}
 use Rattle.tidy_line.proofs.Whole.{ready-text}
 use Rattle.tidy_line.proofs.Once.{once-others}
 use Rattle.tidy_line.proofs.once_size.Goals as goal
-use Rattle.tidy_line.proofs.once_size.Goals.{After-find_keys-arg-2-1, After-find_keys-keys, After-keys_len, After-shared_slice_known-1}
+use Rattle.tidy_line.proofs.once_size.Goals.{After-find_keys-keys, After-keys_len, Else-not-is_writable, Start}
 
 -- a key field takes four bytes or more
 some-keys : (k : Kind) (ks : KeyValues) → is_comment k ≡ false → 4 ≤ keys_length k ks
@@ -33,7 +33,7 @@ some-keys Program ks n = omega arith
 some-keys Comment ks n = absurd (never (cc))
 
 -- so the line has seven
-seven : (s : After-shared_slice_known-1) → 7 ≤ length s.args.src.now
+seven : (s : Start) → 7 ≤ length s.args.src.now
 seven s =
     let a = s.args in
     omega (
@@ -43,7 +43,7 @@ seven s =
     )
 
 -- it can be written
-writable : (c : After-find_keys-arg-2-1) → (let a = c.args in line_writable (line false (record { at = a.at; bytes = a.src.now })) ≡ true)
+writable : (c : Else-not-is_writable) → (let a = c.args in line_writable (line false (record { at = a.at; bytes = a.src.now })) ≡ true)
 writable c = sym c.is_writable.ensures ∙ not-false c.is_writable.result c.if-not-is_writable.false-raw
 
 -- the parts of the line
@@ -58,10 +58,10 @@ parts c =
 others : (c : After-keys_len)
     → (let a = c.args in
     (3 + c.keys_len.result ≤ length a.src.now) × (length a.src.now - 3 - c.keys_len.result ≡ length (others_text a.kind a.at a.src.now)))
-others c = let p = parts (goal.at.overflow_sub-others-2 c).After-find_keys-keys in (omega (arith, p, c.keys_len.ensures), omega (arith, p, c.keys_len.ensures))
+others c = let p = parts (goal.at.After-keys_len c).After-find_keys-keys in (omega (arith, p, c.keys_len.ensures), omega (arith, p, c.keys_len.ensures))
 
 pub is_ready-requires : goal.is_ready-requires
-is_ready-requires c = seven c
+is_ready-requires c = seven (goal.at.is_ready-requires c).Start
 
 pub returns-then-is_ready : goal.returns-then-is_ready
 unfolding line_size
@@ -107,4 +107,4 @@ parts_len-requires c = record {
 pub returns : goal.returns
 unfolding line_size
 returns c =
-    rw (writable (goal.at.returns c).After-find_keys-arg-2-1) (ap Is c.parts_len.ensures)
+    rw (writable (goal.at.returns c).Else-not-is_writable) (ap Is c.parts_len.ensures)

@@ -12,9 +12,9 @@ use Rattle.tidy_line.specs.Line.{line_text}
 use Rattle.tidy_parts.proofs.Wrote.{Wrote}
 use Rattle.tidy_line.proofs.Whole.{whole-text}
 use Rattle.tidy_line.proofs.put_once.Goals as goal
-use Rattle.tidy_line.proofs.put_once.Goals.{After-put_whole-arg-1}
+use Rattle.tidy_line.proofs.put_once.Goals.{Then-is_neat}
 
-whole : (t : After-put_whole-arg-1) → (let a = t.args in line_text (line false (record { at = a.at; bytes = a.src.now })) ≡ a.src.now ++ (10 ∷ []))
+whole : (t : Then-is_neat) → (let a = t.args in line_text (line false (record { at = a.at; bytes = a.src.now })) ≡ a.src.now ++ (10 ∷ []))
 whole t =
     let a = t.args in
     whole-text a.at a.src.now t.requires.line_of.accepted t.requires.at_field a.kind t.requires.line_of.kind (sym t.is_neat.ensures ∙ t.if-is_neat.true)
@@ -24,12 +24,12 @@ is_neat-requires c = three false c.args.at c.args.src.now c.requires.line_of.acc
 
 pub put_whole-requires : goal.put_whole-requires
 put_whole-requires c =
-    omega (arith, c.requires.src_in_bounds, ap length (whole c), length-append c.args.src.now (10 ∷ []))
+    omega (arith, c.requires.src_in_bounds, ap length (whole (goal.at.put_whole-requires c).Then-is_neat), length-append c.args.src.now (10 ∷ []))
 
 pub returns-then-is_neat : goal.returns-then-is_neat
 returns-then-is_neat c =
     let a = c.args in
-    let told = subst (Wrote a.out.now a.o c.put_whole.new.out c.put_whole.result) (sym (whole (goal.at.returns-then-is_neat c).After-put_whole-arg-1)) c.put_whole.ensures in
+    let told = subst (Wrote a.out.now a.o c.put_whole.new.out c.put_whole.result) (sym (whole (goal.at.returns-then-is_neat c).Then-is_neat)) c.put_whole.ensures in
     record { next = told.0; wrote = told.1 }
 
 pub put_parts-requires : goal.put_parts-requires

@@ -8,16 +8,16 @@ use Rattle.tidy_line.specs.Heads.{head_text, KeyInLine}
 use Rattle.tidy_parts.proofs.Wrote.{Wrote}
 use Rattle.tidy_line.proofs.Heads.{Told, told}
 use Rattle.tidy_line.proofs.put_parts.Goals as goal
-use Rattle.tidy_line.proofs.put_parts.Tie as tie
+use Rattle.tidy_line.proofs.put_parts.Goals.{After-head_of-head}
 
 -- the head is `d`
-shown : (c : tie.After-head_of-head) (d : Head) → c.head_of-head.result ≡ d → (let a = c.args in Told a.at a.src.now a.kind d)
+shown : (c : After-head_of-head) (d : Head) → c.head_of-head.result ≡ d → (let a = c.args in Told a.at a.src.now a.kind d)
 shown c d e =
     let a = c.args in
     told a.at a.src.now c.requires.line_of.accepted a.kind c.requires.line_of.kind c.requires.kind_value c.head_of-head.result d c.head_of-head.ensures e
 
 -- it has room
-room : (c : tie.After-head_of-head) (d : Head) → c.head_of-head.result ≡ d
+room : (c : After-head_of-head) (d : Head) → c.head_of-head.result ≡ d
     → (let a = c.args in a.o + length (head_text a.at a.src.now d) ≤ length a.out.now)
 room c d e = subst (λ l. c.args.o + length l ≤ length c.args.out.now) (shown c d e).text c.requires.src_in_bounds
 
@@ -38,7 +38,7 @@ unfolding KeyInLine head_text
 put_header-requires c = record {
   walkable = c.requires.walkable;
   line_bound = c.requires.line_of.short;
-  line_in_bounds = room c.before.before.before _ c.in-Header.is;
+  line_in_bounds = room (goal.at.put_header-requires c).After-head_of-head _ c.in-Header.is;
 }
 
 pub put_reference_sequence-requires : goal.put_reference_sequence-requires
@@ -46,8 +46,8 @@ unfolding KeyInLine head_text
 put_reference_sequence-requires c = record {
   walkable = c.requires.walkable;
   line_bound = c.requires.line_of.short;
-  inside_line = (shown c.before.before.before _ c.in-ReferenceSequence.is).holds;
-  line_in_bounds = room c.before.before.before _ c.in-ReferenceSequence.is;
+  inside_line = (shown (goal.at.put_reference_sequence-requires c).After-head_of-head _ c.in-ReferenceSequence.is).holds;
+  line_in_bounds = room (goal.at.put_reference_sequence-requires c).After-head_of-head _ c.in-ReferenceSequence.is;
 }
 
 pub put_map-requires : goal.put_map-requires
@@ -55,8 +55,8 @@ unfolding KeyInLine head_text
 put_map-requires c = record {
   walkable = c.requires.walkable;
   line_bound = c.requires.line_of.short;
-  inside_line = (shown c.before.before.before _ c.in-ReadGroup.is).holds;
-  line_in_bounds = room c.before.before.before _ c.in-ReadGroup.is;
+  inside_line = (shown (goal.at.put_map-requires c).After-head_of-head _ c.in-ReadGroup.is).holds;
+  line_in_bounds = room (goal.at.put_map-requires c).After-head_of-head _ c.in-ReadGroup.is;
 }
 
 pub put_map-requires-in-Program : goal.put_map-requires-in-Program
@@ -64,46 +64,46 @@ unfolding KeyInLine head_text
 put_map-requires-in-Program c = record {
   walkable = c.requires.walkable;
   line_bound = c.requires.line_of.short;
-  inside_line = (shown c.before.before.before _ c.in-Program.is).holds;
-  line_in_bounds = room c.before.before.before _ c.in-Program.is;
+  inside_line = (shown (goal.at.put_map-requires-in-Program c).After-head_of-head _ c.in-Program.is).holds;
+  line_in_bounds = room (goal.at.put_map-requires-in-Program c).After-head_of-head _ c.in-Program.is;
 }
 
 pub returns-in-Refused : goal.returns-in-Refused
 unfolding KeyInLine
 returns-in-Refused c =
-    let told = absurd (shown c.before.before _ c.in-Refused.is).holds in
+    let told = absurd (shown (goal.at.returns-in-Refused c).After-head_of-head _ c.in-Refused.is).holds in
     record { next = told.0; wrote = told.1 }
 
 pub returns-in-Header : goal.returns-in-Header
 unfolding head_text
 returns-in-Header c =
     let a = c.args in
-    let told = subst (Wrote a.out.now a.o c.put_header.new.out c.put_header.result) (sym (shown c.before.before.before.before.before.before _ c.in-Header.is).text) c.put_header.ensures in
+    let told = subst (Wrote a.out.now a.o c.put_header.new.out c.put_header.result) (sym (shown (goal.at.returns-in-Header c).After-head_of-head _ c.in-Header.is).text) c.put_header.ensures in
     record { next = told.0; wrote = told.1 }
 
 pub returns-in-ReferenceSequence : goal.returns-in-ReferenceSequence
 unfolding head_text
 returns-in-ReferenceSequence c =
     let a = c.args in
-    let told = subst (Wrote a.out.now a.o c.put_reference_sequence.new.out c.put_reference_sequence.result) (sym (shown c.before.before.before.before.before.before _ c.in-ReferenceSequence.is).text) c.put_reference_sequence.ensures in
+    let told = subst (Wrote a.out.now a.o c.put_reference_sequence.new.out c.put_reference_sequence.result) (sym (shown (goal.at.returns-in-ReferenceSequence c).After-head_of-head _ c.in-ReferenceSequence.is).text) c.put_reference_sequence.ensures in
     record { next = told.0; wrote = told.1 }
 
 pub returns-in-ReadGroup : goal.returns-in-ReadGroup
 unfolding head_text
 returns-in-ReadGroup c =
     let a = c.args in
-    let told = subst (Wrote a.out.now a.o c.put_map.new.out c.put_map.result) (sym (shown c.before.before.before.before.before.before _ c.in-ReadGroup.is).text) c.put_map.ensures in
+    let told = subst (Wrote a.out.now a.o c.put_map.new.out c.put_map.result) (sym (shown (goal.at.returns-in-ReadGroup c).After-head_of-head _ c.in-ReadGroup.is).text) c.put_map.ensures in
     record { next = told.0; wrote = told.1 }
 
 pub returns-in-Program : goal.returns-in-Program
 unfolding head_text
 returns-in-Program c =
     let a = c.args in
-    let told = subst (Wrote a.out.now a.o c.put_map-in-Program.new.out c.put_map-in-Program.result) (sym (shown c.before.before.before.before.before.before _ c.in-Program.is).text) c.put_map-in-Program.ensures in
+    let told = subst (Wrote a.out.now a.o c.put_map-in-Program.new.out c.put_map-in-Program.result) (sym (shown (goal.at.returns-in-Program c).After-head_of-head _ c.in-Program.is).text) c.put_map-in-Program.ensures in
     record { next = told.0; wrote = told.1 }
 
 pub returns-in-Comment : goal.returns-in-Comment
 unfolding KeyInLine
 returns-in-Comment c =
-    let told = absurd (shown c.before.before _ c.in-Comment.is).holds in
+    let told = absurd (shown (goal.at.returns-in-Comment c).After-head_of-head _ c.in-Comment.is).holds in
     record { next = told.0; wrote = told.1 }

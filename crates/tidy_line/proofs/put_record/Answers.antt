@@ -14,70 +14,69 @@ use Rattle.tidy_line.specs.Line.{line_text}
 use Rattle.tidy_parts.proofs.Wrote.{Wrote}
 use Rattle.tidy_line.proofs.Whole.{comment-text}
 use Rattle.tidy_line.proofs.put_record.Goals as goal
-use Rattle.tidy_line.proofs.put_record.Goals.{After-put_whole-arg-1, After-shared_slice_known-1}
-use Rattle.tidy_line.proofs.put_record.Tie as tie
+use Rattle.tidy_line.proofs.put_record.Goals.{After-form_of, In-Comment, Start}
 
-same : (s : After-shared_slice_known-1) → (let a = s.args in line a.strict (record { at = a.at; bytes = a.src.now }) ≡ line false (record { at = a.at; bytes = a.src.now }))
+same : (s : Start) → (let a = s.args in line a.strict (record { at = a.at; bytes = a.src.now }) ≡ line false (record { at = a.at; bytes = a.src.now }))
 same s = line-lax s.args.strict (record { at = s.args.at; bytes = s.args.src.now }) s.requires.src_value
 
-room : (s : After-shared_slice_known-1) → (let a = s.args in a.o + length (line_text (line false (record { at = a.at; bytes = a.src.now }))) ≤ length a.out.now)
+room : (s : Start) → (let a = s.args in a.o + length (line_text (line false (record { at = a.at; bytes = a.src.now }))) ≤ length a.out.now)
 room s = subst (λ l. s.args.o + length (line_text l) ≤ length s.args.out.now) (same s) s.requires.src_in_bounds
 
 -- the form of the line is `x`
-formed : (f : tie.After-form_of) (x : Form) → f.form_of.result ≡ x → (let a = f.args in IsForm a.at a.src.now x)
+formed : (f : After-form_of) (x : Form) → f.form_of.result ≡ x → (let a = f.args in IsForm a.at a.src.now x)
 formed f x e = let a = f.args in subst (IsForm a.at a.src.now) e f.form_of.ensures.right
 
 -- a comment is its record's text
-whole : (e : After-put_whole-arg-1) → (let a = e.args in line_text (line false (record { at = a.at; bytes = a.src.now })) ≡ a.src.now ++ (10 ∷ []))
+whole : (e : In-Comment) → (let a = e.args in line_text (line false (record { at = a.at; bytes = a.src.now })) ≡ a.src.now ++ (10 ∷ []))
 unfolding IsForm
 whole e =
     let a = e.args in
-    let i = formed e.before.before.before _ e.in-Comment.is in
+    let i = formed (goal.at.In-Comment e).After-form_of _ e.in-Comment.is in
     (comment-text a.at a.src.now i.accepted i.kind).0
 
 pub put_whole-requires : goal.put_whole-requires
 put_whole-requires c =
-    omega (arith, room (goal.at.put_whole-requires c).After-shared_slice_known-1, ap length (whole c), length-append c.args.src.now (10 ∷ []))
+    omega (arith, room (goal.at.put_whole-requires c).Start, ap length (whole (goal.at.put_whole-requires c).In-Comment), length-append c.args.src.now (10 ∷ []))
 
 pub put_once-requires : goal.put_once-requires
 unfolding IsForm
 put_once-requires c =
-    let i = formed c.before.before.before _ c.in-Once.is in record {
+    let i = formed (goal.at.put_once-requires c).After-form_of _ c.in-Once.is in record {
       line_of = i.0;
       kind_value = i.1;
       at_field = i.2;
-      src_in_bounds = room (goal.at.put_once-requires c).After-shared_slice_known-1;
+      src_in_bounds = room (goal.at.put_once-requires c).Start;
     }
 
 pub note_tags-requires : goal.note_tags-requires
 unfolding IsForm
 note_tags-requires c =
     let a = c.args in
-    let i = formed c.before.before.before _ c.in-Repeating.is in
+    let i = formed (goal.at.note_tags-requires c).After-form_of _ c.in-Repeating.is in
     let told = noting c.in-Repeating.kind a.at a.src.now i.0 i.1 in
     record { at_field = told.0; each = told.1.0; line_bound = told.1.1.0; tables_len = told.1.1.1 }
 
 pub put_parts-requires : goal.put_parts-requires
 unfolding IsForm
 put_parts-requires c =
-    let i = formed c.before.before.before.before.before.before.before _ c.in-Repeating.is in record {
+    let i = formed (goal.at.put_parts-requires c).After-form_of _ c.in-Repeating.is in record {
       line_of = i.0;
       kind_value = i.1;
       walkable = noted-line c.in-Repeating.kind c.args.at c.args.src.now i.0 i.1 _ c.note_tags.ensures;
-      src_in_bounds = room (goal.at.put_parts-requires c).After-shared_slice_known-1;
+      src_in_bounds = room (goal.at.put_parts-requires c).Start;
     }
 
 pub returns-in-Comment : goal.returns-in-Comment
 returns-in-Comment c =
-    let told = subst (Wrote c.args.out.now c.args.o c.put_whole.new.out c.put_whole.result) (sym (ap line_text (same (goal.at.returns-in-Comment c).After-shared_slice_known-1) ∙ whole (goal.at.returns-in-Comment c).After-put_whole-arg-1)) c.put_whole.ensures in
+    let told = subst (Wrote c.args.out.now c.args.o c.put_whole.new.out c.put_whole.result) (sym (ap line_text (same (goal.at.returns-in-Comment c).Start) ∙ whole (goal.at.returns-in-Comment c).In-Comment)) c.put_whole.ensures in
     record { next = told.0; wrote = told.1 }
 
 pub returns-in-Once : goal.returns-in-Once
 returns-in-Once c =
-    let told = subst (Wrote c.args.out.now c.args.o c.put_once.new.out c.put_once.result) (sym (ap line_text (same (goal.at.returns-in-Once c).After-shared_slice_known-1))) c.put_once.ensures in
+    let told = subst (Wrote c.args.out.now c.args.o c.put_once.new.out c.put_once.result) (sym (ap line_text (same (goal.at.returns-in-Once c).Start))) c.put_once.ensures in
     record { next = told.0; wrote = told.1 }
 
 pub returns-in-Repeating : goal.returns-in-Repeating
 returns-in-Repeating c =
-    let told = subst (Wrote c.args.out.now c.args.o c.put_parts.new.out c.put_parts.result) (sym (ap line_text (same (goal.at.returns-in-Repeating c).After-shared_slice_known-1))) c.put_parts.ensures in
+    let told = subst (Wrote c.args.out.now c.args.o c.put_parts.new.out c.put_parts.result) (sym (ap line_text (same (goal.at.returns-in-Repeating c).Start))) c.put_parts.ensures in
     record { next = told.0; wrote = told.1 }

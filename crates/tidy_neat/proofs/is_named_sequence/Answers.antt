@@ -13,8 +13,7 @@ use Rattle.tidy_name.specs.Runs.{name_run}
 use Rattle.tidy_name.proofs.Runs.{name-within}
 use Rattle.tidy_neat.specs.Neat.{has_tag, plain_length, named_before, named_sequence}
 use Rattle.tidy_neat.proofs.is_named_sequence.Goals as goal
-use Rattle.tidy_neat.proofs.is_named_sequence.Goals.{Else-n-eq0, Else-not-is_plain_length}
-use Rattle.tidy_neat.proofs.is_named_sequence.Tie as tie
+use Rattle.tidy_neat.proofs.is_named_sequence.Goals.{After-name_len-n, Else-not-has_tag, Else-not-is_plain_length}
 
 module _ (s : List ℕ) (n : ℕ) where
   -- what is left to test after SN
@@ -42,23 +41,23 @@ module _ (s : List ℕ) (n : ℕ) where
       omega (arith, f)
 
 -- SN comes first
-flag : (e : tie.Else-not-has_tag) → has_tag e.args.src.now 3 83 78 ≡ true
+flag : (e : Else-not-has_tag) → has_tag e.args.src.now 3 83 78 ≡ true
 flag e = sym e.has_tag.ensures ∙ not-false e.has_tag.result e.if-not-has_tag.false-raw
 
 -- its name
-run : (u : tie.After-name_len-n) → u.name_len-n.result ≡ name_run (drop 7 u.args.src.now)
+run : (u : After-name_len-n) → u.name_len-n.result ≡ name_run (drop 7 u.args.src.now)
 run u =
     let s = u.args.src.now in
     u.name_len-n.ensures ∙ ap name_run (take_all (length s - 7) (drop 7 s) (omega (arith, length-drop 7 s)))
 
-within : (u : Else-n-eq0) → 7 + u.name_len-n.result ≤ length u.args.src.now
+within : (u : After-name_len-n) → 7 + u.name_len-n.result ≤ length u.args.src.now
 within u =
     let s = u.args.src.now in
-    omega (arith, run u.before.before, name-within (drop 7 s), length-drop 7 s, u.requires)
+    omega (arith, run u, name-within (drop 7 s), length-drop 7 s, u.requires)
 
 -- the rest of the tests
-rest : (u : tie.After-name_len-n) → (let s = u.args.src.now in named_sequence s ≡ named_before s u.name_len-n.result)
-rest u = after_tag u.args.src.now u.name_len-n.result (flag u.before.before) (run u)
+rest : (u : After-name_len-n) → (let s = u.args.src.now in named_sequence s ≡ named_before s u.name_len-n.result)
+rest u = after_tag u.args.src.now u.name_len-n.result (flag (goal.at.After-name_len-n u).Else-not-has_tag) (run u)
 
 -- an LN comes next
 plain : (g : Else-not-is_plain_length) → (plain_length g.args.src.now (7 + g.name_len-n.result) ≡ true)
@@ -69,23 +68,23 @@ unfolding named_sequence
 returns-then-not-has_tag c = rw (sym c.has_tag.ensures ∙ not-true c.has_tag.result c.if-not-has_tag.true-raw) refl
 
 pub returns-then-n-eq0 : goal.returns-then-n-eq0
-returns-then-n-eq0 c = sym (rest c.before.before ∙ no_name c.args.src.now c.name_len-n.result c.if-n-eq0.true)
+returns-then-n-eq0 c = sym (rest (goal.at.returns-then-n-eq0 c).After-name_len-n ∙ no_name c.args.src.now c.name_len-n.result c.if-n-eq0.true)
 
 pub overflow_add-n : goal.overflow_add-n
-overflow_add-n c = omega (arith, within c)
+overflow_add-n c = omega (arith, within (goal.at.overflow_add-n c).After-name_len-n)
 
 pub is_plain_length-requires : goal.is_plain_length-requires
-is_plain_length-requires c = omega (arith, within c)
+is_plain_length-requires c = omega (arith, within (goal.at.is_plain_length-requires c).After-name_len-n)
 
 pub returns-then-not-is_plain_length : goal.returns-then-not-is_plain_length
 returns-then-not-is_plain_length c =
     let s = c.args.src.now in
     let n = c.name_len-n.result in
     let e : plain_length s (7 + n) ≡ false = sym c.is_plain_length.ensures ∙ not-true c.is_plain_length.result c.if-not-is_plain_length.true-raw in
-    sym (rest c.before.before.before.before ∙ after-name s n c.if-n-eq0.false ∙ ap (λ t. t && eqb (get_or s (7 + n) 0) 9) e)
+    sym (rest (goal.at.returns-then-not-is_plain_length c).After-name_len-n ∙ after-name s n c.if-n-eq0.false ∙ ap (λ t. t && eqb (get_or s (7 + n) 0) 9) e)
 
 pub overflow_add-result : goal.overflow_add-result
-overflow_add-result c = omega (arith, within (goal.at.overflow_add-result c).Else-n-eq0)
+overflow_add-result c = omega (arith, within (goal.at.overflow_add-result c).After-name_len-n)
 
 pub bounds-src-n : goal.bounds-src-n
 bounds-src-n c =
@@ -95,4 +94,4 @@ pub returns : goal.returns
 returns c =
     let s = c.args.src.now in
     let n = c.name_len-n.result in
-    sym (rest c.before.before.before.before.before ∙ after-name s n c.if-n-eq0.false ∙ ap (λ t. t && eqb (get_or s (7 + n) 0) 9) (plain (goal.at.returns c).Else-not-is_plain_length))
+    sym (rest (goal.at.returns c).After-name_len-n ∙ after-name s n c.if-n-eq0.false ∙ ap (λ t. t && eqb (get_or s (7 + n) 0) 9) (plain (goal.at.returns c).Else-not-is_plain_length))

@@ -26,4 +26,4 @@ unfolding ready
 returns-in-ReferenceSequence c = c.is_named_sequence.ensures ∙ sym (ap (λ k. ready k c.args.src.now) c.in-ReferenceSequence.is)
 
 pub returns-in_default : goal.returns-in_default
-returns-in_default c = c.is_neat.ensures ∙ nameless _ _ c.in_default.keys2
+returns-in_default c = c.is_neat.ensures ∙ nameless _ _ c.in_default.in_default-own.keys2

@@ -35,7 +35,7 @@ ends u =
 within : (u : After-upto) → 4 + u.upto.result ≤ length u.args.src.now
 within u =
     let s = u.args.src.now in
-    omega (arith, ends u, upto_le 9 (drop 4 s), length-drop 4 s, long (goal.at.overflow_add-upto u).Else-not-has_tag)
+    omega (arith, ends u, upto_le 9 (drop 4 s), length-drop 4 s, long (goal.at.After-upto u).Else-not-has_tag)
 
 pub returns-then-not-has_tag : goal.returns-then-not-has_tag
 unfolding neat

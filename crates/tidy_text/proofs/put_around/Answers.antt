@@ -13,10 +13,10 @@ use Rattle.tidy_text.proofs.Sizes.{front-size}
 use Rattle.tidy_text.proofs.Parts.{starts_apart, starts-placed}
 use Rattle.tidy_text.proofs.Sifting.{sifted-unmarked}
 use Rattle.tidy_text.proofs.put_around.Goals as goal
-use Rattle.tidy_text.proofs.put_around.Goals.{After-put_lines-arg-3-1}
+use Rattle.tidy_text.proofs.put_around.Goals.{After-starts}
 
 -- where each kind starts
-places : (c : After-put_lines-arg-3-1) → (let a = c.args in c.starts.result ≡ kind_starts a.gap (sizes_of (records_of a.text.now)))
+places : (c : After-starts) → (let a = c.args in c.starts.result ≡ kind_starts a.gap (sizes_of (records_of a.text.now)))
 places c = c.starts.ensures ∙ ap (kind_starts c.args.gap) c.requires.sizes_value
 
 pub starts-requires : goal.starts-requires
@@ -32,7 +32,7 @@ pub put_lines-requires : goal.put_lines-requires
 put_lines-requires c =
     let a = c.args in
     let rs = records_of a.text.now in
-    let apart = subst (λ p. Apart (parts p rs) (length a.out.now)) (sym (places c)) (starts_apart a.out.now a.gap rs c.requires.gap_in_bounds) in record {
+    let apart = subst (λ p. Apart (parts p rs) (length a.out.now)) (sym (places (goal.at.put_lines-requires c).After-starts)) (starts_apart a.out.now a.gap rs c.requires.gap_in_bounds) in record {
       text_value = c.requires.text_value;
       reads_by = c.requires.reads_by;
       apart = subst (λ qs. Apart (parts c.starts.result qs) (length a.out.now)) (sym (sifted-unmarked rs)) apart;
@@ -44,5 +44,5 @@ returns c =
     let rs = records_of a.text.now in
     c.put_lines.ensures
     ∙ ap (λ qs. with_parts a.out.now (parts c.starts.result qs)) (sifted-unmarked rs)
-    ∙ ap (λ p. with_parts a.out.now (parts p rs)) (places (goal.at.returns c).After-put_lines-arg-3-1)
+    ∙ ap (λ p. with_parts a.out.now (parts p rs)) (places (goal.at.returns c).After-starts)
     ∙ starts-placed a.out.now a.gap rs c.requires.gap_in_bounds

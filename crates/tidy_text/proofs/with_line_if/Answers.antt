@@ -14,17 +14,17 @@ use Rattle.tidy_text.proofs.Names.{size_is, grown-bad, grown-is}
 use borrow.Author.Tests.{not-true, not-false}
 use Rattle.tidy_text.proofs.Sifting.{grown-stays, grown-goes}
 use Rattle.tidy_text.proofs.with_line_if.Goals as goal
-use Rattle.tidy_text.proofs.with_line_if.Goals.{Else-not-stays, In-Is}
+use Rattle.tidy_text.proofs.with_line_if.Goals.{In-Is, Start}
 
 -- the line, and the kind by its second byte
-abbrev line_of : Else-not-stays → Line
+abbrev line_of : Start → Line
 line_of s = line s.args.strict (record { at = s.args.at; bytes = s.args.src.now })
 
-abbrev kind_at : Else-not-stays → Kind
+abbrev kind_at : Start → Kind
 kind_at s = kind_by (get_or s.args.src.now 1 0)
 
 -- its size, if it can be written
-told : (z : In-Is) → line_size (line_of (goal.at.kind_of-requires z).Else-not-stays) ≡ Is z.in-Is.n
+told : (z : In-Is) → line_size (line_of (goal.at.In-Is z).Start) ≡ Is z.in-Is.n
 told z = sym z.line_size-size.ensures ∙ z.in-Is.is
 
 pub returns-then-not-stays : goal.returns-then-not-stays
@@ -32,16 +32,16 @@ returns-then-not-stays c = let a = c.args in sym (grown-goes _ _ _ _ (not-true a
 
 pub returns-in_default : goal.returns-in_default
 returns-in_default c =
-    sym (grown-stays _ _ _ _ (not-false c.args.stays c.if-not-stays.false-raw) ∙ grown-bad (kind_at (goal.at.returns-in_default c).Else-not-stays) (line_of (goal.at.returns-in_default c).Else-not-stays) c.args.sizes (sym c.line_size-size.ensures ∙ c.in_default.is))
+    sym (grown-stays _ _ _ _ (not-false c.args.stays c.if-not-stays.false-raw) ∙ grown-bad (kind_at (goal.at.returns-in_default c).Start) (line_of (goal.at.returns-in_default c).Start) c.args.sizes (sym c.line_size-size.ensures ∙ c.in_default.is))
 
 pub kind_of-requires : goal.kind_of-requires
 kind_of-requires c = three c.args.strict c.args.at c.args.src.now c.requires.src_value
 
 pub plus-requires : goal.plus-requires
 plus-requires c =
-    omega (arith, c.requires.src_bound_2 (not-false c.args.stays c.if-not-stays.false-raw), (size_is (line_of (goal.at.plus-requires c).Else-not-stays) c.in-Is.n (told (goal.at.plus-requires c).In-Is)).1, ap (λ k. get k c.args.sizes) c.kind_of.ensures)
+    omega (arith, c.requires.src_bound_2 (not-false c.args.stays c.if-not-stays.false-raw), (size_is (line_of (goal.at.plus-requires c).Start) c.in-Is.n (told (goal.at.plus-requires c).In-Is)).1, ap (λ k. get k c.args.sizes) c.kind_of.ensures)
 
 pub returns : goal.returns
 returns c =
     ap grown.Is (c.plus.ensures ∙ ap (λ k. plus k c.in-Is.n c.args.sizes) c.kind_of.ensures)
-    ∙ sym (grown-stays _ _ _ _ (not-false c.args.stays c.if-not-stays.false-raw) ∙ grown-is (kind_at (goal.at.returns c).Else-not-stays) (line_of (goal.at.returns c).Else-not-stays) c.args.sizes c.in-Is.n (told (goal.at.returns c).In-Is))
+    ∙ sym (grown-stays _ _ _ _ (not-false c.args.stays c.if-not-stays.false-raw) ∙ grown-is (kind_at (goal.at.returns c).Start) (line_of (goal.at.returns c).Start) c.args.sizes c.in-Is.n (told (goal.at.returns c).In-Is))

@@ -7,10 +7,10 @@ use Rattle.format.specs.Bytes.{none?}
 use Rattle.accepted_line.proofs.fields.Here.{laxly}
 use Rattle.accepted_line.proofs.fields.Place.{bounds, own_at, tag_at, kept-tabled}
 use Rattle.accepted_line.proofs.fields.kept_value.Goals as goal
-use Rattle.accepted_line.proofs.fields.kept_value.Goals.{After-shared_slice_known-2-1}
+use Rattle.accepted_line.proofs.fields.kept_value.Goals.{Start}
 
 -- the field ends in the line
-reach : (s : After-shared_slice_known-2-1) → (let a = s.args in (a.i + 4 ≤ a.end) × (a.end ≤ length a.line.now))
+reach : (s : Start) → (let a = s.args in (a.i + 4 ≤ a.end) × (a.end ≤ length a.line.now))
 reach s =
     let a = s.args in
     let p = s.requires.i_in_bounds in
@@ -20,7 +20,7 @@ pub has_no_repeat-requires : goal.has_no_repeat-requires
 has_no_repeat-requires c = tt
 
 pub value_at-requires : goal.value_at-requires
-value_at-requires c = ((reach (goal.at.value_at-requires c).After-shared_slice_known-2-1).0, omega (arith, reach (goal.at.value_at-requires c).After-shared_slice_known-2-1, c.requires.line_bound))
+value_at-requires c = ((reach (goal.at.value_at-requires c).Start).0, omega (arith, reach (goal.at.value_at-requires c).Start, c.requires.line_bound))
 
 pub returns-then-has_no_repeat : goal.returns-then-has_no_repeat
 returns-then-has_no_repeat c =
@@ -29,10 +29,10 @@ returns-then-has_no_repeat c =
     c.value_at.ensures ∙ sym (own_at (none? a.tables.now) a.at a.line.now a.i c.requires.at_field p.0 a.end p.1 (sym c.has_no_repeat.ensures ∙ c.if-has_no_repeat.true))
 
 pub bounds-line-i : goal.bounds-line-i
-bounds-line-i c = omega (arith, reach (goal.at.bounds-line-i c).After-shared_slice_known-2-1)
+bounds-line-i c = omega (arith, reach (goal.at.bounds-line-i c).Start)
 
 pub bounds-line-i-2 : goal.bounds-line-i-2
-bounds-line-i-2 c = omega (arith, reach (goal.at.bounds-line-i-2 c).After-shared_slice_known-2-1)
+bounds-line-i-2 c = omega (arith, reach (goal.at.bounds-line-i-2 c).Start)
 
 pub noted_value-requires : goal.noted_value-requires
 noted_value-requires c =

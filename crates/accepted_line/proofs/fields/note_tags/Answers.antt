@@ -13,14 +13,14 @@ use Rattle.accepted_line.proofs.fields.Here.{ended}
 use Rattle.accepted_line.proofs.fields.Noted.{marked-length}
 use Rattle.accepted_line.proofs.fields.Place.{next-at, bounds, noted-at, tags-at}
 use Rattle.accepted_line.proofs.fields.note_tags.Goals as goal
-use Rattle.accepted_line.proofs.fields.note_tags.Goals.{After-note_tag-arg-1, After-tag_number}
+use Rattle.accepted_line.proofs.fields.note_tags.Goals.{After-field_end-end, After-tag_number}
 
 none_left : (t : List ℕ) (p : ℕ) (fs : List Field) → fs ≡ [] → noted t p fs ≡ t
 unfolding noted
 none_left t p fs e = rw e refl
 
 -- the field of a step ends in the line
-reach : (c : After-note_tag-arg-1) → ((c.loop-i.i + 4 ≤ c.field_end-end.result) × (c.field_end-end.result ≤ length c.args.line.now))
+reach : (c : After-field_end-end) → ((c.loop-i.i + 4 ≤ c.field_end-end.result) × (c.field_end-end.result ≤ length c.args.line.now))
 reach c =
     let a = c.args in
     bounds false a.at a.line.now c.loop-i.i c.loop-i.invariant.0 (omega arith) c.field_end-end.result c.field_end-end.ensures
@@ -32,29 +32,29 @@ pub field_end-end-requires : goal.field_end-end-requires
 field_end-end-requires c = omega arith
 
 pub overflow_add-i : goal.overflow_add-i
-overflow_add-i c = omega (arith, reach c)
+overflow_add-i c = omega (arith, reach (goal.at.overflow_add-i c).After-field_end-end)
 
 pub bounds-line-i : goal.bounds-line-i
-bounds-line-i c = omega (arith, reach (goal.at.bounds-line-i c).After-note_tag-arg-1)
+bounds-line-i c = omega (arith, reach (goal.at.bounds-line-i c).After-field_end-end)
 
 pub overflow_add-i-in-loop-i : goal.overflow_add-i-in-loop-i
-overflow_add-i-in-loop-i c = omega (arith, reach (goal.at.overflow_add-i-in-loop-i c).After-note_tag-arg-1)
+overflow_add-i-in-loop-i c = omega (arith, reach (goal.at.overflow_add-i-in-loop-i c).After-field_end-end)
 
 pub bounds-line-i-in-loop-i : goal.bounds-line-i-in-loop-i
-bounds-line-i-in-loop-i c = omega (arith, reach (goal.at.bounds-line-i-in-loop-i c).After-note_tag-arg-1)
+bounds-line-i-in-loop-i c = omega (arith, reach (goal.at.bounds-line-i-in-loop-i c).After-field_end-end)
 
 pub tag_number-requires : goal.tag_number-requires
 tag_number-requires c = tt
 
 -- the offset of the field is a small number
-placed : (f : After-note_tag-arg-1) → (f.args.at + f.loop-i.i ≤ 4294967295)
+placed : (f : After-field_end-end) → (f.args.at + f.loop-i.i ≤ 4294967295)
 placed f = omega (arith, reach f, f.requires.line_bound)
 
 pub overflow_add-at : goal.overflow_add-at
-overflow_add-at c = omega (arith, placed (goal.at.overflow_add-at c).After-note_tag-arg-1)
+overflow_add-at c = omega (arith, placed (goal.at.overflow_add-at c).After-field_end-end)
 
 pub overflow_cast-at : goal.overflow_cast-at
-overflow_cast-at c = omega (arith, placed (goal.at.overflow_cast-at c).After-note_tag-arg-1)
+overflow_cast-at c = omega (arith, placed (goal.at.overflow_cast-at c).After-field_end-end)
 
 -- the number of its tag, and the tags after it
 tags : (c : After-tag_number)
@@ -68,7 +68,7 @@ pub note_tag-requires : goal.note_tag-requires
 note_tag-requires c = ((tags c).0, c.loop-i.invariant.2 ∙ c.requires.tables_len)
 
 pub loop-i-smaller : goal.loop-i-smaller
-loop-i-smaller c = omega (arith, reach (goal.at.loop-i-smaller c).After-note_tag-arg-1)
+loop-i-smaller c = omega (arith, reach (goal.at.loop-i-smaller c).After-field_end-end)
 
 pub loop-i-preserved : goal.loop-i-preserved
 loop-i-preserved c =

@@ -28,8 +28,8 @@ told c = ap (λ n. get_or c.args.tables.now (3224 + n) 0) c.tag_number.ensures
 there : (c : Else-place-eq0) → (let a = c.args in There a.at a.line.now a.a a.b (get_or a.tables.now (3224 + c.tag_number.result) 0))
 there c =
     let a = c.args in
-    subst (There a.at a.line.now a.a a.b) (sym (told (goal.at.overflow_sub-i c).After-tag_number))
-    (noted-there a.at a.line.now a.a a.b c.requires.b_value c.requires.at_field a.tables.now c.requires.noted (λ z. c.if-place-eq0.false (told (goal.at.overflow_sub-i c).After-tag_number ∙ z)))
+    subst (There a.at a.line.now a.a a.b) (sym (told (goal.at.Else-place-eq0 c).After-tag_number))
+    (noted-there a.at a.line.now a.a a.b c.requires.b_value c.requires.at_field a.tables.now c.requires.noted (λ z. c.if-place-eq0.false (told (goal.at.Else-place-eq0 c).After-tag_number ∙ z)))
 
 pub overflow_add-place : goal.overflow_add-place
 overflow_add-place c = omega (arith, number c)

@@ -16,10 +16,10 @@ use Rattle.carry_passes.specs.Steps.{rows_before, places_after}
 use Rattle.carry_passes.proofs.writing.Steps.{out-more, out-fits, row_fits, table_more, table_same, skipped, kept-one}
 use Rattle.carry_passes.proofs.writing.put_lines.Invariants.{ahead, to_come}
 use Rattle.carry_passes.proofs.writing.put_lines.Goals as goal
-use Rattle.carry_passes.proofs.writing.put_lines.Goals.{After-put_step-arg-in-loop-c-1}
+use Rattle.carry_passes.proofs.writing.put_lines.Goals.{After-next_line-step}
 
 -- the line of a step
-turned : (c : After-put_step-arg-in-loop-c-1)
+turned : (c : After-next_line-step)
     → (let a = c.args in
     Turn a.b.strict a.text.now a.b.at c.loop-c.c c.next_line-step.result.end c.next_line-step.result.refusal)
 turned c =
@@ -29,7 +29,7 @@ turned c =
     c.next_line-step.ensures.end c.next_line-step.ensures.refusal
 
 -- one more row, or none
-counted : (c : After-put_step-arg-in-loop-c-1)
+counted : (c : After-next_line-step)
     → (let l = c.loop-c in let b = c.args.b in rows_before b c.next_line-step.result.next ≡ rows_before b l.c + skipped c.next_line-step.result.refusal)
 counted c =
     let l = c.loop-c in
@@ -76,7 +76,7 @@ put_step-next-requires c =
     let a = c.args in
     let b = c.args.b in
     let r = c.next_line-step.result in
-    let u = turned c in record {
+    let u = turned (goal.at.put_step-next-requires c).After-next_line-step in record {
       text_len_bound = c.requires.text_len_bound;
       first = c.requires.first;
       turn = u;
@@ -87,7 +87,7 @@ put_step-next-requires c =
     }
 
 pub loop-c-smaller : goal.loop-c-smaller
-loop-c-smaller c = omega (arith, c.loop-c-test.true, (turned (goal.at.loop-c-smaller c).After-put_step-arg-in-loop-c-1).onward, c.next_line-step.ensures.at)
+loop-c-smaller c = omega (arith, c.loop-c-test.true, (turned (goal.at.loop-c-smaller c).After-next_line-step).onward, c.next_line-step.ensures.at)
 
 pub loop-c-preserved : goal.loop-c-preserved
 loop-c-preserved c =
@@ -100,12 +100,12 @@ loop-c-preserved c =
     let wrote = c.put_step-next.new.out in
     let listed = c.put_step-next.new.table in
     let n = c.next_line-step.result.refusal in
-    let u = turned (goal.at.loop-c-preserved c).After-put_step-arg-in-loop-c-1 in
+    let u = turned (goal.at.loop-c-preserved c).After-next_line-step in
     let on = c.next_line-step.ensures.line in
     let k = b.line + l.c.line in
     let k-on : k + 1 ≡ b.line + (l.c.line + 1) = omega arith in
     let come : to_come t b w.result.next.line ≡ rows (skips (k + 1) (ahead t b (l.c.line + 1))) = ap (to_come t b) on ∙ ap (λ m. rows (skips m (ahead t b (l.c.line + 1)))) (sym k-on) in
-    let rows_on = counted (goal.at.loop-c-preserved c).After-put_step-arg-in-loop-c-1 in
+    let rows_on = counted (goal.at.loop-c-preserved c).After-next_line-step in
     let o = out-more b.strict t b.at l.c w.result.end n u l.out (length l.out) l.next (omega arith) l.invariant.1 in (
       w.ensures.next,
       subst (λ q. Apart (parts q (kept_of (ahead t b w.result.next.line))) (length (wrote))) (sym p.ensures.next)

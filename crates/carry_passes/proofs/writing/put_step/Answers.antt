@@ -6,10 +6,10 @@ use Rattle.carry_passes.proofs.Steps.{turn-read}
 use Rattle.carry_passes.specs.Steps.{rows_before}
 use Rattle.carry_passes.proofs.writing.Steps.{places-kept, places-skipped, out-kept, out-skipped, table_kept, table-skipped}
 use Rattle.carry_passes.proofs.writing.put_step.Goals as goal
-use Rattle.carry_passes.proofs.writing.put_step.Goals.{After-struct_known-1}
+use Rattle.carry_passes.proofs.writing.put_step.Goals.{Start}
 
 -- line numbers are small
-small : (s : After-struct_known-1) → (s.args.c.line ≤ 16777216) × (s.args.b.line ≤ 16777216)
+small : (s : Start) → (s.args.c.line ≤ 16777216) × (s.args.b.line ≤ 16777216)
 small s =
     let f = s.requires.first in
     let u = s.requires.turn in
@@ -19,13 +19,13 @@ pub overflow_sub-row : goal.overflow_sub-row
 overflow_sub-row c = c.requires.turn.few
 
 pub overflow_add-row : goal.overflow_add-row
-overflow_add-row c = omega (arith, small (goal.at.overflow_add-row c).After-struct_known-1)
+overflow_add-row c = omega (arith, small (goal.at.overflow_add-row c).Start)
 
 pub overflow_cast-c : goal.overflow_cast-c
-overflow_cast-c c = omega (arith, small (goal.at.overflow_cast-c c).After-struct_known-1)
+overflow_cast-c c = omega (arith, small (goal.at.overflow_cast-c c).Start)
 
 pub overflow_add-b : goal.overflow_add-b
-overflow_add-b c = omega (arith, small (goal.at.overflow_add-b c).After-struct_known-1)
+overflow_add-b c = omega (arith, small (goal.at.overflow_add-b c).Start)
 
 pub put_row-requires : goal.put_row-requires
 put_row-requires c =

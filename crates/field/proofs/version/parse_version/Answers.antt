@@ -13,8 +13,7 @@ use Rattle.byte_slices.proofs.Before.{rest}
 use Rattle.field.proofs.version.Sides.{version-none, version-sides, no-major, no-minor, major-minor}
 use Rattle.field.proofs.version.Refused.{version-told}
 use Rattle.field.proofs.version.parse_version.Goals as goal
-use Rattle.field.proofs.version.parse_version.Goals.{Else-dot-src}
-use Rattle.field.proofs.version.parse_version.Tie as tie
+use Rattle.field.proofs.version.parse_version.Goals.{After-parse_part-2, Else-dot-src}
 
 -- ---- where a dot was found
 
@@ -51,7 +50,7 @@ pub slice_bounds-parse_part-start : goal.slice_bounds-parse_part-start
 slice_bounds-parse_part-start c = omega (arith, inside (goal.at.slice_bounds-parse_part-start c).Else-dot-src)
 
 -- what follows the dot is all that is left
-minor : (c : tie.After-parse_part-2)
+minor : (c : After-parse_part-2)
     → c.parse_part-2.result
     ≡ version_side_of
     (number
@@ -64,7 +63,7 @@ minor c =
 
 pub returns-in_default-parse_part : goal.returns-in_default-parse_part
 returns-in_default-parse_part c =
-    let told = version-told _ Invalid (sym (ap parsed_version_of (split (goal.at.returns-in_default-parse_part c).Else-dot-src) ∙ no-minor _ _ (sym c.in_default-parse_part.is ∙ minor c.before.before))) in
+    let told = version-told _ Invalid (sym (ap parsed_version_of (split (goal.at.returns-in_default-parse_part c).Else-dot-src) ∙ no-minor _ _ (sym c.in_default-parse_part.is ∙ minor (goal.at.returns-in_default-parse_part c).After-parse_part-2))) in
     record { is = told.0; refusal = told.1 }
 
 pub returns : goal.returns
@@ -73,5 +72,5 @@ returns c =
     (ap Is c.new.ensures
     ∙ sym
     (ap parsed_version_of (split (goal.at.returns c).Else-dot-src)
-    ∙ major-minor _ _ _ _ (sym c.in-Is.is ∙ c.parse_part.ensures) (sym c.in-Is-parse_part.is ∙ minor c.before.before.before))) in
+    ∙ major-minor _ _ _ _ (sym c.in-Is.is ∙ c.parse_part.ensures) (sym c.in-Is-parse_part.is ∙ minor (goal.at.returns c).After-parse_part-2))) in
     record { is = told.0; refusal = told.1 }

@@ -10,27 +10,27 @@ use Rattle.name_index.proofs.SlotCount.{slots-power, slots-few}
 use Rattle.format.specs.Asked.{asked}
 use Rattle.names.proofs.answer.Answered.{long₁, notes-told, looks-told, index-told, found-told}
 use Rattle.names.proofs.answer.answer_noting.Goals as goal
-use Rattle.names.proofs.answer.answer_noting.Goals.{After-fill-arg-2-1, After-find_slots-arg-1}
+use Rattle.names.proofs.answer.answer_noting.Goals.{After-fill, Start}
 
 -- so many slots
-sized : (s : After-fill-arg-2-1) (n : ℕ) → n ≡ slot_count (length (names_in s.args.text.now (entries_in s.args.catalogue.now))) → (n ≤ 33554432) × ((e : ℕ) × (n ≡ 2 ^ e))
+sized : (s : Start) (n : ℕ) → n ≡ slot_count (length (names_in s.args.text.now (entries_in s.args.catalogue.now))) → (n ≤ 33554432) × ((e : ℕ) × (n ≡ 2 ^ e))
 sized s n e =
     let m : ℕ = length (names_in s.args.text.now (entries_in s.args.catalogue.now)) in
     (omega (arith, e, slots-few m s.requires.few), (suc (slots-power m).0, e ∙ (slots-power m).1))
 
-refilled : (f : After-find_slots-arg-1) → length f.fill.new.slots ≡ slot_count (length (names_in f.args.text.now (entries_in f.args.catalogue.now)))
+refilled : (f : After-fill) → length f.fill.new.slots ≡ slot_count (length (names_in f.args.text.now (entries_in f.args.catalogue.now)))
 refilled f =
     long₁ f.args.text.now f.args.catalogue.now f.args.slots.now f.fill.new.slots f.requires.size f.fill.ensures.wrote
 
 pub fill-requires : goal.fill-requires
-fill-requires c = let z = sized c (length c.args.slots.now) c.requires.size in record {
+fill-requires c = let z = sized (goal.at.fill-requires c).Start (length c.args.slots.now) c.requires.size in record {
   slots_len_bound = z.0;
   by_index = z.1;
   catalogue_len_bound = c.requires.short;
 }
 
 pub find_slots-looks-requires : goal.find_slots-looks-requires
-find_slots-looks-requires c = let z = sized (goal.at.find_slots-looks-requires c).After-fill-arg-2-1 (length c.fill.new.slots) (refilled c) in record {
+find_slots-looks-requires c = let z = sized (goal.at.find_slots-looks-requires c).Start (length c.fill.new.slots) (refilled (goal.at.find_slots-looks-requires c).After-fill) in record {
   slots_len_bound = z.0;
   by_index = z.1;
   list_len_bound = c.requires.short-list;
@@ -40,7 +40,7 @@ find_slots-looks-requires c = let z = sized (goal.at.find_slots-looks-requires c
 pub refill-requires : goal.refill-requires
 refill-requires c =
     let a = c.args in
-    let z = sized (goal.at.refill-requires c).After-fill-arg-2-1 (length c.fill.new.slots) (refilled (goal.at.refill-requires c).After-find_slots-arg-1) in
+    let z = sized (goal.at.refill-requires c).Start (length c.fill.new.slots) (refilled (goal.at.refill-requires c).After-fill) in
     let m = c.requires.count in record {
       slots_len_bound = z.0;
       by_index = z.1;

@@ -16,11 +16,10 @@ use Rattle.record_parser.specs.Marks.{marks_of}
 use Rattle.record_parser.proofs.Walked.{Turned, turned, refused-here}
 use Rattle.record_parser.proofs.Step.{walked_start, turn-six, turn_end, turn-refused, next-within, turn-tag, turn-place, told-again, turn_twice, walked}
 use Rattle.record_parser.proofs.fields.walk_fields.Goals as goal
-use Rattle.record_parser.proofs.fields.walk_fields.Goals.{After-mark_of-mark, Else-f-ne0, Joined-strict}
-use Rattle.record_parser.proofs.fields.walk_fields.Tie as tie
+use Rattle.record_parser.proofs.fields.walk_fields.Goals.{After-mark_of-mark, After-parse_field-f, After-stands_again-again, At-loop-pos, Else-f-ne0, Joined-strict}
 
 -- what `parse_field` was lent is the rest of the line
-answer : (c : tie.After-parse_field-f goal.the-invariant-loop-pos goal.the-decreases-loop-pos)
+answer : (c : After-parse_field-f)
     → let a = c.args in
     c.parse_field-f.result ≡ parsed_of a.kind (field a.kind 0 (before 9 (drop (c.loop-pos.pos + 1) a.src.now)))
 answer c =
@@ -28,49 +27,49 @@ answer c =
     c.parse_field-f.ensures ∙ ap (λ s. parsed_of a.kind (field a.kind 0 (before 9 s))) (rest (c.loop-pos.pos + 1) a.src.now)
 
 -- the field that it found
-turn : (c : tie.Else-f-ne0 goal.the-invariant-loop-pos goal.the-decreases-loop-pos)
+turn : (c : Else-f-ne0)
     → let a = c.args in
     Turned a.kind (a.at + c.loop-pos.pos) (drop (c.loop-pos.pos + 1) a.src.now) c.parse_field-f.result
 turn c =
     let a = c.args in
-    turned a.kind (a.at + c.loop-pos.pos) (drop (c.loop-pos.pos + 1) a.src.now) c.parse_field-f.result (answer c.before.before) c.if-f-ne0.false
+    turned a.kind (a.at + c.loop-pos.pos) (drop (c.loop-pos.pos + 1) a.src.now) c.parse_field-f.result (answer (goal.at.Else-f-ne0 c).After-parse_field-f) c.if-f-ne0.false
 
 -- the field ends within the line
 room : (c : Else-f-ne0)
     → c.loop-pos.pos + 4 + c.parse_field-f.result.len ≤ length c.args.src.now
 room c =
     let a = c.args in
-    next-within a.kind a.src.now a.at a.strict a.exact c.loop-pos.seen c.loop-pos.keys c.loop-pos.pos c.loop-pos.invariant c.loop-pos-test.true c.if-src-pos-ne9.false _ (turn c.before)
+    next-within a.kind a.src.now a.at a.strict a.exact c.loop-pos.seen c.loop-pos.keys c.loop-pos.pos c.loop-pos.invariant c.loop-pos-test.true c.if-src-pos-ne9.false _ (turn c)
 
 -- its mark is in the table
 marked : (c : After-mark_of-mark)
     → c.mark_of-mark.result < length c.loop-pos.seen
 marked c =
     let a = c.args in
-    rw c.mark_of-mark.ensures (turn-place a.kind a.src.now a.at a.strict a.exact c.loop-pos.seen c.loop-pos.keys c.loop-pos.pos c.loop-pos.invariant c.loop-pos-test.true c.if-src-pos-ne9.false _ (turn c.before.before))
+    rw c.mark_of-mark.ensures (turn-place a.kind a.src.now a.at a.strict a.exact c.loop-pos.seen c.loop-pos.keys c.loop-pos.pos c.loop-pos.invariant c.loop-pos-test.true c.if-src-pos-ne9.false _ (turn (goal.at.After-mark_of-mark c).Else-f-ne0))
 
 -- whether its tag was there before
-again : (c : tie.After-stands_again-again goal.the-invariant-loop-pos goal.the-decreases-loop-pos)
-    → c.stands_again-again.result ≡ any (tagged (turn c.before.before.before.before).field.tag₀ (turn c.before.before.before.before).field.tag₁) c.loop-pos.invariant.fields
+again : (c : After-stands_again-again)
+    → c.stands_again-again.result ≡ any (tagged (turn (goal.at.After-stands_again-again c).Else-f-ne0).field.tag₀ (turn (goal.at.After-stands_again-again c).Else-f-ne0).field.tag₁) c.loop-pos.invariant.fields
 again c =
     let a = c.args in
     let g = c.parse_field-f.result in
     c.stands_again-again.ensures
     ∙ ap (λ i. get_or c.loop-pos.seen i false && (a.exact || occurs g.tag_0 g.tag_1 (take (c.loop-pos.pos - 3) (drop 3 a.src.now)))) c.mark_of-mark.ensures
-    ∙ told-again a.kind a.src.now a.at a.strict a.exact c.loop-pos.seen c.loop-pos.keys c.loop-pos.pos c.loop-pos.invariant c.loop-pos-test.true c.if-src-pos-ne9.false g (turn c.before.before.before.before)
+    ∙ told-again a.kind a.src.now a.at a.strict a.exact c.loop-pos.seen c.loop-pos.keys c.loop-pos.pos c.loop-pos.invariant c.loop-pos-test.true c.if-src-pos-ne9.false g (turn (goal.at.After-stands_again-again c).Else-f-ne0)
 
 -- as many marks as were lent
-lent : (c : tie.At-loop-pos goal.the-invariant-loop-pos goal.the-decreases-loop-pos) → length c.loop-pos.seen ≡ length c.args.seen.now
+lent : (c : At-loop-pos) → length c.loop-pos.seen ≡ length c.args.seen.now
 lent c =
     c.loop-pos.invariant.marked.size ∙ sym (ap length c.requires.seen_value ∙ length-replicate (marks_of c.args.exact) false)
 
 -- no tag is repeated where that is forbidden
 allowed : (c : Joined-strict)
-    → c.args.strict && any (tagged (turn c.before.before.before.before.before.before).field.tag₀ (turn c.before.before.before.before.before.before).field.tag₁) c.loop-pos.invariant.fields ≡ false
+    → c.args.strict && any (tagged (turn (goal.at.Joined-strict c).Else-f-ne0).field.tag₀ (turn (goal.at.Joined-strict c).Else-f-ne0).field.tag₁) c.loop-pos.invariant.fields ≡ false
 allowed c =
     ⊎_elim
-    (λ w. ap (λ t. t && any (tagged (turn c.before.before.before.before.before.before).field.tag₀ (turn c.before.before.before.before.before.before).field.tag₁) c.loop-pos.invariant.fields) w.0.taken ∙ sym (again c.before.before) ∙ w.1.left)
-    (λ w. ap (λ t. t && any (tagged (turn c.before.before.before.before.before.before).field.tag₀ (turn c.before.before.before.before.before.before).field.tag₁) c.loop-pos.invariant.fields) w.left)
+    (λ w. ap (λ t. t && any (tagged (turn (goal.at.Joined-strict c).Else-f-ne0).field.tag₀ (turn (goal.at.Joined-strict c).Else-f-ne0).field.tag₁) c.loop-pos.invariant.fields) w.0.taken ∙ sym (again (goal.at.Joined-strict c).After-stands_again-again) ∙ w.1.left)
+    (λ w. ap (λ t. t && any (tagged (turn (goal.at.Joined-strict c).Else-f-ne0).field.tag₀ (turn (goal.at.Joined-strict c).Else-f-ne0).field.tag₁) c.loop-pos.invariant.fields) w.left)
     c.if-strict.branch
 
 pub loop-pos-init : goal.loop-pos-init
@@ -79,7 +78,7 @@ loop-pos-init c =
     walked_start a.kind a.src.now a.at a.strict a.exact a.seen.now c.new-keys.result c.requires.in_bounds c.requires.seen_value c.new-keys.ensures
 
 pub shape_of-seen-then-src-pos-ne9 : goal.shape_of-seen-then-src-pos-ne9
-shape_of-seen-then-src-pos-ne9 c = lent c.before.before.before.before
+shape_of-seen-then-src-pos-ne9 c = lent (goal.at.shape_of-seen-then-src-pos-ne9 c).At-loop-pos
 
 pub returns-then-src-pos-ne9 : goal.returns-then-src-pos-ne9
 unfolding head_of
@@ -88,31 +87,31 @@ returns-then-src-pos-ne9 c =
     sym (ap head_of (turn-six a.kind a.src.now a.at a.strict a.exact c.loop-pos.seen c.loop-pos.keys c.loop-pos.pos c.loop-pos.invariant c.loop-pos-test.true c.if-src-pos-ne9.true))
 
 pub shape_of-seen-then-f-ne0 : goal.shape_of-seen-then-f-ne0
-shape_of-seen-then-f-ne0 c = lent c.before.before.before.before.before.before.before.before
+shape_of-seen-then-f-ne0 c = lent (goal.at.shape_of-seen-then-f-ne0 c).At-loop-pos
 
 pub returns-then-f-ne0 : goal.returns-then-f-ne0
 unfolding head_of
 returns-then-f-ne0 c =
     let a = c.args in
     let g = c.parse_field-f.result in
-    sym (ap head_of (turn-refused a.kind a.src.now a.at a.strict a.exact c.loop-pos.seen c.loop-pos.keys c.loop-pos.pos c.loop-pos.invariant c.loop-pos-test.true c.if-src-pos-ne9.false g.stop (refused-here a.kind (a.at + c.loop-pos.pos) (drop (c.loop-pos.pos + 1) a.src.now) g (answer c.before.before.before) c.if-f-ne0.true) c.if-f-ne0.true))
+    sym (ap head_of (turn-refused a.kind a.src.now a.at a.strict a.exact c.loop-pos.seen c.loop-pos.keys c.loop-pos.pos c.loop-pos.invariant c.loop-pos-test.true c.if-src-pos-ne9.false g.stop (refused-here a.kind (a.at + c.loop-pos.pos) (drop (c.loop-pos.pos + 1) a.src.now) g (answer (goal.at.returns-then-f-ne0 c).After-parse_field-f) c.if-f-ne0.true) c.if-f-ne0.true))
 
 pub mark_of-mark-requires : goal.mark_of-mark-requires
 mark_of-mark-requires c =
     let a = c.args in
-    turn-tag a.kind a.src.now a.at a.strict a.exact c.loop-pos.seen c.loop-pos.keys c.loop-pos.pos c.loop-pos.invariant c.loop-pos-test.true c.if-src-pos-ne9.false _ (turn c.before)
+    turn-tag a.kind a.src.now a.at a.strict a.exact c.loop-pos.seen c.loop-pos.keys c.loop-pos.pos c.loop-pos.invariant c.loop-pos-test.true c.if-src-pos-ne9.false _ (turn c)
 
 pub bounds-seen-mark : goal.bounds-seen-mark
 bounds-seen-mark c = marked (goal.at.bounds-seen-mark c).After-mark_of-mark
 
 pub shape_of-seen-then-again : goal.shape_of-seen-then-again
-shape_of-seen-then-again c = lent c.before.before.before.before.before.before.before.before.before.before.before.before.before.before
+shape_of-seen-then-again c = lent (goal.at.shape_of-seen-then-again c).At-loop-pos
 
 pub returns-then-again : goal.returns-then-again
 unfolding head_of
 returns-then-again c =
     let a = c.args in
-    sym (ap head_of (turn_twice a.kind a.src.now a.at a.strict a.exact c.loop-pos.seen c.loop-pos.keys c.loop-pos.pos c.loop-pos.invariant c.loop-pos-test.true c.if-src-pos-ne9.false _ (turn c.before.before.before.before.before.before.before) c.if-strict.true (sym (again c.before.before.before) ∙ c.if-again.true)))
+    sym (ap head_of (turn_twice a.kind a.src.now a.at a.strict a.exact c.loop-pos.seen c.loop-pos.keys c.loop-pos.pos c.loop-pos.invariant c.loop-pos-test.true c.if-src-pos-ne9.false _ (turn (goal.at.returns-then-again c).Else-f-ne0) c.if-strict.true (sym (again (goal.at.returns-then-again c).After-stands_again-again) ∙ c.if-again.true)))
 
 pub bounds-seen-mark-in-loop-pos : goal.bounds-seen-mark-in-loop-pos
 bounds-seen-mark-in-loop-pos c = marked (goal.at.bounds-seen-mark-in-loop-pos c).After-mark_of-mark
@@ -144,11 +143,11 @@ loop-pos-smaller c =
 pub loop-pos-preserved : goal.loop-pos-preserved
 loop-pos-preserved c =
     let a = c.args in
-    rw (c.mark_of-mark.ensures, c.with-keys.ensures, again c.before.before.before.before)
-    (walked a.kind a.src.now a.at a.strict a.exact c.loop-pos.seen c.loop-pos.keys c.loop-pos.pos c.loop-pos.invariant c.loop-pos-test.true c.if-src-pos-ne9.false _ (turn c.before.before.before.before.before.before.before.before) (allowed (goal.at.loop-pos-preserved c).Joined-strict))
+    rw (c.mark_of-mark.ensures, c.with-keys.ensures, again (goal.at.loop-pos-preserved c).After-stands_again-again)
+    (walked a.kind a.src.now a.at a.strict a.exact c.loop-pos.seen c.loop-pos.keys c.loop-pos.pos c.loop-pos.invariant c.loop-pos-test.true c.if-src-pos-ne9.false _ (turn (goal.at.loop-pos-preserved c).Else-f-ne0) (allowed (goal.at.loop-pos-preserved c).Joined-strict))
 
 pub shape_of-seen : goal.shape_of-seen
-shape_of-seen c = lent c.before.before.before
+shape_of-seen c = lent (goal.at.shape_of-seen c).At-loop-pos
 
 pub returns : goal.returns
 returns c =

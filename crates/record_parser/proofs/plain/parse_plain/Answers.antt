@@ -18,21 +18,21 @@ abbrev line : Else-not-is_between → List ℕ
 line c = c.args.src.now
 
 -- SN is there
-sn : (c : Else-not-has_tag_at) → TagAt (line (goal.at.slice_bounds-value_len-count c).Else-not-is_between) 3 83
+sn : (c : Else-not-has_tag_at) → TagAt (line (goal.at.Else-not-has_tag_at c).Else-not-is_between) 3 83
 sn c = c.has_tag_at.ensures (not-false _ c.if-not-has_tag_at.false-raw)
 
 -- its name, which ends within the line
-name : (c : Else-name_len-eq0) → c.value_len-name_len.result ≡ taken_of is_value (before 9 (drop 7 (line (goal.at.overflow_add-name_len c).Else-not-is_between)))
-name c = c.value_len-name_len.ensures ∙ ap (λ v. taken_of is_value (before 9 v)) (rest 7 (line (goal.at.overflow_add-name_len c).Else-not-is_between))
+name : (c : Else-name_len-eq0) → c.value_len-name_len.result ≡ taken_of is_value (before 9 (drop 7 (line (goal.at.Else-name_len-eq0 c).Else-not-is_between)))
+name c = c.value_len-name_len.ensures ∙ ap (λ v. taken_of is_value (before 9 v)) (rest 7 (line (goal.at.Else-name_len-eq0 c).Else-not-is_between))
 
-name-room : (c : Else-name_len-eq0) → 7 + c.value_len-name_len.result ≤ length (line (goal.at.overflow_add-name_len c).Else-not-is_between)
+name-room : (c : Else-name_len-eq0) → 7 + c.value_len-name_len.result ≤ length (line (goal.at.Else-name_len-eq0 c).Else-not-is_between)
 name-room c =
-    let s = line (goal.at.overflow_add-name_len c).Else-not-is_between in
-    name-within s c.value_len-name_len.result (name c) c.if-name_len-eq0.false (omega (arith, (sn (goal.at.overflow_add-name_len c).Else-not-has_tag_at).room))
+    let s = line (goal.at.Else-name_len-eq0 c).Else-not-is_between in
+    name-within s c.value_len-name_len.result (name c) c.if-name_len-eq0.false (omega (arith, (sn (goal.at.Else-name_len-eq0 c).Else-not-has_tag_at).room))
 
 -- LN is there
 ln : (c : Else-not-has_tag_at-2)
-    → TagAt (line (goal.at.overflow_add-from c).Else-not-is_between) (7 + c.value_len-name_len.result) 76
+    → TagAt (line (goal.at.Else-not-has_tag_at-2 c).Else-not-is_between) (7 + c.value_len-name_len.result) 76
 ln c = c.has_tag_at-2.ensures (not-false _ c.if-not-has_tag_at-2.false-raw)
 
 pub returns-then-not-is_between : goal.returns-then-not-is_between
