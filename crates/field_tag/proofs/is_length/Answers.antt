@@ -28,4 +28,5 @@ returns-in-ReferenceSequence c =
     c.is_same_tag.ensures ∙ sym (ap (λ k. is_length k a.a a.b) c.in-ReferenceSequence.is)
 
 pub returns-in-Header : goal.returns-in-Header
-returns-in-Header c = let a = c.args in sym (elsewhere a.a a.b a.kind c.in-Header.in-Header-own.keys2)
+unfolding is_length
+returns-in-Header c = grind arith
