@@ -91,8 +91,9 @@ overflow_cast-result c = omega (arith, few (goal.at.overflow_cast-result c).Afte
 
 pub returns-then-v-eq0 : goal.returns-then-v-eq0
 returns-then-v-eq0 c =
+    let p = (goal.at.returns-then-v-eq0 c).After-turned-at in
     let a = (args (goal.at.returns-then-v-eq0 c).At-loop-i).args in
-    let m = missed (path a.name.now a.slots.now) c.loop-i.i (says a.text.now a.name.now) (length a.slots.now) (c.first_slot-first.result + c.loop-i.i) (left (goal.at.returns-then-v-eq0 c).After-turned-at) (seen (goal.at.returns-then-v-eq0 c).After-turned-at ∙ c.if-v-eq0.true) in record {
+    let m = missed (path a.name.now a.slots.now) c.loop-i.i (says a.text.now a.name.now) (length a.slots.now) (c.first_slot-first.result + c.loop-i.i) (left p) (seen p ∙ c.if-v-eq0.true) in record {
       slot = sym (c.loop-i.inv.1 ∙ m.0 ∙ unfold absent in refl);
       looks = omega (arith, c.loop-i.inv.2, m.1);
     }
@@ -126,9 +127,10 @@ overflow_cast-result-then-is_slot_of-2 c = omega (arith, few (goal.at.overflow_c
 
 pub returns-then-is_slot_of : goal.returns-then-is_slot_of
 returns-then-is_slot_of c =
+    let p = (goal.at.returns-then-is_slot_of c).After-turned-at in
     let a = (args (goal.at.returns-then-is_slot_of c).At-loop-i).args in
-    let m = found (path a.name.now a.slots.now) c.loop-i.i (says a.text.now a.name.now) (length a.slots.now) (c.first_slot-first.result + c.loop-i.i) (left (goal.at.returns-then-is_slot_of c).After-turned-at)
-    (get_or a.slots.now c.turned-at.result 0) (seen (goal.at.returns-then-is_slot_of c).After-turned-at) c.if-v-eq0.false (sym (is_said (goal.at.returns-then-is_slot_of c).After-is_slot_of) ∙ c.if-is_slot_of.true) in record {
+    let m = found (path a.name.now a.slots.now) c.loop-i.i (says a.text.now a.name.now) (length a.slots.now) (c.first_slot-first.result + c.loop-i.i) (left p)
+    (get_or a.slots.now c.turned-at.result 0) (seen p) c.if-v-eq0.false (sym (is_said (goal.at.returns-then-is_slot_of c).After-is_slot_of) ∙ c.if-is_slot_of.true) in record {
       slot = c.turned-at.ensures ∙ sym (c.loop-i.inv.1 ∙ m.0);
       looks = omega (arith, c.loop-i.inv.2, m.1);
     }
@@ -141,6 +143,7 @@ loop-i-smaller c = omega arith
 
 pub loop-i-preserved : goal.loop-i-preserved
 loop-i-preserved c =
+    let p = (goal.at.loop-i-preserved c).After-turned-at in
     let a = (args (goal.at.loop-i-preserved c).At-loop-i).args in
     let hit = says a.text.now a.name.now in
     let ss = path a.name.now a.slots.now in
@@ -148,7 +151,7 @@ loop-i-preserved c =
     let i = c.loop-i.i in
     let n = length a.slots.now in
     let z : f + i + 1 ≡ f + (i + 1) = omega arith in
-    let on = passed ss i hit n (f + i) (left (goal.at.loop-i-preserved c).After-turned-at) (get_or a.slots.now c.turned-at.result 0) (seen (goal.at.loop-i-preserved c).After-turned-at) c.if-v-eq0.false (sym (is_said (goal.at.loop-i-preserved c).After-is_slot_of) ∙ c.if-is_slot_of.false) in
+    let on = passed ss i hit n (f + i) (left p) (get_or a.slots.now c.turned-at.result 0) (seen p) c.if-v-eq0.false (sym (is_said (goal.at.loop-i-preserved c).After-is_slot_of) ∙ c.if-is_slot_of.false) in
     (omega (arith, c.loop-i-test.true), c.loop-i.inv.1 ∙ on.0 ∙ ap (λ at. landing hit n at (drop (i + 1) ss)) z, omega (arith, c.loop-i.inv.2, on.1))
 
 pub overflow_cast-result-2 : goal.overflow_cast-result-2

@@ -88,23 +88,24 @@ loop-p-smaller c = omega (arith, within (goal.at.loop-p-smaller c).In-ReferenceS
 pub loop-p-preserved : goal.loop-p-preserved
 unfolding name_in start_in
 loop-p-preserved c =
+    let p = (goal.at.loop-p-preserved c).In-ReferenceSequence in
     let a = c.args in
     let slot = c.put_name-slot in
     let is = c.put_name-slot.ensures.wrote in
     let rest = entries_in (drop (c.next_sq-at.result + 21) a.catalogue.now) in
     let noted : c.if-k-notes.notes ≡ set c.loop-p.notes c.loop-p.k slot.result =
     ⊎_elim (λ w. w.1) (λ w. w.1 ∙ sym (set_out c.loop-p.notes c.loop-p.k slot.result w.0.left)) c.if-k-notes.branch in (
-      within (goal.at.loop-p-preserved c).In-ReferenceSequence,
+      within p,
       omega (arith, c.loop-p.inv.1, c.next_sq-at.ensures),
       ap length is ∙ enter-length _ _ _ ∙ c.loop-p.inv.2,
       ap length noted ∙ length-set c.loop-p.notes c.loop-p.k slot.result ∙ c.loop-p.inv.3,
       c.loop-p.inv.4
-          ∙ entered a.catalogue.now c.loop-p.at c.next_sq-at.result c.next_sq-at.ensures (entry (goal.at.loop-p-preserved c).In-ReferenceSequence) (found (goal.at.loop-p-preserved c).In-ReferenceSequence) a.ordinals a.text.now c.loop-p.k c.loop-p.slots (is-sq (goal.at.loop-p-preserved c).In-ReferenceSequence)
+          ∙ entered a.catalogue.now c.loop-p.at c.next_sq-at.result c.next_sq-at.ensures (entry p) (found p) a.ordinals a.text.now c.loop-p.k c.loop-p.slots (is-sq p)
           ∙ ap (entering a.ordinals a.text.now (c.loop-p.k + 1) rest) (sym is),
       c.loop-p.inv.5
           ∙ note-on c.loop-p.notes c.if-k-notes.notes c.loop-p.k slot.result
-          (seated-on a.catalogue.now c.loop-p.at c.next_sq-at.result c.next_sq-at.ensures (entry (goal.at.loop-p-preserved c).In-ReferenceSequence) (found (goal.at.loop-p-preserved c).In-ReferenceSequence) a.ordinals a.text.now c.loop-p.k c.loop-p.slots (is-sq (goal.at.loop-p-preserved c).In-ReferenceSequence)
-          ∙ ap (λ after. place (goal.at.loop-p-preserved c).In-ReferenceSequence ∷ seats a.ordinals a.text.now (c.loop-p.k + 1) rest after) (sym is))
+          (seated-on a.catalogue.now c.loop-p.at c.next_sq-at.result c.next_sq-at.ensures (entry p) (found p) a.ordinals a.text.now c.loop-p.k c.loop-p.slots (is-sq p)
+          ∙ ap (λ after. place p ∷ seats a.ordinals a.text.now (c.loop-p.k + 1) rest after) (sym is))
           slot.ensures.at noted,
     )
 

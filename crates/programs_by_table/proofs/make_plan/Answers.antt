@@ -51,18 +51,20 @@ find-found-requires c = record {
 
 pub returns-then-found-ne0 : goal.returns-then-found-ne0
 returns-then-found-ne0 c =
+    let p = (goal.at.returns-then-found-ne0 c).In-Fresh in
     let n = c.find-found.result.refusal in
-    let r = stopped-says (leafing_table (t (goal.at.returns-then-found-ne0 c).In-Fresh) (s (goal.at.returns-then-found-ne0 c).In-Fresh) (room (goal.at.returns-then-found-ne0 c).In-Fresh) (seats (goal.at.returns-then-found-ne0 c).In-Fresh)) n (record { 0 = 0 }) c.args.out.now
-    (table-tangled (t (goal.at.returns-then-found-ne0 c).In-Fresh) (s (goal.at.returns-then-found-ne0 c).In-Fresh) (room (goal.at.returns-then-found-ne0 c).In-Fresh) (seats (goal.at.returns-then-found-ne0 c).In-Fresh) (own (goal.at.returns-then-found-ne0 c).In-Fresh) n c.find-found.ensures.refusal c.if-found-ne0.true) c.stopped-then-found-ne0.result c.stopped-then-found-ne0.ensures in record {
+    let r = stopped-says (leafing_table (t p) (s p) (room p) (seats p)) n (record { 0 = 0 }) c.args.out.now
+    (table-tangled (t p) (s p) (room p) (seats p) (own p) n c.find-found.ensures.refusal c.if-found-ne0.true) c.stopped-then-found-ne0.result c.stopped-then-found-ne0.ensures in record {
       plan = r.plan;
       wrote = r.wrote;
     }
 
 pub returns-then-seats-found : goal.returns-then-seats-found
 returns-then-seats-found c =
+    let p = (goal.at.returns-then-seats-found c).In-Fresh in
     let z = c.if-found-ne0.false in
-    let r = stopped-says (leafing_table (t (goal.at.returns-then-seats-found c).In-Fresh) (s (goal.at.returns-then-seats-found c).In-Fresh) (room (goal.at.returns-then-seats-found c).In-Fresh) (seats (goal.at.returns-then-seats-found c).In-Fresh)) 20 (record { 0 = 0 }) c.args.out.now
-    (table-short (t (goal.at.returns-then-seats-found c).In-Fresh) (s (goal.at.returns-then-seats-found c).In-Fresh) (room (goal.at.returns-then-seats-found c).In-Fresh) (seats (goal.at.returns-then-seats-found c).In-Fresh) (own (goal.at.returns-then-seats-found c).In-Fresh) (sym c.find-found.ensures.refusal ∙ z) (omega (arith, c.if-seats-found.true, c.find-found.ensures.count z))) c.stopped-then-seats-found.result c.stopped-then-seats-found.ensures in record {
+    let r = stopped-says (leafing_table (t p) (s p) (room p) (seats p)) 20 (record { 0 = 0 }) c.args.out.now
+    (table-short (t p) (s p) (room p) (seats p) (own p) (sym c.find-found.ensures.refusal ∙ z) (omega (arith, c.if-seats-found.true, c.find-found.ensures.count z))) c.stopped-then-seats-found.result c.stopped-then-seats-found.ensures in record {
       plan = r.plan;
       wrote = r.wrote;
     }
@@ -88,8 +90,9 @@ slice_bounds-ordinals-end c = inside (goal.at.slice_bounds-ordinals-end c).Else-
 
 pub slice_bounds-put_ordinals-end : goal.slice_bounds-put_ordinals-end
 slice_bounds-put_ordinals-end c =
-    let f = (asked (goal.at.slice_bounds-put_ordinals-end c).Else-seats-found).find in
-    front-count (xs (goal.at.slice_bounds-put_ordinals-end c).Else-seats-found) f.result.leaves.list f.result.leaves.count (f.ensures.listed (untangled (goal.at.slice_bounds-put_ordinals-end c).Else-seats-found)) (f.ensures.counted (untangled (goal.at.slice_bounds-put_ordinals-end c).Else-seats-found))
+    let p = (goal.at.slice_bounds-put_ordinals-end c).Else-seats-found in
+    let f = (asked p).find in
+    front-count (xs p) f.result.leaves.list f.result.leaves.count (f.ensures.listed (untangled p)) (f.ensures.counted (untangled p))
 
 pub returns-in-Refused : goal.returns-in-Refused
 returns-in-Refused c =
@@ -103,13 +106,14 @@ returns-in-Refused c =
 
 pub returns-else-seats-found : goal.returns-else-seats-found
 returns-else-seats-found c =
-    let e = told (goal.at.returns-else-seats-found c).Else-seats-found in
-    let f = (asked (goal.at.returns-else-seats-found c).Else-seats-found).find in
-    let z = untangled (goal.at.returns-else-seats-found c).Else-seats-found in
+    let p = (goal.at.returns-else-seats-found c).Else-seats-found in
+    let e = told p in
+    let f = (asked p).find in
+    let z = untangled p in
     let out = e.before.before.before.before.before.before.args.out.now in
     let wide : f.result.count ≤ seats e = c.if-seats-found.false in
-    let found = front (xs (goal.at.returns-else-seats-found c).Else-seats-found) f.result.leaves.list f.result.leaves.count (f.ensures.listed z) (f.ensures.counted z) in
-    let b = fitting (room e) (xs (goal.at.returns-else-seats-found c).Else-seats-found) in
+    let found = front (xs p) f.result.leaves.list f.result.leaves.count (f.ensures.listed z) (f.ensures.counted z) in
+    let b = fitting (room e) (xs p) in
     let r = planned-says (ls e) f.result f.ensures z (leafing_table (t e) (s e) (room e) (seats e)) b out c.put_ordinals.new.out c.planned.result
     (table_fits (t e) (s e) (room e) (seats e) (own e) (sym f.ensures.refusal ∙ z) (omega (arith, wide, f.ensures.count z)))
     (c.put_ordinals.ensures.wrote ∙ ap (λ ys. output_of (fitting (room e) ys) out) found)
