@@ -2,7 +2,6 @@
 use Prim.Native.Nat.{ℕ, ◌+◌, ◌-◌, ◌≤◌, ◌<◌}
 use mathlib.Core.Path.{◌≡◌, sym, subst, ◌∙◌}
 use mathlib.Core.List.{List}
-use mathlib.Core.Logic.{⊎_elim}
 use native.Mathlib.Omega.{arith}
 use lib.ListN.{length, get_or, set, replicate}
 use Rattle.format.specs.Programs.{Program, root, links}
@@ -13,7 +12,7 @@ use Rattle.program_parents.specs.Placed.{PlacesOf}
 use Rattle.program_parents.proofs.Numbers.{Found, found_none, found_all, found-stray, found-known}
 use Rattle.program_parents.proofs.Own.{own-count, own-few, own-ats, own-lens, from-whole, widths-whole, own-placed, own_room, listed-ids, listed-are, listed-inside, listed-length, own-somewhere, own-parent}
 use Rattle.program_parents.proofs.find_parents.Goals as goal
-use Rattle.program_parents.proofs.find_parents.Goals.{Start}
+use Rattle.program_parents.proofs.find_parents.Goals.{Start, then-parent, else-parent}
 
 -- ---- what is lent
 
@@ -109,10 +108,10 @@ loop-i-preserved c =
     let p = c.find_parent-parent in
     let more : (ps : List Program) (x : PlacesOf t ps (held o)) → (l.i < length ps) × (p.result ≡ link_number (get_or (links ps) l.i root)) =
     λ ps x. (omega (arith, own-count t ps (held o) x), p.ensures ∙ own-parent t ps (held o) x l.i (omega arith) c.requires.fits _ (listed-are t ps (held o) x zeros b.new.list (omega arith) b.ensures)) in (
-      (λ ps x. ⊎_elim
-          (λ w. subst (λ d. Found ps (set l.list l.i p.result) d (l.i + 1)) (sym w.1) (found-stray ps x.few l.list l.dangling l.i (l.invariant.0 ps x) (more ps x).0 p.result (more ps x).1 w.0.taken))
-          (λ w. subst (λ d. Found ps (set l.list l.i p.result) d (l.i + 1)) (sym w.1) (found-known ps x.few l.list l.dangling l.i (l.invariant.0 ps x) (more ps x).0 p.result (more ps x).1 w.0.left))
-          c.if-parent.branch),
+      (λ ps x. elim c.if-parent.branch [
+          then-parent w ↦ subst (λ d. Found ps (set l.list l.i p.result) d (l.i + 1)) (sym w.dangling-is) (found-stray ps x.few l.list l.dangling l.i (l.invariant.0 ps x) (more ps x).0 p.result (more ps x).1 w.if-parent.true)
+          | else-parent w ↦ subst (λ d. Found ps (set l.list l.i p.result) d (l.i + 1)) (sym w.dangling-is) (found-known ps x.few l.list l.dangling l.i (l.invariant.0 ps x) (more ps x).0 p.result (more ps x).1 w.if-parent.false)
+      ]),
       omega arith,
     )
 

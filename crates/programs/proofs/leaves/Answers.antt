@@ -27,8 +27,8 @@ opens c = let a = c.args in opened a.text.now a.catalogue.now (own c).reads (own
 
 pub parents_of-requires : goal.parents_of-requires
 parents_of-requires c = record {
-  text_value = (opens c).accepted;
-  catalogue_value = (own c).own;
+  text_value = (opens (goal.at.parents_of-requires c).In-Fresh).accepted;
+  catalogue_value = (own (goal.at.parents_of-requires c).In-Fresh).own;
 }
 
 pub find_leaves-graph-requires : goal.find_leaves-graph-requires
@@ -82,10 +82,10 @@ abbrev xs : (e : Else-graph-ne0) → List ℕ
 xs e = leaves (links (ps (goal.at.Else-graph-ne0 e).After-find_leaves-graph))
 
 listed : (e : Else-graph-ne0) → e.find_leaves-graph.result.leaves.list ≡ in_array (xs e)
-listed e = graph-list (links (ps (goal.at.Else-graph-ne0 e).After-find_leaves-graph)) e.find_leaves-graph.result (graph_is (goal.at.Else-graph-ne0 e).After-find_leaves-graph) e.if-graph-ne0.left
+listed e = graph-list (links (ps (goal.at.Else-graph-ne0 e).After-find_leaves-graph)) e.find_leaves-graph.result (graph_is (goal.at.Else-graph-ne0 e).After-find_leaves-graph) e.if-graph-ne0.false
 
 counted : (e : Else-graph-ne0) → e.find_leaves-graph.result.leaves.count ≡ length (xs e)
-counted e = graph-count (links (ps (goal.at.Else-graph-ne0 e).After-find_leaves-graph)) e.find_leaves-graph.result (graph_is (goal.at.Else-graph-ne0 e).After-find_leaves-graph) e.if-graph-ne0.left
+counted e = graph-count (links (ps (goal.at.Else-graph-ne0 e).After-find_leaves-graph)) e.find_leaves-graph.result (graph_is (goal.at.Else-graph-ne0 e).After-find_leaves-graph) e.if-graph-ne0.false
 
 pub slice_bounds-ordinals-end : goal.slice_bounds-ordinals-end
 slice_bounds-ordinals-end c = let p = (goal.at.slice_bounds-ordinals-end c).Else-graph-ne0 in front-inside (xs p) c.find_leaves-graph.result.leaves.list c.find_leaves-graph.result.leaves.count (listed p) (counted p)
@@ -96,7 +96,6 @@ slice_bounds-put_ordinals-end c = let p = (goal.at.slice_bounds-put_ordinals-end
 pub returns-in-Refused : goal.returns-in-Refused
 returns-in-Refused c =
     let a = c.args in
-    let g = c.n-1.given in
     let room = length a.out.now in
     let told = refused-leaves (leafing a.text.now a.catalogue.now room) a.out.now c.in-Refused.n c.in-Refused.line
     (leaves-refused a.text.now a.catalogue.now c.in-Refused.n c.in-Refused.line.0 (refused-by a.text.now a.catalogue.now c.check.ensures c.in-Refused.n c.in-Refused.line c.in-Refused.is) room) in
