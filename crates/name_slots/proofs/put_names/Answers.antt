@@ -92,8 +92,8 @@ loop-p-preserved c =
     let rest = entries_in (drop (c.next_sq-at.result + 21) a.catalogue.now) in
     let noted : c.if-k-notes.notes ≡ set c.loop-p.notes c.loop-p.k slot.result =
     elim c.if-k-notes.branch [
-        then-k-notes w ↦ w.notes-is
-        | else-k-notes w ↦ w.notes-is ∙ sym (set_out c.loop-p.notes c.loop-p.k slot.result w.if-k-notes.false)
+      | then-k-notes w ↦ w.notes-is
+      | else-k-notes w ↦ w.notes-is ∙ sym (set_out c.loop-p.notes c.loop-p.k slot.result w.if-k-notes.false)
     ] in (
       within p,
       omega (arith, c.loop-p.invariant.1, c.next_sq-at.ensures),

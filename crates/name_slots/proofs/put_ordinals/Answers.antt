@@ -30,8 +30,8 @@ loop-k-preserved c =
     let s : ℕ = get_or notes k 0 in
     let put : c.if-at-slots.slots ≡ set slots s (suc k) =
     elim c.if-at-slots.branch [
-        then-at-slots w ↦ w.slots-is ∙ ap (set slots s) (add-one k)
-        | else-at-slots w ↦ w.slots-is ∙ sym (set_out slots s (suc k) w.if-at-slots.false)
+      | then-at-slots w ↦ w.slots-is ∙ ap (set slots s) (add-one k)
+      | else-at-slots w ↦ w.slots-is ∙ sym (set_out slots s (suc k) w.if-at-slots.false)
     ] in (
       omega (arith, c.loop-k-test.true),
       ap length put ∙ length-set slots s (suc k) ∙ c.loop-k.invariant.1,

@@ -93,7 +93,6 @@ answer-looks-requires c =
 pub returns-in-Refused : goal.returns-in-Refused
 returns-in-Refused c =
     let a = c.args in
-    let g = c.n-1.given in
     let told = told-refusal (batch (goal.at.returns-in-Refused c).Start) a.work.now a.out.now c.in-Refused.n c.in-Refused.line
     (batch-refused a.text.now a.catalogue.now a.list.now (length a.work.now) (length a.out.now) c.in-Refused.n c.in-Refused.line.0 (refused-by a.text.now a.catalogue.now c.check.ensures c.in-Refused.n c.in-Refused.line c.in-Refused.is)) in
     record { answer = told.0; slots = told.1.0; found = told.1.1 }

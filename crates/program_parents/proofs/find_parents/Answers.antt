@@ -34,9 +34,9 @@ pub list_ids-requires : goal.list_ids-requires
 list_ids-requires c =
     let p = (goal.at.list_ids-requires c).Start in
     record {
-  places_in_text = own-placed c.args.text.now c.requires.ps (held p) c.requires.are;
-  ats_in_bounds = own_room c.args.text.now c.requires.ps (held p) c.requires.are;
-}
+      places_in_text = own-placed c.args.text.now c.requires.ps (held p) c.requires.are;
+      ats_in_bounds = own_room c.args.text.now c.requires.ps (held p) c.requires.are;
+    }
 
 pub overflow_mul-end : goal.overflow_mul-end
 overflow_mul-end c = omega (arith, few (goal.at.overflow_mul-end c).Start)
@@ -109,8 +109,8 @@ loop-i-preserved c =
     let more : (ps : List Program) (x : PlacesOf t ps (held o)) → (l.i < length ps) × (p.result ≡ link_number (get_or (links ps) l.i root)) =
     λ ps x. (omega (arith, own-count t ps (held o) x), p.ensures ∙ own-parent t ps (held o) x l.i (omega arith) c.requires.fits _ (listed-are t ps (held o) x zeros b.new.list (omega arith) b.ensures)) in (
       (λ ps x. elim c.if-parent.branch [
-          then-parent w ↦ subst (λ d. Found ps (set l.list l.i p.result) d (l.i + 1)) (sym w.dangling-is) (found-stray ps x.few l.list l.dangling l.i (l.invariant.0 ps x) (more ps x).0 p.result (more ps x).1 w.if-parent.true)
-          | else-parent w ↦ subst (λ d. Found ps (set l.list l.i p.result) d (l.i + 1)) (sym w.dangling-is) (found-known ps x.few l.list l.dangling l.i (l.invariant.0 ps x) (more ps x).0 p.result (more ps x).1 w.if-parent.false)
+        | then-parent w ↦ subst (λ d. Found ps (set l.list l.i p.result) d (l.i + 1)) (sym w.dangling-is) (found-stray ps x.few l.list l.dangling l.i (l.invariant.0 ps x) (more ps x).0 p.result (more ps x).1 w.if-parent.true)
+        | else-parent w ↦ subst (λ d. Found ps (set l.list l.i p.result) d (l.i + 1)) (sym w.dangling-is) (found-known ps x.few l.list l.dangling l.i (l.invariant.0 ps x) (more ps x).0 p.result (more ps x).1 w.if-parent.false)
       ]),
       omega arith,
     )

@@ -57,7 +57,6 @@ slice_bounds-put_ordinals-end c = let p = (goal.at.slice_bounds-put_ordinals-end
 pub returns-in-Refused : goal.returns-in-Refused
 returns-in-Refused c =
     let a = c.args in
-    let g = c.n-1.given in
     let room = length a.out.now in
     let told = refused-answer (rooting a.text.now a.catalogue.now room) a.out.now c.in-Refused.n c.in-Refused.line
     (roots-refused a.text.now a.catalogue.now c.in-Refused.n c.in-Refused.line.0 (refused-by a.text.now a.catalogue.now c.check.ensures c.in-Refused.n c.in-Refused.line c.in-Refused.is) room) in

@@ -97,7 +97,6 @@ slice_bounds-put_ordinals-end c =
 pub returns-in-Refused : goal.returns-in-Refused
 returns-in-Refused c =
     let a = c.args in
-    let g = c.n-1.given in
     let r = stopped-says (leafing_table a.text.now a.catalogue.now (length a.out.now) a.seats) c.in-Refused.n c.in-Refused.line a.out.now
     (table-refused a.text.now a.catalogue.now (length a.out.now) a.seats c.in-Refused.n c.in-Refused.line.0 (refused-by a.text.now a.catalogue.now c.check.ensures c.in-Refused.n c.in-Refused.line c.in-Refused.is)) c.stopped.result c.stopped.ensures in record {
       plan = r.plan;

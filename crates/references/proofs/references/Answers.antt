@@ -46,7 +46,6 @@ put_rows-requires c =
 pub returns-in-Refused : goal.returns-in-Refused
 returns-in-Refused c =
     let a = c.args in
-    let g = c.n-1.given in
     let told = told-refusal (answer (goal.at.returns-in-Refused c).Start) a.table.now c.in-Refused.n c.in-Refused.line
     (rows-refused a.text.now a.catalogue.now (length a.table.now) c.in-Refused.n c.in-Refused.line.0 (refused-by a.text.now a.catalogue.now c.check.ensures c.in-Refused.n c.in-Refused.line c.in-Refused.is)) in
     record { answer = told.0; wrote = told.1 }
