@@ -47,10 +47,10 @@ long c = path-length _ _ (some (goal.at.After-first_slot-first c).Start)
 
 pub turned-at-requires : goal.turned-at-requires
 turned-at-requires c = record {
-      first_lt_n = begins (goal.at.turned-at-requires c).After-first_slot-first;
-      i_le_n = omega arith;
-      n_bound = c.requires.slots_len_bound;
-    }
+  first_lt_n = begins (goal.at.turned-at-requires c).After-first_slot-first;
+  i_le_n = omega arith;
+  n_bound = c.requires.slots_len_bound;
+}
 
 -- ---- in a step of the loop
 
