@@ -29,9 +29,6 @@ use Rattle.accepted.proofs.Spelled.{line-accepted}
 use Rattle.accepted.proofs.Stands.{stands-within, line-stand}
 use Rattle.accepted_rule.specs.Rule.{ReadsBy}
 use Rattle.accepted_rule.proofs.Rule.{lines-by}
-use denote.Enum.Declared.{tag_of}
-use types.Run.{OneOf, miss}
-use Rattle.record.specs.contracts.Head.{the_type}
 use Rattle.record.specs.Head.{stretch_of, record_head, head_of}
 use Rattle.record.specs.declared.Head.{Head}
 use Rattle.record.specs.declared.Head.TheVariants as head
@@ -176,17 +173,17 @@ pub record NoSq (l : Line) : Type 0 where
   pub list : (rest : List Reference) → with_reference l rest ≡ rest
   pub next : (k : ℕ) (rest : NextReference) → next_by l k rest ≡ rest
 
-other-head : (l : Line) → OneOf (0 ∷ 1 ∷ 3 ∷ 4 ∷ 5 ∷ []) (tag_of the_type (head_of l)) → NoSq l
+other-head : (l : Line) → ((q : Stretch) (n k : ℕ) → head_of l ≡ head.ReferenceSequence q n k → ⊥) → NoSq l
 unfolding head_of record_head with_reference sq_list next_by
 other-head (refused_line n) h = record { list = λ rest. refl; next = λ k rest. refl }
 other-head (read (header v fs)) h = record { list = λ rest. refl; next = λ k rest. refl }
-other-head (read (reference p n fs)) h = absurd (miss (0 ∷ 1 ∷ 3 ∷ 4 ∷ 5 ∷ []) 2 tt h)
+other-head (read (reference p n fs)) h = absurd (h _ _ _ refl)
 other-head (read (group p fs)) h = record { list = λ rest. refl; next = λ k rest. refl }
 other-head (read (program p fs)) h = record { list = λ rest. refl; next = λ k rest. refl }
 other-head (read (comment p)) h = record { list = λ rest. refl; next = λ k rest. refl }
 
-pub sq-other : (l : Line) (x : Head) → x ≡ head_of l → OneOf (0 ∷ 1 ∷ 3 ∷ 4 ∷ 5 ∷ []) (tag_of the_type x) → NoSq l
-sq-other l x e h = other-head l (subst (λ y. OneOf (0 ∷ 1 ∷ 3 ∷ 4 ∷ 5 ∷ []) (tag_of the_type y)) e h)
+pub sq-other : (l : Line) (x : Head) → x ≡ head_of l → ((q : Stretch) (n k : ℕ) → x ≡ head.ReferenceSequence q n k → ⊥) → NoSq l
+sq-other l x e h = other-head l (λ q n k d. h q n k (e ∙ d))
 
 -- ---- by the line's second byte
 

@@ -5,11 +5,8 @@ use mathlib.Core.List.{List, [], ◌∷◌, ◌++◌, map, append-nil}
 use native.Mathlib.Omega.{arith}
 use lib.ListN.{length, drop, set, replicate, length-append, length-map}
 use lib.Seq.{append_snoc}
-use denote.Enum.Declared.{tag_of}
-use types.Run.{OneOf, miss}
 use Rattle.program_chains.specs.Parents.{in_array}
 use Rattle.program_chains.proofs.Arrays.{array-push}
-use Rattle.catalogue_entries.specs.contracts.Entry.{the_type}
 use Rattle.catalogue_entries.proofs.Walk.{turn_end, turn_on}
 use Rattle.catalogue_entries.specs.declared.Place.{Place}
 use Rattle.catalogue_entries.specs.declared.Entry.{Entry}
@@ -22,13 +19,13 @@ use Rattle.program_places.specs.Gathered.{ProgramPlaces, or_nowhere, noted_in, a
 -- ---- the first of some entries
 
 -- it is no program
-other-first : (e : Entry) (es : List Entry) → OneOf (0 ∷ 1 ∷ 2 ∷ 3 ∷ 5 ∷ 6 ∷ []) (tag_of the_type e) → (noted_in (e ∷ es) ≡ noted_in es) × (counted 4 (e ∷ es) ≡ counted 4 es)
+other-first : (e : Entry) (es : List Entry) → ((id : Place) (line : ℕ) → e ≡ Program id line → ⊥) → (noted_in (e ∷ es) ≡ noted_in es) × (counted 4 (e ∷ es) ≡ counted 4 es)
 unfolding noted_in counted kind_byte
 other-first End es h = (refl, refl)
 other-first (Header v l) es h = (refl, refl)
 other-first (ReferenceSequence p n l) es h = (refl, refl)
 other-first (ReadGroup p l) es h = (refl, refl)
-other-first (Program p l) es h = absurd (miss (0 ∷ 1 ∷ 2 ∷ 3 ∷ 5 ∷ 6 ∷ []) 4 tt h)
+other-first (Program p l) es h = absurd (h p l refl)
 other-first (Comment p l) es h = (refl, refl)
 other-first (Field a b p) es h = (refl, refl)
 
@@ -96,7 +93,7 @@ module _ (c ats lens from widths : List ℕ) (count at len : ℕ) (e : Entry) (f
     opened : (f : Entry) → e ≡ f → entries_in (drop at c) ≡ f ∷ rest
     opened f q = turn_on c at len e found long n ∙ ap (λ x. x ∷ rest) q
 
-    pub listed-other : OneOf (0 ∷ 1 ∷ 2 ∷ 3 ∷ 5 ∷ 6 ∷ []) (tag_of the_type e) → Listed c ats lens from widths count (at + len)
+    pub listed-other : ((id : Place) (line : ℕ) → e ≡ Program id line → ⊥) → Listed c ats lens from widths count (at + len)
     listed-other h =
         let o : entries_in (drop at c) ≡ e ∷ rest = opened e refl in
         let f = other-first e rest h in

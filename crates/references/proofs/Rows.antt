@@ -6,15 +6,12 @@ use mathlib.Core.List.{List, [], ◌∷◌, ◌++◌}
 use native.Mathlib.Omega.{arith}
 use native.Mathlib.Numerals.{add-one, add-two}
 use borrow.Author.Tests.{eqb-false}
-use denote.Enum.Declared.{tag_of}
-use types.Run.{OneOf, miss}
 use lib.ListN.{length, drop, set}
 use lib.Seq.{sets-eq}
 use lib.Dec.{eqb}
 use Rattle.byte_slices.specs.Over.{over}
 use Rattle.byte_slices.specs.Stands.{Each}
 use Rattle.byte_slices.proofs.Over.{over_none, over-over}
-use Rattle.catalogue_entries.specs.contracts.Entry.{the_type}
 use Rattle.catalogue_entries.specs.declared.Place.{Place}
 use Rattle.catalogue_entries.specs.declared.Entry.{Entry}
 use Rattle.catalogue_entries.specs.declared.Entry.TheVariants.{End, Header, ReferenceSequence, ReadGroup, Program, Comment, Field}
@@ -60,11 +57,11 @@ short-from (e ∷ es) h = go (eqb (kind_byte e) 2) (short-from es h.1)
     go false ih = ih
 
 -- no SQ entry
-pub other-kind : (e : Entry) → OneOf (0 ∷ 1 ∷ 3 ∷ 4 ∷ 5 ∷ 6 ∷ []) (tag_of the_type e) → kind_byte e ≡ 2 → ⊥
+pub other-kind : (e : Entry) → ((name : Place) (ln line : ℕ) → e ≡ ReferenceSequence name ln line → ⊥) → kind_byte e ≡ 2 → ⊥
 unfolding kind_byte
 other-kind End h q = omega arith
 other-kind (Header v l) h q = omega arith
-other-kind (ReferenceSequence p n l) h q = miss (0 ∷ 1 ∷ 3 ∷ 4 ∷ 5 ∷ 6 ∷ []) 2 tt h
+other-kind (ReferenceSequence p n l) h q = h p n l refl
 other-kind (ReadGroup p l) h q = omega arith
 other-kind (Program p l) h q = omega arith
 other-kind (Comment p l) h q = omega arith

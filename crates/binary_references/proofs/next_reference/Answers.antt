@@ -91,7 +91,7 @@ loop-at-smaller-in_default c = omega (arith, turned (goal.at.loop-at-smaller-in_
 pub loop-at-preserved-in_default : goal.loop-at-preserved-in_default
 loop-at-preserved-in_default c =
     let a = c.args in
-    let other = sq-other (line a.strict (record { at = c.loop-at.at; bytes = lent a.text.now c.loop-at.at c.first_line-cut.result.len })) c.parse_record-head.result c.parse_record-head.ensures c.in_default.in_default-own.keys2 in
+    let other = sq-other (line a.strict (record { at = c.loop-at.at; bytes = lent a.text.now c.loop-at.at c.first_line-cut.result.len })) c.parse_record-head.result c.parse_record-head.ensures c.in_default.not-ReferenceSequence in
     let u = turned (goal.at.loop-at-preserved-in_default c).After-first_line-cut in (
       omega (arith, c.loop-at.invariant.0),
       u.within,

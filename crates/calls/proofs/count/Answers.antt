@@ -22,7 +22,6 @@ pub returns-in-Refused : goal.returns-in-Refused
 unfolding count_of
 returns-in-Refused c =
     let a = c.args in
-    let g = c.n-1.given in
     sym (ap count_of (count-refused a.text.now a.catalogue.now c.in-Refused.n c.in-Refused.line.0 (refused-by a.text.now a.catalogue.now c.check.ensures c.in-Refused.n c.in-Refused.line c.in-Refused.is) a.kind))
 
 pub returns-else-kind-gt5 : goal.returns-else-kind-gt5

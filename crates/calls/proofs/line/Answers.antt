@@ -9,7 +9,6 @@ pub returns-in-Refused : goal.returns-in-Refused
 unfolding line_answer_of
 returns-in-Refused c =
     let a = c.args in
-    let g = c.n-1.given in
     sym (ap line_answer_of (line_refused a.text.now a.catalogue.now c.in-Refused.n c.in-Refused.line.0 (refused-by a.text.now a.catalogue.now c.check.ensures c.in-Refused.n c.in-Refused.line c.in-Refused.is) a.kind a.ordinal))
 
 pub returns-in-Nothing : goal.returns-in-Nothing

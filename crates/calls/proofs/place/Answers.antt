@@ -9,7 +9,6 @@ pub returns-in-Refused : goal.returns-in-Refused
 unfolding value_place_of
 returns-in-Refused c =
     let a = c.args in
-    let g = c.enum_told-1.given in
     sym (ap value_place_of (field-refused a.text.now a.catalogue.now c.in-Refused.field-0 c.in-Refused.field-1.0 (refused-by a.text.now a.catalogue.now c.check.ensures c.in-Refused.field-0 c.in-Refused.field-1 c.in-Refused.is) a.kind a.ordinal a.a a.b))
 
 pub returns-in-Nothing : goal.returns-in-Nothing

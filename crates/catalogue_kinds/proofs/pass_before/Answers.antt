@@ -1,7 +1,6 @@
 -- `catalogue_kinds::pass_before` meets its contract: what was passed, and what is still to pass, add up.
 use Prim.Native.Nat.{ℕ, zero, suc, ◌+◌, ◌-◌, ◌≤◌}
 use mathlib.Core.Path.{◌≡◌, refl, sym, ap, ap₂, subst, ◌∙◌}
-use mathlib.Core.Logic.{⊎_elim}
 use mathlib.Core.List.{List, [], ◌∷◌}
 use native.Mathlib.Omega.{arith}
 use borrow.Author.Tests.{eq-eqb, ne_eqb}
@@ -13,7 +12,7 @@ use Rattle.catalogue_kinds.specs.declared.Passed.{Passed}
 use Rattle.catalogue_kinds.specs.Passing.{passing}
 use Rattle.catalogue_kinds.proofs.pass_before.Invariants.{ahead, Onward}
 use Rattle.catalogue_kinds.proofs.pass_before.Goals as goal
-use Rattle.catalogue_kinds.proofs.pass_before.Goals.{Else-len-eq0}
+use Rattle.catalogue_kinds.proofs.pass_before.Goals.{Else-len-eq0, then-kind_of-kind+else-count-ordinal, else-kind_of-kind}
 
 -- the whole, where nothing is left to pass
 all-passed : (c : List ℕ) (k i at n : ℕ) → Onward c k i at n → ahead c k at (i - n) ≡ [] → ◌≡◌ {A = Passed} (record { at = at; count = n }) (passing k (entries_before k i (entries_in c)))
@@ -100,9 +99,11 @@ loop-e-preserved c =
     let a = c.args in
     let is = c.kind_of.ensures in
     let next = l.at + c.size-len.result in
-    ⊎_elim
-    (λ w. subst (Onward a.catalogue.now a.kind a.ordinal next) (sym w.2)
-    (one a.catalogue.now a.kind a.ordinal l.at l.count c.size-len.result c.entry_at-e.result c.entry_at-e.ensures c.size-len.ensures l.invariant c.if-len-eq0.false (sym is ∙ w.0.taken) w.1.left))
-    (λ w. subst (Onward a.catalogue.now a.kind a.ordinal next) (sym w.1)
-    (other a.catalogue.now a.kind a.ordinal l.at l.count c.size-len.result c.entry_at-e.result c.entry_at-e.ensures c.size-len.ensures l.invariant c.if-len-eq0.false (λ q. w.0.left (is ∙ q))))
-    c.if-kind_of-kind.branch
+    elim c.if-kind_of-kind.branch [
+      | then-kind_of-kind+else-count-ordinal w ↦
+          subst (Onward a.catalogue.now a.kind a.ordinal next) (sym w.count-is)
+          (one a.catalogue.now a.kind a.ordinal l.at l.count c.size-len.result c.entry_at-e.result c.entry_at-e.ensures c.size-len.ensures l.invariant c.if-len-eq0.false (sym is ∙ w.if-kind_of-kind.true) w.if-count-ordinal.false)
+      | else-kind_of-kind w ↦
+          subst (Onward a.catalogue.now a.kind a.ordinal next) (sym w.count-is)
+          (other a.catalogue.now a.kind a.ordinal l.at l.count c.size-len.result c.entry_at-e.result c.entry_at-e.ensures c.size-len.ensures l.invariant c.if-len-eq0.false (λ q. w.if-kind_of-kind.false (is ∙ q)))
+    ]

@@ -54,7 +54,8 @@ is_key-requires c = tt
 
 pub value_at-requires : goal.value_at-requires
 value_at-requires c =
-    ((reach (goal.at.value_at-requires c).After-field_end-end).0, omega (arith, reach (goal.at.value_at-requires c).After-field_end-end, c.requires.src_bound))
+    let p = (goal.at.value_at-requires c).After-field_end-end in
+    ((reach p).0, omega (arith, reach p, c.requires.src_bound))
 
 pub with-keys-requires : goal.with-keys-requires
 with-keys-requires c = tt

@@ -57,8 +57,9 @@ put_entry-requires c =
 pub returns : goal.returns
 unfolding met_in
 returns c =
+    let p = (goal.at.returns c).After-own_size in
     let a = c.args in record {
-      next = ap (λ m. m.next) c.put_fields-met.ensures.met ∙ omega (arith, (parts (goal.at.returns c).After-own_size).1);
-      wrote = wrote-before (own a.place.number a.place.at a.src.now c.requires.line_of.accepted) _ _ (bytes (goal.at.returns c).Start) a.out.now c.put_fields-met.new.out c.put_entry.new.out a.o c.own_size.result (parts (goal.at.returns c).After-own_size).0 c.requires.src_in_bounds c.put_fields-met.ensures.wrote
+      next = ap (λ m. m.next) c.put_fields-met.ensures.met ∙ omega (arith, (parts p).1);
+      wrote = wrote-before (own a.place.number a.place.at a.src.now c.requires.line_of.accepted) _ _ (bytes (goal.at.returns c).Start) a.out.now c.put_fields-met.new.out c.put_entry.new.out a.o c.own_size.result (parts p).0 c.requires.src_in_bounds c.put_fields-met.ensures.wrote
           (c.put_entry.ensures.wrote ∙ ap (λ d. over c.put_fields-met.new.out a.o (entry_bytes d)) c.line_entry.ensures);
     }

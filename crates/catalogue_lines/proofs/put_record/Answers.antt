@@ -38,9 +38,11 @@ put_formed-requires c = record {
 }
 
 pub returns-in_default : goal.returns-in_default
-returns-in_default c = record {
-  next = c.put_formed.ensures.next ∙ ap (λ l. c.args.o + length l) (sym (same (goal.at.returns-in_default c).Start));
-  wrote = c.put_formed.ensures.wrote ∙ ap (over c.args.out.now c.args.o) (sym (same (goal.at.returns-in_default c).Start));
+returns-in_default c =
+    let p = (goal.at.returns-in_default c).Start in
+    record {
+  next = c.put_formed.ensures.next ∙ ap (λ l. c.args.o + length l) (sym (same p));
+  wrote = c.put_formed.ensures.wrote ∙ ap (over c.args.out.now c.args.o) (sym (same p));
 }
 
 pub put_entry-requires : goal.put_entry-requires
@@ -49,8 +51,9 @@ put_entry-requires c =
 
 pub returns : goal.returns
 returns c =
+    let p = (goal.at.returns c).In-Is in
     let a = c.args in
     let l = entry_length_lem (ReferenceSequence c.in-Is.name c.in-Is.n a.number) in record {
-      next = omega (arith, c.put_entry.ensures.next, ap length (bytes (goal.at.returns c).In-Is), l);
-      wrote = c.put_entry.ensures.wrote ∙ ap (over a.out.now a.o) (sym (bytes (goal.at.returns c).In-Is));
+      next = omega (arith, c.put_entry.ensures.next, ap length (bytes p), l);
+      wrote = c.put_entry.ensures.wrote ∙ ap (over a.out.now a.o) (sym (bytes p));
     }

@@ -57,7 +57,8 @@ is_key-requires c = tt
 
 pub value_at-requires : goal.value_at-requires
 value_at-requires c =
-    ((reach (goal.at.value_at-requires c).After-field_end-end).0, omega (arith, reach (goal.at.value_at-requires c).After-field_end-end, c.requires.src_bound))
+    let p = (goal.at.value_at-requires c).After-field_end-end in
+    ((reach p).0, omega (arith, reach p, c.requires.src_bound))
 
 pub with-keys-requires : goal.with-keys-requires
 with-keys-requires c = tt
@@ -162,11 +163,12 @@ loop-i-smaller-else-not-same_field c = omega (arith, reach (goal.at.loop-i-small
 
 pub loop-i-preserved-else-not-same_field : goal.loop-i-preserved-else-not-same_field
 loop-i-preserved-else-not-same_field c =
+    let p = (goal.at.loop-i-preserved-else-not-same_field c).After-same_field in
     let a = c.args in (
       walked-past (none? a.tables.now) a.at a.src.now a.kind c.loop-i.i c.loop-i.keys c.loop-i.invariant.0 (omega arith) c.field_end-end.result c.field_end-end.ensures (sym c.is_key.ensures ∙ c.if-is_key.false),
       here c,
-      omega (arith, c.loop-i.invariant.2, (told (goal.at.loop-i-preserved-else-not-same_field c).After-same_field).1),
-      c.loop-i.invariant.3 ∙ (told (goal.at.loop-i-preserved-else-not-same_field c).After-same_field).0 ∙ rw (not-false c.same_field.result c.if-not-same_field.false-raw) refl,
+      omega (arith, c.loop-i.invariant.2, (told p).1),
+      c.loop-i.invariant.3 ∙ (told p).0 ∙ rw (not-false c.same_field.result c.if-not-same_field.false-raw) refl,
     )
 
 pub loop-i-smaller : goal.loop-i-smaller

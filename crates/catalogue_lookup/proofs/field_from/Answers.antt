@@ -2,15 +2,11 @@
 use Prim.Native.Nat.{ℕ, ◌+◌, ◌-◌, ◌≤◌}
 use mathlib.Core.Path.{◌≡◌, refl, sym, ap, subst, ◌∙◌}
 use mathlib.Core.Bool.{◌&&◌, cond}
-use mathlib.Core.Logic.{⊎_elim}
 use mathlib.Core.List.{List, [], ◌∷◌}
 use native.Mathlib.Omega.{arith}
 use borrow.Author.Tests.{eq-eqb, ne_eqb}
-use denote.Enum.Declared.{tag_of}
-use types.Run.{OneOf, miss}
 use lib.ListN.{length, drop}
 use lib.Dec.{eqb}
-use Rattle.catalogue_entries.specs.contracts.Entry.{the_type}
 use Rattle.catalogue_entries.proofs.Walk.{turn_on, turn-within}
 use Rattle.catalogue_entries.specs.declared.Place.{Place}
 use Rattle.catalogue_entries.specs.declared.Entry.{Entry}
@@ -20,10 +16,10 @@ use Rattle.catalogue_lookup.specs.declared.Found.TheVariants.{Nothing, At}
 use Rattle.catalogue_lookup.specs.Lookup.{first_entry, value_in}
 use Rattle.catalogue_lookup.proofs.Walks.{front-entry}
 use Rattle.catalogue_lookup.proofs.field_from.Goals as goal
-use Rattle.catalogue_lookup.proofs.field_from.Goals.{In-Field}
+use Rattle.catalogue_lookup.proofs.field_from.Goals.{In-Field, else-x-a-via-then-x-a+else-y-b, else-x-a-via-else-x-a}
 
 -- no field is first
-no_value_lem : (a b : ℕ) (es : List Entry) → OneOf (0 ∷ 1 ∷ 2 ∷ 3 ∷ 4 ∷ 5 ∷ []) (tag_of the_type (first_entry es)) → Nothing ≡ value_in a b es
+no_value_lem : (a b : ℕ) (es : List Entry) → ((x y : ℕ) (p : Place) → first_entry es ≡ Field x y p → ⊥) → Nothing ≡ value_in a b es
 unfolding value_in first_entry
 no_value_lem a b [] h = refl
 no_value_lem a b (End ∷ es) h = refl
@@ -32,7 +28,7 @@ no_value_lem a b (ReferenceSequence p n l ∷ es) h = refl
 no_value_lem a b (ReadGroup p l ∷ es) h = refl
 no_value_lem a b (Program p l ∷ es) h = refl
 no_value_lem a b (Comment p l ∷ es) h = refl
-no_value_lem a b (Field x y p ∷ es) h = absurd (miss (0 ∷ 1 ∷ 2 ∷ 3 ∷ 4 ∷ 5 ∷ []) 6 tt h)
+no_value_lem a b (Field x y p ∷ es) h = absurd (h x y p refl)
 
 -- a field is first
 module _ (c : List ℕ) (at x y : ℕ) (p : Place) (e : Entry) (found : e ≡ entry_of (drop at c)) (is : e ≡ Field x y p) where
@@ -76,11 +72,14 @@ pub loop-x-preserved : goal.loop-x-preserved
 loop-x-preserved c =
     let l = c.loop-x in
     let a = c.args in
-    l.invariant ∙ first (goal.at.loop-x-preserved c).In-Field a.a a.b ∙ ⊎_elim (λ w. simp (eq-eqb _ _ w.0.taken, w.1.left)) (λ w. simp (ne_eqb _ _ w.left)) c.else-x-a.branch
+    l.invariant ∙ first (goal.at.loop-x-preserved c).In-Field a.a a.b ∙ elim c.else-x-a.branch [
+      | else-x-a-via-then-x-a+else-y-b w ↦ simp (eq-eqb _ _ w.if-x-a.true, ne_eqb _ _ w.if-y-b.false)
+      | else-x-a-via-else-x-a w ↦ simp (ne_eqb _ _ w.if-x-a.false)
+    ]
 
 pub returns-in_default : goal.returns-in_default
 returns-in_default c =
     let l = c.loop-x in
     let a = c.args in
     let s = drop l.at a.catalogue.now in
-    no_value_lem a.a a.b (entries_in s) (subst (λ e. OneOf (0 ∷ 1 ∷ 2 ∷ 3 ∷ 4 ∷ 5 ∷ []) (tag_of the_type e)) (c.entry_at.ensures ∙ sym (front-entry s)) c.in_default.in_default-own.keys2) ∙ sym l.invariant
+    no_value_lem a.a a.b (entries_in s) (λ x y p e. c.in_default.not-Field x y p (c.entry_at.ensures ∙ sym (front-entry s) ∙ e)) ∙ sym l.invariant

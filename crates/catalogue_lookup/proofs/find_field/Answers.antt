@@ -22,7 +22,7 @@ overflow_add-at c =
     let a = c.args in
     let f = c.find_record-at in
     let long = c.size-len.ensures ∙ ap entry_size c.entry_at.ensures in
-    ⊎_elim (λ h. omega (arith, long, h)) (λ h. omega (arith, long, h, f.type-inv)) (found_within a.catalogue.now f.result)
+    ⊎_elim (λ h. omega (arith, long, h)) (λ h. omega (arith, long, h, f.type_inv)) (found_within a.catalogue.now f.result)
 
 pub returns : goal.returns
 unfolding field_in

@@ -18,7 +18,7 @@ pub put_numbers-requires : goal.put_numbers-requires
 put_numbers-requires c = simp length-set (omega arith)
 
 pub shape_of-out : goal.shape_of-out
-shape_of-out c = c.put_numbers.auto.0 ∙ simp length-set
+shape_of-out c = c.put_numbers.auto.out ∙ simp length-set
 
 pub returns : goal.returns
 unfolding little entry_bytes

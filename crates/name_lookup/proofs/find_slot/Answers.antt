@@ -16,8 +16,7 @@ use Rattle.name_index.proofs.Path.{first-lt, path-length, path-at}
 use Rattle.name_index.proofs.SlotCount.{power-some}
 use Rattle.name_lookup.proofs.Looking.{ended, missed, found, passed}
 use Rattle.name_lookup.proofs.find_slot.Goals as goal
-use Rattle.name_lookup.proofs.find_slot.Goals.{After-first_slot-first, After-is_slot_of, After-turned-at, At-loop-i, Start}
-use Rattle.name_lookup.proofs.find_slot.Tie as tie
+use Rattle.name_lookup.proofs.find_slot.Goals.{After-first_slot-first, After-is_slot_of, After-turned-at, Start}
 
 some : (s : Start) → 0 < length s.args.slots.now
 some s = power-some (length s.args.slots.now) s.requires.by_index.0 s.requires.by_index.1
@@ -48,40 +47,34 @@ long c = path-length _ _ (some (goal.at.After-first_slot-first c).Start)
 
 pub turned-at-requires : goal.turned-at-requires
 turned-at-requires c = record {
-      first_lt_n = begins (goal.at.turned-at-requires c).After-first_slot-first;
-      i_le_n = omega arith;
-      n_bound = c.requires.slots_len_bound;
-    }
+  first_lt_n = begins (goal.at.turned-at-requires c).After-first_slot-first;
+  i_le_n = omega arith;
+  n_bound = c.requires.slots_len_bound;
+}
 
 -- ---- in a step of the loop
 
-abbrev args : At-loop-i → tie.Start invariant-loop decreases-loop
-args l = l{-Start-}
-
-seen : (c : After-turned-at) →
-    let s = args (goal.at.After-turned-at c).At-loop-i in
-    get_or (path s.args.name.now s.args.slots.now) c.loop-i.i 0 ≡ get_or s.args.slots.now c.turned-at.result 0
+seen : (c : After-turned-at) → get_or (path c.args.name.now c.args.slots.now) c.loop-i.i 0 ≡ get_or c.args.slots.now c.turned-at.result 0
 seen c =
-    let s = args (goal.at.After-turned-at c).At-loop-i in
-    let slots = s.args.slots.now in
-    path-at slots s.args.name.now (some s) c.loop-i.i c.loop-i-test.true
+    let slots = c.args.slots.now in
+    path-at slots c.args.name.now (some (goal.at.After-turned-at c).Start) c.loop-i.i c.loop-i-test.true
     ∙ ap (λ k. get_or slots ((k + c.loop-i.i) % length slots) 0) (sym (is-first (goal.at.After-turned-at c).After-first_slot-first)) ∙ ap (λ k. get_or slots k 0) (sym c.turned-at.ensures)
 
-inside : (c : After-turned-at) → c.turned-at.result < length (args (goal.at.After-turned-at c).At-loop-i).args.slots.now
-inside c = let s = args (goal.at.After-turned-at c).At-loop-i in omega (arith, c.turned-at.ensures, mod-lt (c.first_slot-first.result + c.loop-i.i) {m = length s.args.slots.now} (some s))
+inside : (c : After-turned-at) → c.turned-at.result < length c.args.slots.now
+inside c = omega (arith, c.turned-at.ensures, mod-lt (c.first_slot-first.result + c.loop-i.i) {m = length c.args.slots.now} (some (goal.at.After-turned-at c).Start))
 
-left : (c : After-turned-at) → c.loop-i.i < length (path (args (goal.at.After-turned-at c).At-loop-i).args.name.now (args (goal.at.After-turned-at c).At-loop-i).args.slots.now)
+left : (c : After-turned-at) → c.loop-i.i < length (path c.args.name.now c.args.slots.now)
 left c = omega (arith, long (goal.at.After-turned-at c).After-first_slot-first, c.loop-i-test.true)
 
 pub offset_bounds-slots-at : goal.offset_bounds-slots-at
-offset_bounds-slots-at c = omega (arith, inside c, (args (goal.at.offset_bounds-slots-at c).At-loop-i).pre.0)
+offset_bounds-slots-at c = omega (arith, inside (goal.at.offset_bounds-slots-at c).After-turned-at, c.requires.slots_len_bound)
 
 pub bounds-slots-at : goal.bounds-slots-at
 bounds-slots-at c = inside (goal.at.bounds-slots-at c).After-turned-at
 
 -- as many have been looked at as there are slots, at most
 few : (c : After-turned-at) → c.loop-i.i < 33554432
-few c = omega (arith, c.loop-i-test.true, (args (goal.at.After-turned-at c).At-loop-i).pre.0)
+few c = omega (arith, c.loop-i-test.true, c.requires.slots_len_bound)
 
 pub overflow_add-result : goal.overflow_add-result
 overflow_add-result c = omega (arith, few (goal.at.overflow_add-result c).After-turned-at)
@@ -91,32 +84,25 @@ overflow_cast-result c = omega (arith, few (goal.at.overflow_cast-result c).Afte
 
 pub returns-then-v-eq0 : goal.returns-then-v-eq0
 returns-then-v-eq0 c =
-    let a = (args (goal.at.returns-then-v-eq0 c).At-loop-i).args in
-    let m = missed (path a.name.now a.slots.now) c.loop-i.i (says a.text.now a.name.now) (length a.slots.now) (c.first_slot-first.result + c.loop-i.i) (left (goal.at.returns-then-v-eq0 c).After-turned-at) (seen (goal.at.returns-then-v-eq0 c).After-turned-at ∙ c.if-v-eq0.true) in record {
-      slot = sym (c.loop-i.inv.1 ∙ m.0 ∙ unfold absent in refl);
-      looks = omega (arith, c.loop-i.inv.2, m.1);
+    let p = (goal.at.returns-then-v-eq0 c).After-turned-at in
+    let a = c.args in
+    let m = missed (path a.name.now a.slots.now) c.loop-i.i (says a.text.now a.name.now) (length a.slots.now) (c.first_slot-first.result + c.loop-i.i) (left p) (seen p ∙ c.if-v-eq0.true) in record {
+      slot = sym (c.loop-i.invariant.1 ∙ m.0 ∙ unfold absent in refl);
+      looks = omega (arith, c.loop-i.invariant.2, m.1);
     }
-
-pub is_slot_of-requires : goal.is_slot_of-requires
-is_slot_of-requires c =
-    let told = (positive _ c.if-v-eq0.false, (args (goal.at.is_slot_of-requires c).At-loop-i).pre.1.1)
-  where
-    positive : (v : ℕ) → (v ≡ 0 → ⊥) → 0 < v
-    positive v n = omega (arith, n) in
-    record { v_nonzero = told.0; name_len_bound = told.1 }
 
 -- whether the slot holds the name
 is_said : (c : After-is_slot_of) →
-    let a = (args (goal.at.After-is_slot_of c).At-loop-i).args in
+    let a = c.args in
     c.is_slot_of.result ≡ says a.text.now a.name.now (get_or a.slots.now c.turned-at.result 0)
 unfolding says
 is_said c =
-    let a = (args (goal.at.After-is_slot_of c).At-loop-i).args in
+    let a = c.args in
     let v = get_or a.slots.now c.turned-at.result 0 in
     c.is_slot_of.ensures ∙ ap (λ h. eqb h ((v - 1) % 128) && same a.name.now (word (drop ((v - 1) / 128) a.text.now))) (c.check_bits-told.ensures ∙ ap mark_of c.hash-number.ensures)
 
 pub overflow_cast-result-then-is_slot_of : goal.overflow_cast-result-then-is_slot_of
-overflow_cast-result-then-is_slot_of c = omega (arith, inside (goal.at.overflow_cast-result-then-is_slot_of c).After-turned-at, (args (goal.at.overflow_cast-result-then-is_slot_of c).At-loop-i).pre.0)
+overflow_cast-result-then-is_slot_of c = omega (arith, inside (goal.at.overflow_cast-result-then-is_slot_of c).After-turned-at, c.requires.slots_len_bound)
 
 pub overflow_add-result-then-is_slot_of : goal.overflow_add-result-then-is_slot_of
 overflow_add-result-then-is_slot_of c = omega (arith, few (goal.at.overflow_add-result-then-is_slot_of c).After-turned-at)
@@ -126,11 +112,12 @@ overflow_cast-result-then-is_slot_of-2 c = omega (arith, few (goal.at.overflow_c
 
 pub returns-then-is_slot_of : goal.returns-then-is_slot_of
 returns-then-is_slot_of c =
-    let a = (args (goal.at.returns-then-is_slot_of c).At-loop-i).args in
-    let m = found (path a.name.now a.slots.now) c.loop-i.i (says a.text.now a.name.now) (length a.slots.now) (c.first_slot-first.result + c.loop-i.i) (left (goal.at.returns-then-is_slot_of c).After-turned-at)
-    (get_or a.slots.now c.turned-at.result 0) (seen (goal.at.returns-then-is_slot_of c).After-turned-at) c.if-v-eq0.false (sym (is_said (goal.at.returns-then-is_slot_of c).After-is_slot_of) ∙ c.if-is_slot_of.true) in record {
-      slot = c.turned-at.ensures ∙ sym (c.loop-i.inv.1 ∙ m.0);
-      looks = omega (arith, c.loop-i.inv.2, m.1);
+    let p = (goal.at.returns-then-is_slot_of c).After-turned-at in
+    let a = c.args in
+    let m = found (path a.name.now a.slots.now) c.loop-i.i (says a.text.now a.name.now) (length a.slots.now) (c.first_slot-first.result + c.loop-i.i) (left p)
+    (get_or a.slots.now c.turned-at.result 0) (seen p) c.if-v-eq0.false (sym (is_said (goal.at.returns-then-is_slot_of c).After-is_slot_of) ∙ c.if-is_slot_of.true) in record {
+      slot = c.turned-at.ensures ∙ sym (c.loop-i.invariant.1 ∙ m.0);
+      looks = omega (arith, c.loop-i.invariant.2, m.1);
     }
 
 pub overflow_add-i : goal.overflow_add-i
@@ -141,22 +128,23 @@ loop-i-smaller c = omega arith
 
 pub loop-i-preserved : goal.loop-i-preserved
 loop-i-preserved c =
-    let a = (args (goal.at.loop-i-preserved c).At-loop-i).args in
+    let p = (goal.at.loop-i-preserved c).After-turned-at in
+    let a = c.args in
     let hit = says a.text.now a.name.now in
     let ss = path a.name.now a.slots.now in
     let f = c.first_slot-first.result in
     let i = c.loop-i.i in
     let n = length a.slots.now in
     let z : f + i + 1 ≡ f + (i + 1) = omega arith in
-    let on = passed ss i hit n (f + i) (left (goal.at.loop-i-preserved c).After-turned-at) (get_or a.slots.now c.turned-at.result 0) (seen (goal.at.loop-i-preserved c).After-turned-at) c.if-v-eq0.false (sym (is_said (goal.at.loop-i-preserved c).After-is_slot_of) ∙ c.if-is_slot_of.false) in
-    (omega (arith, c.loop-i-test.true), c.loop-i.inv.1 ∙ on.0 ∙ ap (λ at. landing hit n at (drop (i + 1) ss)) z, omega (arith, c.loop-i.inv.2, on.1))
+    let on = passed ss i hit n (f + i) (left p) (get_or a.slots.now c.turned-at.result 0) (seen p) c.if-v-eq0.false (sym (is_said (goal.at.loop-i-preserved c).After-is_slot_of) ∙ c.if-is_slot_of.false) in
+    (omega (arith, c.loop-i-test.true), c.loop-i.invariant.1 ∙ on.0 ∙ ap (λ at. landing hit n at (drop (i + 1) ss)) z, omega (arith, c.loop-i.invariant.2, on.1))
 
 pub overflow_cast-result-2 : goal.overflow_cast-result-2
-overflow_cast-result-2 c = omega (arith, (args (goal.at.overflow_cast-result-2 c).At-loop-i).pre.0)
+overflow_cast-result-2 c = omega (arith, c.requires.slots_len_bound)
 
 pub returns : goal.returns
 returns c =
-    let a = (args (goal.at.returns c).At-loop-i).args in
+    let a = c.args in
     let m = ended (path a.name.now a.slots.now) c.loop-i.i (says a.text.now a.name.now) (length a.slots.now) (c.first_slot-first.result + c.loop-i.i) (omega (arith, long (goal.at.returns c).After-first_slot-first, c.loop-i-test.false)) in record {
       slot = sym (c.loop-i.invariant.1 ∙ m.0 ∙ unfold absent in refl);
       looks = omega (arith, c.loop-i.invariant.2, c.loop-i.invariant.0, c.loop-i-test.false, m.1);

@@ -90,11 +90,12 @@ loop-at-smaller c = omega (arith, c.loop-at-test.true)
 
 pub loop-at-preserved : goal.loop-at-preserved
 loop-at-preserved c =
+    let w = (goal.at.loop-at-preserved c).After-upto in
     let a = c.args in
     let p = c.find_slot-found in (
-      omega (arith, within (goal.at.loop-at-preserved c).After-upto),
+      omega (arith, within w),
       asking-on (slot_of a.text.now a.slots.now) (looks_of a.text.now a.slots.now) a.list.now a.out.now c.loop-at.out c.loop-at.at c.loop-at.j c.loop-at.looks c.loop-at.invariant.1
-          c.upto.result c.upto.ensures c.loop-at-test.true p.result.slot p.result.looks (take (c.loop-at.at + c.upto.result - c.loop-at.at) (drop c.loop-at.at a.list.now)) (this (goal.at.loop-at-preserved c).After-upto) p.ensures.slot p.ensures.looks (most (goal.at.loop-at-preserved c).After-find_slot-found),
+          c.upto.result c.upto.ensures c.loop-at-test.true p.result.slot p.result.looks (take (c.loop-at.at + c.upto.result - c.loop-at.at) (drop c.loop-at.at a.list.now)) (this w) p.ensures.slot p.ensures.looks (most (goal.at.loop-at-preserved c).After-find_slot-found),
     )
 
 pub shape_of-out : goal.shape_of-out

@@ -33,8 +33,9 @@ enter-requires c =
 pub returns : goal.returns
 unfolding enter
 returns c =
+    let p = (goal.at.returns c).After-first_slot-first in
     let a = c.args in record {
-      at = c.enter.ensures.at ∙ ap (λ i. seat i a.slots.now) (begins (goal.at.returns c).After-first_slot-first);
+      at = c.enter.ensures.at ∙ ap (λ i. seat i a.slots.now) (begins p);
       wrote = c.enter.ensures.wrote
-          ∙ ap₂ (λ i v. set a.slots.now (seat i a.slots.now) v) (begins (goal.at.returns c).After-first_slot-first) (c.value-v.ensures ∙ ap (λ h. value_of a.ordinals a.k h (a.p.at % 16777216)) (number (goal.at.returns c).After-hash-number));
+          ∙ ap₂ (λ i v. set a.slots.now (seat i a.slots.now) v) (begins p) (c.value-v.ensures ∙ ap (λ h. value_of a.ordinals a.k h (a.p.at % 16777216)) (number (goal.at.returns c).After-hash-number));
     }

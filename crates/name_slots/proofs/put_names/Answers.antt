@@ -1,14 +1,11 @@
 -- `name_slots::put_names` meets its contract: what is filled from the entries that are left is what is filled from all.
 use Prim.Native.Nat.{ℕ, ◌+◌, ◌-◌, ◌≤◌, ◌<◌}
 use mathlib.Core.Path.{◌≡◌, refl, sym, ap, ◌∙◌}
-use mathlib.Core.Logic.{⊎_elim}
-use mathlib.Core.List.{[], ◌∷◌}
+use mathlib.Core.List.{◌∷◌}
 use native.Mathlib.Omega.{arith}
 use lib.ListN.{length, take, drop, set, length-set}
 use lib.Seq.{sets, set_out}
-use denote.Enum.Declared.{tag_of}
-use types.Run.{OneOf, miss}
-use Rattle.catalogue_entries.specs.contracts.Entry.{the_type}
+use Rattle.catalogue_entries.specs.declared.Place.{Place}
 use Rattle.catalogue_entries.specs.declared.Entry.{Entry}
 use Rattle.catalogue_entries.specs.declared.Entry.TheVariants.{End, Header, ReferenceSequence, ReadGroup, Program, Comment, Field}
 use Rattle.catalogue_entries.specs.Entries.{kind_byte, entry_of, entries_in}
@@ -23,7 +20,7 @@ use Rattle.name_entries.proofs.NextEntry.{sq-within}
 use Rattle.name_slots.proofs.Filling.{entered, entered_all, seated-all, seated-on}
 use Rattle.name_slots.proofs.Noted.{note-on}
 use Rattle.name_slots.proofs.put_names.Goals as goal
-use Rattle.name_slots.proofs.put_names.Goals.{In-ReferenceSequence}
+use Rattle.name_slots.proofs.put_names.Goals.{In-ReferenceSequence, then-k-notes, else-k-notes}
 
 pub loop-p-init : goal.loop-p-init
 loop-p-init c = (omega arith, omega arith, refl, refl, refl, refl)
@@ -51,9 +48,9 @@ within c =
 pub put_name-slot-requires : goal.put_name-slot-requires
 put_name-slot-requires c =
     let p = c.requires in record {
-      k_bound = omega (arith, c.loop-p.inv.0, c.loop-p.inv.1, p.catalogue_len_bound);
-      slots_len_bound = omega (arith, c.loop-p.inv.2, p.slots_len_bound);
-      by_index = (p.by_index.0, c.loop-p.inv.2 ∙ p.by_index.1);
+      k_bound = omega (arith, c.loop-p.invariant.0, c.loop-p.invariant.1, p.catalogue_len_bound);
+      slots_len_bound = omega (arith, c.loop-p.invariant.2, p.slots_len_bound);
+      by_index = (p.by_index.0, c.loop-p.invariant.2 ∙ p.by_index.1);
     }
 
 -- the slot that its name enters
@@ -67,17 +64,17 @@ pub overflow_cast-notes : goal.overflow_cast-notes
 overflow_cast-notes c =
     let p = c.requires in
     let slots = c.loop-p.slots in
-    let inside : place c {-After_e-} < length slots = seat-lt _ slots (power-some (length slots) p.by_index.0 (c.loop-p.inv.2 ∙ p.by_index.1)) in
-    omega (arith, c.put_name-slot.ensures.at, inside, c.loop-p.inv.2, p.slots_len_bound)
+    let inside : place (goal.at.overflow_cast-notes c).In-ReferenceSequence < length slots = seat-lt _ slots (power-some (length slots) p.by_index.0 (c.loop-p.invariant.2 ∙ p.by_index.1)) in
+    omega (arith, c.put_name-slot.ensures.at, inside, c.loop-p.invariant.2, p.slots_len_bound)
 
 pub offset_bounds-notes-k : goal.offset_bounds-notes-k
-offset_bounds-notes-k c = omega (arith, c.loop-p.inv.0, c.loop-p.inv.1, c.requires.catalogue_len_bound)
+offset_bounds-notes-k c = omega (arith, c.loop-p.invariant.0, c.loop-p.invariant.1, c.requires.catalogue_len_bound)
 
 pub bounds-notes-k : goal.bounds-notes-k
 bounds-notes-k c = c.if-k-notes.true
 
 pub overflow_add-k : goal.overflow_add-k
-overflow_add-k c = omega (arith, c.loop-p.inv.0, c.loop-p.inv.1, c.requires.catalogue_len_bound)
+overflow_add-k c = omega (arith, c.loop-p.invariant.0, c.loop-p.invariant.1, c.requires.catalogue_len_bound)
 
 pub overflow_add-at : goal.overflow_add-at
 overflow_add-at c = omega (arith, within (goal.at.overflow_add-at c).In-ReferenceSequence)
@@ -88,23 +85,27 @@ loop-p-smaller c = omega (arith, within (goal.at.loop-p-smaller c).In-ReferenceS
 pub loop-p-preserved : goal.loop-p-preserved
 unfolding name_in start_in
 loop-p-preserved c =
+    let p = (goal.at.loop-p-preserved c).In-ReferenceSequence in
     let a = c.args in
     let slot = c.put_name-slot in
     let is = c.put_name-slot.ensures.wrote in
     let rest = entries_in (drop (c.next_sq-at.result + 21) a.catalogue.now) in
     let noted : c.if-k-notes.notes ≡ set c.loop-p.notes c.loop-p.k slot.result =
-    ⊎_elim (λ w. w.1) (λ w. w.1 ∙ sym (set_out c.loop-p.notes c.loop-p.k slot.result w.0.left)) c.if-k-notes.branch in (
-      within (goal.at.loop-p-preserved c).In-ReferenceSequence,
-      omega (arith, c.loop-p.inv.1, c.next_sq-at.ensures),
-      ap length is ∙ enter-length _ _ _ ∙ c.loop-p.inv.2,
-      ap length noted ∙ length-set c.loop-p.notes c.loop-p.k slot.result ∙ c.loop-p.inv.3,
-      c.loop-p.inv.4
-          ∙ entered a.catalogue.now c.loop-p.at c.next_sq-at.result c.next_sq-at.ensures (entry (goal.at.loop-p-preserved c).In-ReferenceSequence) (found (goal.at.loop-p-preserved c).In-ReferenceSequence) a.ordinals a.text.now c.loop-p.k c.loop-p.slots (is-sq (goal.at.loop-p-preserved c).In-ReferenceSequence)
+    elim c.if-k-notes.branch [
+      | then-k-notes w ↦ w.notes-is
+      | else-k-notes w ↦ w.notes-is ∙ sym (set_out c.loop-p.notes c.loop-p.k slot.result w.if-k-notes.false)
+    ] in (
+      within p,
+      omega (arith, c.loop-p.invariant.1, c.next_sq-at.ensures),
+      ap length is ∙ enter-length _ _ _ ∙ c.loop-p.invariant.2,
+      ap length noted ∙ length-set c.loop-p.notes c.loop-p.k slot.result ∙ c.loop-p.invariant.3,
+      c.loop-p.invariant.4
+          ∙ entered a.catalogue.now c.loop-p.at c.next_sq-at.result c.next_sq-at.ensures (entry p) (found p) a.ordinals a.text.now c.loop-p.k c.loop-p.slots (is-sq p)
           ∙ ap (entering a.ordinals a.text.now (c.loop-p.k + 1) rest) (sym is),
-      c.loop-p.inv.5
+      c.loop-p.invariant.5
           ∙ note-on c.loop-p.notes c.if-k-notes.notes c.loop-p.k slot.result
-          (seated-on a.catalogue.now c.loop-p.at c.next_sq-at.result c.next_sq-at.ensures (entry (goal.at.loop-p-preserved c).In-ReferenceSequence) (found (goal.at.loop-p-preserved c).In-ReferenceSequence) a.ordinals a.text.now c.loop-p.k c.loop-p.slots (is-sq (goal.at.loop-p-preserved c).In-ReferenceSequence)
-          ∙ ap (λ after. place (goal.at.loop-p-preserved c).In-ReferenceSequence ∷ seats a.ordinals a.text.now (c.loop-p.k + 1) rest after) (sym is))
+          (seated-on a.catalogue.now c.loop-p.at c.next_sq-at.result c.next_sq-at.ensures (entry p) (found p) a.ordinals a.text.now c.loop-p.k c.loop-p.slots (is-sq p)
+          ∙ ap (λ after. place p ∷ seats a.ordinals a.text.now (c.loop-p.k + 1) rest after) (sym is))
           slot.ensures.at noted,
     )
 
@@ -116,11 +117,11 @@ shape_of-notes-in_default c = c.loop-p.invariant.3
 
 -- ---- no SQ entry
 
-not-sq : (e : Entry) → OneOf (0 ∷ 1 ∷ 3 ∷ 4 ∷ 5 ∷ 6 ∷ []) (tag_of the_type e) → kind_byte e ≡ 2 → ⊥
+not-sq : (e : Entry) → ((p : Place) (n l : ℕ) → e ≡ ReferenceSequence p n l → ⊥) → kind_byte e ≡ 2 → ⊥
 unfolding kind_byte
 not-sq End h q = omega (arith, q)
 not-sq (Header v l) h q = omega (arith, q)
-not-sq (ReferenceSequence p n l) h q = miss (0 ∷ 1 ∷ 3 ∷ 4 ∷ 5 ∷ 6 ∷ []) 2 tt h
+not-sq (ReferenceSequence p n l) h q = h p n l refl
 not-sq (ReadGroup p l) h q = omega (arith, q)
 not-sq (Program p l) h q = omega (arith, q)
 not-sq (Comment p l) h q = omega (arith, q)
@@ -129,7 +130,7 @@ not-sq (Field a b p) h q = omega (arith, q)
 pub returns-in_default : goal.returns-in_default
 returns-in_default c =
     let a = c.args in
-    let none = not-sq c.entry_at-e.result c.in_default.in_default-own.keys2 in record {
+    let none = not-sq c.entry_at-e.result c.in_default.not-ReferenceSequence in record {
       wrote = sym
           (c.loop-p.invariant.4
           ∙ entered_all a.catalogue.now c.loop-p.at c.next_sq-at.result c.next_sq-at.ensures c.entry_at-e.result c.entry_at-e.ensures a.ordinals a.text.now c.loop-p.k c.loop-p.slots none);

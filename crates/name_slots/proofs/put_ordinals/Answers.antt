@@ -1,7 +1,6 @@
 -- `name_slots::put_ordinals` meets its contract: what the notes that are left put is what all put.
 use Prim.Native.Nat.{ℕ, suc, ◌+◌, ◌-◌}
 use mathlib.Core.Path.{◌≡◌, refl, sym, ap, ◌∙◌}
-use mathlib.Core.Logic.{⊎_elim}
 use native.Mathlib.Omega.{arith}
 use native.Mathlib.Numerals.{add-one}
 use lib.ListN.{length, get_or, drop, set, length-set}
@@ -9,12 +8,10 @@ use lib.Seq.{set_out}
 use Rattle.name_slots.specs.Filled.{with_ordinals}
 use Rattle.name_slots.proofs.Noted.{numbered-end, numbered-on}
 use Rattle.name_slots.proofs.put_ordinals.Goals as goal
+use Rattle.name_slots.proofs.put_ordinals.Goals.{then-at-slots, else-at-slots}
 
 pub loop-k-init : goal.loop-k-init
 loop-k-init c = (omega arith, refl, refl)
-
-pub overflow_cast-at : goal.overflow_cast-at
-overflow_cast-at c = omega (arith, c.shared_slice_known-1.given c.loop-k.k)
 
 pub overflow_cast-slots : goal.overflow_cast-slots
 overflow_cast-slots c = omega (arith, c.loop-k-test.true, c.requires)
@@ -32,7 +29,10 @@ loop-k-preserved c =
     let slots = c.loop-k.slots in
     let s : ℕ = get_or notes k 0 in
     let put : c.if-at-slots.slots ≡ set slots s (suc k) =
-    ⊎_elim (λ w. w.1 ∙ ap (set slots s) (add-one k)) (λ w. w.1 ∙ sym (set_out slots s (suc k) w.0.left)) c.if-at-slots.branch in (
+    elim c.if-at-slots.branch [
+      | then-at-slots w ↦ w.slots-is ∙ ap (set slots s) (add-one k)
+      | else-at-slots w ↦ w.slots-is ∙ sym (set_out slots s (suc k) w.if-at-slots.false)
+    ] in (
       omega (arith, c.loop-k-test.true),
       ap length put ∙ length-set slots s (suc k) ∙ c.loop-k.invariant.1,
       c.loop-k.invariant.2 ∙ numbered-on notes slots k c.loop-k-test.true ∙ ap (with_ordinals (k + 1) (drop (k + 1) notes)) (sym put),

@@ -78,34 +78,36 @@ slice_bounds-answer-end-in-Fresh-3 c =
 
 pub answer-looks-requires : goal.answer-looks-requires
 answer-looks-requires c =
+    let p = (goal.at.answer-looks-requires c).In-Fresh in
     let a = c.args in
     record {
-      short = short a.text.now a.catalogue.now (own (goal.at.answer-looks-requires c).In-Fresh);
+      short = short a.text.now a.catalogue.now (own p);
       short-list = c.if-list-gt-LONGEST.false;
-      few = few a.text.now a.catalogue.now (own (goal.at.answer-looks-requires c).In-Fresh);
+      few = few a.text.now a.catalogue.now (own p);
       size = length-take-le c.slot_count-n.result a.work.now c.if-room-n.false ∙ slots (goal.at.answer-looks-requires c).After-slot_count-n;
       room = length-take-le c.count_names-count.result a.out.now c.if-out-count.false ∙ c.count_names-count.ensures;
       count = number (goal.at.answer-looks-requires c).After-count-m;
-      told = told a.text.now a.catalogue.now (own (goal.at.answer-looks-requires c).In-Fresh);
+      told = told a.text.now a.catalogue.now (own p);
     }
 
 pub returns-in-Refused : goal.returns-in-Refused
 returns-in-Refused c =
     let a = c.args in
-    let g = c.n-1.given in
     let told = told-refusal (batch (goal.at.returns-in-Refused c).Start) a.work.now a.out.now c.in-Refused.n c.in-Refused.line
     (batch-refused a.text.now a.catalogue.now a.list.now (length a.work.now) (length a.out.now) c.in-Refused.n c.in-Refused.line.0 (refused-by a.text.now a.catalogue.now c.check.ensures c.in-Refused.n c.in-Refused.line c.in-Refused.is)) in
     record { answer = told.0; slots = told.1.0; found = told.1.1 }
 
 pub returns-else-out-count : goal.returns-else-out-count
 returns-else-out-count c =
+    let w = (goal.at.returns-else-out-count c).After-slot_count-n in
+    let p = (goal.at.returns-else-out-count c).In-Fresh in
     let a = c.args in
-    let xs = names (goal.at.returns-else-out-count c).In-Fresh in
+    let xs = names p in
     let found = map (name_ordinal xs) (asked a.list.now) in
     let count : c.count_names-count.result ≡ length found = c.count_names-count.ensures ∙ sym (length-map (asked a.list.now) (name_ordinal xs)) in
-    let many : c.slot_count-n.result ≡ length (index xs) = slots (goal.at.returns-else-out-count c).After-slot_count-n ∙ sym (index-length xs) in
+    let many : c.slot_count-n.result ≡ length (index xs) = slots w ∙ sym (index-length xs) in
     let told = told-answer (batch (goal.at.returns-else-out-count c).Start) a.work.now a.out.now found (index xs) (summed (looks xs) (asked a.list.now))
-    (batch-all a.text.now a.catalogue.now (own (goal.at.returns-else-out-count c).In-Fresh) a.list.now (length a.work.now) (length a.out.now) c.if-list-gt-LONGEST.false (omega (arith, slots (goal.at.returns-else-out-count c).After-slot_count-n, c.if-room-n.false)) (omega (arith, c.count_names-count.ensures, c.if-out-count.false)))
+    (batch-all a.text.now a.catalogue.now (own p) a.list.now (length a.work.now) (length a.out.now) c.if-list-gt-LONGEST.false (omega (arith, slots w, c.if-room-n.false)) (omega (arith, c.count_names-count.ensures, c.if-out-count.false)))
     c.count_names-count.result count c.answer-looks.result c.answer-looks.ensures.looks
     (c.answer-looks.new.slots ++ drop c.slot_count-n.result a.work.now) (c.answer-looks.new.out ++ drop c.count_names-count.result a.out.now)
     (ap₂ (λ l m. l ++ drop m a.work.now) c.answer-looks.ensures.slots many) (ap₂ (λ l m. l ++ drop m a.out.now) c.answer-looks.ensures.found count) in

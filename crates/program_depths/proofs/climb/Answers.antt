@@ -1,7 +1,6 @@
 -- `program_depths::climb` meets its contract: the steps taken, and those that are to come from `at`, are all. Assumes nothing.
-use Prim.Native.Nat.{ℕ, ◌<◌}
+use Prim.Native.Nat.{◌<◌}
 use mathlib.Core.Path.{◌≡◌, ap, ◌∙◌}
-use mathlib.Core.List.{List}
 use native.Mathlib.Omega.{arith}
 use lib.ListN.{length, get_or}
 use Rattle.format.specs.Programs.{depth}
@@ -11,7 +10,6 @@ use Rattle.program_depths.specs.Depths.{deep}
 use Rattle.program_depths.proofs.Deep.{known-fits, known-full}
 use Rattle.program_depths.proofs.climb.Goals as goal
 use Rattle.program_depths.proofs.climb.Goals.{Then-known}
-use Rattle.program_depths.proofs.climb.Tie as tie
 
 pub offset_bounds-parents-i : goal.offset_bounds-parents-i
 offset_bounds-parents-i c = omega arith
@@ -38,45 +36,33 @@ offset_bounds-depths-k c = omega (arith, c.loop-left.invariant.0 c.if-at.false)
 pub bounds-depths-k : goal.bounds-depths-k
 bounds-depths-k c = omega (arith, c.loop-left.invariant.0 c.if-at.false)
 
-abbrev start : (c : Then-known) → tie.Start invariant-loop decreases-loop
-start c = c {-After_shared_slice_known-}
-
-abbrev ps : (c : Then-known) → List ℕ
-ps c = (start c).args.parents.now
-
-abbrev k : (c : Then-known) → ℕ
-k c = c.loop-left.at
-
-abbrev left : (c : Then-known) → ℕ
-left c = c.loop-left.left
-
-here : (c : Then-known) → (k c) < length (ps c)
-here c = c.loop-left.inv.0 c.if-at.left
-
-noted : (c : Then-known) → (get_or (start c).args.depths.now (k c) 0 ≡ deep (ps c) (k c)) × (deep (ps c) (k c) < length (ps c))
-noted c = (start c).pre.1.1.1 (k c) (here c) c.if-known.true
+-- what is noted for `at`
+noted : (c : Then-known) → (get_or c.args.depths.now c.loop-left.at 0 ≡ deep c.args.parents.now c.loop-left.at) × (deep c.args.parents.now c.loop-left.at < length c.args.parents.now)
+noted c = c.requires.known_right c.loop-left.at (c.loop-left.invariant.0 c.if-at.false) c.if-known.true
 
 pub overflow_cast-known : goal.overflow_cast-known
-overflow_cast-known c = omega (arith, (noted c).0, (noted c).1)
+overflow_cast-known c = let z = noted (goal.at.overflow_cast-known c).Then-known in omega (arith, z.0, z.1)
 
 pub overflow_add-result : goal.overflow_add-result
 overflow_add-result c = omega arith
 
 pub overflow_add-result-then-known-left : goal.overflow_add-result-then-known-left
-overflow_add-result-then-known-left c = omega (arith, (noted (goal.at.overflow_add-result-then-known-left c).Then-known).0, (noted (goal.at.overflow_add-result-then-known-left c).Then-known).1)
+overflow_add-result-then-known-left c = let z = noted (goal.at.overflow_add-result-then-known-left c).Then-known in omega (arith, z.0, z.1)
 
 pub returns-then-known-left : goal.returns-then-known-left
 returns-then-known-left c =
+    let l = c.loop-left in
     let z = noted (goal.at.returns-then-known-left c).Then-known in
-    omega (arith, z.0, c.loop-left.invariant.2, known-fits (ps (goal.at.returns-then-known-left c).Then-known) (start (goal.at.returns-then-known-left c).Then-known).requires.0 (k (goal.at.returns-then-known-left c).Then-known) (left (goal.at.returns-then-known-left c).Then-known) (here (goal.at.returns-then-known-left c).Then-known) c.if-at.false (omega arith) z.1 (omega (arith, z.0)))
+    omega (arith, z.0, l.invariant.2, known-fits c.args.parents.now c.requires.parents_value l.at l.left (l.invariant.0 c.if-at.false) c.if-at.false (omega arith) z.1 (omega (arith, z.0)))
 
 pub overflow_cast-result : goal.overflow_cast-result
 overflow_cast-result c = omega arith
 
 pub returns-then-known : goal.returns-then-known
 returns-then-known c =
+    let l = c.loop-left in
     let z = noted (goal.at.returns-then-known c).Then-known in
-    omega (arith, c.loop-left.invariant.2, known-full (ps (goal.at.returns-then-known c).Then-known) (start (goal.at.returns-then-known c).Then-known).requires.0 (k (goal.at.returns-then-known c).Then-known) (left (goal.at.returns-then-known c).Then-known) (here (goal.at.returns-then-known c).Then-known) c.if-at.false (omega arith) z.1 (omega (arith, z.0)))
+    omega (arith, l.invariant.2, known-full c.args.parents.now c.requires.parents_value l.at l.left (l.invariant.0 c.if-at.false) c.if-at.false (omega arith) z.1 (omega (arith, z.0)))
 
 pub offset_bounds-parents-k : goal.offset_bounds-parents-k
 offset_bounds-parents-k c = omega (arith, c.loop-left.invariant.0 c.if-at.false)

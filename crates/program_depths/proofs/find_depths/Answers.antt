@@ -13,7 +13,6 @@ use Rattle.program_depths.proofs.Deep.{deep-cycle, deep-acyclic}
 use Rattle.program_depths.proofs.Noting.{Reached, Behind, unknown-count, noted-none, reached-more, reached-kept, array_behind, behind-kept, all-less, all-depths, sum-turn, sum-spent}
 use Rattle.program_depths.proofs.find_depths.Goals as goal
 use Rattle.program_depths.proofs.find_depths.Goals.{Else-not-learn}
-use Rattle.program_depths.proofs.find_depths.Tie as tie
 
 is_false : (t : Bool) → not t ≡ true → t ≡ false
 is_false true e = absurd (false≢true e)
@@ -71,11 +70,8 @@ returns-then-not-learn c =
     let ps = c.args.parents.now in
     none ps (deep-cycle ps c.requires.parents_value c.loop-i.i c.loop-i-test.true (c.learn.ensures.endless (is_false c.learn.result c.if-not-learn.true-raw)))
 
-abbrev start : (c : Else-not-learn) → tie.Start invariant-loop decreases-loop
-start c = c {-Start-}
-
 abbrev ps : (c : Else-not-learn) → List ℕ
-ps c = (start c).args.parents.now
+ps c = c.args.parents.now
 
 abbrev i : (c : Else-not-learn) → ℕ
 i c = c.loop-i.i
@@ -95,31 +91,26 @@ noted c = c.learn.ensures.noted
 right : (c : Else-not-learn) → (get_or (ds c) (i c) 0 ≡ deep (ps c) (i c)) × (deep (ps c) (i c) < length (ps c))
 right c = (noted c) (i c) (here c) (known c)
 
-pub offset_bounds-list-i : goal.offset_bounds-list-i
-offset_bounds-list-i c = omega (arith, here (goal.at.offset_bounds-list-i c).Else-not-learn, (start (goal.at.offset_bounds-list-i c).Else-not-learn).requires.1)
-
-pub bounds-list-i : goal.bounds-list-i
-bounds-list-i c = omega (arith, here (goal.at.bounds-list-i c).Else-not-learn, (start (goal.at.bounds-list-i c).Else-not-learn).requires.1)
-
 pub overflow_add-sum : goal.overflow_add-sum
-overflow_add-sum c = omega (arith, here c, (start c).requires.1, (right c).0, (right c).1, c.loop-i.invariant.1)
+overflow_add-sum c = let p = (goal.at.overflow_add-sum c).Else-not-learn in omega (arith, here p, c.requires.parents_len_bound, (right p).0, (right p).1, c.loop-i.invariant.1)
 
 pub overflow_add-i : goal.overflow_add-i
-overflow_add-i c = omega (arith, here c, (start c).requires.1)
+overflow_add-i c = omega (arith, here (goal.at.overflow_add-i c).Else-not-learn, c.requires.parents_len_bound)
 
 pub loop-i-smaller : goal.loop-i-smaller
-loop-i-smaller c = omega (arith, here c)
+loop-i-smaller c = omega (arith, here (goal.at.loop-i-smaller c).Else-not-learn)
 
 pub loop-i-preserved : goal.loop-i-preserved
 loop-i-preserved c =
+    let p = (goal.at.loop-i-preserved c).Else-not-learn in
     let l = c.loop-i in (
-      omega (arith, here c),
-      omega (arith, here c, (start c).requires.1, (right c).0, (right c).1, l.inv.1),
-      omega (arith, l.inv.2, (right c).0, sum-turn (ps c) (i c) (here c)),
-      noted c,
-      reached-more (ds c) (i c) (reached-kept l.list (ds c) (i c) c.learn.ensures.kept l.inv.4) (known c),
-      c.learn.ensures.sized ∙ l.inv.5,
-      behind-kept l.list (ds c) (length (ps c)) c.learn.ensures.kept l.inv.6,
+      omega (arith, here p),
+      omega (arith, here p, c.requires.parents_len_bound, (right p).0, (right p).1, l.invariant.1),
+      omega (arith, l.invariant.2, (right p).0, sum-turn (ps p) (i p) (here p)),
+      noted p,
+      reached-more (ds p) (i p) (reached-kept l.list (ds p) (i p) c.learn.ensures.kept l.invariant.4) (known p),
+      c.learn.ensures.sized ∙ l.invariant.5,
+      behind-kept l.list (ds p) (length (ps p)) c.learn.ensures.kept l.invariant.6,
     )
 
 pub returns : goal.returns

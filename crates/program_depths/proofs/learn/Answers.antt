@@ -26,9 +26,6 @@ returns-then-depths-i c = record {
   sized = refl;
 }
 
-pub climb-d-requires : goal.climb-d-requires
-climb-d-requires c = record { parents_value = c.requires.0; parents_len_bound = c.requires.1.0; i_in_bounds = c.requires.1.1.0; known_right = c.requires.1.1.1 }
-
 pub overflow_cast-d : goal.overflow_cast-d
 overflow_cast-d c = omega arith
 
@@ -69,19 +66,22 @@ noted : (c : Else-d-parents) → KnownRight (ps c) (set (ds c) (i c) (d c))
 noted c = noted-set (ds c) (i c) (d c) (open-yet c) (ps c) c.climb-d.ensures (less c) c.requires.known_right
 
 pub settle-requires : goal.settle-requires
-settle-requires c = record {
-  parents_value = c.requires.parents_value;
-  parents_len_bound = c.requires.parents_len_bound;
-  i_in_bounds = (c.requires.i_in_bounds, c.climb-d.ensures, less (goal.at.settle-requires c).Else-d-parents);
-  known_right = noted (goal.at.settle-requires c).Else-d-parents;
-}
+settle-requires c =
+    let p = (goal.at.settle-requires c).Else-d-parents in
+    record {
+      parents_value = c.requires.parents_value;
+      parents_len_bound = c.requires.parents_len_bound;
+      i_in_bounds = (c.requires.i_in_bounds, c.climb-d.ensures, less p);
+      known_right = noted p;
+    }
 
 pub returns : goal.returns
 returns c =
-    let known : get_or (set (ds (goal.at.returns c).Else-d-parents) (i (goal.at.returns c).Else-d-parents) (d (goal.at.returns c).Else-d-parents)) (i (goal.at.returns c).Else-d-parents) 0 ≡ 4294967295 → ⊥ = λ q. omega (arith, less (goal.at.returns c).Else-d-parents, here-set (ds (goal.at.returns c).Else-d-parents) (i (goal.at.returns c).Else-d-parents) (d (goal.at.returns c).Else-d-parents) (open-yet (goal.at.returns c).Else-d-parents), c.requires.parents_len_bound) in record {
+    let p = (goal.at.returns c).Else-d-parents in
+    let known : get_or (set (ds p) (i p) (d p)) (i p) 0 ≡ 4294967295 → ⊥ = λ q. omega (arith, less p, here-set (ds p) (i p) (d p) (open-yet p), c.requires.parents_len_bound) in record {
       endless = (λ q. absurd (false≢true (sym q)));
-      known = (λ _. kept-known (set (ds (goal.at.returns c).Else-d-parents) (i (goal.at.returns c).Else-d-parents) (d (goal.at.returns c).Else-d-parents)) c.settle.new.depths c.settle.ensures.kept (i (goal.at.returns c).Else-d-parents) known);
+      known = (λ _. kept-known (set (ds p) (i p) (d p)) c.settle.new.depths c.settle.ensures.kept (i p) known);
       noted = c.settle.ensures.noted;
-      kept = (λ k f. c.settle.ensures.kept k (λ q. f (sym (kept_set (ds (goal.at.returns c).Else-d-parents) (i (goal.at.returns c).Else-d-parents) (d (goal.at.returns c).Else-d-parents) (open-yet (goal.at.returns c).Else-d-parents) (ds (goal.at.returns c).Else-d-parents) (kept_same (ds (goal.at.returns c).Else-d-parents)) k f) ∙ q)) ∙ kept_set (ds (goal.at.returns c).Else-d-parents) (i (goal.at.returns c).Else-d-parents) (d (goal.at.returns c).Else-d-parents) (open-yet (goal.at.returns c).Else-d-parents) (ds (goal.at.returns c).Else-d-parents) (kept_same (ds (goal.at.returns c).Else-d-parents)) k f);
-      sized = c.settle.ensures.sized ∙ length-set (ds (goal.at.returns c).Else-d-parents) (i (goal.at.returns c).Else-d-parents) (d (goal.at.returns c).Else-d-parents);
+      kept = (λ k f. c.settle.ensures.kept k (λ q. f (sym (kept_set (ds p) (i p) (d p) (open-yet p) (ds p) (kept_same (ds p)) k f) ∙ q)) ∙ kept_set (ds p) (i p) (d p) (open-yet p) (ds p) (kept_same (ds p)) k f);
+      sized = c.settle.ensures.sized ∙ length-set (ds p) (i p) (d p);
     }

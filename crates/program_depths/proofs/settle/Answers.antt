@@ -65,14 +65,15 @@ loop-left-smaller c = omega arith
 
 pub loop-left-preserved : goal.loop-left-preserved
 loop-left-preserved c =
+    let p = (goal.at.loop-left-preserved c).In-loop-left in
     let l = c.loop-left in
-    let less : l.left ≡ suc (deep (ps (goal.at.loop-left-preserved c).In-loop-left) (get_or (ps (goal.at.loop-left-preserved c).In-loop-left) (at (goal.at.loop-left-preserved c).In-loop-left) 0)) = up (goal.at.loop-left-preserved c).In-loop-left in (
-      below (goal.at.loop-left-preserved c).In-loop-left,
+    let less : l.left ≡ suc (deep (ps p) (get_or (ps p) (at p) 0)) = up p in (
+      below p,
       omega (arith, less),
       omega (arith, l.invariant.2),
-      noted-set l.depths (get_or (ps (goal.at.loop-left-preserved c).In-loop-left) (at (goal.at.loop-left-preserved c).In-loop-left) 0) _ c.if-depths-k.false (ps (goal.at.loop-left-preserved c).In-loop-left) (omega (arith, less)) (omega (arith, l.invariant.2)) l.invariant.3,
-      kept_set l.depths (get_or (ps (goal.at.loop-left-preserved c).In-loop-left) (at (goal.at.loop-left-preserved c).In-loop-left) 0) _ c.if-depths-k.false c.args.depths.now l.invariant.4,
-      length-set l.depths (get_or (ps (goal.at.loop-left-preserved c).In-loop-left) (at (goal.at.loop-left-preserved c).In-loop-left) 0) _ ∙ l.invariant.5,
+      noted-set l.depths (get_or (ps p) (at p) 0) _ c.if-depths-k.false (ps p) (omega (arith, less)) (omega (arith, l.invariant.2)) l.invariant.3,
+      kept_set l.depths (get_or (ps p) (at p) 0) _ c.if-depths-k.false c.args.depths.now l.invariant.4,
+      length-set l.depths (get_or (ps p) (at p) 0) _ ∙ l.invariant.5,
     )
 
 pub returns : goal.returns

@@ -1,7 +1,6 @@
 -- `program_ids::find_program` meets its contract: what the IDs ahead say is the answer, and the number and the bytes at `k` decide.
 use Prim.Native.Nat.{◌+◌, ◌-◌, ◌*◌, ◌≤◌, ◌<◌}
 use mathlib.Core.Path.{refl, sym, ap, ◌∙◌}
-use mathlib.Core.Logic.{⊎_elim}
 use native.Mathlib.Omega.{arith}
 use lib.ListN.{length, get_or}
 use Rattle.program_ids.specs.Ids.{ids_at}
@@ -9,7 +8,7 @@ use Rattle.program_ids.specs.Search.{named_of}
 use Rattle.program_ids.proofs.Ids.{ids-length, ids-few, row_fits, placed-inside}
 use Rattle.program_ids.proofs.Search.{ahead_none, turn-other, turn-here, turn-differs}
 use Rattle.program_ids.proofs.find_program.Goals as goal
-use Rattle.program_ids.proofs.find_program.Goals.{In-loop-k}
+use Rattle.program_ids.proofs.find_program.Goals.{In-loop-k, then-ids-row+else-same, else-ids-row}
 
 pub loop-k-init : goal.loop-k-init
 loop-k-init c = (omega arith, refl)
@@ -94,11 +93,12 @@ loop-k-smaller c = omega (arith, c.loop-k-test.true)
 
 pub loop-k-preserved : goal.loop-k-preserved
 loop-k-preserved c =
+    let p = (goal.at.loop-k-preserved c).In-loop-k in
     let k = c.loop-k.k in
-    ⊎_elim
-    (λ v. turn-differs c.args.text.now c.args.ids.now c.args.id.now c.requires k (early (goal.at.loop-k-preserved c).In-loop-k) c.loop-k.invariant v.4.result v.4.ensures v.5.left)
-    (λ v. turn-other c.args.text.now c.args.ids.now c.args.id.now c.requires k (early (goal.at.loop-k-preserved c).In-loop-k) c.loop-k.invariant (λ e. v.left (e ∙ sym c.number_of-number.ensures)))
-    c.if-ids-row.branch
+    elim c.if-ids-row.branch [
+      | then-ids-row+else-same w ↦ turn-differs c.args.text.now c.args.ids.now c.args.id.now c.requires k (early p) c.loop-k.invariant w.same.result w.same.ensures w.if-same.false
+      | else-ids-row w ↦ turn-other c.args.text.now c.args.ids.now c.args.id.now c.requires k (early p) c.loop-k.invariant (λ e. w.if-ids-row.false (e ∙ sym c.number_of-number.ensures))
+    ]
 
 pub returns : goal.returns
 unfolding named_of

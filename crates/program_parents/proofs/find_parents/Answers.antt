@@ -2,7 +2,6 @@
 use Prim.Native.Nat.{ℕ, ◌+◌, ◌-◌, ◌≤◌, ◌<◌}
 use mathlib.Core.Path.{◌≡◌, sym, subst, ◌∙◌}
 use mathlib.Core.List.{List}
-use mathlib.Core.Logic.{⊎_elim}
 use native.Mathlib.Omega.{arith}
 use lib.ListN.{length, get_or, set, replicate}
 use Rattle.format.specs.Programs.{Program, root, links}
@@ -13,7 +12,7 @@ use Rattle.program_parents.specs.Placed.{PlacesOf}
 use Rattle.program_parents.proofs.Numbers.{Found, found_none, found_all, found-stray, found-known}
 use Rattle.program_parents.proofs.Own.{own-count, own-few, own-ats, own-lens, from-whole, widths-whole, own-placed, own_room, listed-ids, listed-are, listed-inside, listed-length, own-somewhere, own-parent}
 use Rattle.program_parents.proofs.find_parents.Goals as goal
-use Rattle.program_parents.proofs.find_parents.Goals.{Start}
+use Rattle.program_parents.proofs.find_parents.Goals.{Start, then-parent, else-parent}
 
 -- ---- what is lent
 
@@ -32,10 +31,12 @@ pub slice_bounds-list_ids-end-2 : goal.slice_bounds-list_ids-end-2
 slice_bounds-list_ids-end-2 c = sym (own-lens c.args.text.now c.requires.ps (held (goal.at.slice_bounds-list_ids-end-2 c).Start) c.requires.are)
 
 pub list_ids-requires : goal.list_ids-requires
-list_ids-requires c = record {
-  places_in_text = own-placed c.args.text.now c.requires.ps (held (goal.at.list_ids-requires c).Start) c.requires.are;
-  ats_in_bounds = own_room c.args.text.now c.requires.ps (held (goal.at.list_ids-requires c).Start) c.requires.are;
-}
+list_ids-requires c =
+    let p = (goal.at.list_ids-requires c).Start in
+    record {
+      places_in_text = own-placed c.args.text.now c.requires.ps (held p) c.requires.are;
+      ats_in_bounds = own_room c.args.text.now c.requires.ps (held p) c.requires.are;
+    }
 
 pub overflow_mul-end : goal.overflow_mul-end
 overflow_mul-end c = omega (arith, few (goal.at.overflow_mul-end c).Start)
@@ -80,9 +81,10 @@ slice_bounds-find_parent-end c =
 
 pub find_parent-parent-requires : goal.find_parent-parent-requires
 find_parent-parent-requires c =
+    let p = (goal.at.find_parent-parent-requires c).Start in
     let l = c.list_ids in record {
-      ids_in_text = listed-ids c.args.text.now c.requires.ps (held (goal.at.find_parent-parent-requires c).Start) c.requires.are zeros l.new.list (omega arith) l.ensures;
-      somewhere = own-somewhere c.args.text.now c.requires.ps (held (goal.at.find_parent-parent-requires c).Start) c.requires.are c.loop-i.i (omega arith);
+      ids_in_text = listed-ids c.args.text.now c.requires.ps (held p) c.requires.are zeros l.new.list (omega arith) l.ensures;
+      somewhere = own-somewhere c.args.text.now c.requires.ps (held p) c.requires.are c.loop-i.i (omega arith);
     }
 
 pub offset_bounds-list-i : goal.offset_bounds-list-i
@@ -99,16 +101,17 @@ loop-i-smaller c = omega (arith, c.loop-i-test.true)
 
 pub loop-i-preserved : goal.loop-i-preserved
 loop-i-preserved c =
+    let o = (goal.at.loop-i-preserved c).Start in
     let t = c.args.text.now in
     let l = c.loop-i in
     let b = c.list_ids in
     let p = c.find_parent-parent in
-    let more : (ps : List Program) (x : PlacesOf t ps (held (goal.at.loop-i-preserved c).Start)) → (l.i < length ps) × (p.result ≡ link_number (get_or (links ps) l.i root)) =
-    λ ps x. (omega (arith, own-count t ps (held (goal.at.loop-i-preserved c).Start) x), p.ensures ∙ own-parent t ps (held (goal.at.loop-i-preserved c).Start) x l.i (omega arith) c.requires.fits _ (listed-are t ps (held (goal.at.loop-i-preserved c).Start) x zeros b.new.list (omega arith) b.ensures)) in (
-      (λ ps x. ⊎_elim
-          (λ w. subst (λ d. Found ps (set l.list l.i p.result) d (l.i + 1)) (sym w.1) (found-stray ps x.few l.list l.dangling l.i (l.invariant.0 ps x) (more ps x).0 p.result (more ps x).1 w.0.taken))
-          (λ w. subst (λ d. Found ps (set l.list l.i p.result) d (l.i + 1)) (sym w.1) (found-known ps x.few l.list l.dangling l.i (l.invariant.0 ps x) (more ps x).0 p.result (more ps x).1 w.0.left))
-          c.if-parent.branch),
+    let more : (ps : List Program) (x : PlacesOf t ps (held o)) → (l.i < length ps) × (p.result ≡ link_number (get_or (links ps) l.i root)) =
+    λ ps x. (omega (arith, own-count t ps (held o) x), p.ensures ∙ own-parent t ps (held o) x l.i (omega arith) c.requires.fits _ (listed-are t ps (held o) x zeros b.new.list (omega arith) b.ensures)) in (
+      (λ ps x. elim c.if-parent.branch [
+        | then-parent w ↦ subst (λ d. Found ps (set l.list l.i p.result) d (l.i + 1)) (sym w.dangling-is) (found-stray ps x.few l.list l.dangling l.i (l.invariant.0 ps x) (more ps x).0 p.result (more ps x).1 w.if-parent.true)
+        | else-parent w ↦ subst (λ d. Found ps (set l.list l.i p.result) d (l.i + 1)) (sym w.dangling-is) (found-known ps x.few l.list l.dangling l.i (l.invariant.0 ps x) (more ps x).0 p.result (more ps x).1 w.if-parent.false)
+      ]),
       omega arith,
     )
 

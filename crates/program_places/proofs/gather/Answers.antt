@@ -74,4 +74,4 @@ loop-e-smaller c = omega (arith, within (goal.at.loop-e-smaller c).Else-len-eq0,
 pub loop-e-preserved : goal.loop-e-preserved
 loop-e-preserved c =
     let l = c.loop-e in
-    listed-other _ l.ats l.lens l.from l.widths l.count l.at _ _ c.entry_at-e.ensures c.size-len.ensures l.invariant c.if-len-eq0.false c.in_default.in_default-own.keys2
+    listed-other _ l.ats l.lens l.from l.widths l.count l.at _ _ c.entry_at-e.ensures c.size-len.ensures l.invariant c.if-len-eq0.false c.in_default.not-Program

@@ -49,15 +49,14 @@ found c =
     (c.roots-found.ensures.0 ∙ ap in_array l, c.roots-found.ensures.1 ∙ ap length l)
 
 pub slice_bounds-ordinals-end : goal.slice_bounds-ordinals-end
-slice_bounds-ordinals-end c = front-inside (roots (links (ps (goal.at.slice_bounds-ordinals-end c).After-parents_of-parents))) c.roots-found.result.list c.roots-found.result.count (found (goal.at.slice_bounds-ordinals-end c).After-roots-found).0 (found (goal.at.slice_bounds-ordinals-end c).After-roots-found).1
+slice_bounds-ordinals-end c = let p = (goal.at.slice_bounds-ordinals-end c).After-roots-found in front-inside (roots (links (ps (goal.at.slice_bounds-ordinals-end c).After-parents_of-parents))) c.roots-found.result.list c.roots-found.result.count (found p).0 (found p).1
 
 pub slice_bounds-put_ordinals-end : goal.slice_bounds-put_ordinals-end
-slice_bounds-put_ordinals-end c = front-count (roots (links (ps (goal.at.slice_bounds-put_ordinals-end c).After-parents_of-parents))) c.roots-found.result.list c.roots-found.result.count (found (goal.at.slice_bounds-put_ordinals-end c).After-roots-found).0 (found (goal.at.slice_bounds-put_ordinals-end c).After-roots-found).1
+slice_bounds-put_ordinals-end c = let p = (goal.at.slice_bounds-put_ordinals-end c).After-roots-found in front-count (roots (links (ps (goal.at.slice_bounds-put_ordinals-end c).After-parents_of-parents))) c.roots-found.result.list c.roots-found.result.count (found p).0 (found p).1
 
 pub returns-in-Refused : goal.returns-in-Refused
 returns-in-Refused c =
     let a = c.args in
-    let g = c.n-1.given in
     let room = length a.out.now in
     let told = refused-answer (rooting a.text.now a.catalogue.now room) a.out.now c.in-Refused.n c.in-Refused.line
     (roots-refused a.text.now a.catalogue.now c.in-Refused.n c.in-Refused.line.0 (refused-by a.text.now a.catalogue.now c.check.ensures c.in-Refused.n c.in-Refused.line c.in-Refused.is) room) in
@@ -65,11 +64,12 @@ returns-in-Refused c =
 
 pub returns-in-Fresh : goal.returns-in-Fresh
 returns-in-Fresh c =
+    let p = (goal.at.returns-in-Fresh c).After-roots-found in
     let a = c.args in
     let room = length a.out.now in
     let xs = roots (links (ps (goal.at.returns-in-Fresh c).After-parents_of-parents)) in
     let is =
-    ap (fitting room) (front xs c.roots-found.result.list c.roots-found.result.count (found (goal.at.returns-in-Fresh c).After-roots-found).0 (found (goal.at.returns-in-Fresh c).After-roots-found).1) ∙ sym (rooted a.text.now a.catalogue.now (own (goal.at.returns-in-Fresh c).In-Fresh) room) in record {
+    ap (fitting room) (front xs c.roots-found.result.list c.roots-found.result.count (found p).0 (found p).1) ∙ sym (rooted a.text.now a.catalogue.now (own (goal.at.returns-in-Fresh c).In-Fresh) room) in record {
       answer = c.put_ordinals.ensures.answer ∙ ap answer_of is;
       wrote = c.put_ordinals.ensures.wrote ∙ ap (λ x. output_of x a.out.now) is;
     }

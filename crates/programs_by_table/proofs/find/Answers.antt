@@ -21,33 +21,42 @@ few f = few-programs f.args.text.now f.requires.text_value
 
 pub returns-then-parents : goal.returns-then-parents
 returns-then-parents c =
-    found-dangling (ps (goal.at.returns-then-parents c).After-parents_of-parents) (few (goal.at.returns-then-parents c).After-parents_of-parents) c.parents_of-parents.result c.parents_of-parents.ensures c.if-parents.true c.nothing.result c.nothing.ensures
+    let p = (goal.at.returns-then-parents c).After-parents_of-parents in
+    found-dangling (ps p) (few p) c.parents_of-parents.result c.parents_of-parents.ensures c.if-parents.true c.nothing.result c.nothing.ensures
 
 pub slice_bounds-list-end : goal.slice_bounds-list-end
 slice_bounds-list-end c =
-    lent-inside (ps (goal.at.slice_bounds-list-end c).After-parents_of-parents) (few (goal.at.slice_bounds-list-end c).After-parents_of-parents) c.parents_of-parents.result c.parents_of-parents.ensures
+    let p = (goal.at.slice_bounds-list-end c).After-parents_of-parents in
+    lent-inside (ps p) (few p) c.parents_of-parents.result c.parents_of-parents.ensures
 
 pub slice_bounds-links-end : goal.slice_bounds-links-end
 slice_bounds-links-end c =
-    lent-count (ps (goal.at.slice_bounds-links-end c).After-parents_of-parents) (few (goal.at.slice_bounds-links-end c).After-parents_of-parents) c.parents_of-parents.result c.parents_of-parents.ensures
+    let p = (goal.at.slice_bounds-links-end c).After-parents_of-parents in
+    lent-count (ps p) (few p) c.parents_of-parents.result c.parents_of-parents.ensures
 
 pub find_depths-known-requires : goal.find_depths-known-requires
-find_depths-known-requires c = record {
-  parents_value = lent-within (ps (goal.at.find_depths-known-requires c).After-parents_of-parents) (few (goal.at.find_depths-known-requires c).After-parents_of-parents) c.parents_of-parents.result c.parents_of-parents.ensures c.if-parents.false;
-  parents_len_bound = lent-few (ps (goal.at.find_depths-known-requires c).After-parents_of-parents) (few (goal.at.find_depths-known-requires c).After-parents_of-parents) c.parents_of-parents.result c.parents_of-parents.ensures;
+find_depths-known-requires c =
+    let p = (goal.at.find_depths-known-requires c).After-parents_of-parents in
+    record {
+  parents_value = lent-within (ps p) (few p) c.parents_of-parents.result c.parents_of-parents.ensures c.if-parents.false;
+  parents_len_bound = lent-few (ps p) (few p) c.parents_of-parents.result c.parents_of-parents.ensures;
 }
 
 pub returns-then-known : goal.returns-then-known
 returns-then-known c =
-    found-cycle (ps (goal.at.returns-then-known c).After-parents_of-parents) (few (goal.at.returns-then-known c).After-parents_of-parents) c.parents_of-parents.result c.parents_of-parents.ensures c.if-parents.false (sym (cycle-is _ c.find_depths-known.result c.find_depths-known.ensures) ∙ c.if-known.true) c.nothing-then-known.result c.nothing-then-known.ensures
+    let p = (goal.at.returns-then-known c).After-parents_of-parents in
+    found-cycle (ps p) (few p) c.parents_of-parents.result c.parents_of-parents.ensures c.if-parents.false (sym (cycle-is _ c.find_depths-known.result c.find_depths-known.ensures) ∙ c.if-known.true) c.nothing-then-known.result c.nothing-then-known.ensures
 
 pub leaves-leaves-requires : goal.leaves-leaves-requires
-leaves-leaves-requires c = record {
-  parents_value = lent-within (ps (goal.at.leaves-leaves-requires c).After-parents_of-parents) (few (goal.at.leaves-leaves-requires c).After-parents_of-parents) c.parents_of-parents.result c.parents_of-parents.ensures c.if-parents.false;
-  parents_len_bound = lent-few (ps (goal.at.leaves-leaves-requires c).After-parents_of-parents) (few (goal.at.leaves-leaves-requires c).After-parents_of-parents) c.parents_of-parents.result c.parents_of-parents.ensures;
+leaves-leaves-requires c =
+    let p = (goal.at.leaves-leaves-requires c).After-parents_of-parents in
+    record {
+  parents_value = lent-within (ps p) (few p) c.parents_of-parents.result c.parents_of-parents.ensures c.if-parents.false;
+  parents_len_bound = lent-few (ps p) (few p) c.parents_of-parents.result c.parents_of-parents.ensures;
 }
 
 pub returns : goal.returns
 returns c =
-    found-leaves (ps (goal.at.returns c).After-parents_of-parents) (few (goal.at.returns c).After-parents_of-parents) c.parents_of-parents.result c.parents_of-parents.ensures c.if-parents.false c.find_depths-known.result c.find_depths-known.ensures c.if-known.false
+    let p = (goal.at.returns c).After-parents_of-parents in
+    found-leaves (ps p) (few p) c.parents_of-parents.result c.parents_of-parents.ensures c.if-parents.false c.find_depths-known.result c.find_depths-known.ensures c.if-known.false
     c.leaves-leaves.result c.leaves-leaves.ensures

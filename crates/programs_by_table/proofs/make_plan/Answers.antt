@@ -7,6 +7,7 @@ use lib.ListN.{length}
 use Rattle.format.specs.Programs.{Link, programs, links, leaves}
 use Rattle.format.specs.Calls.{fitting}
 use Rattle.accepted.specs.Read.{records_of}
+use Rattle.program_chains.specs.Parents.{in_array}
 use Rattle.program_chains.proofs.Arrays.{front, front-count, front-inside}
 use Rattle.program_parents.proofs.Numbers.{links-count}
 use Rattle.program_parents.proofs.Opened.{Opened, opened}
@@ -17,7 +18,6 @@ use Rattle.format.specs.Table.{leafing_table}
 use Rattle.programs_by_table.proofs.Tabled.{stopped-says, planned-says, table-refused, table-tangled, table-short, table_fits}
 use Rattle.programs_by_table.proofs.make_plan.Goals as goal
 use Rattle.programs_by_table.proofs.make_plan.Goals.{Else-seats-found, In-Fresh}
-use Rattle.programs_by_table.proofs.make_plan.Tie as tie
 
 abbrev t : (c : In-Fresh) → List ℕ
 t c = c.args.text.now
@@ -44,57 +44,55 @@ few : (c : In-Fresh) → length (ls c) ≤ 1024
 few c = omega (arith, (opens c).few, links-count (programs (records_of (t c))))
 
 pub find-found-requires : goal.find-found-requires
-find-found-requires c = record {
-  text_value = (opens c).accepted;
-  kept_value = (own c).own;
-}
+find-found-requires c =
+    let e = (goal.at.find-found-requires c).In-Fresh in record {
+      text_value = (opens e).accepted;
+      kept_value = (own e).own;
+    }
 
 pub returns-then-found-ne0 : goal.returns-then-found-ne0
 returns-then-found-ne0 c =
+    let p = (goal.at.returns-then-found-ne0 c).In-Fresh in
     let n = c.find-found.result.refusal in
-    let r = stopped-says (leafing_table (t (goal.at.returns-then-found-ne0 c).In-Fresh) (s (goal.at.returns-then-found-ne0 c).In-Fresh) (room (goal.at.returns-then-found-ne0 c).In-Fresh) (seats (goal.at.returns-then-found-ne0 c).In-Fresh)) n (record { 0 = 0 }) c.args.out.now
-    (table-tangled (t (goal.at.returns-then-found-ne0 c).In-Fresh) (s (goal.at.returns-then-found-ne0 c).In-Fresh) (room (goal.at.returns-then-found-ne0 c).In-Fresh) (seats (goal.at.returns-then-found-ne0 c).In-Fresh) (own (goal.at.returns-then-found-ne0 c).In-Fresh) n c.find-found.ensures.refusal c.if-found-ne0.true) c.stopped-then-found-ne0.result c.stopped-then-found-ne0.ensures in record {
+    let r = stopped-says (leafing_table (t p) (s p) (room p) (seats p)) n (record { 0 = 0 }) c.args.out.now
+    (table-tangled (t p) (s p) (room p) (seats p) (own p) n c.find-found.ensures.refusal c.if-found-ne0.true) c.stopped-then-found-ne0.result c.stopped-then-found-ne0.ensures in record {
       plan = r.plan;
       wrote = r.wrote;
     }
 
 pub returns-then-seats-found : goal.returns-then-seats-found
 returns-then-seats-found c =
+    let p = (goal.at.returns-then-seats-found c).In-Fresh in
     let z = c.if-found-ne0.false in
-    let r = stopped-says (leafing_table (t (goal.at.returns-then-seats-found c).In-Fresh) (s (goal.at.returns-then-seats-found c).In-Fresh) (room (goal.at.returns-then-seats-found c).In-Fresh) (seats (goal.at.returns-then-seats-found c).In-Fresh)) 20 (record { 0 = 0 }) c.args.out.now
-    (table-short (t (goal.at.returns-then-seats-found c).In-Fresh) (s (goal.at.returns-then-seats-found c).In-Fresh) (room (goal.at.returns-then-seats-found c).In-Fresh) (seats (goal.at.returns-then-seats-found c).In-Fresh) (own (goal.at.returns-then-seats-found c).In-Fresh) (sym c.find-found.ensures.refusal ∙ z) (omega (arith, c.if-seats-found.true, c.find-found.ensures.count z))) c.stopped-then-seats-found.result c.stopped-then-seats-found.ensures in record {
+    let r = stopped-says (leafing_table (t p) (s p) (room p) (seats p)) 20 (record { 0 = 0 }) c.args.out.now
+    (table-short (t p) (s p) (room p) (seats p) (own p) (sym c.find-found.ensures.refusal ∙ z) (omega (arith, c.if-seats-found.true, c.find-found.ensures.count z))) c.stopped-then-seats-found.result c.stopped-then-seats-found.ensures in record {
       plan = r.plan;
       wrote = r.wrote;
     }
 
-abbrev asked : (w : Else-seats-found) → tie.After-find
-asked w = w {-After_find-}
-
-abbrev told : (w : Else-seats-found) → tie.After-enum-told
-told w = (asked w).before
-
-untangled : (w : Else-seats-found) → (asked w).find.result.refusal ≡ 0
-untangled w = w.if-found-ne0.left
-
+-- the leaves
 abbrev xs : (w : Else-seats-found) → List ℕ
-xs w = leaves (ls (told w))
+xs w = leaves (ls (goal.at.Else-seats-found w).In-Fresh)
 
--- the front of the array
-inside : (w : Else-seats-found) → (asked w).find.result.leaves.count ≤ length (asked w).find.result.leaves.list
-inside w = front-inside (xs w) (asked w).find.result.leaves.list (asked w).find.result.leaves.count ((asked w).find.ensures.listed (untangled w)) ((asked w).find.ensures.counted (untangled w))
+listed : (w : Else-seats-found) → w.find-found.result.leaves.list ≡ in_array (xs w)
+listed w = w.find-found.ensures.listed w.if-found-ne0.false
+
+counted : (w : Else-seats-found) → w.find-found.result.leaves.count ≡ length (xs w)
+counted w = w.find-found.ensures.counted w.if-found-ne0.false
 
 pub slice_bounds-ordinals-end : goal.slice_bounds-ordinals-end
-slice_bounds-ordinals-end c = inside (goal.at.slice_bounds-ordinals-end c).Else-seats-found
+slice_bounds-ordinals-end c =
+    let w = (goal.at.slice_bounds-ordinals-end c).Else-seats-found in
+    front-inside (xs w) c.find-found.result.leaves.list c.find-found.result.leaves.count (listed w) (counted w)
 
 pub slice_bounds-put_ordinals-end : goal.slice_bounds-put_ordinals-end
 slice_bounds-put_ordinals-end c =
-    let f = (asked (goal.at.slice_bounds-put_ordinals-end c).Else-seats-found).find in
-    front-count (xs (goal.at.slice_bounds-put_ordinals-end c).Else-seats-found) f.result.leaves.list f.result.leaves.count (f.ensures.listed (untangled (goal.at.slice_bounds-put_ordinals-end c).Else-seats-found)) (f.ensures.counted (untangled (goal.at.slice_bounds-put_ordinals-end c).Else-seats-found))
+    let w = (goal.at.slice_bounds-put_ordinals-end c).Else-seats-found in
+    front-count (xs w) c.find-found.result.leaves.list c.find-found.result.leaves.count (listed w) (counted w)
 
 pub returns-in-Refused : goal.returns-in-Refused
 returns-in-Refused c =
     let a = c.args in
-    let g = c.n-1.given in
     let r = stopped-says (leafing_table a.text.now a.catalogue.now (length a.out.now) a.seats) c.in-Refused.n c.in-Refused.line a.out.now
     (table-refused a.text.now a.catalogue.now (length a.out.now) a.seats c.in-Refused.n c.in-Refused.line.0 (refused-by a.text.now a.catalogue.now c.check.ensures c.in-Refused.n c.in-Refused.line c.in-Refused.is)) c.stopped.result c.stopped.ensures in record {
       plan = r.plan;
@@ -103,15 +101,15 @@ returns-in-Refused c =
 
 pub returns-else-seats-found : goal.returns-else-seats-found
 returns-else-seats-found c =
-    let e = told (goal.at.returns-else-seats-found c).Else-seats-found in
-    let f = (asked (goal.at.returns-else-seats-found c).Else-seats-found).find in
-    let z = untangled (goal.at.returns-else-seats-found c).Else-seats-found in
-    let out = e.before.before.before.before.before.before.args.out.now in
-    let wide : f.result.count ≤ seats e = c.if-seats-found.false in
-    let found = front (xs (goal.at.returns-else-seats-found c).Else-seats-found) f.result.leaves.list f.result.leaves.count (f.ensures.listed z) (f.ensures.counted z) in
-    let b = fitting (room e) (xs (goal.at.returns-else-seats-found c).Else-seats-found) in
+    let w = (goal.at.returns-else-seats-found c).Else-seats-found in
+    let e = (goal.at.returns-else-seats-found c).In-Fresh in
+    let f = c.find-found in
+    let z = c.if-found-ne0.false in
+    let out = c.args.out.now in
+    let found = front (xs w) f.result.leaves.list f.result.leaves.count (listed w) (counted w) in
+    let b = fitting (room e) (xs w) in
     let r = planned-says (ls e) f.result f.ensures z (leafing_table (t e) (s e) (room e) (seats e)) b out c.put_ordinals.new.out c.planned.result
-    (table_fits (t e) (s e) (room e) (seats e) (own e) (sym f.ensures.refusal ∙ z) (omega (arith, wide, f.ensures.count z)))
+    (table_fits (t e) (s e) (room e) (seats e) (own e) (sym f.ensures.refusal ∙ z) (omega (arith, c.if-seats-found.false, f.ensures.count z)))
     (c.put_ordinals.ensures.wrote ∙ ap (λ ys. output_of (fitting (room e) ys) out) found)
     (c.planned.ensures ∙ ap (λ x. table_plan_of x f.result) (c.put_ordinals.ensures.answer ∙ ap (λ ys. answer_of (fitting (room e) ys)) found)) in record {
       plan = r.plan;

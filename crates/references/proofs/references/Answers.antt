@@ -46,16 +46,16 @@ put_rows-requires c =
 pub returns-in-Refused : goal.returns-in-Refused
 returns-in-Refused c =
     let a = c.args in
-    let g = c.n-1.given in
     let told = told-refusal (answer (goal.at.returns-in-Refused c).Start) a.table.now c.in-Refused.n c.in-Refused.line
     (rows-refused a.text.now a.catalogue.now (length a.table.now) c.in-Refused.n c.in-Refused.line.0 (refused-by a.text.now a.catalogue.now c.check.ensures c.in-Refused.n c.in-Refused.line c.in-Refused.is)) in
     record { answer = told.0; wrote = told.1 }
 
 pub returns-else-table-count : goal.returns-else-table-count
 returns-else-table-count c =
+    let p = (goal.at.returns-else-table-count c).In-Fresh in
     let a = c.args in
     let sq = of_kind 2 (records_of a.text.now) in
-    let told = told-answer (answer (goal.at.returns-else-table-count c).Start) a.table.now (rows sq) (length sq) (rows_all a.text.now a.catalogue.now (own (goal.at.returns-else-table-count c).In-Fresh) (length a.table.now) (space (goal.at.returns-else-table-count c).Else-table-count))
-    c.count-count.result (c.count-count.ensures ∙ count-is a.text.now a.catalogue.now (own (goal.at.returns-else-table-count c).In-Fresh))
-    c.put_rows.new.table (c.put_rows.ensures ∙ ap (over a.table.now 0) (rows_are a.text.now a.catalogue.now (own (goal.at.returns-else-table-count c).In-Fresh))) in
+    let told = told-answer (answer (goal.at.returns-else-table-count c).Start) a.table.now (rows sq) (length sq) (rows_all a.text.now a.catalogue.now (own p) (length a.table.now) (space (goal.at.returns-else-table-count c).Else-table-count))
+    c.count-count.result (c.count-count.ensures ∙ count-is a.text.now a.catalogue.now (own p))
+    c.put_rows.new.table (c.put_rows.ensures ∙ ap (over a.table.now 0) (rows_are a.text.now a.catalogue.now (own p))) in
     record { answer = told.0; wrote = told.1 }
