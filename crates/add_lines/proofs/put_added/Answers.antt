@@ -81,7 +81,7 @@ loop-i-preserved c =
       omega arith,
       omega (arith, c.put_program_line-n.ensures.next, m.1),
       wrote-onward l.out c.put_program_line-n.new.out l.n c.put_program_line-n.result _ xs ys m.0 c.put_program_line-n.ensures (omega (arith, m.1, c.requires.leaves_in_bounds, l.invariant.3)) ∙ l.invariant.2,
-      c.put_program_line-n.auto.0 ∙ l.invariant.3,
+      c.put_program_line-n.auto.out ∙ l.invariant.3,
     )
 
 pub shape_of-out : goal.shape_of-out

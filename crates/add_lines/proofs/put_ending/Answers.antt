@@ -19,11 +19,11 @@ put_slice-n-requires c = omega (arith, size (goal.at.put_slice-n-requires c).Sta
 
 pub put_linking-n-requires : goal.put_linking-n-requires
 put_linking-n-requires c =
-    omega (arith, size (goal.at.put_linking-n-requires c).Start, c.put_slice-n.ensures.next, c.put_slice-n.auto.0)
+    omega (arith, size (goal.at.put_linking-n-requires c).Start, c.put_slice-n.ensures.next, c.put_slice-n.auto.out)
 
 -- the output's length stays
 kept : (c : After-slice_known-3-1) → length c.put_linking-n.new.out ≡ length c.args.out.now
-kept c = c.put_linking-n.auto.0 ∙ c.put_slice-n.auto.0
+kept c = c.put_linking-n.auto.out ∙ c.put_slice-n.auto.out
 
 -- there is room for the LF
 fits : (c : After-slice_known-3-1) → c.put_linking-n.result + 1 ≤ length c.put_linking-n.new.out

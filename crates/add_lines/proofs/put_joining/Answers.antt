@@ -20,7 +20,7 @@ pub put_slice-requires : goal.put_slice-requires
 put_slice-requires c = simp length-set (omega (arith, c.requires, ap length (joining-some c.args.alone c.args.id.now c.if-alone.false)))
 
 pub shape_of-out : goal.shape_of-out
-shape_of-out c = simp length-set at c.put_slice.auto.0
+shape_of-out c = simp length-set at c.put_slice.auto.out
 
 pub returns : goal.returns
 returns c =

@@ -20,19 +20,19 @@ put_prefix-n-requires c = omega (arith, size (goal.at.put_prefix-n-requires c).S
 
 pub put_tag-n-requires : goal.put_tag-n-requires
 put_tag-n-requires c =
-    omega (arith, size (goal.at.put_tag-n-requires c).Start, c.put_prefix-n.ensures.next, c.put_prefix-n.auto.0)
+    omega (arith, size (goal.at.put_tag-n-requires c).Start, c.put_prefix-n.ensures.next, c.put_prefix-n.auto.out)
 
 pub put_slice-n-requires : goal.put_slice-n-requires
 put_slice-n-requires c =
-    omega (arith, size (goal.at.put_slice-n-requires c).Start, c.put_prefix-n.ensures.next, c.put_prefix-n.auto.0, c.put_tag-n.ensures.next, c.put_tag-n.auto.0)
+    omega (arith, size (goal.at.put_slice-n-requires c).Start, c.put_prefix-n.ensures.next, c.put_prefix-n.auto.out, c.put_tag-n.ensures.next, c.put_tag-n.auto.out)
 
 pub put_joining-n-requires : goal.put_joining-n-requires
 put_joining-n-requires c =
-    omega (arith, size (goal.at.put_joining-n-requires c).Start, c.put_prefix-n.ensures.next, c.put_prefix-n.auto.0, c.put_tag-n.ensures.next, c.put_tag-n.auto.0, c.put_slice-n.ensures.next, c.put_slice-n.auto.0)
+    omega (arith, size (goal.at.put_joining-n-requires c).Start, c.put_prefix-n.ensures.next, c.put_prefix-n.auto.out, c.put_tag-n.ensures.next, c.put_tag-n.auto.out, c.put_slice-n.ensures.next, c.put_slice-n.auto.out)
 
 pub put_ending-requires : goal.put_ending-requires
 put_ending-requires c =
-    omega (arith, size (goal.at.put_ending-requires c).Start, ending-size c.args.look.linked c.args.fields.now c.args.id.now, c.put_prefix-n.ensures.next, c.put_prefix-n.auto.0, c.put_tag-n.ensures.next, c.put_tag-n.auto.0, c.put_slice-n.ensures.next, c.put_slice-n.auto.0, c.put_joining-n.ensures.next, c.put_joining-n.auto.0)
+    omega (arith, size (goal.at.put_ending-requires c).Start, ending-size c.args.look.linked c.args.fields.now c.args.id.now, c.put_prefix-n.ensures.next, c.put_prefix-n.auto.out, c.put_tag-n.ensures.next, c.put_tag-n.auto.out, c.put_slice-n.ensures.next, c.put_slice-n.auto.out, c.put_joining-n.ensures.next, c.put_joining-n.auto.out)
 
 pub returns : goal.returns
 unfolding new_line prefix_text

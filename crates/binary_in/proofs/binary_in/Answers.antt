@@ -104,7 +104,6 @@ write_accepted-requires c = record {
 -- src/lib.rt:11:1
 pub returns-in-Refused : goal.returns-in-Refused
 returns-in-Refused c =
-    let n = c.n-1.given in
     let a = c.args in
     let room = length a.out.now in
     let told = refused-answer (binary_in a.bytes.now room) a.out.now c.in-Refused.n c.in-Refused.line

@@ -32,9 +32,6 @@ offset_bounds-list-i c = omega arith
 pub bounds-list-i : goal.bounds-list-i
 bounds-list-i c = omega arith
 
-pub overflow_cast-k : goal.overflow_cast-k
-overflow_cast-k c = omega (arith, c.shared_slice_known-in-loop-i-1.given c.loop-i.i)
-
 pub member_at-p-requires : goal.member_at-p-requires
 member_at-p-requires c = omega (arith, c.loop-i-test.true, c.requires.list_len, count-few c.args.a.now c.args.of_a c.requires.untangled)
 
