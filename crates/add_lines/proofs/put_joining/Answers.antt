@@ -28,5 +28,5 @@ returns c =
     let e = joining-some a.alone a.id.now c.if-alone.false in
     let h : a.o + length (45 ∷ a.id.now) ≤ length a.out.now = omega (arith, c.requires, ap length e) in
     let told = subst (Wrote a.out.now a.o c.put_slice.new.out c.put_slice.result) (sym e)
-    (wrote_then a.out.now a.o (set a.out.now a.o 45) (a.o + 1) _ _ (45 ∷ []) a.id.now (refl, wrote_one a.out.now a.o 45 (omega (arith, h))) c.put_slice.ensures h) in
+    (wrote_then a.out.now a.o (set a.out.now a.o 45) (a.o + 1) _ _ (45 ∷ []) a.id.now (refl, wrote_one a.out.now a.o 45 (omega (arith, h))) (c.put_slice.ensures.next, c.put_slice.ensures.wrote) h) in
     record { next = told.0; wrote = told.1 }
