@@ -85,8 +85,8 @@ loop-left-init c =
     let a = c.args in
     let o = ordered (goal.at.loop-left-init c).After-pass_ordered-left in
     elim c.if-left.branch [
-      then-left w ↦ rw w.left-is (blocked a.a.now a.b.now a.m.now a.of c.pass_ordered-left.result w.pass_block-left.result o w.if-left.true w.pass_block-left.ensures.passed)
-    | else-left w ↦ rw w.left-is o
+      | then-left w ↦ rw w.left-is (blocked a.a.now a.b.now a.m.now a.of c.pass_ordered-left.result w.pass_block-left.result o w.if-left.true w.pass_block-left.ensures.passed)
+      | else-left w ↦ rw w.left-is o
     ]
 
 pub pass_block-left-requires-in-loop-left : goal.pass_block-left-requires-in-loop-left
