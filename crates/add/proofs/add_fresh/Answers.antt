@@ -46,7 +46,7 @@ origin c = start (goal.at.After-find_leaves-graph c).After-list_ids-count
 
 -- what is given is in form
 formed : (c : Else-not-is_in_form) → misformed c.args.prefix.now (given c.args.fields.now) ≡ false
-formed c = not-true _ (sym c.is_in_form.ensures ∙ not-false c.is_in_form.result c.if-not-is_in_form.false-raw)
+formed c = not-true _ (sym c.is_in_form.ensures ∙ c.if-not-is_in_form.false)
 
 -- ---- what is listed
 
@@ -96,7 +96,7 @@ returns-then-not-is_in_form c =
     let a = c.args in
     let room = length a.out.now in
     let told = refused-answer (adding a.text.now a.catalogue.now a.prefix.now a.fields.now room) a.out.now 26 (record { 0 = 0 })
-    (add-misformed a.text.now a.catalogue.now (own (goal.at.returns-then-not-is_in_form c).Start) a.prefix.now a.fields.now room (not-false _ (sym c.is_in_form.ensures ∙ not-true c.is_in_form.result c.if-not-is_in_form.true-raw))) in
+    (add-misformed a.text.now a.catalogue.now (own (goal.at.returns-then-not-is_in_form c).Start) a.prefix.now a.fields.now room (not-false _ (sym c.is_in_form.ensures ∙ c.if-not-is_in_form.true))) in
     record { answer = told.0; wrote = told.1 }
 
 pub find_previous-previous-requires : goal.find_previous-previous-requires
