@@ -11,14 +11,14 @@ pub slice_bounds-front-end : goal.slice_bounds-front-end
 slice_bounds-front-end c = rw c.least-n.ensures (least-left _ _)
 
 pub slice_bounds-front-end-2 : goal.slice_bounds-front-end-2
-slice_bounds-front-end-2 c = sym (rw (length-take c.least-n.result c.args.area.now) (omega (arith, slice-relend-prefix-front c {-Else2-})))
+slice_bounds-front-end-2 c = ?
 
 pub judge_indexed-requires : goal.judge_indexed-requires
 judge_indexed-requires c =
     let n = c.least-n.result in
     let area = c.args.area.now in
     let e : c.clear.new.area ≡ replicate (length (take n area)) 0 = c.clear.ensures in
-    let long : length c.clear.new.area ≡ n = ap length e ∙ length-replicate (length (take n area)) 0 ∙ sym (slice-aggregate-front c {-After_front-}) in record {
+    let long : length c.clear.new.area ≡ n = ap length e ∙ length-replicate (length (take n area)) 0 ∙ ? in record {
       text_len_bound = c.requires;
       in_bounds = omega (arith, long, c.if-n-le-OWN_SLOTS.false);
       held = rw e (held_none (start _ _ _) (length (take n area)));
