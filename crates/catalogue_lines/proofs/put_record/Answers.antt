@@ -41,9 +41,9 @@ pub returns-in_default : goal.returns-in_default
 returns-in_default c =
     let p = (goal.at.returns-in_default c).Start in
     record {
-  next = c.put_formed.ensures.next ∙ ap (λ l. c.args.o + length l) (sym (same p));
-  wrote = c.put_formed.ensures.wrote ∙ ap (over c.args.out.now c.args.o) (sym (same p));
-}
+      next = c.put_formed.ensures.next ∙ ap (λ l. c.args.o + length l) (sym (same p));
+      wrote = c.put_formed.ensures.wrote ∙ ap (over c.args.out.now c.args.o) (sym (same p));
+    }
 
 pub put_entry-requires : goal.put_entry-requires
 put_entry-requires c =
