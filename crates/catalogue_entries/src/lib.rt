@@ -26,6 +26,7 @@ pub enum Entry {
 }
 
 // The kind byte of an entry; 0 for `End`.
+#[tactic(auto, unfolding(crate::specs::Entries::kind_byte))]
 pub fn kind_of(e: Entry) -> u8
     ensures { result ≡ kind_byte e }
 {

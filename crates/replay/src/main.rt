@@ -64,14 +64,18 @@
 // with `#` is a note.
 #![tactic(auto)]
 
-ghost use Rattle.std.specs.Prelude.{◌≡◌, ◌<◌, ◌≤◌, ◌+◌, length};
+ghost use Rattle.std.specs.Prelude.{◌≡◌, ◌<◌, ◌≤◌, ◌+◌, length, IfOk};
 
-use libc::STDOUT_FILENO;
 use replay_asked::{
     ACCEPTED, ADDED, BINARY_IN, BINARY_LEN, BINARY_OUT, BY_TABLE, CARRIED, CHECK_SEALED, COUNT,
     FAULTS, FIELD, FIND, FOUND, KEY, LEAVES, LENGTH, LINE, MARKED, MERGED, NAMES, PROGRAM, PRUNED,
     READ, READ_WITH, REFERENCES, REFUSED, ROOTS, SEALED, TEXT_LEN, UNKNOWN, UNWRITABLE, WRONG,
 };
+use std::env;
+use std::fs::File;
+
+// The number of the standard output.
+const STDOUT_FILENO: i32 = 1;
 
 // The comparison for each call.
 fn is_call(line: &[u8], asked: usize, text: &[u8], kept: &[u8], out: &mut [u32]) -> bool {
@@ -246,62 +250,55 @@ fn block(input: &[u8], tally: &mut [u32]) -> usize
 
 // Replays the whole lines of the part of a file that starts at `at`, and answers how many bytes they are: 0 at the end of the file. A last line
 // without LF, or a line that is longer than the buffer, is counted as wrong.
-fn next_block(fd: i32, at: usize, tally: &mut [u32]) -> usize
+fn next_block(file: &mut File, at: usize, tally: &mut [u32]) -> std::io::Result<usize>
     requires { at < 16777216 }
-    ensures { (result ≤ 131072) × (length tally.new ≡ length tally.old) }
+    ensures done { IfOk result (λ n. n ≤ 131072) }
+    ensures counts { length tally.new ≡ length tally.old }
 {
-    libc::lseek(fd, at as i64, libc::SEEK_SET);
     let mut input = replay_cases::space();
-    let n = io::read_full(fd, &mut input);
+    let n = case_files::read_full_at(file, at, &mut input)?;
     if n == 0 {
-        return 0;
+        return Ok(0);
     }
     let done = block(&input[..n], tally);
     if done == 0 {
         replay_asked::tick(tally, WRONG);
     }
-    done
+    Ok(done)
 }
 
 // Replays all lines of a file of less than 16,777,216 bytes. Nothing guarantees that a file ends, and a proved loop has to.
-fn all_blocks(fd: i32, tally: &mut [u32])
+fn all_blocks(file: &mut File, tally: &mut [u32]) -> std::io::Result<()>
     ensures { length tally.new ≡ length tally.old }
 {
     let mut at: usize = 0;
     while at < 16777216 {
-        let done = next_block(fd, at, tally);
+        let done = next_block(file, at, tally)?;
         if done == 0 {
-            return;
+            return Ok(());
         }
         at += done;
     }
+    Ok(())
 }
 
-// Replays one file, which the argument at a place names.
-fn replay(place: usize) {
-    let mut name = io::buffer();
-    let n = os::arg(place, &mut name);
-    let fd = os::open_read(&name[..n]);
-    if fd < 0 {
-        os::fail(&name[..n]);
-        return;
-    }
+// Replays one file, which an argument names.
+fn replay(rt: &HostRuntime, name: &str) -> std::io::Result<()> {
+    let mut file = File::open(rt, name)?;
     let mut tally: [u32; 33] = [0; 33];
-    all_blocks(fd, &mut tally);
-    libc::close(fd);
-    io::write_all(STDOUT_FILENO, &name[..n]);
+    all_blocks(&mut file, &mut tally)?;
+    io::write_all(STDOUT_FILENO, name.as_bytes());
     io::write_all(STDOUT_FILENO, b":");
     replay_asked::print_asked(&tally);
     replay_asked::print_judged(&tally);
     replay_asked::print_found(&tally);
+    Ok(())
 }
 
 // Replays the file that each argument names.
-fn main() {
-    let count = os::arg_count();
-    let mut place: usize = 1;
-    while place < count {
-        replay(place);
-        place += 1;
+fn main(rt: HostRuntime) -> std::io::Result<()> {
+    for name in env::args(&rt)?.skip(1) {
+        replay(&rt, &name)?;
     }
+    Ok(())
 }

@@ -3,7 +3,8 @@
 
 ghost use Rattle.std.specs.Prelude.{◌≡◌, length};
 
-use libc::STDOUT_FILENO;
+// The number of the standard output.
+const STDOUT_FILENO: i32 = 1;
 
 // What a line asks, as the place of its count. The places after these count what went wrong.
 pub const COUNT: usize = 0;

@@ -2,7 +2,7 @@
 #![tactic(auto)]
 
 ghost use Rattle.std.specs.Prelude.{◌≡◌, ◌+◌, ◌*◌, ◌/◌, ◌<◌, ◌≤◌, length, take, drop};
-ghost use Rattle.format.specs.Sha256.{sum32, Ch, Maj, Σ0, Σ1, σ0, σ1, K, H0, words, next, extend, round, rounds, sum, compress};
+ghost use Rattle.format.specs.Sha256.{sum32, Ch, Maj, Σ0, Σ1, σ0, σ1, K as round_constants, H0, words, next, extend, round, rounds, sum, compress};
 ghost use Rattle.format.specs.Sha256.{big, parse, hashed, digest, sha256};
 ghost use Rattle.sha256.specs.Parts.{value_of, word_at, last_blocks};
 ghost use Rattle.byte_slices.specs.Over.{over};
@@ -221,7 +221,7 @@ fn extended(words: [u32; 64]) -> [u32; 64]
 // All rounds, four in each step of the loop.
 fn rounds(w: &[u32; 64], start: State) -> State
     requires { length w.now ≡ 64 }
-    ensures { value_of result ≡ rounds K w.now (value_of start) }
+    ensures { value_of result ≡ rounds round_constants w.now (value_of start) }
 {
     let k = K;
     let mut s = start;

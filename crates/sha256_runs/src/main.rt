@@ -4,7 +4,11 @@
 // padding. The expected output was written by `sha256sum` of GNU coreutils.
 #![tactic(auto)]
 
-use libc::STDOUT_FILENO;
+use std::env;
+use std::fs::File;
+
+// The number of the standard output.
+const STDOUT_FILENO: i32 = 1;
 
 fn wide(b: u8) -> u64 {
     b as u64
@@ -20,33 +24,26 @@ fn show(digest: [u8; 32]) {
 }
 
 // Hashes what an open file holds.
-fn run(fd: i32) {
+fn run(file: &mut File) -> std::io::Result<()> {
     let mut text = io::large_buffer();
-    let n = io::read_full(fd, &mut text);
+    let n = case_files::read_full(file, &mut text)?;
     show(sha256::hash(&text[..n]));
+    Ok(())
 }
 
 // The file that an argument names.
-fn case(i: usize) {
-    let mut path = io::buffer();
-    let n = os::arg(i, &mut path);
-    let fd = os::open_read(&path[..n]);
-    if fd < 0 {
-        os::fail(&path[..n]);
-        return;
-    }
-    run(fd);
-    libc::close(fd);
+fn case(rt: &HostRuntime, path: &str) -> std::io::Result<()> {
+    let mut file = File::open(rt, path)?;
+    run(&mut file)?;
     io::write_all(STDOUT_FILENO, b"  ");
-    io::write_all(STDOUT_FILENO, &path[..n]);
+    io::write_all(STDOUT_FILENO, path.as_bytes());
     io::write_all(STDOUT_FILENO, b"\n");
+    Ok(())
 }
 
-fn main() {
-    let n = os::arg_count();
-    let mut i: usize = 1;
-    while i < n {
-        case(i);
-        i += 1;
+fn main(rt: HostRuntime) -> std::io::Result<()> {
+    for path in env::args(&rt)?.skip(1) {
+        case(&rt, &path)?;
     }
+    Ok(())
 }

@@ -2,8 +2,10 @@
 // A line for each: SipHash-2-4, whose values the authors publish, and SipHash-1-3, whose values an independent program wrote.
 #![tactic(auto)]
 
-use libc::STDOUT_FILENO;
 use sip_hash::Key;
+
+// The number of the standard output.
+const STDOUT_FILENO: i32 = 1;
 
 fn show(key: Key, message: &[u8]) {
     io::print_hex(

@@ -47,6 +47,7 @@ line-unbroken strict p r e = accepted-unbroken strict p.at p.bytes r (line-accep
 from_each : (P : Record → Type 0) → ((strict : Bool) (p : Piece) (r : Record) → line strict p ≡ read r → P r) → (ps : List Piece) (rs : List Record) → From ps rs → Each P rs
 unfolding Each
 from_each P f [] [] ga.end = tt
+from_each P f [] (r ∷ rs) h = elim h [ ]
 from_each P f (p ∷ ps) rs (ga.passed h) = from_each P f ps rs h
 from_each P f (p ∷ ps) (r ∷ rs) (ga.taken strict e h) = (f strict p r e, from_each P f ps rs h)
 

@@ -138,6 +138,7 @@ ended (p ∷ ps) = suc (length p.bytes) + ended ps
 from-ended : (ps : List Piece) (rs : List Record) → From ps rs → length (text rs) ≤ ended ps
 unfolding text ended
 from-ended [] [] ga.end = omega arith
+from-ended [] (r ∷ rs) h = elim h [ ]
 from-ended (p ∷ ps) rs (ga.passed h) = omega (arith, from-ended ps rs h)
 from-ended (p ∷ ps) (r ∷ rs) (ga.taken strict e h) =
     omega (

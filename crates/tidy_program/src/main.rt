@@ -3,7 +3,10 @@
 // The buffer holds one byte more than the longest input that is taken, so that a longer input is noticed.
 #![tactic(auto)]
 
-use libc::{STDIN_FILENO, STDOUT_FILENO};
+// The numbers of the standard input and output.
+const STDIN_FILENO: i32 = 0;
+
+const STDOUT_FILENO: i32 = 1;
 
 fn main() {
     let mut text = io::large_buffer();

@@ -10,37 +10,33 @@
 // of it was made by this program.
 #![tactic(auto)]
 
-use libc::STDOUT_FILENO;
+use std::env;
+use std::fs::File;
+
+// The number of the standard output.
+const STDOUT_FILENO: i32 = 1;
 
 // Answers what an open file holds, read as `tidy` reads its input.
-fn run(fd: i32) {
+fn run(file: &mut File) -> std::io::Result<()> {
     let mut text = io::large_buffer();
     let mut out = io::large_buffer();
-    let n = io::read_full(fd, &mut text);
+    let n = case_files::read_full(file, &mut text)?;
     let m = tidy_answer::answer(&text[..n], &mut out);
     io::write_all(STDOUT_FILENO, &out[..m]);
+    Ok(())
 }
 
 // The file that an argument names.
-fn case(i: usize) {
-    let mut path = io::buffer();
-    let n = os::arg(i, &mut path);
-    io::write_all(STDOUT_FILENO, &path[..n]);
+fn case(rt: &HostRuntime, path: &str) -> std::io::Result<()> {
+    io::write_all(STDOUT_FILENO, path.as_bytes());
     io::write_all(STDOUT_FILENO, b"\n");
-    let fd = os::open_read(&path[..n]);
-    if fd < 0 {
-        os::fail(&path[..n]);
-        return;
-    }
-    run(fd);
-    libc::close(fd);
+    let mut file = File::open(rt, path)?;
+    run(&mut file)
 }
 
-fn main() {
-    let n = os::arg_count();
-    let mut i: usize = 1;
-    while i < n {
-        case(i);
-        i += 1;
+fn main(rt: HostRuntime) -> std::io::Result<()> {
+    for path in env::args(&rt)?.skip(1) {
+        case(&rt, &path)?;
     }
+    Ok(())
 }

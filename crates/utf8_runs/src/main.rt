@@ -8,8 +8,10 @@
 
 ghost use Rattle.std.specs.Prelude.{◌≤◌, length};
 
-use libc::STDOUT_FILENO;
 use read::CountAnswer;
+
+// The number of the standard output.
+const STDOUT_FILENO: i32 = 1;
 
 // The answer if DS is `value`.
 fn ask(value: &[u8]) -> u8

@@ -49,7 +49,7 @@ kind_of-kind-requires c = three c.args.strict c.args.at c.args.src.now c.require
 pub returns-then-is_comment : goal.returns-then-is_comment
 unfolding IsForm
 returns-then-is_comment c = record {
-  right = of c {-Start-} _ (sym c.kind_of-kind.ensures ∙ comment-is c.kind_of-kind.result (sym c.is_comment.ensures ∙ c.if-is_comment.true));
+  right = of (goal.at.returns-then-is_comment c).Start _ (sym c.kind_of-kind.ensures ∙ comment-is c.kind_of-kind.result (sym c.is_comment.ensures ∙ c.if-is_comment.true));
   is = form-comment c.args.strict c.args.at c.args.src.now c.kind_of-kind.result c.kind_of-kind.ensures (sym c.is_comment.ensures ∙ c.if-is_comment.true);
 }
 
@@ -65,7 +65,7 @@ returns-then-is_once c =
     let a = c.args in
     let n = sym c.is_comment.ensures ∙ c.if-is_comment.false in
     let o = sym c.is_once.ensures ∙ c.if-is_once.true in record {
-      right = (of c {-Start-} _ (sym c.kind_of-kind.ensures), n, once-start a.strict a.at a.src.now (fields (goal.at.returns-then-is_once c).Else-is_comment) o);
+      right = (of (goal.at.returns-then-is_once c).Start _ (sym c.kind_of-kind.ensures), n, once-start a.strict a.at a.src.now (fields (goal.at.returns-then-is_once c).Else-is_comment) o);
       is = form-once a.strict a.at a.src.now c.kind_of-kind.result c.kind_of-kind.ensures n o;
     }
 
@@ -74,6 +74,6 @@ unfolding IsForm
 returns c =
     let a = c.args in
     let n = sym c.is_comment.ensures ∙ c.if-is_comment.false in record {
-      right = (of c {-Start-} _ (sym c.kind_of-kind.ensures), n);
+      right = (of (goal.at.returns c).Start _ (sym c.kind_of-kind.ensures), n);
       is = form-repeating a.strict a.at a.src.now c.kind_of-kind.result c.kind_of-kind.ensures n (sym c.is_once.ensures ∙ c.if-is_once.false);
     }

@@ -37,13 +37,13 @@ map s make k e = ap make (found-place s.args.at s.args.src.now 73 68 k.piece k.h
 
 pub header_of-requires : goal.header_of-requires
 header_of-requires c = record {
-  line_of = of c {-Start-} Header c.in-Header.is;
+  line_of = of (goal.at.header_of-requires c).Start Header c.in-Header.is;
   version_value = ap (λ k. k.key) (keys (goal.at.header_of-requires c).Start Header c.in-Header.is);
 }
 
 pub sequence_of-requires : goal.sequence_of-requires
 sequence_of-requires c = record {
-  line_of = of c {-Start-} ReferenceSequence c.in-ReferenceSequence.is;
+  line_of = of (goal.at.sequence_of-requires c).Start ReferenceSequence c.in-ReferenceSequence.is;
   keys_value = keys (goal.at.sequence_of-requires c).Start ReferenceSequence c.in-ReferenceSequence.is;
 }
 

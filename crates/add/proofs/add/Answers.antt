@@ -9,8 +9,7 @@ use Rattle.add.proofs.add.Goals as goal
 pub add_fresh-requires : goal.add_fresh-requires
 add_fresh-requires c =
     let a = c.args in
-    let t = c.args.text.now in
-    let g = c.once-1.given in record {
+    let t = c.args.text.now in record {
       catalogue_value = (text-fresh-by t a.catalogue.now c.check_text.ensures c.in-Fresh.once c.in-Fresh.is).says;
       reads_by = rule-by t a.catalogue.now c.check_text.ensures c.in-Fresh.once c.in-Fresh.is;
     }
@@ -18,7 +17,6 @@ add_fresh-requires c =
 pub returns-in-Refused : goal.returns-in-Refused
 returns-in-Refused c =
     let a = c.args in
-    let g = c.n-1.given in
     let room = length a.out.now in
     let told = refused-answer (adding a.text.now a.catalogue.now a.prefix.now a.fields.now room) a.out.now c.in-Refused.n c.in-Refused.line
     (add-refused a.text.now a.catalogue.now a.prefix.now a.fields.now room c.in-Refused.n c.in-Refused.line.0 (text-refused-by a.text.now a.catalogue.now c.check_text.ensures c.in-Refused.n c.in-Refused.line c.in-Refused.is)) in

@@ -28,7 +28,6 @@ use Rattle.add.proofs.Prior.{nothing-none}
 use Rattle.add.proofs.Adding.{add-misformed, add-stray, add-tangled, add-on}
 use Rattle.add.proofs.add_fresh.Goals as goal
 use Rattle.add.proofs.add_fresh.Goals.{After-find_leaves-graph, After-is_stray, After-list_ids-count, Else-graph-ne0, Else-not-is_in_form, Start}
-use Rattle.add.proofs.add_fresh.Tie as tie
 
 -- the catalogue is the text's own
 own : (s : Start) → Current s.args.text.now s.args.catalogue.now
@@ -38,15 +37,16 @@ own s = check-fresh s.args.text.now s.args.catalogue.now (ap checked_of s.requir
 opens : (s : Start) → Opened s.args.text.now s.args.catalogue.now
 opens s = opened s.args.text.now s.args.catalogue.now (own s).reads (own s).own
 
-abbrev start : After-list_ids-count → tie.Start
-start c = c {-Start-}
+-- where the call began, seen from the list of the IDs, and from the leaves
+abbrev start : After-list_ids-count → Start
+start c = (goal.at.After-list_ids-count c).Start
 
-abbrev origin : After-find_leaves-graph → tie.Start
+abbrev origin : After-find_leaves-graph → Start
 origin c = start (goal.at.After-find_leaves-graph c).After-list_ids-count
 
 -- what is given is in form
 formed : (c : Else-not-is_in_form) → misformed c.args.prefix.now (given c.args.fields.now) ≡ false
-formed c = not-true _ (sym c.is_in_form.ensures ∙ not-false c.is_in_form.result c.if-not-is_in_form.false-raw)
+formed c = not-true _ (sym c.is_in_form.ensures ∙ c.if-not-is_in_form.false)
 
 -- ---- what is listed
 
@@ -85,18 +85,18 @@ leaves-are : (c : Else-graph-ne0) → take c.find_leaves-graph.result.leaves.cou
 unfolding leaves_of
 leaves-are c = front (xs c) c.find_leaves-graph.result.leaves.list c.find_leaves-graph.result.leaves.count (listed c) (counted c)
 
-some : (c : Else-graph-ne0) → 0 < length (take (c.list_ids-count.result * 3) c.list_ids-count.last.1.1.0) → 0 < length (take c.find_leaves-graph.result.leaves.count c.find_leaves-graph.result.leaves.list)
+some : (c : Else-graph-ne0) → 0 < length (take (c.list_ids-count.result * 3) c.list_ids-count.last.ids) → 0 < length (take c.find_leaves-graph.result.leaves.count c.find_leaves-graph.result.leaves.list)
 some c h =
     let few = (opens (start (goal.at.Else-graph-ne0 c).After-list_ids-count)).few in
     let k = c.list_ids-count in
-    omega (arith, some-leaf (ps (goal.at.Else-graph-ne0 c).After-find_leaves-graph) few (untangled c) (omega (arith, h, (lists (goal.at.Else-graph-ne0 c).After-list_ids-count).counts, length-take (k.result * 3) k.last.1.1.0)), ap length (leaves-are c), (counted c), front-count (xs c) c.find_leaves-graph.result.leaves.list c.find_leaves-graph.result.leaves.count (listed c) (counted c))
+    omega (arith, some-leaf (ps (goal.at.Else-graph-ne0 c).After-find_leaves-graph) few (untangled c) (omega (arith, h, (lists (goal.at.Else-graph-ne0 c).After-list_ids-count).counts, length-take (k.result * 3) k.last.ids)), ap length (leaves-are c), (counted c), front-count (xs c) c.find_leaves-graph.result.leaves.list c.find_leaves-graph.result.leaves.count (listed c) (counted c))
 
 pub returns-then-not-is_in_form : goal.returns-then-not-is_in_form
 returns-then-not-is_in_form c =
     let a = c.args in
     let room = length a.out.now in
     let told = refused-answer (adding a.text.now a.catalogue.now a.prefix.now a.fields.now room) a.out.now 26 (record { 0 = 0 })
-    (add-misformed a.text.now a.catalogue.now (own (goal.at.returns-then-not-is_in_form c).Start) a.prefix.now a.fields.now room (not-false _ (sym c.is_in_form.ensures ∙ not-true c.is_in_form.result c.if-not-is_in_form.true-raw))) in
+    (add-misformed a.text.now a.catalogue.now (own (goal.at.returns-then-not-is_in_form c).Start) a.prefix.now a.fields.now room (not-false _ (sym c.is_in_form.ensures ∙ c.if-not-is_in_form.true))) in
     record { answer = told.0; wrote = told.1 }
 
 pub find_previous-previous-requires : goal.find_previous-previous-requires
@@ -164,7 +164,7 @@ add_after-requires c =
     let s = start (goal.at.add_after-requires c).After-list_ids-count in
     let a = s.args in record {
       text_value = (opens s).accepted;
-      reads_by = s.pre.1;
+      reads_by = s.requires.reads_by;
       ids_in_text = ((lists (goal.at.add_after-requires c).After-list_ids-count).listed, (lists (goal.at.add_after-requires c).After-list_ids-count).are);
       fields_value = (
         (in-form a.prefix.now (given a.fields.now) (formed (goal.at.add_after-requires c).Else-not-is_in_form)).stop,

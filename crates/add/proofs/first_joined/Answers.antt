@@ -5,10 +5,10 @@ use borrow.Author.Tests.{not-true, not-false}
 use Rattle.add.proofs.first_joined.Goals as goal
 
 pub returns-then-not-alone : goal.returns-then-not-alone
-returns-then-not-alone c = rw (not-true c.args.alone c.if-not-alone.true-raw) refl
+returns-then-not-alone c = rw c.if-not-alone.true refl
 
 pub returns-then-count-eq0 : goal.returns-then-count-eq0
-returns-then-count-eq0 c = rw (not-false c.args.alone c.if-not-alone.false-raw, c.if-count-eq0.true) refl
+returns-then-count-eq0 c = rw (c.if-not-alone.false, c.if-count-eq0.true) refl
 
 pub returns : goal.returns
-returns c = rw (not-false c.args.alone c.if-not-alone.false-raw) (omega (arith, c.if-count-eq0.false))
+returns c = rw c.if-not-alone.false (omega (arith, c.if-count-eq0.false))

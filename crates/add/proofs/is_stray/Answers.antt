@@ -16,11 +16,9 @@ use Rattle.add.proofs.is_stray.Goals.{In-At}
 -- where the PP is
 stands : (c : In-At)
     → let a = c.args in
-    let g = c.previous-1.given.0 in
     (c.in-At.at + c.in-At.len ≤ length a.fields.now)
     × (not (is_among (take (c.in-At.at + c.in-At.len - c.in-At.at) (drop c.in-At.at a.fields.now)) (ids_at a.text.now a.ids.now)) ≡ stray (ids_at a.text.now a.ids.now) (last_of 80 80 (given a.fields.now).fields))
 stands c =
-    let g = c.previous-1.given in
     stray-at (ids_at c.args.text.now c.args.ids.now) c.args.fields.now c.in-At.at c.in-At.len (sym c.requires.previous_value ∙ c.in-At.is)
 
 pub overflow_add-at : goal.overflow_add-at

@@ -68,7 +68,7 @@ front-requires c =
 pub put_added-n-requires : goal.put_added-n-requires
 put_added-n-requires c = record {
   ids_in_text = c.requires.ids_in_text;
-  leaves_in_bounds = omega (arith, c.front.ensures, front-is (goal.at.put_added-n-requires c).Start, whole_is (goal.at.put_added-n-requires c).Start, c.put_around.auto.1.1.1.1.0);
+  leaves_in_bounds = omega (arith, c.front.ensures, front-is (goal.at.put_added-n-requires c).Start, whole_is (goal.at.put_added-n-requires c).Start, c.put_around.auto.out);
 }
 
 pub overflow_add-result : goal.overflow_add-result

@@ -19,10 +19,10 @@ returns-then-id-dash-ne45 c =
 pub returns-then-not-starts : goal.returns-then-not-starts
 returns-then-not-starts c =
     let a = c.args in
-    sym (joined-front a.prefix.now a.other.now a.id.now c.if-id-dash.false (sym c.starts.ensures ∙ not-true c.starts.result c.if-not-starts.true-raw))
+    sym (joined-front a.prefix.now a.other.now a.id.now c.if-id-dash.false (sym c.starts.ensures ∙ c.if-not-starts.true))
 
 pub returns : goal.returns
 returns c =
     let a = c.args in
     c.same.ensures
-    ∙ sym (joined-rest a.prefix.now a.other.now a.id.now c.if-id-dash.false (sym c.starts.ensures ∙ not-false c.starts.result c.if-not-starts.false-raw) c.if-id-dash-ne45.false)
+    ∙ sym (joined-rest a.prefix.now a.other.now a.id.now c.if-id-dash.false (sym c.starts.ensures ∙ c.if-not-starts.false) c.if-id-dash-ne45.false)

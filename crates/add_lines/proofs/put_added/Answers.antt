@@ -23,7 +23,7 @@ put_program_line-requires c =
 pub returns-then-shape : goal.returns-then-shape
 returns-then-shape c =
     let a = c.args in
-    let told = subst (Wrote a.out.now a.o c.put_program_line.new.out c.put_program_line.result) (sym (added-one (ids_at a.text.now a.ids.now) a.shape.empty a.shape.alone a.shape.linked a.prefix.now a.fields.now a.leaves.now c.if-shape.true)) c.put_program_line.ensures in
+    let told = subst (Wrote a.out.now a.o c.put_program_line.new.out c.put_program_line.result) (sym (added-one (ids_at a.text.now a.ids.now) a.shape.empty a.shape.alone a.shape.linked a.prefix.now a.fields.now a.leaves.now c.if-shape.true)) (c.put_program_line.ensures.next, c.put_program_line.ensures.wrote) in
     record { next = told.0; wrote = told.1 }
 
 pub loop-i-init : goal.loop-i-init
@@ -80,8 +80,8 @@ loop-i-preserved c =
     let ys = new_lines (ids_at a.text.now a.ids.now) false a.shape.linked a.prefix.now a.fields.now (drop (l.i + 1) a.leaves.now) in (
       omega arith,
       omega (arith, c.put_program_line-n.ensures.next, m.1),
-      wrote-onward l.out c.put_program_line-n.new.out l.n c.put_program_line-n.result _ xs ys m.0 c.put_program_line-n.ensures (omega (arith, m.1, c.requires.leaves_in_bounds, l.invariant.3)) ∙ l.invariant.2,
-      c.put_program_line-n.auto.0 ∙ l.invariant.3,
+      wrote-onward l.out c.put_program_line-n.new.out l.n c.put_program_line-n.result _ xs ys m.0 (c.put_program_line-n.ensures.next, c.put_program_line-n.ensures.wrote) (omega (arith, m.1, c.requires.leaves_in_bounds, l.invariant.3)) ∙ l.invariant.2,
+      c.put_program_line-n.auto.out ∙ l.invariant.3,
     )
 
 pub shape_of-out : goal.shape_of-out

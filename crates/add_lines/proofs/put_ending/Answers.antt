@@ -19,11 +19,11 @@ put_slice-n-requires c = omega (arith, size (goal.at.put_slice-n-requires c).Sta
 
 pub put_linking-n-requires : goal.put_linking-n-requires
 put_linking-n-requires c =
-    omega (arith, size (goal.at.put_linking-n-requires c).Start, c.put_slice-n.ensures.next, c.put_slice-n.auto.0)
+    omega (arith, size (goal.at.put_linking-n-requires c).Start, c.put_slice-n.ensures.next, c.put_slice-n.auto.out)
 
 -- the output's length stays
 kept : (c : After-slice_known-3-1) → length c.put_linking-n.new.out ≡ length c.args.out.now
-kept c = c.put_linking-n.auto.0 ∙ c.put_slice-n.auto.0
+kept c = c.put_linking-n.auto.out ∙ c.put_slice-n.auto.out
 
 -- there is room for the LF
 fits : (c : After-slice_known-3-1) → c.put_linking-n.result + 1 ≤ length c.put_linking-n.new.out
@@ -47,6 +47,6 @@ returns c =
     let mid = c.put_slice-n.new.out in
     let last = c.put_linking-n.new.out in
     let xs = linking a.linked a.id.now in
-    let front = wrote_then a.out.now a.o mid _ last n a.fields.now xs c.put_slice-n.ensures c.put_linking-n.ensures (omega (arith, size (goal.at.returns c).Start, length-append a.fields.now xs)) in
+    let front = wrote_then a.out.now a.o mid _ last n a.fields.now xs (c.put_slice-n.ensures.next, c.put_slice-n.ensures.wrote) (c.put_linking-n.ensures.next, c.put_linking-n.ensures.wrote) (omega (arith, size (goal.at.returns c).Start, length-append a.fields.now xs)) in
     let told = wrote_then a.out.now a.o last n (set last n 10) (n + 1) (a.fields.now ++ xs) (10 ∷ []) front (refl, wrote_one last n 10 (omega (arith, fits c))) c.requires in
     record { next = told.0; wrote = told.1 }

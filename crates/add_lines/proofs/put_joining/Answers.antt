@@ -20,7 +20,7 @@ pub put_slice-requires : goal.put_slice-requires
 put_slice-requires c = simp length-set (omega (arith, c.requires, ap length (joining-some c.args.alone c.args.id.now c.if-alone.false)))
 
 pub shape_of-out : goal.shape_of-out
-shape_of-out c = simp length-set at c.put_slice.auto.0
+shape_of-out c = simp length-set at c.put_slice.auto.out
 
 pub returns : goal.returns
 returns c =
@@ -28,5 +28,5 @@ returns c =
     let e = joining-some a.alone a.id.now c.if-alone.false in
     let h : a.o + length (45 ∷ a.id.now) ≤ length a.out.now = omega (arith, c.requires, ap length e) in
     let told = subst (Wrote a.out.now a.o c.put_slice.new.out c.put_slice.result) (sym e)
-    (wrote_then a.out.now a.o (set a.out.now a.o 45) (a.o + 1) _ _ (45 ∷ []) a.id.now (refl, wrote_one a.out.now a.o 45 (omega (arith, h))) c.put_slice.ensures h) in
+    (wrote_then a.out.now a.o (set a.out.now a.o 45) (a.o + 1) _ _ (45 ∷ []) a.id.now (refl, wrote_one a.out.now a.o 45 (omega (arith, h))) (c.put_slice.ensures.next, c.put_slice.ensures.wrote) h) in
     record { next = told.0; wrote = told.1 }

@@ -20,7 +20,7 @@ returns-then-linked c =
     let a = c.args in
     let e = linking-some a.linked a.id.now c.if-linked.true in
     let told = subst (Wrote a.out.now a.o c.put_field.new.out c.put_field.result) (sym e)
-    (subst (λ v. Wrote a.out.now a.o c.put_field.new.out c.put_field.result (field_text 80 80 v)) (take-length a.id.now) c.put_field.ensures) in
+    (subst (λ v. Wrote a.out.now a.o c.put_field.new.out c.put_field.result (field_text 80 80 v)) (take-length a.id.now) (c.put_field.ensures.next, c.put_field.ensures.wrote)) in
     record { next = told.0; wrote = told.1 }
 
 pub returns : goal.returns

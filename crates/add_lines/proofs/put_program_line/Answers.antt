@@ -20,19 +20,19 @@ put_prefix-n-requires c = omega (arith, size (goal.at.put_prefix-n-requires c).S
 
 pub put_tag-n-requires : goal.put_tag-n-requires
 put_tag-n-requires c =
-    omega (arith, size (goal.at.put_tag-n-requires c).Start, c.put_prefix-n.ensures.next, c.put_prefix-n.auto.0)
+    omega (arith, size (goal.at.put_tag-n-requires c).Start, c.put_prefix-n.ensures.next, c.put_prefix-n.auto.out)
 
 pub put_slice-n-requires : goal.put_slice-n-requires
 put_slice-n-requires c =
-    omega (arith, size (goal.at.put_slice-n-requires c).Start, c.put_prefix-n.ensures.next, c.put_prefix-n.auto.0, c.put_tag-n.ensures.next, c.put_tag-n.auto.0)
+    omega (arith, size (goal.at.put_slice-n-requires c).Start, c.put_prefix-n.ensures.next, c.put_prefix-n.auto.out, c.put_tag-n.ensures.next, c.put_tag-n.auto.out)
 
 pub put_joining-n-requires : goal.put_joining-n-requires
 put_joining-n-requires c =
-    omega (arith, size (goal.at.put_joining-n-requires c).Start, c.put_prefix-n.ensures.next, c.put_prefix-n.auto.0, c.put_tag-n.ensures.next, c.put_tag-n.auto.0, c.put_slice-n.ensures.next, c.put_slice-n.auto.0)
+    omega (arith, size (goal.at.put_joining-n-requires c).Start, c.put_prefix-n.ensures.next, c.put_prefix-n.auto.out, c.put_tag-n.ensures.next, c.put_tag-n.auto.out, c.put_slice-n.ensures.next, c.put_slice-n.auto.out)
 
 pub put_ending-requires : goal.put_ending-requires
 put_ending-requires c =
-    omega (arith, size (goal.at.put_ending-requires c).Start, ending-size c.args.look.linked c.args.fields.now c.args.id.now, c.put_prefix-n.ensures.next, c.put_prefix-n.auto.0, c.put_tag-n.ensures.next, c.put_tag-n.auto.0, c.put_slice-n.ensures.next, c.put_slice-n.auto.0, c.put_joining-n.ensures.next, c.put_joining-n.auto.0)
+    omega (arith, size (goal.at.put_ending-requires c).Start, ending-size c.args.look.linked c.args.fields.now c.args.id.now, c.put_prefix-n.ensures.next, c.put_prefix-n.auto.out, c.put_tag-n.ensures.next, c.put_tag-n.auto.out, c.put_slice-n.ensures.next, c.put_slice-n.auto.out, c.put_joining-n.ensures.next, c.put_joining-n.auto.out)
 
 pub returns : goal.returns
 unfolding new_line prefix_text
@@ -40,9 +40,9 @@ returns c =
     let a = c.args in
     let tag : List ℕ = 9 ∷ 73 ∷ 68 ∷ 58 ∷ [] in
     let id = joining a.look.alone a.id.now in
-    let tagged = wrote_then a.out.now a.o _ _ _ _ (prefix_text Program) tag c.put_prefix-n.ensures c.put_tag-n.ensures (omega (arith, size (goal.at.returns c).Start)) in
-    let named = wrote_then a.out.now a.o _ _ _ _ (prefix_text Program ++ tag) a.prefix.now tagged c.put_slice-n.ensures (omega (arith, size (goal.at.returns c).Start, length-append (prefix_text Program ++ tag) a.prefix.now)) in
-    let front = wrote_then a.out.now a.o _ _ _ _ (prefix_text Program ++ tag ++ a.prefix.now) id named c.put_joining-n.ensures
+    let tagged = wrote_then a.out.now a.o _ _ _ _ (prefix_text Program) tag (c.put_prefix-n.ensures.next, c.put_prefix-n.ensures.wrote) (c.put_tag-n.ensures.next, c.put_tag-n.ensures.wrote) (omega (arith, size (goal.at.returns c).Start)) in
+    let named = wrote_then a.out.now a.o _ _ _ _ (prefix_text Program ++ tag) a.prefix.now tagged (c.put_slice-n.ensures.next, c.put_slice-n.ensures.wrote) (omega (arith, size (goal.at.returns c).Start, length-append (prefix_text Program ++ tag) a.prefix.now)) in
+    let front = wrote_then a.out.now a.o _ _ _ _ (prefix_text Program ++ tag ++ a.prefix.now) id named (c.put_joining-n.ensures.next, c.put_joining-n.ensures.wrote)
     (omega (arith, size (goal.at.returns c).Start, length-append (prefix_text Program ++ tag) a.prefix.now, length-append (prefix_text Program ++ tag ++ a.prefix.now) id)) in
-    let told = wrote_then a.out.now a.o _ _ _ _ (prefix_text Program ++ tag ++ a.prefix.now ++ id) (ending a.look.linked a.fields.now a.id.now) front c.put_ending.ensures c.requires in
+    let told = wrote_then a.out.now a.o _ _ _ _ (prefix_text Program ++ tag ++ a.prefix.now ++ id) (ending a.look.linked a.fields.now a.id.now) front (c.put_ending.ensures.next, c.put_ending.ensures.wrote) c.requires in
     record { next = told.0; wrote = told.1 }

@@ -90,7 +90,7 @@ returns-then-not-is_sq_list c =
     let room = length a.out.now in
     let told = refused-answer (binary_in a.bytes.now room) a.out.now 29 (record { 0 = 0 })
     (in-other a.bytes.now room c.parts-parts.result c.parts-parts.ensures.taken (not-false c.parts-parts.result.ok c.if-not-parts.false) (text_of (goal.at.returns-then-not-is_sq_list c).After-unpadded_len) (text-is (goal.at.returns-then-not-is_sq_list c).After-unpadded_len) (accepted (goal.at.returns-then-not-is_sq_list c).In-Accepted)
-    (sym (alike (goal.at.returns-then-not-is_sq_list c).After-is_sq_list) ∙ not-true c.is_sq_list.result c.if-not-is_sq_list.true-raw)) in
+    (sym (alike (goal.at.returns-then-not-is_sq_list c).After-is_sq_list) ∙ c.if-not-is_sq_list.true)) in
     record { answer = told.0; wrote = told.1 }
 
 -- src/lib.rt:30:13
@@ -104,7 +104,6 @@ write_accepted-requires c = record {
 -- src/lib.rt:11:1
 pub returns-in-Refused : goal.returns-in-Refused
 returns-in-Refused c =
-    let n = c.n-1.given in
     let a = c.args in
     let room = length a.out.now in
     let told = refused-answer (binary_in a.bytes.now room) a.out.now c.in-Refused.n c.in-Refused.line
@@ -118,7 +117,7 @@ returns-else-not-is_sq_list c =
     let a = c.args in
     let room = length a.out.now in
     let same = sym (in-same a.bytes.now room c.parts-parts.result c.parts-parts.ensures.taken (not-false c.parts-parts.result.ok c.if-not-parts.false) (text_of (goal.at.returns-else-not-is_sq_list c).After-unpadded_len) (text-is (goal.at.returns-else-not-is_sq_list c).After-unpadded_len) (accepted (goal.at.returns-else-not-is_sq_list c).In-Accepted)
-    (sym (alike (goal.at.returns-else-not-is_sq_list c).After-is_sq_list) ∙ not-false c.is_sq_list.result c.if-not-is_sq_list.false-raw)) in record {
+    (sym (alike (goal.at.returns-else-not-is_sq_list c).After-is_sq_list) ∙ c.if-not-is_sq_list.false)) in record {
       answer = c.write_accepted.ensures.answer ∙ ap answer_of same;
       wrote = c.write_accepted.ensures.wrote ∙ ap (λ x. output_of x a.out.now) same;
     }

@@ -18,11 +18,11 @@ use Rattle.binary_len.proofs.binary_len_from.Goals.{Else-not-starts, Then-not-st
 -- nothing has begun: the bytes start with `BAM` and 1, or not
 begins : (c : Else-not-starts) → starts magic c.args.bytes.now ≡ true
 unfolding magic
-begins c = sym c.starts.ensures ∙ not-false _ c.if-not-starts.false-raw
+begins c = sym c.starts.ensures ∙ c.if-not-starts.false
 
 other : (c : Then-not-starts) → starts magic c.args.bytes.now ≡ false
 unfolding magic
-other c = sym c.starts.ensures ∙ not-true _ c.if-not-starts.true-raw
+other c = sym c.starts.ensures ∙ c.if-not-starts.true
 
 pub returns-then-len-at : goal.returns-then-len-at
 unfolding told Resumes

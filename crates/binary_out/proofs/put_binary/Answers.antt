@@ -39,7 +39,7 @@ put_text-requires c = record {
   reads_by = c.requires.reads_by;
   sizes_value = c.requires.sizes_value;
   n_value = c.requires.n_value;
-  n_in_bounds = omega (arith, room (goal.at.put_text-requires c).Start, c.put_front.auto.0);
+  n_in_bounds = omega (arith, room (goal.at.put_text-requires c).Start, c.put_front.auto.out);
 }
 
 pub overflow_add-n : goal.overflow_add-n
@@ -47,7 +47,7 @@ overflow_add-n c = omega (arith, c.requires.n_bound)
 
 pub put_u32-requires : goal.put_u32-requires
 put_u32-requires c =
-    omega (arith, room (goal.at.put_u32-requires c).Start, c.put_front.auto.0, c.put_text.auto.1.1.1.1.0)
+    omega (arith, room (goal.at.put_u32-requires c).Start, c.put_front.auto.out, c.put_text.auto.out)
 
 pub overflow_add-n-2 : goal.overflow_add-n-2
 overflow_add-n-2 c = omega (arith, c.requires.n_bound)
@@ -56,12 +56,12 @@ pub put_list-requires : goal.put_list-requires
 put_list-requires c =
     let t = c.args.text.now in record {
       text_len_bound = text-fits t (records_of t) (accepted-reads t c.requires.text_value);
-      text_in_bounds = omega (arith, room (goal.at.put_list-requires c).Start, c.put_front.auto.0, c.put_text.auto.1.1.1.1.0, c.put_u32.auto.0, ap (λ l. length (list_bytes l)) (listed (goal.at.put_list-requires c).Start));
+      text_in_bounds = omega (arith, room (goal.at.put_list-requires c).Start, c.put_front.auto.out, c.put_text.auto.out, c.put_u32.auto.out, ap (λ l. length (list_bytes l)) (listed (goal.at.put_list-requires c).Start));
     }
 
 pub shape_of-out : goal.shape_of-out
 shape_of-out c =
-    c.put_list.auto.1.1.0 ∙ c.put_u32.auto.0 ∙ c.put_text.auto.1.1.1.1.0 ∙ c.put_front.auto.0
+    c.put_list.auto.out ∙ c.put_u32.auto.out ∙ c.put_text.auto.out ∙ c.put_front.auto.out
 
 pub returns : goal.returns
 returns c =

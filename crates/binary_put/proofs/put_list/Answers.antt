@@ -113,7 +113,7 @@ loop-r-preserved c =
       v.0 ++ one,
       c.next_reference-r.ensures.place.within,
       omega (arith, c.put_reference-o.ensures.next, size, v.2, (room (goal.at.loop-r-preserved c).Else-not-r).0, length-append v.0 one),
-      c.put_reference-o.auto.0 ∙ v.3,
+      c.put_reference-o.auto.out ∙ v.3,
       c.put_reference-o.ensures.wrote
           ∙ ap (λ x. over c.loop-r.out c.loop-r.o (reference_bytes (record { name = x; size = r.length }))) (named (goal.at.loop-r-preserved c).Else-not-r)
           ∙ ap (λ o. over o c.loop-r.o one) v.4

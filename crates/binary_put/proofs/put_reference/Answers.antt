@@ -13,7 +13,7 @@ put_u32-requires-2 c = simp length-set (omega arith)
 
 pub shape_of-out : goal.shape_of-out
 shape_of-out c =
-    c.put_u32-2.auto.0 ∙ simp length-set c.put_bytes.auto.0 ∙ c.put_u32.auto.0
+    c.put_u32-2.auto.out ∙ simp length-set c.put_bytes.auto.out ∙ c.put_u32.auto.out
 
 pub returns : goal.returns
 returns c =

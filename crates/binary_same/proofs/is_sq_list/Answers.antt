@@ -55,7 +55,7 @@ returns-then-not-is_same c =
     (c.loop-left.invariant.3
     ∙ one-differs a.bytes.now a.text.now a.strict c.loop-left.at c.loop-left.left c.loop-left.line c.loop-left.invariant.2 c.next_reference-next.result c.next_reference-next.ensures.list
     (omega (arith, c.if-left-eq0.false)) c.take_reference-reference.result c.take_reference-reference.ensures.taken (not-false c.next_reference-next.result.found c.if-not-next.false)
-    (answered (goal.at.returns-then-not-is_same c).After-is_same false (not-true c.is_same.result c.if-not-is_same.true-raw)))
+    (answered (goal.at.returns-then-not-is_same c).After-is_same false c.if-not-is_same.true))
 
 pub overflow_sub-left : goal.overflow_sub-left
 overflow_sub-left c = omega (arith, c.if-left-eq0.false)
@@ -73,5 +73,5 @@ loop-left-preserved c =
       c.loop-left.invariant.3
           ∙ one_alike a.bytes.now a.text.now a.strict c.loop-left.at c.loop-left.left c.loop-left.line c.loop-left.invariant.2 c.next_reference-next.result c.next_reference-next.ensures.list
           (omega (arith, c.if-left-eq0.false)) c.take_reference-reference.result c.take_reference-reference.ensures.taken (not-false c.next_reference-next.result.found c.if-not-next.false)
-          (answered (goal.at.loop-left-preserved c).After-is_same true (not-false c.is_same.result c.if-not-is_same.false-raw)),
+          (answered (goal.at.loop-left-preserved c).After-is_same true c.if-not-is_same.false),
     )

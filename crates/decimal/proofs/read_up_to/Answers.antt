@@ -6,7 +6,7 @@ use native.Mathlib.Omega.{arith}
 use Rattle.decimal.specs.Number.{number_at_front}
 use Rattle.decimal.proofs.Front.{done, done_none, done-is, digit-yes, digit_low, digit-high, front-start, turn, turn_end, turn-stop, turn-large}
 use Rattle.decimal.proofs.read_up_to.Goals as goal
-use Rattle.decimal.proofs.read_up_to.Goals.{Left-loop-i}
+use Rattle.decimal.proofs.read_up_to.Goals.{Left-loop-i, else-loop-i-test, then-loop-i-test+then-b-lt48, then-loop-i-test+else-b-lt48+then-b-gt57}
 
 pub loop-i-init : goal.loop-i-init
 loop-i-init c = (omega arith, omega arith, front-start _ _)
@@ -53,12 +53,11 @@ left : (c : Left-loop-i)
     ≡ done (suc c.args.max) c.loop-i.n c.loop-i.i
 left c =
     let l = c.loop-i in
-    ⊎_elim
-    (λ w. l.invariant.2 ∙ turn_end _ _ _ _ w.left)
-    (⊎_elim
-    (λ w. l.invariant.2 ∙ turn-stop _ _ _ _ w.0.taken (digit_low _ w.2.taken))
-    (λ w. l.invariant.2 ∙ turn-stop _ _ _ _ w.0.taken (digit-high _ w.3.taken)))
-    c.loop-i-test.branch
+    elim c.loop-i-test.branch [
+      | else-loop-i-test w ↦ l.invariant.2 ∙ turn_end _ _ _ _ w.loop-i-test.false
+      | then-loop-i-test+then-b-lt48 w ↦ l.invariant.2 ∙ turn-stop _ _ _ _ w.loop-i-test.true (digit_low _ w.if-b-lt48.true)
+      | then-loop-i-test+else-b-lt48+then-b-gt57 w ↦ l.invariant.2 ∙ turn-stop _ _ _ _ w.loop-i-test.true (digit-high _ w.if-b-gt57.true)
+    ]
 
 pub returns-then-i-eq0 : goal.returns-then-i-eq0
 returns-then-i-eq0 c = sym (left (goal.at.returns-then-i-eq0 c).Left-loop-i ∙ ap (done _ _) c.if-i-eq0.true ∙ done_none _ _)

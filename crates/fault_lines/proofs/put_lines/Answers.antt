@@ -152,12 +152,12 @@ loop-c-preserved c =
     let h = c.if-n-eq0.false in
     let room = c.loop-c.invariant.1 in (
       w.ensures.next,
-      omega (arith, room, ap length (e ∙ row_one _ _ l.row l.table n h), p.auto.0),
+      omega (arith, room, ap length (e ∙ row_one _ _ l.row l.table n h), p.auto.table),
       ap (λ o. over o ((l.row + 1) * 2) (to_come a.text.now a.b a.parents.now w.result.next)) p.ensures ∙ row-over _ _ l.row l.table n h (omega (arith, room, ap length e)) ∙ ap (over l.table (l.row * 2)) (sym e) ∙ l.invariant.2,
       omega (arith, l.invariant.3, w.ensures.line),
       w.ensures.room ∙ l.invariant.4,
       w.ensures.room2 ∙ l.invariant.5,
-      p.auto.0 ∙ l.invariant.6,
+      p.auto.table ∙ l.invariant.6,
     )
 
 pub shape_of-area : goal.shape_of-area

@@ -94,7 +94,7 @@ put_lines-requires c =
       fresh = record { some = c.requires.in_bounds; room = omega arith; held = held_none (start plain_seed t 2048) 2048 };
       within = within t a.b f a.links k;
       parents_len = front_length t a.b f a.links k;
-      b_in_bounds = omega (arith, room (goal.at.put_lines-requires c).Else-table-lines, ap length (left_is t a.b f a.links k), c.put_early.auto);
+      b_in_bounds = omega (arith, room (goal.at.put_lines-requires c).Else-table-lines, ap length (left_is t a.b f a.links k), c.put_early.auto.table);
     }
 
 pub returns : goal.returns

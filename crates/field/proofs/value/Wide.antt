@@ -26,7 +26,7 @@ taken-whole (b ∷ v) = refl
 -- space to tilde are characters of one byte
 character : (b : ℕ) (s : List ℕ) → printable b ≡ true → characters [] (b ∷ s) ≡ characters [] s
 unfolding characters due forms within printable
-character b s e = rw e refl
+character b s e = rw (e, characters) refl
 
 characters-run : (k : ℕ) (s : List ℕ) → k ≤ run printable s → characters [] (before 9 s) ≡ characters [] (before 9 (drop k s))
 unfolding run

@@ -13,14 +13,6 @@ use Rattle.format.specs.contracts.Kind
 use Rattle.field_tag.specs.Numbers.{is_length}
 use Rattle.field_tag.proofs.is_length.Goals as goal
 
-elsewhere : (a b : ℕ) (k : Kind) → OneOf (0 ∷ 2 ∷ 3 ∷ 4 ∷ []) (tag_of Kind.the_type k) → is_length k a b ≡ false
-unfolding is_length
-elsewhere a b Header h = refl
-elsewhere a b ReferenceSequence h = absurd (⊎_elim (λ e. omega arith) (⊎_elim (λ e. omega arith) (⊎_elim (λ e. omega arith) (λ e. omega arith))) h)
-elsewhere a b ReadGroup h = refl
-elsewhere a b Program h = refl
-elsewhere a b Comment h = refl
-
 pub returns-in-ReferenceSequence : goal.returns-in-ReferenceSequence
 unfolding is_length
 returns-in-ReferenceSequence c =

@@ -13,14 +13,6 @@ use Rattle.format.specs.contracts.Kind
 use Rattle.field_tag.specs.Numbers.{is_version}
 use Rattle.field_tag.proofs.is_version.Goals as goal
 
-elsewhere : (a b : ℕ) (k : Kind) → OneOf (1 ∷ 2 ∷ 3 ∷ 4 ∷ []) (tag_of Kind.the_type k) → is_version k a b ≡ false
-unfolding is_version
-elsewhere a b Header h = absurd (⊎_elim (λ e. omega arith) (⊎_elim (λ e. omega arith) (⊎_elim (λ e. omega arith) (λ e. omega arith))) h)
-elsewhere a b ReferenceSequence h = refl
-elsewhere a b ReadGroup h = refl
-elsewhere a b Program h = refl
-elsewhere a b Comment h = refl
-
 pub returns-in-Header : goal.returns-in-Header
 unfolding is_version
 returns-in-Header c =
@@ -28,4 +20,5 @@ returns-in-Header c =
     c.is_same_tag.ensures ∙ sym (ap (λ k. is_version k a.a a.b) c.in-Header.is)
 
 pub returns-in-ReferenceSequence : goal.returns-in-ReferenceSequence
-returns-in-ReferenceSequence c = let a = c.args in sym (elsewhere a.a a.b a.kind c.in-ReferenceSequence.in-ReferenceSequence-own.keys2)
+unfolding is_version
+returns-in-ReferenceSequence c = grind arith

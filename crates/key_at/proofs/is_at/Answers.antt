@@ -22,7 +22,7 @@ pub pass_same-i-requires : goal.pass_same-i-requires
 pass_same-i-requires c = omega (arith, c.if-text-end.false)
 
 pub loop-i-init : goal.loop-i-init
-loop-i-init c = c.pass_same-i.ensures
+loop-i-init c = (c.pass_same-i.ensures.within, c.pass_same-i.ensures.rest)
 
 pub bounds-key-i : goal.bounds-key-i
 bounds-key-i c = omega arith

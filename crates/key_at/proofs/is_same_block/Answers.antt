@@ -10,6 +10,7 @@ use Rattle.format.specs.Bytes.{same}
 use Rattle.key_at.specs.Word.{word}
 use Rattle.key_at.proofs.Same.{byte-decides, one-differs, one_more}
 use Rattle.key_at.proofs.is_same_block.Goals as goal
+use Rattle.key_at.proofs.is_same_block.Goals.{then-not-goes_on, else-not-goes_on}
 
 pub loop-j-init : goal.loop-j-init
 loop-j-init c =
@@ -38,10 +39,10 @@ loop-j-preserved c =
     ∙ ap (λ w. all && w) (byte-decides a.key.now a.text.now i at (omega (arith, less, p.i_in_bounds)) (omega (arith, less, p.at_in_bounds)))
     ∙ ap (λ w. all && (w && r)) (sym g.ensures) in
     let on : same (drop a.i a.key.now) (word (drop a.at a.text.now)) ≡ (c.if-not-goes_on.all && r) =
-    ⊎_elim
-    (λ w. one ∙ one-differs all g.result r (not-true g.result w.0.taken) ∙ ap (λ v. v && r) (sym w.1))
-    (λ w. one ∙ one_more all g.result r (not-false g.result w.0.left) ∙ ap (λ v. v && r) (sym w.1))
-    c.if-not-goes_on.branch in
+    elim c.if-not-goes_on.branch [
+      | then-not-goes_on w ↦ one ∙ one-differs all g.result r (not-true g.result w.if-not-goes_on.true-raw) ∙ ap (λ v. v && r) (sym w.all-is)
+      | else-not-goes_on w ↦ one ∙ one_more all g.result r (not-false g.result w.if-not-goes_on.false-raw) ∙ ap (λ v. v && r) (sym w.all-is)
+    ] in
     (omega (arith, less), on ∙ ap₂ (λ n m. c.if-not-goes_on.all && same (drop n a.key.now) (word (drop m a.text.now))) y z)
 
 pub returns : goal.returns

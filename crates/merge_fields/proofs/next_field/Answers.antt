@@ -66,7 +66,7 @@ field : (c : After-kept_value-v)
 field c =
     let a = c.args in
     kept_next (none? a.tables.now) a.at a.line.now c.loop-i.i c.loop-i.invariant.0 (omega arith) c.field_end-end.result c.field_end-end.ensures
-    (sym c.is_passed.ensures ∙ not-true c.is_passed.result c.if-not-is_passed.true-raw) (sym c.is_first_of_tag.ensures ∙ c.if-is_first_of_tag.true) c.kept_value-v.result c.kept_value-v.ensures
+    (sym c.is_passed.ensures ∙ c.if-not-is_passed.true) (sym c.is_first_of_tag.ensures ∙ c.if-is_first_of_tag.true) c.kept_value-v.result c.kept_value-v.ensures
 
 pub overflow_sub-result : goal.overflow_sub-result
 overflow_sub-result c = omega (arith, (field (goal.at.overflow_sub-result c).After-kept_value-v).1)
@@ -104,7 +104,7 @@ loop-i-preserved c =
     let a = c.args in (
       next-at (none? a.tables.now) a.at a.line.now c.loop-i.i c.loop-i.invariant.0 (omega arith) c.field_end-end.result c.field_end-end.ensures,
       omega (arith, reach (goal.at.loop-i-preserved c).After-field_end-end, c.loop-i.invariant.1),
-      c.loop-i.invariant.2 ∙ kept-passed (none? a.tables.now) a.at a.line.now c.loop-i.i c.loop-i.invariant.0 (omega arith) c.field_end-end.result c.field_end-end.ensures (sym c.is_passed.ensures ∙ not-false c.is_passed.result c.if-not-is_passed.false-raw),
+      c.loop-i.invariant.2 ∙ kept-passed (none? a.tables.now) a.at a.line.now c.loop-i.i c.loop-i.invariant.0 (omega arith) c.field_end-end.result c.field_end-end.ensures (sym c.is_passed.ensures ∙ c.if-not-is_passed.false),
     )
 
 pub returns : goal.returns

@@ -15,7 +15,7 @@ pub returns-then-not-is_same_tag : goal.returns-then-not-is_same_tag
 unfolding same_field tagged told_field
 returns-then-not-is_same_tag c =
     let a = c.args in
-    sym (ap (λ b. b && same (told_field 0 a.a.now a.f).value.bytes (told_field 0 a.b.now a.g).value.bytes) (sym c.is_same_tag.ensures ∙ not-true c.is_same_tag.result c.if-not-is_same_tag.true-raw))
+    sym (ap (λ b. b && same (told_field 0 a.a.now a.f).value.bytes (told_field 0 a.b.now a.g).value.bytes) (sym c.is_same_tag.ensures ∙ c.if-not-is_same_tag.true))
 
 pub returns : goal.returns
 unfolding same_field tagged told_field
@@ -26,4 +26,4 @@ returns c =
     let y : f.from + f.len - f.from ≡ f.len = omega arith in
     let z : g.from + g.len - g.from ≡ g.len = omega arith in
     c.same.ensures ∙ ap₂ (λ m n. same (take m (drop f.from a.a.now)) (take n (drop g.from a.b.now))) y z
-    ∙ sym (ap (λ b. b && same (told_field 0 a.a.now f).value.bytes (told_field 0 a.b.now g).value.bytes) (sym c.is_same_tag.ensures ∙ not-false c.is_same_tag.result c.if-not-is_same_tag.false-raw))
+    ∙ sym (ap (λ b. b && same (told_field 0 a.a.now f).value.bytes (told_field 0 a.b.now g).value.bytes) (sym c.is_same_tag.ensures ∙ c.if-not-is_same_tag.false))

@@ -78,7 +78,7 @@ told c =
 pub returns-then-not-same_field : goal.returns-then-not-same_field
 returns-then-not-same_field c =
     let a = c.args in
-    sym (told (goal.at.returns-then-not-same_field c).After-same_field ∙ ap (λ b. b && keeps_fields (kept_from a.at_a a.a.now c.next_field-f.result.next) (kept_from a.at_b a.b.now c.next_field-g.result.next)) (not-true c.same_field.result c.if-not-same_field.true-raw))
+    sym (told (goal.at.returns-then-not-same_field c).After-same_field ∙ ap (λ b. b && keeps_fields (kept_from a.at_a a.a.now c.next_field-f.result.next) (kept_from a.at_b a.b.now c.next_field-g.result.next)) c.if-not-same_field.true)
 
 pub loop-f-smaller : goal.loop-f-smaller
 loop-f-smaller c =
@@ -90,5 +90,5 @@ loop-f-preserved c =
     let a = c.args in (
       c.next_field-f.ensures.place.here,
       c.next_field-g.ensures.place.here,
-      told (goal.at.loop-f-preserved c).After-same_field ∙ ap (λ b. b && keeps_fields (kept_from a.at_a a.a.now c.next_field-f.result.next) (kept_from a.at_b a.b.now c.next_field-g.result.next)) (not-false c.same_field.result c.if-not-same_field.false-raw),
+      told (goal.at.loop-f-preserved c).After-same_field ∙ ap (λ b. b && keeps_fields (kept_from a.at_a a.a.now c.next_field-f.result.next) (kept_from a.at_b a.b.now c.next_field-g.result.next)) c.if-not-same_field.false,
     )

@@ -45,5 +45,5 @@ loop-r-preserved c =
       from_next a.strict_a a.a.now c.loop-r.at r.next (told_reference a.a.now r) c.loop-r.invariant.0 e c.next_reference-r.ensures.place.within,
       c.mark_one.ensures.placed,
       c.mark_one.ensures.marked (sq_from a.strict_a a.a.now 0) c.loop-r.invariant.2 (agreed-from a.strict_a a.a.now c.loop-r.at r.next (told_reference a.a.now r) c.loop-r.invariant.0 c.requires.a_len_bound.1 e),
-      c.mark_one.auto.0 ∙ c.loop-r.invariant.3,
+      c.mark_one.auto.area ∙ c.loop-r.invariant.3,
     )

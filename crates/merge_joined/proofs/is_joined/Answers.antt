@@ -3,7 +3,6 @@ use Prim.Native.Nat.{ℕ, ◌-◌}
 use mathlib.Core.Path.{◌≡◌, refl, sym, ap, subst, ◌∙◌}
 use mathlib.Core.Bool.{true, false, not, ◌&&◌}
 use mathlib.Core.List.{List}
-use mathlib.Core.Logic.{⊎_elim}
 use native.Mathlib.Omega.{arith}
 use lib.ListN.{length}
 use borrow.Author.Tests.{not-true, not-false}
@@ -16,8 +15,9 @@ use Rattle.merge_joined.specs.declared.Rules.{Rules}
 use Rattle.merge_joined.specs.declared.Left.{Left}
 use Rattle.merge_joined.specs.Passing.{Passed}
 use Rattle.merge_joined.proofs.Laws.{behind-front, turn-less}
+use Rattle.merge_joined.proofs.is_joined.Invariants.{Leads}
 use Rattle.merge_joined.proofs.is_joined.Goals as goal
-use Rattle.merge_joined.proofs.is_joined.Goals.{After-pass_ordered-left}
+use Rattle.merge_joined.proofs.is_joined.Goals.{After-pass_ordered-left, then-left, else-left}
 
 pub pass_front-front-requires : goal.pass_front-front-requires
 pass_front-front-requires c = record {
@@ -50,7 +50,7 @@ pass_ordered-left-requires c =
     }
 
 -- after the ordered references what is left decides
-ordered : (c : After-pass_ordered-left) → (let a = c.args in invariant-loop a.a.now a.b.now a.m.now a.of c.pass_ordered-left.result c.pass_ordered-left.result)
+ordered : (c : After-pass_ordered-left) → (let a = c.args in Leads a.a.now a.b.now a.m.now a.of c.pass_ordered-left.result)
 ordered c =
     let a = c.args in
     let p = c.pass_ordered-left.ensures in (
@@ -64,8 +64,8 @@ ordered c =
     )
 
 -- and after a block
-blocked : (a b m : List ℕ) (of : Rules) (left₀ left x : Left) → invariant-loop a b m of left₀ left → left.more ≡ true → Passed (sq_from of.a a 0) of.b b of.merged m left x → invariant-loop a b m of x x
-blocked a b m of left₀ left x h t p = (
+blocked : (a b m : List ℕ) (of : Rules) (left x : Left) → Leads a b m of left → left.more ≡ true → Passed (sq_from of.a a 0) of.b b of.merged m left x → Leads a b m of x
+blocked a b m of left x h t p = (
   h.0 ∙ ap (λ g. g && left_of (sq_from of.a a 0) (sq_from of.b b left.at) (told_list of.merged m left.ahead)) (h.2 t) ∙ p.leaves,
   p.reached,
   p.well,
@@ -83,10 +83,11 @@ pass_block-left-requires c =
 pub loop-left-init : goal.loop-left-init
 loop-left-init c =
     let a = c.args in
-    ⊎_elim
-    (λ w. subst (λ x. invariant-loop a.a.now a.b.now a.m.now a.of x x) (sym w.2) (blocked a.a.now a.b.now a.m.now a.of c.pass_ordered-left.result c.pass_ordered-left.result w.1.result (ordered (goal.at.loop-left-init c).After-pass_ordered-left) w.0.taken w.1.ensures.0))
-    (λ w. subst (λ x. invariant-loop a.a.now a.b.now a.m.now a.of x x) (sym w.1) (ordered (goal.at.loop-left-init c).After-pass_ordered-left))
-    c.if-left.branch
+    let o = ordered (goal.at.loop-left-init c).After-pass_ordered-left in
+    elim c.if-left.branch [
+      | then-left w ↦ rw w.left-is (blocked a.a.now a.b.now a.m.now a.of c.pass_ordered-left.result w.pass_block-left.result o w.if-left.true w.pass_block-left.ensures.passed)
+      | else-left w ↦ rw w.left-is o
+    ]
 
 pub pass_block-left-requires-in-loop-left : goal.pass_block-left-requires-in-loop-left
 pass_block-left-requires-in-loop-left c = record {
@@ -104,7 +105,7 @@ loop-left-smaller c =
 pub loop-left-preserved : goal.loop-left-preserved
 loop-left-preserved c =
     let a = c.args in
-    blocked a.a.now a.b.now a.m.now a.of c.loop-left.left c.loop-left.left c.pass_block-left-in-loop-left.result c.loop-left.invariant c.loop-left-test.true c.pass_block-left-in-loop-left.ensures.passed
+    blocked a.a.now a.b.now a.m.now a.of c.loop-left.left c.pass_block-left-in-loop-left.result c.loop-left.invariant c.loop-left-test.true c.pass_block-left-in-loop-left.ensures.passed
 
 pub returns-then-not-left : goal.returns-then-not-left
 returns-then-not-left c =

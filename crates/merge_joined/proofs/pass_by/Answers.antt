@@ -16,7 +16,7 @@ mark_all-requires c =
     let a = c.args in record {
       a_len_bound = (c.requires.readable.small-a, c.requires.readable.apart-a);
       b_len_bound = c.requires.readable.small_b;
-      area_nonzero = omega (arith, c.enter_block.auto.1.1.1.0, c.requires.in_bounds.0);
+      area_nonzero = omega (arith, c.enter_block.auto.area, c.requires.in_bounds.0);
       placed = c.enter_block.ensures.placed;
       marked = c.enter_block.ensures.marked (sq_from a.of.a a.a.now 0) c.requires.placed.1;
     }
@@ -26,5 +26,5 @@ pass_slots-requires c = record {
   readable = c.requires.readable;
   reached = c.requires.reached;
   good_value = c.requires.good_value;
-  in_bounds = (omega (arith, c.enter_block.auto.1.1.1.0, c.mark_all.auto.1.1.1.1.0, c.requires.in_bounds.0), c.mark_all.ensures);
+  in_bounds = (omega (arith, c.enter_block.auto.area, c.mark_all.auto.area, c.requires.in_bounds.0), c.mark_all.ensures);
 }

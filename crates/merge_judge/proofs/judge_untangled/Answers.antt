@@ -23,7 +23,7 @@ lists c =
     ∙ ap (is_joined (sq_list (records_of a.a.now)) (sq_list (records_of a.b.now))) (list-is a.m.now a.of.merged c.requires.untangled_3)
 
 joins : (c : Else-not-is_joined) → (let a = c.args in is_joined (sq_list (records_of a.a.now)) (sq_list (records_of a.b.now)) (sq_list (records_of a.m.now)) ≡ true)
-joins c = sym (lists (goal.at.Else-not-is_joined c).After-is_joined) ∙ not-false c.is_joined.result c.if-not-is_joined.false-raw
+joins c = sym (lists (goal.at.Else-not-is_joined c).After-is_joined) ∙ c.if-not-is_joined.false
 
 -- as many programs as shapes
 assigns : (c : After-is_assigned)
@@ -36,7 +36,7 @@ assigns c =
 
 assigned-all : (c : Else-not-is_assigned)
     → (let a = c.args in assigned (length (shapes (records_of a.a.now))) (length (shapes (records_of a.b.now))) (length (shapes (records_of a.m.now))) a.list_a.now a.list_b.now ≡ true)
-assigned-all c = sym (assigns (goal.at.Else-not-is_assigned c).After-is_assigned) ∙ not-false c.is_assigned.result c.if-not-is_assigned.false-raw
+assigned-all c = sym (assigns (goal.at.Else-not-is_assigned c).After-is_assigned) ∙ c.if-not-is_assigned.false
 
 pub is_joined-requires : goal.is_joined-requires
 is_joined-requires c =
@@ -53,7 +53,7 @@ pub returns-then-not-is_joined : goal.returns-then-not-is_joined
 unfolding verdict_of
 returns-then-not-is_joined c =
     let a = c.args in
-    sym (ap verdict_of (judged-30 (records_of a.a.now) (records_of a.b.now) (records_of a.m.now) a.list_a.now a.list_b.now (sym (lists (goal.at.returns-then-not-is_joined c).After-is_joined) ∙ not-true c.is_joined.result c.if-not-is_joined.true-raw)))
+    sym (ap verdict_of (judged-30 (records_of a.a.now) (records_of a.b.now) (records_of a.m.now) a.list_a.now a.list_b.now (sym (lists (goal.at.returns-then-not-is_joined c).After-is_joined) ∙ c.if-not-is_joined.true)))
 
 pub is_assigned-requires : goal.is_assigned-requires
 is_assigned-requires c = count-few c.args.m.now c.args.of.merged c.requires.untangled_3
@@ -62,12 +62,12 @@ pub returns-then-not-is_assigned : goal.returns-then-not-is_assigned
 unfolding verdict_of
 returns-then-not-is_assigned c =
     let a = c.args in
-    sym (ap verdict_of (judged-31 (records_of a.a.now) (records_of a.b.now) (records_of a.m.now) a.list_a.now a.list_b.now (joins (goal.at.returns-then-not-is_assigned c).Else-not-is_joined) (sym (assigns (goal.at.returns-then-not-is_assigned c).After-is_assigned) ∙ not-true c.is_assigned.result c.if-not-is_assigned.true-raw)))
+    sym (ap verdict_of (judged-31 (records_of a.a.now) (records_of a.b.now) (records_of a.m.now) a.list_a.now a.list_b.now (joins (goal.at.returns-then-not-is_assigned c).Else-not-is_joined) (sym (assigns (goal.at.returns-then-not-is_assigned c).After-is_assigned) ∙ c.if-not-is_assigned.true)))
 
 pub has_images-requires : goal.has_images-requires
 has_images-requires c =
     let a = c.args in
-    let f = first-list a.of.a.parents.count a.of.b.parents.count a.of.merged.parents.count a.list_a.now a.list_b.now (sym c.is_assigned.ensures ∙ not-false c.is_assigned.result c.if-not-is_assigned.false-raw) in record {
+    let f = first-list a.of.a.parents.count a.of.b.parents.count a.of.merged.parents.count a.list_a.now a.list_b.now (sym c.is_assigned.ensures ∙ c.if-not-is_assigned.false) in record {
       untangled = c.requires.untangled;
       untangled_2 = c.requires.untangled_3;
       list_len = f.0;
@@ -78,12 +78,12 @@ pub returns-then-not-has_images : goal.returns-then-not-has_images
 unfolding verdict_of
 returns-then-not-has_images c =
     let a = c.args in
-    sym (ap verdict_of (judged-first (records_of a.a.now) (records_of a.b.now) (records_of a.m.now) a.list_a.now a.list_b.now (joins (goal.at.returns-then-not-has_images c).Else-not-is_joined) (assigned-all (goal.at.returns-then-not-has_images c).Else-not-is_assigned) (sym c.has_images.ensures ∙ not-true c.has_images.result c.if-not-has_images.true-raw)))
+    sym (ap verdict_of (judged-first (records_of a.a.now) (records_of a.b.now) (records_of a.m.now) a.list_a.now a.list_b.now (joins (goal.at.returns-then-not-has_images c).Else-not-is_joined) (assigned-all (goal.at.returns-then-not-has_images c).Else-not-is_assigned) (sym c.has_images.ensures ∙ c.if-not-has_images.true)))
 
 pub has_images-requires-2 : goal.has_images-requires-2
 has_images-requires-2 c =
     let a = c.args in
-    let f = second-list a.of.a.parents.count a.of.b.parents.count a.of.merged.parents.count a.list_a.now a.list_b.now (sym c.is_assigned.ensures ∙ not-false c.is_assigned.result c.if-not-is_assigned.false-raw) in record {
+    let f = second-list a.of.a.parents.count a.of.b.parents.count a.of.merged.parents.count a.list_a.now a.list_b.now (sym c.is_assigned.ensures ∙ c.if-not-is_assigned.false) in record {
       untangled = c.requires.untangled_2;
       untangled_2 = c.requires.untangled_3;
       list_len = f.0;
@@ -94,10 +94,10 @@ pub returns-then-not-has_images-2 : goal.returns-then-not-has_images-2
 unfolding verdict_of
 returns-then-not-has_images-2 c =
     let a = c.args in
-    sym (ap verdict_of (judged-second (records_of a.a.now) (records_of a.b.now) (records_of a.m.now) a.list_a.now a.list_b.now (joins (goal.at.returns-then-not-has_images-2 c).Else-not-is_joined) (assigned-all (goal.at.returns-then-not-has_images-2 c).Else-not-is_assigned) (sym c.has_images.ensures ∙ not-false c.has_images.result c.if-not-has_images.false-raw) (sym c.has_images-2.ensures ∙ not-true c.has_images-2.result c.if-not-has_images-2.true-raw)))
+    sym (ap verdict_of (judged-second (records_of a.a.now) (records_of a.b.now) (records_of a.m.now) a.list_a.now a.list_b.now (joins (goal.at.returns-then-not-has_images-2 c).Else-not-is_joined) (assigned-all (goal.at.returns-then-not-has_images-2 c).Else-not-is_assigned) (sym c.has_images.ensures ∙ c.if-not-has_images.false) (sym c.has_images-2.ensures ∙ c.if-not-has_images-2.true)))
 
 pub returns : goal.returns
 unfolding verdict_of
 returns c =
     let a = c.args in
-    sym (ap verdict_of (judged-merged (records_of a.a.now) (records_of a.b.now) (records_of a.m.now) a.list_a.now a.list_b.now (joins (goal.at.returns c).Else-not-is_joined) (assigned-all (goal.at.returns c).Else-not-is_assigned) (sym c.has_images.ensures ∙ not-false c.has_images.result c.if-not-has_images.false-raw) (sym c.has_images-2.ensures ∙ not-false c.has_images-2.result c.if-not-has_images-2.false-raw)))
+    sym (ap verdict_of (judged-merged (records_of a.a.now) (records_of a.b.now) (records_of a.m.now) a.list_a.now a.list_b.now (joins (goal.at.returns c).Else-not-is_joined) (assigned-all (goal.at.returns c).Else-not-is_assigned) (sym c.has_images.ensures ∙ c.if-not-has_images.false) (sym c.has_images-2.ensures ∙ c.if-not-has_images-2.false)))

@@ -1,17 +1,14 @@
 -- `merge_lists::is_covered` meets its contract: what is asked of all ordinals is asked of those from `i` on.
 use Prim.Native.Nat.{◌-◌}
 use mathlib.Core.Path.{◌≡◌, sym, ap, ◌∙◌}
-use mathlib.Core.Bool.{false}
-use mathlib.Core.Logic.{⊎_elim}
 use native.Mathlib.Omega.{arith}
-use lib.ListN.{get_or}
-use borrow.Author.Tests.{not-true, not-false}
 use Rattle.merge_lists.specs.Marks.{hit_from}
 use Rattle.merge_lists.proofs.Marks.{hit-neither, hit-first, hit-second, hit-end}
 use Rattle.merge_lists.proofs.is_covered.Goals as goal
+use Rattle.merge_lists.proofs.is_covered.Goals.{then-not-a-i+else-not-b-i, else-not-a-i}
 
 pub loop-i-init : goal.loop-i-init
-loop-i-init c = (omega arith, let n = c.args.count in let e : n ≡ n - 0 = omega arith in ap (hit_from c.args.t1 c.args.t2 0) e)
+loop-i-init c = (omega arith, let n = c.args.count in let e : n ≡ n - 0 = omega arith in ap (hit_from c.args.a c.args.b 0) e)
 
 pub bounds-a-i : goal.bounds-a-i
 bounds-a-i c = omega arith
@@ -23,7 +20,7 @@ pub returns-then-not-b-i : goal.returns-then-not-b-i
 returns-then-not-b-i c =
     let l = c.loop-i in
     let a = c.args in
-    sym (l.invariant.1 ∙ hit-neither a.t1 a.t2 l.i a.count (omega arith) (not-true (get_or a.t1 l.i false) c.if-not-a-i.true-raw) (not-true (get_or a.t2 l.i false) c.if-not-b-i.true-raw))
+    sym (l.invariant.1 ∙ hit-neither a.a a.b l.i a.count (omega arith) c.if-not-a-i.true c.if-not-b-i.true)
 
 pub overflow_add-i : goal.overflow_add-i
 overflow_add-i c = omega arith
@@ -37,10 +34,10 @@ loop-i-preserved c =
     let a = c.args in (
       omega arith,
       l.invariant.1
-          ∙ ⊎_elim
-          (λ w. hit-second a.t1 a.t2 l.i a.count (omega arith) (not-false (get_or a.t2 l.i false) w.1.left))
-          (λ w. hit-first a.t1 a.t2 l.i a.count (omega arith) (not-false (get_or a.t1 l.i false) w.left))
-          c.if-not-a-i.branch,
+          ∙ elim c.if-not-a-i.branch [
+            | then-not-a-i+else-not-b-i w ↦ hit-second a.a a.b l.i a.count (omega arith) w.if-not-b-i.false
+            | else-not-a-i w ↦ hit-first a.a a.b l.i a.count (omega arith) w.if-not-a-i.false
+          ],
     )
 
 pub returns : goal.returns

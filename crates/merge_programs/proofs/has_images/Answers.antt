@@ -32,9 +32,6 @@ offset_bounds-list-i c = omega arith
 pub bounds-list-i : goal.bounds-list-i
 bounds-list-i c = omega arith
 
-pub overflow_cast-k : goal.overflow_cast-k
-overflow_cast-k c = omega (arith, c.shared_slice_known-in-loop-i-1.given c.loop-i.i)
-
 pub member_at-p-requires : goal.member_at-p-requires
 member_at-p-requires c = omega (arith, c.loop-i-test.true, c.requires.list_len, count-few c.args.a.now c.args.of_a c.requires.untangled)
 
@@ -74,7 +71,7 @@ told c =
 pub returns-then-not-is_image : goal.returns-then-not-is_image
 returns-then-not-is_image c =
     let a = c.args in
-    sym (told (goal.at.returns-then-not-is_image c).After-is_image ∙ ap (λ b. b && images_from a.list.now (shapes (records_of a.a.now)) (shapes (records_of a.m.now)) (c.loop-i.i + 1)) (not-true c.is_image.result c.if-not-is_image.true-raw))
+    sym (told (goal.at.returns-then-not-is_image c).After-is_image ∙ ap (λ b. b && images_from a.list.now (shapes (records_of a.a.now)) (shapes (records_of a.m.now)) (c.loop-i.i + 1)) c.if-not-is_image.true)
 
 pub overflow_add-i : goal.overflow_add-i
 overflow_add-i c =
@@ -86,7 +83,7 @@ loop-i-smaller c = omega (arith, c.loop-i-test.true)
 pub loop-i-preserved : goal.loop-i-preserved
 loop-i-preserved c =
     let a = c.args in
-    (omega (arith, c.loop-i-test.true), told (goal.at.loop-i-preserved c).After-is_image ∙ ap (λ b. b && images_from a.list.now (shapes (records_of a.a.now)) (shapes (records_of a.m.now)) (c.loop-i.i + 1)) (not-false c.is_image.result c.if-not-is_image.false-raw))
+    (omega (arith, c.loop-i-test.true), told (goal.at.loop-i-preserved c).After-is_image ∙ ap (λ b. b && images_from a.list.now (shapes (records_of a.a.now)) (shapes (records_of a.m.now)) (c.loop-i.i + 1)) c.if-not-is_image.false)
 
 pub returns : goal.returns
 returns c =

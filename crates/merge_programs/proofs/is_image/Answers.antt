@@ -42,10 +42,10 @@ told c =
 pub returns-then-not-same_fields : goal.returns-then-not-same_fields
 returns-then-not-same_fields c =
     let a = c.args in
-    sym (told (goal.at.returns-then-not-same_fields c).After-same_fields ∙ ap (λ b. b && keeps_parent a.list.now (link_of a.p.parent) (link_of a.image.parent)) (not-true c.same_fields.result c.if-not-same_fields.true-raw))
+    sym (told (goal.at.returns-then-not-same_fields c).After-same_fields ∙ ap (λ b. b && keeps_parent a.list.now (link_of a.p.parent) (link_of a.image.parent)) c.if-not-same_fields.true)
 
 pub returns : goal.returns
 returns c =
     let a = c.args in
     c.keeps_parent.ensures
-    ∙ sym (told (goal.at.returns c).After-same_fields ∙ ap (λ b. b && keeps_parent a.list.now (link_of a.p.parent) (link_of a.image.parent)) (not-false c.same_fields.result c.if-not-same_fields.false-raw))
+    ∙ sym (told (goal.at.returns c).After-same_fields ∙ ap (λ b. b && keeps_parent a.list.now (link_of a.p.parent) (link_of a.image.parent)) c.if-not-same_fields.false)

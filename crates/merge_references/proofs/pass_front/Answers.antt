@@ -77,7 +77,7 @@ returns-then-not-same_reference c =
     let a = c.args in
     let x = c.next_reference-r.result in
     let y = c.next_reference-n.result in record {
-      rest = λ l. told (goal.at.returns-then-not-same_reference c).After-same_reference l ∙ ap (λ t. t && same_references (sq_from a.strict_m a.m.now y.next) (sq_from a.strict_a a.a.now x.next ++ l)) (not-true c.same_reference.result c.if-not-same_reference.true-raw);
+      rest = λ l. told (goal.at.returns-then-not-same_reference c).After-same_reference l ∙ ap (λ t. t && same_references (sq_from a.strict_m a.m.now y.next) (sq_from a.strict_a a.a.now x.next ++ l)) c.if-not-same_reference.true;
       within = c.loop-r.invariant.1;
     }
 
@@ -90,4 +90,4 @@ loop-r-preserved c =
     let a = c.args in
     let x = c.next_reference-r.result in
     let y = c.next_reference-n.result in
-    (c.next_reference-r.ensures.place.within, c.next_reference-n.ensures.place.within, λ l. told (goal.at.loop-r-preserved c).After-same_reference l ∙ ap (λ t. t && same_references (sq_from a.strict_m a.m.now y.next) (sq_from a.strict_a a.a.now x.next ++ l)) (not-false c.same_reference.result c.if-not-same_reference.false-raw))
+    (c.next_reference-r.ensures.place.within, c.next_reference-n.ensures.place.within, λ l. told (goal.at.loop-r-preserved c).After-same_reference l ∙ ap (λ t. t && same_references (sq_from a.strict_m a.m.now y.next) (sq_from a.strict_a a.a.now x.next ++ l)) c.if-not-same_reference.false)

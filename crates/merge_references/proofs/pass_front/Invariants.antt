@@ -10,7 +10,7 @@ abbrev pub invariant-loop-r : goal.invariant-loop-r
 invariant-loop-r l =
     (l.at ≤ length l.a)
     × (l.next ≤ length l.m)
-    × ((l : List Reference) → same_references (sq_from l.strict_m l.m 0) (sq_from l.strict_a l.a 0 ++ l) ≡ same_references (sq_from l.strict_m l.m l.next) (sq_from l.strict_a l.a l.at ++ l))
+    × ((rs : List Reference) → same_references (sq_from l.strict_m l.m 0) (sq_from l.strict_a l.a 0 ++ rs) ≡ same_references (sq_from l.strict_m l.m l.next) (sq_from l.strict_a l.a l.at ++ rs))
 
 abbrev pub decreases-loop-r : goal.decreases-loop-r
 decreases-loop-r l = length l.a - l.at

@@ -7,6 +7,10 @@ use Rattle.format.specs.NameIndex.{slot_count}
 use Rattle.name_index.proofs.SlotCount.{slots-shift}
 use Rattle.name_index.proofs.slot_count.Goals as goal
 
+pub returns-then-m-eq0 : goal.returns-then-m-eq0
+unfolding slot_count
+returns-then-m-eq0 c = rw c.if-m-eq0.true refl
+
 pub overflow_sub-result-2 : goal.overflow_sub-result-2
 overflow_sub-result-2 c = leading_le 32 _
 

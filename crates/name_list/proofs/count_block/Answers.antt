@@ -7,6 +7,7 @@ use lib.ListN.{length, drop}
 use Rattle.name_list.specs.Ends.{ends}
 use Rattle.name_list.proofs.Asked.{ends-one, ends_on}
 use Rattle.name_list.proofs.count_block.Goals as goal
+use Rattle.name_list.proofs.count_block.Goals.{then-list-at-eq10, else-list-at-eq10}
 
 pub loop-i-init : goal.loop-i-init
 loop-i-init c =
@@ -31,10 +32,10 @@ loop-i-preserved c =
     let in_list : at < length a.list.now = omega (arith, less, c.requires) in
     let z : at + 1 ≡ a.at + (c.loop-i.i + 1) = omega arith in
     let on = ap (λ m. ends (drop m a.list.now)) z in
-    ⊎_elim
-    (λ w. (omega (arith, less), omega (arith, w.1, c.loop-i.invariant.1), omega (arith, w.1, c.loop-i.invariant.2, ends-one a.list.now at in_list w.0.taken, on)))
-    (λ w. (omega (arith, less), omega (arith, w.1, c.loop-i.invariant.1), omega (arith, w.1, c.loop-i.invariant.2, ends_on a.list.now at in_list w.0.left, on)))
-    c.if-list-at-eq10.branch
+    elim c.if-list-at-eq10.branch [
+      | then-list-at-eq10 w ↦ (omega (arith, less), omega (arith, w.n-is, c.loop-i.invariant.1), omega (arith, w.n-is, c.loop-i.invariant.2, ends-one a.list.now at in_list w.if-list-at-eq10.true, on))
+      | else-list-at-eq10 w ↦ (omega (arith, less), omega (arith, w.n-is, c.loop-i.invariant.1), omega (arith, w.n-is, c.loop-i.invariant.2, ends_on a.list.now at in_list w.if-list-at-eq10.false, on))
+    ]
 
 pub returns : goal.returns
 returns c =

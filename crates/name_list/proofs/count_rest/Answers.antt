@@ -4,6 +4,7 @@ use mathlib.Core.Logic.{⊎_elim}
 use native.Mathlib.Omega.{arith}
 use Rattle.name_list.proofs.Asked.{ends-none, ends-one, ends_on}
 use Rattle.name_list.proofs.count_rest.Goals as goal
+use Rattle.name_list.proofs.count_rest.Goals.{then-list-i-eq10, else-list-i-eq10}
 
 pub loop-i-init : goal.loop-i-init
 loop-i-init c = (omega arith, omega arith, omega arith)
@@ -23,10 +24,10 @@ loop-i-smaller c = omega arith
 pub loop-i-preserved : goal.loop-i-preserved
 loop-i-preserved c =
     let list = c.args.list.now in
-    ⊎_elim
-    (λ w. (omega arith, omega (arith, w.1, c.loop-i.invariant.1), omega (arith, w.1, c.loop-i.invariant.2, ends-one list c.loop-i.i (omega arith) w.0.taken)))
-    (λ w. (omega arith, omega (arith, w.1, c.loop-i.invariant.1), omega (arith, w.1, c.loop-i.invariant.2, ends_on list c.loop-i.i (omega arith) w.0.left)))
-    c.if-list-i-eq10.branch
+    elim c.if-list-i-eq10.branch [
+      | then-list-i-eq10 w ↦ (omega arith, omega (arith, w.n-is, c.loop-i.invariant.1), omega (arith, w.n-is, c.loop-i.invariant.2, ends-one list c.loop-i.i (omega arith) w.if-list-i-eq10.true))
+      | else-list-i-eq10 w ↦ (omega arith, omega (arith, w.n-is, c.loop-i.invariant.1), omega (arith, w.n-is, c.loop-i.invariant.2, ends_on list c.loop-i.i (omega arith) w.if-list-i-eq10.false))
+    ]
 
 pub returns : goal.returns
 returns c =

@@ -19,6 +19,7 @@ use Rattle.program_chains.proofs.Times.{swap-none}
 use Rattle.program_chains.proofs.Walks.{link-none, link-some, within-at}
 use Rattle.program_chains.proofs.leaves.Invariants.{Listed}
 use Rattle.program_chains.proofs.leaves.Goals as goal
+use Rattle.program_chains.proofs.leaves.Goals.{then-k+then-at-count, then-k+else-at-count, else-k}
 use Rattle.program_chains.proofs.leaves.Goals.{Then-at-count}
 
 module _ (ps : List ℕ) (i : ℕ) (xs : List ℕ) where
@@ -193,28 +194,27 @@ loop-i-preserved c =
     let l = c.loop-i in
     let a = c.args.parents.now in
     let k = get_or a l.i 0 in
-    ⊎_elim
-    (λ w. (
-      omega arith,
-      omega (arith, w.7),
-      rw w.6 (length-set l.places (get_or l.list (l.count - 1) 0) w.3.result ∙ l.invariant.2),
-      rw (w.5, w.6, w.7)
-          (swapped a l.list l.places l.count l.i l.invariant.3 k w.3.result (omega arith) w.0.taken refl w.3.ensures w.4.taken (omega arith) l.invariant.2),
-    ))
-    (⊎_elim
-    (λ w. (
-      omega arith,
-      omega (arith, w.7),
-      rw w.6 l.invariant.2,
-      rw (w.5, w.6, w.7) (absent a l.list l.places l.count l.i l.invariant.3 k w.3.result (omega arith) w.0.taken refl w.3.ensures w.4.left),
-    ))
-    (λ w. (
-      omega arith,
-      omega (arith, w.3),
-      rw w.2 l.invariant.2,
-      rw (w.1, w.2, w.3) (skipped a l.list l.places l.count l.i l.invariant.3 (omega arith) w.0.left),
-    )))
-    c.if-k.branch
+    elim c.if-k.branch [
+      | then-k+then-at-count w ↦ (
+        omega arith,
+        omega (arith, w.count-is),
+        rw w.places-is (length-set l.places (get_or l.list (l.count - 1) 0) w.place-at.result ∙ l.invariant.2),
+        rw (w.list-is, w.places-is, w.count-is)
+            (swapped a l.list l.places l.count l.i l.invariant.3 k w.place-at.result (omega arith) w.if-k.true refl w.place-at.ensures w.if-at-count.true (omega arith) l.invariant.2),
+      )
+      | then-k+else-at-count w ↦ (
+        omega arith,
+        omega (arith, w.count-is),
+        rw w.places-is l.invariant.2,
+        rw (w.list-is, w.places-is, w.count-is) (absent a l.list l.places l.count l.i l.invariant.3 k w.place-at.result (omega arith) w.if-k.true refl w.place-at.ensures w.if-at-count.false),
+      )
+      | else-k w ↦ (
+        omega arith,
+        omega (arith, w.count-is),
+        rw w.places-is l.invariant.2,
+        rw (w.list-is, w.places-is, w.count-is) (skipped a l.list l.places l.count l.i l.invariant.3 (omega arith) w.if-k.false),
+      )
+    ]
 
 pub returns : goal.returns
 returns c =

@@ -13,6 +13,7 @@ use Rattle.program_chains.specs.Parents.{nobody, link_of, links_of, in_array}
 use Rattle.program_chains.proofs.Arrays.{array-push}
 use Rattle.program_chains.proofs.roots.Invariants.{Listed}
 use Rattle.program_chains.proofs.roots.Goals as goal
+use Rattle.program_chains.proofs.roots.Goals.{then-parents-i, else-parents-i}
 
 module _ (ps : List ℕ) (i : ℕ) where
   one_more : i < length ps → get_or ps i 0 ≡ 4294967295 → roots_from i (links_of (drop i ps)) ≡ i ∷ roots_from (i + 1) (links_of (drop (i + 1) ps))
@@ -76,10 +77,10 @@ pub loop-i-preserved : goal.loop-i-preserved
 loop-i-preserved c =
     let a = c.args.parents.now in
     let l = c.loop-i in
-    ⊎_elim
-    (λ w. (omega arith, omega (arith, w), rw (w.1, w.2) (pushed a l.list l.count l.i l.invariant.2 (omega arith) (omega arith) w.0.taken)))
-    (λ w. (omega arith, omega (arith, w), rw (w.1, w.2) (kept a l.list l.count l.i l.invariant.2 (omega arith) w.0.left)))
-    c.if-parents-i.branch
+    elim c.if-parents-i.branch [
+      | then-parents-i w ↦ (omega arith, omega (arith, w), rw (w.list-is, w.count-is) (pushed a l.list l.count l.i l.invariant.2 (omega arith) (omega arith) w.if-parents-i.true))
+      | else-parents-i w ↦ (omega arith, omega (arith, w), rw (w.list-is, w.count-is) (kept a l.list l.count l.i l.invariant.2 (omega arith) w.if-parents-i.false))
+    ]
 
 pub returns : goal.returns
 returns c =

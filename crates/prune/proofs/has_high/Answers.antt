@@ -29,9 +29,6 @@ offset_bounds-used-i c = omega arith
 pub bounds-used-i : goal.bounds-used-i
 bounds-used-i c = omega arith
 
-pub overflow_cast-k : goal.overflow_cast-k
-overflow_cast-k c = omega (arith, c.shared_slice_known-1.given c.loop-i.i)
-
 pub returns-then-count-k : goal.returns-then-count-k
 returns-then-count-k c =
     let l = c.loop-i in

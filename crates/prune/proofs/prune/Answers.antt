@@ -144,7 +144,6 @@ write_marked-requires c =
 pub returns-in-Refused : goal.returns-in-Refused
 returns-in-Refused c =
     let a = c.args in
-    let g = c.n-1.given in
     let room = length a.out.now in
     let told = refused-answer (pruning a.text.now a.catalogue.now a.used.now room) a.out.now c.in-Refused.n c.in-Refused.line
     (prune-refused a.text.now a.catalogue.now a.used.now room c.in-Refused.n c.in-Refused.line.0 (text-refused-by a.text.now a.catalogue.now c.check_text.ensures c.in-Refused.n c.in-Refused.line c.in-Refused.is)) in

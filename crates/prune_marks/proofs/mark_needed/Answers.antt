@@ -45,7 +45,7 @@ loop-i-preserved c =
     let us = c.args.used.now in
     let here : drop l.i us ≡ get_or us l.i 0 ∷ drop (l.i + 1) us = drop-cons us l.i 0 (omega arith) ∙ ap (λ n. get_or us l.i 0 ∷ drop n us) (sym (add-one l.i)) in (
       omega arith,
-      c.mark_up.auto.1.0 ∙ l.invariant.1,
+      c.mark_up.auto.marks ∙ l.invariant.1,
       marking-goes (links_of c.args.parents.now) us (get_or us l.i 0) (drop (l.i + 1) us) l.marks c.mark_up.new.marks
           (subst (λ xs. Marking (links_of c.args.parents.now) us xs l.marks) here l.invariant.2) c.mark_up.ensures,
     )

@@ -19,7 +19,7 @@ use Rattle.byte_slices.proofs.Lines.{upto_le}
 use Rattle.byte_slices.proofs.Before.{before-length}
 use Rattle.read_repeat_rule.proofs.First.{starts-long, first-here, first_next, first-none}
 use Rattle.read_repeat_rule.proofs.first_version.Goals as goal
-use Rattle.read_repeat_rule.proofs.first_version.Goals.{After-upto, Else-end-stop, Joined-is_version, Then-end-stop, Then-is_version}
+use Rattle.read_repeat_rule.proofs.first_version.Goals.{After-upto, Else-end-stop, Joined-is_version, Then-end-stop, Then-is_version, then-is_version, else-is_version}
 
 -- the end of a front
 drop-take : (k m n : ℕ) (l : List ℕ) → n ≡ k + m → drop k (take n l) ≡ take m (drop k l)
@@ -97,10 +97,10 @@ came : (c : Joined-is_version)
     ((c.is_version.result ≡ true) × (c.if-is_version.from ≡ c.loop-from.at + 3) × (c.if-is_version.stop ≡ c.loop-from.at + c.upto.result))
     ⊎ ((c.is_version.result ≡ false) × (c.if-is_version.from ≡ length s) × (c.if-is_version.stop ≡ length s))
 came c =
-    ⊎_elim
-    (λ h. inl (h.0.taken, h.1, h.2))
-    (λ h. inr (h.0.left, h.1 ∙ c.loop-from.invariant.1, h.2 ∙ c.loop-from.invariant.2))
-    c.if-is_version.branch
+    elim c.if-is_version.branch [
+      | then-is_version w ↦ inl (w.if-is_version.true, w.from-is, w.stop-is)
+      | else-is_version w ↦ inr (w.if-is_version.false, w.from-is ∙ c.loop-from.invariant.1, w.stop-is ∙ c.loop-from.invariant.2)
+    ]
 
 further : (c : Else-end-stop)
     → let s = c.args.src.now in

@@ -45,7 +45,6 @@ unfolding checked_of
 returns-in-Refused c =
     let a = c.args in
     let t = c.tidy_fresh in
-    let g = c.n-1.given in
     let room = length a.work.now in
     let e : _ = refused-by (tidying_fresh a.text.now a.catalogue.now room) c.in-Refused.n c.in-Refused.line t.ensures.answer c.in-Refused.is in record {
       checked = sym (ap checked_of (check-refused a.text.now a.seal.now room a.catalogue.now c.in-Refused.n c.in-Refused.line.0 e));

@@ -27,7 +27,6 @@ unfolding seal_left
 returns-in-Refused c =
     let a = c.args in
     let t = c.tidy in
-    let g = c.n-1.given in
     let room = length a.work.now in
     let e : _ = refused-by (tidying a.text.now room) c.in-Refused.n c.in-Refused.line t.ensures.answer c.in-Refused.is in record {
       answer = sym c.in-Refused.is ∙ t.ensures.answer;

@@ -33,7 +33,6 @@ pub returns-in-Refused : goal.returns-in-Refused
 unfolding tidying_fresh
 returns-in-Refused c =
     let a = c.args in
-    let g = c.n-1.given in
     let room = length a.work.now in
     let told = refused-answer (tidying_fresh a.text.now a.catalogue.now room) a.work.now c.in-Refused.n c.in-Refused.line
     (stops a.text.now a.catalogue.now (λ rs. tidying a.text.now room) c.in-Refused.n c.in-Refused.line.0

@@ -98,9 +98,9 @@ loop-i-preserved-then-is_other c =
     let z = ap length r ∙ length-append xs ys in (
       onward (goal.at.loop-i-preserved-then-is_other c).After-field_end-end,
       omega (arith, z, c.put_field-n.ensures.next, c.loop-i.invariant.1),
-      wrote-onward c.loop-i.out c.put_field-n.new.out c.loop-i.n c.put_field-n.result (rest_text a.kind a.at a.line.now c.loop-i.i) xs ys r c.put_field-n.ensures (omega (arith, z, c.loop-i.invariant.1, c.loop-i.invariant.3, c.requires.line_in_bounds))
+      wrote-onward c.loop-i.out c.put_field-n.new.out c.loop-i.n c.put_field-n.result (rest_text a.kind a.at a.line.now c.loop-i.i) xs ys r (c.put_field-n.ensures.next, c.put_field-n.ensures.wrote) (omega (arith, z, c.loop-i.invariant.1, c.loop-i.invariant.3, c.requires.line_in_bounds))
           ∙ c.loop-i.invariant.2,
-      c.put_field-n.auto.0 ∙ c.loop-i.invariant.3,
+      c.put_field-n.auto.out ∙ c.loop-i.invariant.3,
     )
 
 pub loop-i-smaller : goal.loop-i-smaller

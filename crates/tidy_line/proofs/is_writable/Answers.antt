@@ -33,11 +33,11 @@ unfolding is_tag letter digit between
 sn = refl
 
 -- another kind has no name
-nameless : (at : ℕ) (s : List ℕ) (d : Head) → OneOf (0 ∷ 2 ∷ 3 ∷ 4 ∷ []) (tag_of Kind.the_type (kind_of_head d)) → head_writable at s d ≡ true
+nameless : (at : ℕ) (s : List ℕ) (d : Head) → (kind_of_head d ≡ kind.ReferenceSequence → ⊥) → head_writable at s d ≡ true
 unfolding head_writable kind_of_head
 nameless at s (head.Refused n) h = refl
 nameless at s (head.Header v n) h = refl
-nameless at s (head.ReferenceSequence p l n) h = absurd (⊎_elim (λ e. omega arith) (⊎_elim (λ e. omega arith) (⊎_elim (λ e. omega arith) (λ e. omega arith))) h)
+nameless at s (head.ReferenceSequence p l n) h = absurd (h refl)
 nameless at s (head.ReadGroup p n) h = refl
 nameless at s (head.Program p n) h = refl
 nameless at s (head.Comment p) h = refl
@@ -89,4 +89,5 @@ returns-in-ReferenceSequence c =
 pub returns-in_default : goal.returns-in_default
 returns-in_default c =
     let a = c.args in
-    sym ((shown (goal.at.returns-in_default c).Start).writable ∙ nameless a.at a.src.now _ (subst (λ k. OneOf (0 ∷ 2 ∷ 3 ∷ 4 ∷ []) (tag_of Kind.the_type k)) (sym (shown (goal.at.returns-in_default c).Start).kind-is) c.in_default.in_default-own.keys2))
+    let h = shown (goal.at.returns-in_default c).Start in
+    sym (h.writable ∙ nameless a.at a.src.now _ (λ e. c.in_default.not-ReferenceSequence (sym h.kind-is ∙ e)))

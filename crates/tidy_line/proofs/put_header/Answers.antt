@@ -31,7 +31,7 @@ unfolding header_text prefix_text field_text
 returns c =
     let a = c.args in
     let size = header-size a.v a.at a.line.now in
-    let field = wrote_then c.put_prefix-n.new.out c.put_prefix-n.result _ _ _ _ (9 ∷ 86 ∷ 78 ∷ 58 ∷ []) (version_text a.v) c.put_tag-n.ensures c.put_version-n.ensures (omega (arith, size, c.requires)) in
-    let front = wrote_then a.out.now a.o _ _ _ _ (prefix_text Header) (field_text 86 78 (version_text a.v)) c.put_prefix-n.ensures field (omega (arith, size, c.requires)) in
-    let told = wrote_then a.out.now a.o _ _ _ _ (prefix_text Header ++ field_text 86 78 (version_text a.v)) (others_text Header a.at a.line.now ++ (10 ∷ [])) front c.put_rest.ensures c.requires.line_in_bounds in
+    let field = wrote_then c.put_prefix-n.new.out c.put_prefix-n.result _ _ _ _ (9 ∷ 86 ∷ 78 ∷ 58 ∷ []) (version_text a.v) (c.put_tag-n.ensures.next, c.put_tag-n.ensures.wrote) (c.put_version-n.ensures.next, c.put_version-n.ensures.wrote) (omega (arith, size, c.requires)) in
+    let front = wrote_then a.out.now a.o _ _ _ _ (prefix_text Header) (field_text 86 78 (version_text a.v)) (c.put_prefix-n.ensures.next, c.put_prefix-n.ensures.wrote) field (omega (arith, size, c.requires)) in
+    let told = wrote_then a.out.now a.o _ _ _ _ (prefix_text Header ++ field_text 86 78 (version_text a.v)) (others_text Header a.at a.line.now ++ (10 ∷ [])) front (c.put_rest.ensures.next, c.put_rest.ensures.wrote) c.requires.line_in_bounds in
     record { next = told.0; wrote = told.1 }

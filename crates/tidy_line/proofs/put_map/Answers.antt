@@ -33,6 +33,6 @@ returns c =
     let a = c.args in
     let i = c.requires.inside_line in
     let id = place_text a.at a.line.now a.key.id in
-    let front = wrote_then a.out.now a.o _ _ _ _ (prefix_text a.key.kind) (field_text 73 68 id) c.put_prefix-n.ensures c.put_field-n.ensures (omega (arith, c.requires, place-size a.at a.line.now a.key.id i, map-size a.at a.line.now a.key.id i a.key.kind)) in
-    let told = wrote_then a.out.now a.o _ _ _ _ (prefix_text a.key.kind ++ field_text 73 68 id) (others_text a.key.kind a.at a.line.now ++ (10 ∷ [])) front c.put_rest.ensures c.requires.line_in_bounds in
+    let front = wrote_then a.out.now a.o _ _ _ _ (prefix_text a.key.kind) (field_text 73 68 id) (c.put_prefix-n.ensures.next, c.put_prefix-n.ensures.wrote) (c.put_field-n.ensures.next, c.put_field-n.ensures.wrote) (omega (arith, c.requires, place-size a.at a.line.now a.key.id i, map-size a.at a.line.now a.key.id i a.key.kind)) in
+    let told = wrote_then a.out.now a.o _ _ _ _ (prefix_text a.key.kind ++ field_text 73 68 id) (others_text a.key.kind a.at a.line.now ++ (10 ∷ [])) front (c.put_rest.ensures.next, c.put_rest.ensures.wrote) c.requires.line_in_bounds in
     record { next = told.0; wrote = told.1 }

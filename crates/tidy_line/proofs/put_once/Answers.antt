@@ -28,9 +28,7 @@ put_whole-requires c =
 
 pub returns-then-is_neat : goal.returns-then-is_neat
 returns-then-is_neat c =
-    let a = c.args in
-    let told = subst (Wrote a.out.now a.o c.put_whole.new.out c.put_whole.result) (sym (whole (goal.at.returns-then-is_neat c).Then-is_neat)) c.put_whole.ensures in
-    record { next = told.0; wrote = told.1 }
+    rw (whole (goal.at.returns-then-is_neat c).Then-is_neat) c.put_whole.ensures
 
 pub put_parts-requires : goal.put_parts-requires
 put_parts-requires c = record {

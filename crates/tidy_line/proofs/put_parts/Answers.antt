@@ -70,40 +70,24 @@ put_map-requires-in-Program c = record {
 
 pub returns-in-Refused : goal.returns-in-Refused
 unfolding KeyInLine
-returns-in-Refused c =
-    let told = absurd (shown (goal.at.returns-in-Refused c).After-head_of-head _ c.in-Refused.is).holds in
-    record { next = told.0; wrote = told.1 }
+returns-in-Refused c = absurd (shown (goal.at.returns-in-Refused c).After-head_of-head _ c.in-Refused.is).holds
 
 pub returns-in-Header : goal.returns-in-Header
 unfolding head_text
-returns-in-Header c =
-    let a = c.args in
-    let told = subst (Wrote a.out.now a.o c.put_header.new.out c.put_header.result) (sym (shown (goal.at.returns-in-Header c).After-head_of-head _ c.in-Header.is).text) c.put_header.ensures in
-    record { next = told.0; wrote = told.1 }
+returns-in-Header c = rw (shown (goal.at.returns-in-Header c).After-head_of-head _ c.in-Header.is).text c.put_header.ensures
 
 pub returns-in-ReferenceSequence : goal.returns-in-ReferenceSequence
 unfolding head_text
-returns-in-ReferenceSequence c =
-    let a = c.args in
-    let told = subst (Wrote a.out.now a.o c.put_reference_sequence.new.out c.put_reference_sequence.result) (sym (shown (goal.at.returns-in-ReferenceSequence c).After-head_of-head _ c.in-ReferenceSequence.is).text) c.put_reference_sequence.ensures in
-    record { next = told.0; wrote = told.1 }
+returns-in-ReferenceSequence c = rw (shown (goal.at.returns-in-ReferenceSequence c).After-head_of-head _ c.in-ReferenceSequence.is).text c.put_reference_sequence.ensures
 
 pub returns-in-ReadGroup : goal.returns-in-ReadGroup
 unfolding head_text
-returns-in-ReadGroup c =
-    let a = c.args in
-    let told = subst (Wrote a.out.now a.o c.put_map.new.out c.put_map.result) (sym (shown (goal.at.returns-in-ReadGroup c).After-head_of-head _ c.in-ReadGroup.is).text) c.put_map.ensures in
-    record { next = told.0; wrote = told.1 }
+returns-in-ReadGroup c = rw (shown (goal.at.returns-in-ReadGroup c).After-head_of-head _ c.in-ReadGroup.is).text c.put_map.ensures
 
 pub returns-in-Program : goal.returns-in-Program
 unfolding head_text
-returns-in-Program c =
-    let a = c.args in
-    let told = subst (Wrote a.out.now a.o c.put_map-in-Program.new.out c.put_map-in-Program.result) (sym (shown (goal.at.returns-in-Program c).After-head_of-head _ c.in-Program.is).text) c.put_map-in-Program.ensures in
-    record { next = told.0; wrote = told.1 }
+returns-in-Program c = rw (shown (goal.at.returns-in-Program c).After-head_of-head _ c.in-Program.is).text c.put_map-in-Program.ensures
 
 pub returns-in-Comment : goal.returns-in-Comment
 unfolding KeyInLine
-returns-in-Comment c =
-    let told = absurd (shown (goal.at.returns-in-Comment c).After-head_of-head _ c.in-Comment.is).holds in
-    record { next = told.0; wrote = told.1 }
+returns-in-Comment c = absurd (shown (goal.at.returns-in-Comment c).After-head_of-head _ c.in-Comment.is).holds

@@ -68,15 +68,12 @@ put_parts-requires c =
 
 pub returns-in-Comment : goal.returns-in-Comment
 returns-in-Comment c =
-    let told = subst (Wrote c.args.out.now c.args.o c.put_whole.new.out c.put_whole.result) (sym (ap line_text (same (goal.at.returns-in-Comment c).Start) ∙ whole (goal.at.returns-in-Comment c).In-Comment)) c.put_whole.ensures in
-    record { next = told.0; wrote = told.1 }
+    rw (ap line_text (same (goal.at.returns-in-Comment c).Start) ∙ whole (goal.at.returns-in-Comment c).In-Comment) c.put_whole.ensures
 
 pub returns-in-Once : goal.returns-in-Once
 returns-in-Once c =
-    let told = subst (Wrote c.args.out.now c.args.o c.put_once.new.out c.put_once.result) (sym (ap line_text (same (goal.at.returns-in-Once c).Start))) c.put_once.ensures in
-    record { next = told.0; wrote = told.1 }
+    rw (ap line_text (same (goal.at.returns-in-Once c).Start)) c.put_once.ensures
 
 pub returns-in-Repeating : goal.returns-in-Repeating
 returns-in-Repeating c =
-    let told = subst (Wrote c.args.out.now c.args.o c.put_parts.new.out c.put_parts.result) (sym (ap line_text (same (goal.at.returns-in-Repeating c).Start))) c.put_parts.ensures in
-    record { next = told.0; wrote = told.1 }
+    rw (ap line_text (same (goal.at.returns-in-Repeating c).Start)) c.put_parts.ensures

@@ -56,8 +56,8 @@ returns c =
     let a = c.args in
     let name = field_text 83 78 (place_text a.at a.line.now a.keys.name) in
     let ln = field_text 76 78 (written a.keys.ln) in
-    let length-field = wrote_then c.put_field-n.new.out c.put_field-n.result _ _ _ _ (9 ∷ 76 ∷ 78 ∷ 58 ∷ []) (written a.keys.ln) c.put_tag-n.ensures c.write_u64-n.ensures (omega (arith, c.requires, sizes (goal.at.returns c).Start)) in
-    let named = wrote_then a.out.now a.o _ _ _ _ (prefix_text ReferenceSequence) name c.put_prefix-n.ensures c.put_field-n.ensures (omega (arith, c.requires, sizes (goal.at.returns c).Start)) in
+    let length-field = wrote_then c.put_field-n.new.out c.put_field-n.result _ _ _ _ (9 ∷ 76 ∷ 78 ∷ 58 ∷ []) (written a.keys.ln) (c.put_tag-n.ensures.next, c.put_tag-n.ensures.wrote) (c.write_u64-n.ensures.next, c.write_u64-n.ensures.wrote) (omega (arith, c.requires, sizes (goal.at.returns c).Start)) in
+    let named = wrote_then a.out.now a.o _ _ _ _ (prefix_text ReferenceSequence) name (c.put_prefix-n.ensures.next, c.put_prefix-n.ensures.wrote) (c.put_field-n.ensures.next, c.put_field-n.ensures.wrote) (omega (arith, c.requires, sizes (goal.at.returns c).Start)) in
     let front = wrote_then a.out.now a.o _ _ _ _ (prefix_text ReferenceSequence ++ name) ln named length-field (omega (arith, c.requires, sizes (goal.at.returns c).Start, length-append (prefix_text ReferenceSequence ++ name) ln)) in
-    let told = wrote_then a.out.now a.o _ _ _ _ (prefix_text ReferenceSequence ++ name ++ ln) (others_text ReferenceSequence a.at a.line.now ++ (10 ∷ [])) front c.put_rest.ensures c.requires.line_in_bounds in
+    let told = wrote_then a.out.now a.o _ _ _ _ (prefix_text ReferenceSequence ++ name ++ ln) (others_text ReferenceSequence a.at a.line.now ++ (10 ∷ [])) front (c.put_rest.ensures.next, c.put_rest.ensures.wrote) c.requires.line_in_bounds in
     record { next = told.0; wrote = told.1 }

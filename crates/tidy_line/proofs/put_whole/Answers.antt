@@ -11,6 +11,6 @@ pub returns : goal.returns
 returns c =
     let a = c.args in
     let told = wrote_then a.out.now a.o _ _ _ _ a.line.now (10 ∷ []) (refl, c.put_bytes.ensures)
-    (refl, wrote_one c.put_bytes.new.out (a.o + length a.line.now) 10 (omega (arith, c.requires, c.put_bytes.auto.0)))
+    (refl, wrote_one c.put_bytes.new.out (a.o + length a.line.now) 10 (omega (arith, c.requires, c.put_bytes.auto.out)))
     (omega (arith, c.requires, length-append a.line.now (10 ∷ []))) in
     record { next = told.0; wrote = told.1 }

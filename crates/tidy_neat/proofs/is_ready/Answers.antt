@@ -13,10 +13,10 @@ use Rattle.tidy_neat.specs.Neat.{neat, ready}
 use Rattle.tidy_neat.proofs.is_ready.Goals as goal
 
 -- another kind has no name
-nameless : (s : List ℕ) (k : Kind) → OneOf (0 ∷ 2 ∷ 3 ∷ 4 ∷ []) (tag_of Kind.the_type k) → neat k s ≡ ready k s
+nameless : (s : List ℕ) (k : Kind) → (k ≡ ReferenceSequence → ⊥) → neat k s ≡ ready k s
 unfolding ready
 nameless s Header h = refl
-nameless s ReferenceSequence h = absurd (⊎_elim (λ e. omega arith) (⊎_elim (λ e. omega arith) (⊎_elim (λ e. omega arith) (λ e. omega arith))) h)
+nameless s ReferenceSequence h = absurd (h refl)
 nameless s ReadGroup h = refl
 nameless s Program h = refl
 nameless s Comment h = refl
@@ -26,4 +26,4 @@ unfolding ready
 returns-in-ReferenceSequence c = c.is_named_sequence.ensures ∙ sym (ap (λ k. ready k c.args.src.now) c.in-ReferenceSequence.is)
 
 pub returns-in_default : goal.returns-in_default
-returns-in_default c = c.is_neat.ensures ∙ nameless _ _ c.in_default.in_default-own.keys2
+returns-in_default c = c.is_neat.ensures ∙ nameless _ _ c.in_default.not-ReferenceSequence

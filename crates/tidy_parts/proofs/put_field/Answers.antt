@@ -24,5 +24,5 @@ field out mid last o n a b line from len h k w v =
 pub returns : goal.returns
 returns c =
     let a = c.args in
-    let told = field a.out.now c.put_tag-n.new.out c.put_bytes.new.out a.o c.put_tag-n.result a.a a.b a.line.now a.from a.len (omega arith) (omega arith) c.put_tag-n.ensures c.put_bytes.ensures in
+    let told = field a.out.now c.put_tag-n.new.out c.put_bytes.new.out a.o c.put_tag-n.result a.a a.b a.line.now a.from a.len (omega arith) (omega arith) (c.put_tag-n.ensures.next, c.put_tag-n.ensures.wrote) c.put_bytes.ensures in
     record { next = told.0; wrote = told.1 }

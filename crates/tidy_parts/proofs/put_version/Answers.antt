@@ -23,7 +23,7 @@ pub write_u32-requires : goal.write_u32-requires
 write_u32-requires c = simp length-set (omega (arith, version-size c.args.v))
 
 pub shape_of-out : goal.shape_of-out
-shape_of-out c = c.write_u32.auto.0 ∙ simp length-set c.write_u32-n.auto.0
+shape_of-out c = c.write_u32.auto.out ∙ simp length-set c.write_u32-n.auto.out
 
 pub returns : goal.returns
 unfolding version_text
@@ -32,6 +32,6 @@ returns c =
     let size = version-size a.v in
     let mid = c.write_u32-n.new.out in
     let n = c.write_u32-n.result in
-    let last = wrote_then mid n (set mid n 46) (n + 1) _ _ (46 ∷ []) (written a.v.minor) (refl, wrote_one mid n 46 (omega arith)) c.write_u32.ensures (omega arith) in
-    let told = wrote_then a.out.now a.o mid n _ _ (written a.v.major) (46 ∷ written a.v.minor) c.write_u32-n.ensures last c.requires in
+    let last = wrote_then mid n (set mid n 46) (n + 1) _ _ (46 ∷ []) (written a.v.minor) (refl, wrote_one mid n 46 (omega arith)) (c.write_u32.ensures.next, c.write_u32.ensures.wrote) (omega arith) in
+    let told = wrote_then a.out.now a.o mid n _ _ (written a.v.major) (46 ∷ written a.v.minor) (c.write_u32-n.ensures.next, c.write_u32-n.ensures.wrote) last c.requires in
     record { next = told.0; wrote = told.1 }

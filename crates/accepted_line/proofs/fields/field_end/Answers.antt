@@ -19,7 +19,7 @@ pub overflow_add-result-2 : goal.overflow_add-result-2
 overflow_add-result-2 c =
     let a = c.args in
     let n : ℕ = a.i + 1 in
-    omega (arith, told c, upto_le 9 (drop n a.line.now), length-drop n a.line.now, c {-Start-})
+    omega (arith, told c, upto_le 9 (drop n a.line.now), length-drop n a.line.now)
 
 pub returns : goal.returns
 returns c = ap (λ n. c.args.i + 1 + n) (told c)

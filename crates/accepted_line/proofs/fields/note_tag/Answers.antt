@@ -9,7 +9,7 @@ use borrow.Author.Tests.{eq-eqb, ne_eqb}
 use Rattle.accepted_line.specs.Tables.{marked}
 use Rattle.accepted_line.proofs.fields.Noted.{inner, inner-length}
 use Rattle.accepted_line.proofs.fields.note_tag.Goals as goal
-use Rattle.accepted_line.proofs.fields.note_tag.Goals.{Joined-tables-n-eq0}
+use Rattle.accepted_line.proofs.fields.note_tag.Goals.{Joined-tables-n-eq0, then-tables-n-eq0, else-tables-n-eq0}
 
 -- the tables after the first store
 stored : (c : Joined-tables-n-eq0) → (let a = c.args in c.if-tables-n-eq0.tables ≡ inner a.tables.now a.n a.place)
@@ -17,10 +17,10 @@ unfolding inner
 stored c =
     let a = c.args in
     let t = c.args.tables.now in
-    ⊎_elim
-    (λ w. w.1 ∙ sym (ap (λ b. cond b (set t a.n a.place) t) (eq-eqb (get_or t a.n 0) 0 w.0.taken)))
-    (λ w. w.1 ∙ sym (ap (λ b. cond b (set t a.n a.place) t) (ne_eqb (get_or t a.n 0) 0 w.0.left)))
-    c.if-tables-n-eq0.branch
+    elim c.if-tables-n-eq0.branch [
+      | then-tables-n-eq0 w ↦ w.tables-is ∙ sym (ap (λ b. cond b (set t a.n a.place) t) (eq-eqb (get_or t a.n 0) 0 w.if-tables-n-eq0.true))
+      | else-tables-n-eq0 w ↦ w.tables-is ∙ sym (ap (λ b. cond b (set t a.n a.place) t) (ne_eqb (get_or t a.n 0) 0 w.if-tables-n-eq0.false))
+    ]
 
 long : (c : Joined-tables-n-eq0) → length c.if-tables-n-eq0.tables ≡ length c.args.tables.now
 long c = let a = c.args in ap length (stored c) ∙ inner-length a.tables.now a.n a.place

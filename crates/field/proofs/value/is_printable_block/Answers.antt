@@ -10,6 +10,7 @@ use Rattle.format.specs.Bytes.{printable}
 use Rattle.byte_slices.specs.Run.{run}
 use Rattle.byte_slices.proofs.Run.{flag-pass, flag-stop}
 use Rattle.field.proofs.value.is_printable_block.Goals as goal
+use Rattle.field.proofs.value.is_printable_block.Goals.{then-not-is_printable, else-not-is_printable}
 
 pub loop-i-init : goal.loop-i-init
 loop-i-init c = let a = c.args in (omega arith, sym (le-leb 0 (run printable (drop a.at a.s.now)) (omega arith)))
@@ -30,11 +31,14 @@ pub loop-i-preserved : goal.loop-i-preserved
 loop-i-preserved c =
     let a = c.args in (
       omega arith,
-      ⊎_elim
-          (λ w. w.1 ∙ sym (flag-stop printable a.s.now a.at c.loop-i.i (omega arith) (sym c.is_printable.ensures ∙ not-true _ w.0.taken)))
-          (λ w.
-          w.1 ∙ c.loop-i.invariant.1 ∙ flag-pass printable a.s.now a.at c.loop-i.i (omega arith) (sym c.is_printable.ensures ∙ not-false _ w.0.left))
-          c.if-not-is_printable.branch,
+      elim c.if-not-is_printable.branch [
+        | then-not-is_printable w ↦
+            w.fine-is ∙ sym (flag-stop printable a.s.now a.at c.loop-i.i (omega arith) (sym c.is_printable.ensures ∙ w.if-not-is_printable.true))
+        | else-not-is_printable w ↦
+            w.fine-is
+            ∙ c.loop-i.invariant.1
+            ∙ flag-pass printable a.s.now a.at c.loop-i.i (omega arith) (sym c.is_printable.ensures ∙ w.if-not-is_printable.false)
+      ],
     )
 
 pub returns : goal.returns

@@ -16,7 +16,7 @@ use Rattle.record_parser.specs.Marks.{marks_of}
 use Rattle.record_parser.proofs.Walked.{Turned, turned, refused-here}
 use Rattle.record_parser.proofs.Step.{walked_start, turn-six, turn_end, turn-refused, next-within, turn-tag, turn-place, told-again, turn_twice, walked}
 use Rattle.record_parser.proofs.fields.walk_fields.Goals as goal
-use Rattle.record_parser.proofs.fields.walk_fields.Goals.{After-mark_of-mark, After-parse_field-f, After-stands_again-again, At-loop-pos, Else-f-ne0, Joined-strict}
+use Rattle.record_parser.proofs.fields.walk_fields.Goals.{After-mark_of-mark, After-parse_field-f, After-stands_again-again, At-loop-pos, Else-f-ne0, Joined-strict, then-strict+else-again, else-strict}
 
 -- what `parse_field` was lent is the rest of the line
 answer : (c : After-parse_field-f)
@@ -67,10 +67,12 @@ lent c =
 allowed : (c : Joined-strict)
     → c.args.strict && any (tagged (turn (goal.at.Joined-strict c).Else-f-ne0).field.tag₀ (turn (goal.at.Joined-strict c).Else-f-ne0).field.tag₁) c.loop-pos.invariant.fields ≡ false
 allowed c =
-    ⊎_elim
-    (λ w. ap (λ t. t && any (tagged (turn (goal.at.Joined-strict c).Else-f-ne0).field.tag₀ (turn (goal.at.Joined-strict c).Else-f-ne0).field.tag₁) c.loop-pos.invariant.fields) w.0.taken ∙ sym (again (goal.at.Joined-strict c).After-stands_again-again) ∙ w.1.left)
-    (λ w. ap (λ t. t && any (tagged (turn (goal.at.Joined-strict c).Else-f-ne0).field.tag₀ (turn (goal.at.Joined-strict c).Else-f-ne0).field.tag₁) c.loop-pos.invariant.fields) w.left)
-    c.if-strict.branch
+    let t = turn (goal.at.Joined-strict c).Else-f-ne0 in
+    let twice = any (tagged t.field.tag₀ t.field.tag₁) c.loop-pos.invariant.fields in
+    elim c.if-strict.branch [
+      | then-strict+else-again w ↦ ap (λ b. b && twice) w.if-strict.true ∙ sym (again (goal.at.Joined-strict c).After-stands_again-again) ∙ w.if-again.false
+      | else-strict w ↦ ap (λ b. b && twice) w.if-strict.false
+    ]
 
 pub loop-pos-init : goal.loop-pos-init
 loop-pos-init c =

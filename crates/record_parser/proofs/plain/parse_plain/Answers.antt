@@ -37,11 +37,11 @@ ln c = c.has_tag_at-2.ensures (not-false _ c.if-not-has_tag_at-2.false-raw)
 
 pub returns-then-not-is_between : goal.returns-then-not-is_between
 unfolding plain_head
-returns-then-not-is_between c = refl
+returns-then-not-is_between c at strict = refl
 
 pub returns-then-not-has_tag_at : goal.returns-then-not-has_tag_at
 unfolding plain_head
-returns-then-not-has_tag_at c = refl
+returns-then-not-has_tag_at c at strict = refl
 
 pub slice_bounds-value_len-count : goal.slice_bounds-value_len-count
 slice_bounds-value_len-count c = omega (arith, (sn c).room)
@@ -51,7 +51,7 @@ slice_bounds-value_len-start c = omega (arith, (sn c).room)
 
 pub returns-then-name_len-eq0 : goal.returns-then-name_len-eq0
 unfolding plain_head
-returns-then-name_len-eq0 c = refl
+returns-then-name_len-eq0 c at strict = refl
 
 pub overflow_add-name_len : goal.overflow_add-name_len
 overflow_add-name_len c = omega (arith, name-room c)
@@ -61,7 +61,7 @@ has_tag_at-requires-2 c = name-room c
 
 pub returns-then-not-has_tag_at-2 : goal.returns-then-not-has_tag_at-2
 unfolding plain_head
-returns-then-not-has_tag_at-2 c = refl
+returns-then-not-has_tag_at-2 c at strict = refl
 
 pub overflow_add-from : goal.overflow_add-from
 overflow_add-from c = omega (arith, (ln c).room)
@@ -74,11 +74,11 @@ slice_bounds-whole_length-start c = omega (arith, (ln c).room)
 
 pub returns-then-length-eq0 : goal.returns-then-length-eq0
 unfolding plain_head
-returns-then-length-eq0 c = refl
+returns-then-length-eq0 c at strict = refl
 
 pub returns : goal.returns
 unfolding plain_head
-returns c =
+returns c at strict =
     let s = line (goal.at.returns c).Else-not-is_between in
     let n = c.value_len-name_len.result in
     let l = c.whole_length-length.result in

@@ -15,13 +15,13 @@ pub bounds-src-i : goal.bounds-src-i
 bounds-src-i c = omega arith
 
 pub returns-then-b-lt48 : goal.returns-then-b-lt48
-returns-then-b-lt48 c = absurd (z refl)
+returns-then-b-lt48 c z = absurd (z refl)
 
 pub returns-then-b-gt57 : goal.returns-then-b-gt57
-returns-then-b-gt57 c = absurd (z refl)
+returns-then-b-gt57 c z = absurd (z refl)
 
 pub returns-then-n-gt214748364 : goal.returns-then-n-gt214748364
-returns-then-n-gt214748364 c = absurd (z refl)
+returns-then-n-gt214748364 c z = absurd (z refl)
 
 pub overflow_mul-n : goal.overflow_mul-n
 overflow_mul-n c = omega arith
@@ -44,10 +44,10 @@ loop-i-preserved c =
     (omega arith, omega arith, (λ z. omega arith), l.invariant.3 ∙ turn _ _ _ _ (omega arith) (digit-yes _ (omega arith) (omega arith)))
 
 pub returns-then-n-gt2147483647 : goal.returns-then-n-gt2147483647
-returns-then-n-gt2147483647 c = absurd (z refl)
+returns-then-n-gt2147483647 c z = absurd (z refl)
 
 pub returns : goal.returns
-returns c =
+returns c z =
     let l = c.loop-i in
     let s = c.args.src.now in
     let e : l.i ≡ length s = omega (arith, l.invariant.0, c.loop-i-test.false) in

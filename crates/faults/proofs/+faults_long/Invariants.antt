@@ -1,0 +1,4 @@
+use Rattle.faults.proofs.+faults_long.Given as goal
+
+abbrev pub decreases-faults_long : goal.decreases-faults_long
+decreases-faults_long l = l.more
