@@ -38,9 +38,9 @@ pub find_depths-known-requires : goal.find_depths-known-requires
 find_depths-known-requires c =
     let p = (goal.at.find_depths-known-requires c).After-parents_of-parents in
     record {
-  parents_value = lent-within (ps p) (few p) c.parents_of-parents.result c.parents_of-parents.ensures c.if-parents.false;
-  parents_len_bound = lent-few (ps p) (few p) c.parents_of-parents.result c.parents_of-parents.ensures;
-}
+      parents_value = lent-within (ps p) (few p) c.parents_of-parents.result c.parents_of-parents.ensures c.if-parents.false;
+      parents_len_bound = lent-few (ps p) (few p) c.parents_of-parents.result c.parents_of-parents.ensures;
+    }
 
 pub returns-then-known : goal.returns-then-known
 returns-then-known c =
@@ -51,9 +51,9 @@ pub leaves-leaves-requires : goal.leaves-leaves-requires
 leaves-leaves-requires c =
     let p = (goal.at.leaves-leaves-requires c).After-parents_of-parents in
     record {
-  parents_value = lent-within (ps p) (few p) c.parents_of-parents.result c.parents_of-parents.ensures c.if-parents.false;
-  parents_len_bound = lent-few (ps p) (few p) c.parents_of-parents.result c.parents_of-parents.ensures;
-}
+      parents_value = lent-within (ps p) (few p) c.parents_of-parents.result c.parents_of-parents.ensures c.if-parents.false;
+      parents_len_bound = lent-few (ps p) (few p) c.parents_of-parents.result c.parents_of-parents.ensures;
+    }
 
 pub returns : goal.returns
 returns c =
