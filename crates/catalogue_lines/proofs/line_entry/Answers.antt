@@ -14,9 +14,6 @@ use Rattle.catalogue_lines.proofs.line_entry.Goals.{After-head_of}
 told : (c : After-head_of) → (let a = c.args in own_entry a.number c.head_of.result ≡ own_entry a.number (head_of (line false (record { at = a.at; bytes = a.src.now }))))
 told c = let n = c.args.number in ap (own_entry n) c.head_of.ensures ∙ own-uncounted n _
 
-pub head_of-requires : goal.head_of-requires
-head_of-requires c = record { line_of = c.requires.0; keys_value = c.requires.1 }
-
 pub own_entry-requires : goal.own_entry-requires
 own_entry-requires c = subst FitsEntry (sym (told c)) (own-fits c.args.number c.args.at c.args.src.now c.requires.line_of.accepted (search rules) c.requires.line_of.short)
 

@@ -56,9 +56,3 @@ returns-in-Comment c =
       next = omega (arith, c.put_entry.ensures.next, ap length c.comment_entry.ensures, entry_length_lem c.comment_entry.result);
       wrote = c.put_entry.ensures.wrote ∙ ap (over a.out.now a.o) c.comment_entry.ensures;
     }
-
-pub returns-in-Once : goal.returns-in-Once
-returns-in-Once c = record { next = c.put_line_entries.ensures.0; wrote = c.put_line_entries.ensures.1 }
-
-pub returns-in-Repeating : goal.returns-in-Repeating
-returns-in-Repeating c = record { next = c.put_line_entries-in-Repeating.ensures.0; wrote = c.put_line_entries-in-Repeating.ensures.1 }

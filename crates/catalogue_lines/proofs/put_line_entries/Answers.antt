@@ -52,7 +52,7 @@ line_entry-requires c = record {
 
 pub put_entry-requires : goal.put_entry-requires
 put_entry-requires c =
-    omega (arith, ap entry_size c.line_entry.ensures, parts (goal.at.put_entry-requires c).After-own_size, c.requires.src_in_bounds, c.put_fields-met.auto.0)
+    omega (arith, ap entry_size c.line_entry.ensures, parts (goal.at.put_entry-requires c).After-own_size, c.requires.src_in_bounds, c.put_fields-met.auto.out)
 
 pub returns : goal.returns
 unfolding met_in

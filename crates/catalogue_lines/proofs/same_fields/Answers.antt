@@ -89,7 +89,7 @@ field c =
     c.requires.src_bound (sym c.is_key.ensures ∙ c.if-is_key.false) (sym c.is_first_of_tag.ensures ∙ c.if-is_first_of_tag.true) c.kept_value-v.result c.kept_value-v.ensures
 
 pub narrow-requires : goal.narrow-requires
-narrow-requires c = (field c).ranges
+narrow-requires c = (field (goal.at.narrow-requires c).After-kept_value-v).fits
 
 pub same_field-requires : goal.same_field-requires
 same_field-requires c = c.loop-i.invariant.1
