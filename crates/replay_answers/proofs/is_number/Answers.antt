@@ -17,7 +17,7 @@ pub slice_bounds-digits-end : goal.slice_bounds-digits-end
 slice_bounds-digits-end c = omega (arith, c.write_u64-len.ensures.next, written-short c.args.n)
 
 pub slice_bounds-same-end : goal.slice_bounds-same-end
-slice_bounds-same-end c = sym (length-take-le _ _ (array-share-prefix-digits c {-After_digits2-}))
+slice_bounds-same-end c = sym (length-take-le _ _ (omega (arith, c.write_u64-len.ensures.next, written-short c.args.n)))
 
 pub returns : goal.returns
 returns c =
