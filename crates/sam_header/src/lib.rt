@@ -1,4 +1,4 @@
-// The calls for programs in C and Rust: each answer is one number (include/sam_header.h).
+// The calls for programs in C and Rust: each answer is one number (include/sam_header.h). `sam_header_c` exports them.
 #![tactic(auto)]
 
 ghost use Rattle.std.specs.Prelude.{◌≡◌, length};
@@ -33,31 +33,27 @@ use calls::LengthAnswer;
 use format::Node;
 use names::NamesAnswer;
 
-#[unsafe(no_mangle)]
-pub extern "C" fn sam_header_read(text: &[u8], catalogue: &mut [u8]) -> u64
+pub fn sam_header_read(text: &[u8], catalogue: &mut [u8]) -> u64
     ensures answer { result ≡ answer_word (answer_of (reading text.now (length catalogue.old))) }
     ensures wrote { catalogue.new ≡ output_of (reading text.now (length catalogue.old)) catalogue.old }
 {
     sam_header_words::answer_word(read::read(text, catalogue))
 }
 
-#[unsafe(no_mangle)]
-pub extern "C" fn sam_header_check(text: &[u8], catalogue: &[u8]) -> u64
+pub fn sam_header_check(text: &[u8], catalogue: &[u8]) -> u64
     ensures { result ≡ checked_word (checked_of (fresh text.now catalogue.now)) }
 {
     sam_header_words::checked_word(read::check(text, catalogue))
 }
 
-#[unsafe(no_mangle)]
-pub extern "C" fn sam_header_tidy(text: &[u8], out: &mut [u8]) -> u64
+pub fn sam_header_tidy(text: &[u8], out: &mut [u8]) -> u64
     ensures answer { result ≡ answer_word (answer_of (tidying text.now (length out.old))) }
     ensures wrote { out.new ≡ output_of (tidying text.now (length out.old)) out.old }
 {
     sam_header_words::answer_word(tidy::tidy(text, out))
 }
 
-#[unsafe(no_mangle)]
-pub extern "C" fn sam_header_read_with(text: &[u8], catalogue: &mut [u8], work: &mut [u32]) -> u64
+pub fn sam_header_read_with(text: &[u8], catalogue: &mut [u8], work: &mut [u32]) -> u64
     ensures answer { result ≡ answer_word (answer_of (reading_with text.now (length catalogue.old) work.old).0) }
     ensures wrote { catalogue.new
         ≡ output_of (reading_with text.now (length catalogue.old) work.old).0 catalogue.old }
@@ -66,16 +62,14 @@ pub extern "C" fn sam_header_read_with(text: &[u8], catalogue: &mut [u8], work: 
     sam_header_words::answer_word(read::read_with(text, catalogue, work))
 }
 
-#[unsafe(no_mangle)]
-pub extern "C" fn sam_header_check_with(text: &[u8], catalogue: &[u8], work: &mut [u32]) -> u64
+pub fn sam_header_check_with(text: &[u8], catalogue: &[u8], work: &mut [u32]) -> u64
     ensures checked { result ≡ checked_word (checked_of (fresh text.now catalogue.now)) }
     ensures zeros { work.new ≡ all_zeros work.old }
 {
     sam_header_words::checked_word(read::check_with(text, catalogue, work))
 }
 
-#[unsafe(no_mangle)]
-pub extern "C" fn sam_header_tidy_with(text: &[u8], out: &mut [u8], work: &mut [u32]) -> u64
+pub fn sam_header_tidy_with(text: &[u8], out: &mut [u8], work: &mut [u32]) -> u64
     ensures answer { result ≡ answer_word (answer_of (tidying text.now (length out.old))) }
     ensures wrote { out.new ≡ output_of (tidying text.now (length out.old)) out.old }
     ensures zeros { work.new ≡ all_zeros work.old }
@@ -83,8 +77,7 @@ pub extern "C" fn sam_header_tidy_with(text: &[u8], out: &mut [u8], work: &mut [
     sam_header_words::answer_word(tidy::tidy_with(text, out, work))
 }
 
-#[unsafe(no_mangle)]
-pub extern "C" fn sam_header_carry_on(text: &[u8], out: &mut [u8], table: &mut [u32]) -> u64
+pub fn sam_header_carry_on(text: &[u8], out: &mut [u8], table: &mut [u32]) -> u64
     ensures answer { result ≡ carried_word (carried_answer text.now out.old table.old) }
     ensures wrote { out.new ≡ text_left text.now out.old table.old }
     ensures listed { table.new ≡ table_left text.now out.old table.old }
@@ -92,8 +85,7 @@ pub extern "C" fn sam_header_carry_on(text: &[u8], out: &mut [u8], table: &mut [
     sam_header_words::carried_word(carry_on::carry_on(text, out, table))
 }
 
-#[unsafe(no_mangle)]
-pub extern "C" fn sam_header_carry_on_with(
+pub fn sam_header_carry_on_with(
     text: &[u8],
     out: &mut [u8],
     table: &mut [u32],
@@ -107,61 +99,53 @@ pub extern "C" fn sam_header_carry_on_with(
     sam_header_words::carried_word(carry_on::carry_on_with(text, out, table, work))
 }
 
-#[unsafe(no_mangle)]
-pub extern "C" fn sam_header_faults(text: &[u8], table: &mut [u32]) -> u64
+pub fn sam_header_faults(text: &[u8], table: &mut [u32]) -> u64
     ensures answer { result ≡ answer_word (faulty_lines (faulting text.now (length table.old))) }
     ensures listed { table.new ≡ output_of (faulting text.now (length table.old)) table.old }
 {
     sam_header_words::answer_word(faults::faults(text, table))
 }
 
-#[unsafe(no_mangle)]
-pub extern "C" fn sam_header_binary_out(text: &[u8], out: &mut [u8]) -> u64
+pub fn sam_header_binary_out(text: &[u8], out: &mut [u8]) -> u64
     ensures answer { result ≡ answer_word (answer_of (binary_out text.now (length out.old))) }
     ensures wrote { out.new ≡ output_of (binary_out text.now (length out.old)) out.old }
 {
     sam_header_words::answer_word(binary_out::binary_out(text, out))
 }
 
-#[unsafe(no_mangle)]
-pub extern "C" fn sam_header_binary_in(bytes: &[u8], out: &mut [u8]) -> u64
+pub fn sam_header_binary_in(bytes: &[u8], out: &mut [u8]) -> u64
     ensures answer { result ≡ answer_word (answer_of (binary_in bytes.now (length out.old))) }
     ensures wrote { out.new ≡ output_of (binary_in bytes.now (length out.old)) out.old }
 {
     sam_header_words::answer_word(binary_in::binary_in(bytes, out))
 }
 
-#[unsafe(no_mangle)]
-pub extern "C" fn sam_header_text_len(bytes: &[u8]) -> u64
+pub fn sam_header_text_len(bytes: &[u8]) -> u64
     ensures { result ≡ text_len bytes.now }
 {
     text_len::text_len(bytes) as u64
 }
 
-#[unsafe(no_mangle)]
-pub extern "C" fn sam_header_binary_len(bytes: &[u8]) -> u64
+pub fn sam_header_binary_len(bytes: &[u8]) -> u64
     ensures { result ≡ len_word (binary_len bytes.now) }
 {
     sam_header_words::len_word(binary_len::binary_len(bytes))
 }
 
-#[unsafe(no_mangle)]
-pub extern "C" fn sam_header_count(text: &[u8], catalogue: &[u8], kind: u8) -> u64
+pub fn sam_header_count(text: &[u8], catalogue: &[u8], kind: u8) -> u64
     ensures { result ≡ answer_word (count_of (counting text.now catalogue.now kind)) }
 {
     sam_header_words::answer_word(calls::count(text, catalogue, kind))
 }
 
-#[unsafe(no_mangle)]
-pub extern "C" fn sam_header_roots(text: &[u8], catalogue: &[u8], out: &mut [u32]) -> u64
+pub fn sam_header_roots(text: &[u8], catalogue: &[u8], out: &mut [u32]) -> u64
     ensures answer { result ≡ answer_word (answer_of (rooting text.now catalogue.now (length out.old))) }
     ensures wrote { out.new ≡ output_of (rooting text.now catalogue.now (length out.old)) out.old }
 {
     sam_header_words::answer_word(programs::roots(text, catalogue, out))
 }
 
-#[unsafe(no_mangle)]
-pub extern "C" fn sam_header_leaves(text: &[u8], catalogue: &[u8], out: &mut [u32]) -> u64
+pub fn sam_header_leaves(text: &[u8], catalogue: &[u8], out: &mut [u32]) -> u64
     ensures answer { result ≡ leaves_word (leaves_answer_of (leafing text.now catalogue.now (length out.old))) }
     ensures wrote { out.new ≡ output_of (list_of (leafing text.now catalogue.now (length out.old)))
         out.old }
@@ -169,8 +153,7 @@ pub extern "C" fn sam_header_leaves(text: &[u8], catalogue: &[u8], out: &mut [u3
     sam_header_words::leaves_word(programs::leaves(text, catalogue, out))
 }
 
-#[unsafe(no_mangle)]
-pub extern "C" fn sam_header_leaves_by_table(
+pub fn sam_header_leaves_by_table(
     text: &[u8],
     catalogue: &[u8],
     table: &mut [Node],
@@ -183,15 +166,13 @@ pub extern "C" fn sam_header_leaves_by_table(
     sam_header_words::leaves_word(programs_by_table::leaves_by_table(text, catalogue, table, out))
 }
 
-#[unsafe(no_mangle)]
-pub extern "C" fn sam_header_key(text: &[u8], catalogue: &[u8], kind: u8, ordinal: u32) -> u64
+pub fn sam_header_key(text: &[u8], catalogue: &[u8], kind: u8, ordinal: u32) -> u64
     ensures { result ≡ key_word (key_answer_of (keying text.now catalogue.now kind ordinal)) }
 {
     sam_header_words::key_word(calls::key(text, catalogue, kind, ordinal))
 }
 
-#[unsafe(no_mangle)]
-pub extern "C" fn sam_header_length(
+pub fn sam_header_length(
     text: &[u8],
     catalogue: &[u8],
     ordinal: u32,
@@ -209,22 +190,19 @@ pub extern "C" fn sam_header_length(
     }
 }
 
-#[unsafe(no_mangle)]
-pub extern "C" fn sam_header_line(text: &[u8], catalogue: &[u8], kind: u8, ordinal: u32) -> u64
+pub fn sam_header_line(text: &[u8], catalogue: &[u8], kind: u8, ordinal: u32) -> u64
     ensures { result ≡ line_word (line_answer_of (locating text.now catalogue.now kind ordinal)) }
 {
     sam_header_words::line_word(calls::line(text, catalogue, kind, ordinal))
 }
 
-#[unsafe(no_mangle)]
-pub extern "C" fn sam_header_find(text: &[u8], catalogue: &[u8], kind: u8, key: &[u8]) -> u64
+pub fn sam_header_find(text: &[u8], catalogue: &[u8], kind: u8, key: &[u8]) -> u64
     ensures { result ≡ find_word (find_answer_of (finding text.now catalogue.now kind key.now)) }
 {
     sam_header_words::find_word(find::find(text, catalogue, kind, key))
 }
 
-#[unsafe(no_mangle)]
-pub extern "C" fn sam_header_references(text: &[u8], catalogue: &[u8], table: &mut [u32]) -> u64
+pub fn sam_header_references(text: &[u8], catalogue: &[u8], table: &mut [u32]) -> u64
     ensures answer { result ≡ answer_word (row_count_of (referencing text.now catalogue.now (length table.old))) }
     ensures wrote { table.new ≡ output_of
         (numbers_of (referencing text.now catalogue.now (length table.old))) table.old }
@@ -232,8 +210,7 @@ pub extern "C" fn sam_header_references(text: &[u8], catalogue: &[u8], table: &m
     sam_header_words::answer_word(references::references(text, catalogue, table))
 }
 
-#[unsafe(no_mangle)]
-pub extern "C" fn sam_header_field(
+pub fn sam_header_field(
     text: &[u8],
     catalogue: &[u8],
     kind: u8,
@@ -246,8 +223,7 @@ pub extern "C" fn sam_header_field(
     sam_header_words::field_word(calls::place(text, catalogue, kind, ordinal, tag_0, tag_1))
 }
 
-#[unsafe(no_mangle)]
-pub extern "C" fn sam_header_add(
+pub fn sam_header_add(
     text: &[u8],
     catalogue: &[u8],
     prefix: &[u8],
@@ -262,8 +238,7 @@ pub extern "C" fn sam_header_add(
     sam_header_words::answer_word(add::add(text, catalogue, prefix, fields, out))
 }
 
-#[unsafe(no_mangle)]
-pub extern "C" fn sam_header_prune(
+pub fn sam_header_prune(
     text: &[u8],
     catalogue: &[u8],
     used: &[u32],
@@ -277,8 +252,7 @@ pub extern "C" fn sam_header_prune(
     sam_header_words::answer_word(prune::prune(text, catalogue, used, out))
 }
 
-#[unsafe(no_mangle)]
-pub extern "C" fn sam_header_names(
+pub fn sam_header_names(
     text: &[u8],
     catalogue: &[u8],
     list: &[u8],
@@ -307,8 +281,7 @@ pub extern "C" fn sam_header_names(
     }
 }
 
-#[unsafe(no_mangle)]
-pub extern "C" fn sam_header_judge_merge(
+pub fn sam_header_judge_merge(
     a: &[u8],
     b: &[u8],
     merged: &[u8],
@@ -321,8 +294,7 @@ pub extern "C" fn sam_header_judge_merge(
     sam_header_words::verdict_word(merge_judge::judge_merge(a, b, merged, list_a, list_b))
 }
 
-#[unsafe(no_mangle)]
-pub extern "C" fn sam_header_seal(text: &[u8], work: &mut [u8], seal: &mut [u8; 32]) -> u64
+pub fn sam_header_seal(text: &[u8], work: &mut [u8], seal: &mut [u8; 32]) -> u64
     ensures answer { result ≡ answer_word (answer_of (tidying text.now (length work.old))) }
     ensures wrote { work.new ≡ output_of (tidying text.now (length work.old)) work.old }
     ensures sealed { seal.new ≡ seal_left (sealing text.now (length work.old)) seal.old }
@@ -330,8 +302,7 @@ pub extern "C" fn sam_header_seal(text: &[u8], work: &mut [u8], seal: &mut [u8; 
     sam_header_words::answer_word(seal::seal(text, work, seal))
 }
 
-#[unsafe(no_mangle)]
-pub extern "C" fn sam_header_check_sealed(
+pub fn sam_header_check_sealed(
     text: &[u8],
     catalogue: &[u8],
     seal: &[u8; 32],
