@@ -1,7 +1,8 @@
 -- `carry_on::carry_lent` meets its contract: what the area held before does not matter, since each block of lines empties it.
-use mathlib.Core.Path.{refl, sym}
+use mathlib.Core.Path.{◌≡◌, refl, sym}
 use native.Mathlib.Omega.{arith}
-use lib.ListN.{length-take}
+use lib.ListN.{length, take}
+use lib.Seq.{length-take-le}
 use Rattle.read_judge.proofs.Smaller.{least-left}
 use Rattle.carry_on.proofs.carry_lent.Goals as goal
 
@@ -25,18 +26,11 @@ pub slice_bounds-front-end : goal.slice_bounds-front-end
 slice_bounds-front-end c = rw c.least-n.ensures (least-left _ _)
 
 pub slice_bounds-front-end-2 : goal.slice_bounds-front-end-2
-slice_bounds-front-end-2 c = sym (rw (length-take c.least-n.result c.args.area.now) (omega (arith, slice-relend-prefix-front c {-Else2-})))
+slice_bounds-front-end-2 c = sym (length-take-le _ _ (rw c.least-n.ensures (least-left _ _)))
 
 pub carry_indexed-requires : goal.carry_indexed-requires
-carry_indexed-requires c = record {
-  text_len_bound = c.requires;
-  in_bounds = omega (arith, slice-aggregate-front c, {-After_front-} c.if-n-le-OWN_SLOTS.false);
-}
-
-pub returns : goal.returns
-returns c = let e = c.carry_indexed.ensures in record {
-  answer = e.answer;
-  wrote = e.wrote;
-  listed = e.listed;
-  room = same-length-7 c; {-After_slice_known10-}
-}
+carry_indexed-requires c =
+    let long : length (take c.least-n.result c.args.area.now) ≡ c.least-n.result = length-take-le _ _ (rw c.least-n.ensures (least-left _ _)) in record {
+      text_len_bound = c.requires;
+      in_bounds = omega (arith, c.if-n-le-OWN_SLOTS.false);
+    }

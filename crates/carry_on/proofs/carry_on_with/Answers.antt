@@ -10,7 +10,6 @@ use Rattle.carry_on.proofs.carry_on_with.Goals as goal
 pub carry_accepted-requires : goal.carry_accepted-requires
 unfolding is_accepted
 carry_accepted-requires c =
-    let g = c.once-1.given in
     let told = text-accepted c.args.text.now c.in-Accepted.field-0 c.in-Accepted.once (sym c.judge_with.ensures.judged ∙ c.in-Accepted.is) in record {
       text_value = ap is_accepted told.reads;
       reads_by = told.rule;

@@ -16,7 +16,6 @@ write_kept-requires c =
     let t = c.args.text.now in
     let b = c.args.b in
     let f = c.requires.first in
-    let g = c.measured-in-Is-1.given in
     let is = measured-is (unwritable_from t b) (sizes_of (kept_from t b)) (length (skipped_from t b)) c.in-Is.sizes c.in-Is.skipped (sym c.requires.measured_value ∙ c.in-Is.is) in record {
       text_len_bound = c.requires.text_len_bound;
       first = f;
@@ -30,7 +29,8 @@ pub returns-in-Unwritable : goal.returns-in-Unwritable
 returns-in-Unwritable c =
     let a = c.args in
     let t = c.args.text.now in
-    let bad = measured-bad (unwritable_from t a.b) (sizes_of (kept_from t a.b)) (length (skipped_from t a.b)) l (sym c.requires.measured_value ∙ g.1) in
+    let l = c.in-Unwritable.line in
+    let bad = measured-bad (unwritable_from t a.b) (sizes_of (kept_from t a.b)) (length (skipped_from t a.b)) l (sym c.requires.measured_value ∙ c.in-Unwritable.is) in
     let told = refused_all (carrying t (length a.out.now) (length a.table.now)) a.out.now a.table.now 24 l
     (told-refused t (length a.out.now) (length a.table.now) c.requires.text_len_bound 24 l.0
     (write-bad (length a.out.now) (unwritable_line 0 (carried_lines t)) (tidy (kept_of (carried_lines t))) l.0 (first-names t a.b c.requires.first ∙ bad))) in

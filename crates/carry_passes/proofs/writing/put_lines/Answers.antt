@@ -109,20 +109,20 @@ loop-c-preserved c =
     let o = out-more b.strict t b.at l.c w.result.end n u l.out (length l.out) l.next (omega arith) l.invariant.1 in (
       w.ensures.next,
       subst (λ q. Apart (parts q (kept_of (ahead t b w.result.next.line))) (length (wrote))) (sym p.ensures.next)
-          (subst (λ m. Apart (parts (places_after t b l.c w.result l.next) (kept_of (ahead t b m))) (length (wrote))) (sym on) (subst (Apart _) (sym p.auto.1.1.1.1.1.0) o.0)),
+          (subst (λ m. Apart (parts (places_after t b l.c w.result l.next) (kept_of (ahead t b m))) (length (wrote))) (sym on) (subst (Apart _) (sym p.auto.out) o.0)),
       ap (λ m. with_parts (wrote) (parts p.result (kept_of (ahead t b m)))) on
           ∙ ap₂ (λ o q. with_parts o (parts q (kept_of (ahead t b (l.c.line + 1))))) p.ensures.wrote p.ensures.next
           ∙ o.1
           ∙ l.invariant.2,
-      omega (arith, rows_on, ap length come, p.auto.1.1.1.1.1.1.0, table_more b.strict t b.at l.c w.result.end n u k (rows_before b l.c) l.table l.invariant.3),
+      omega (arith, rows_on, ap length come, p.auto.table, table_more b.strict t b.at l.c w.result.end n u k (rows_before b l.c) l.table l.invariant.3),
       ap₂ (over (listed)) (ap (λ r. r * 2) rows_on) come
           ∙ ap (λ o. over o ((rows_before b l.c + skipped n) * 2) (rows (skips (k + 1) (ahead t b (l.c.line + 1))))) p.ensures.listed
           ∙ table_same b.strict t b.at l.c w.result.end n u k (rows_before b l.c) l.table l.invariant.3
           ∙ l.invariant.4,
       w.ensures.room ∙ l.invariant.5,
       w.ensures.room2 ∙ l.invariant.6,
-      p.auto.1.1.1.1.1.0 ∙ l.invariant.7,
-      p.auto.1.1.1.1.1.1.0 ∙ l.invariant.8,
+      p.auto.out ∙ l.invariant.7,
+      p.auto.table ∙ l.invariant.8,
     )
 
 pub shape_of-area : goal.shape_of-area
