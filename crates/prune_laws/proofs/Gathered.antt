@@ -27,6 +27,7 @@ use Rattle.tidy_text.specs.Sifted.{sifted}
 sifted-from : (p : ℕ → Bool) (k : ℕ) (ps : List Piece) (rs : List Record) → From ps rs → From ps (sifted p k rs)
 unfolding sifted
 sifted-from p k [] [] ga.end = ga.end
+sifted-from p k [] (r ∷ rs) h = elim h [ ]
 sifted-from p k (q ∷ ps) rs (ga.passed h) = ga.passed (sifted-from p k ps rs h)
 sifted-from p k (q ∷ ps) (r ∷ rs) (ga.taken strict e h) = go (eqb (code r) 4) (p k) (sifted-from p (k + 1) ps rs h) (sifted-from p k ps rs h)
   where

@@ -18,9 +18,9 @@ use Rattle.read_judge.specs.declared.Parsed.{Parsed}
 use Rattle.read_judge.specs.Parsed.{parsed_by}
 
 -- a head that is not a refusal is a record's
-pub head_read : (l : Line) → OneOf (1 ∷ 2 ∷ 3 ∷ 4 ∷ 5 ∷ []) (tag_of the_type (head_of l)) → is_read l ≡ true
+pub head_read : (l : Line) → ((n : ℕ) → head_of l ≡ head.Refused n → ⊥) → is_read l ≡ true
 unfolding head_of is_read
-head_read (refused_line n) k = absurd (miss (1 ∷ 2 ∷ 3 ∷ 4 ∷ 5 ∷ []) 0 tt k)
+head_read (refused_line n) k = absurd (k n refl)
 head_read (read r) k = refl
 
 pub head-refused : (l : Line) (n : ℕ) → head_of l ≡ head.Refused n → is_read l ≡ false

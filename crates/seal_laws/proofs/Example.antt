@@ -19,7 +19,7 @@ kept = 2 ∷ 7 ∷ 0 ∷ 0 ∷ 0 ∷ 4 ∷ 0 ∷ 0 ∷ 0 ∷ 8 ∷ 0 ∷ 0 ∷ 0
 
 unfoldable pub edited : List ℕ
 unfolding ascii
-edited = ascii "@SQ\tSN:chr_x\tLN:8\n"
+edited = ascii "@SQ\tSN:chrX\tLN:8\n"
 
 pub planned-kept : reading planned 21 ≡ yes kept
 unfolding planned kept reading

@@ -85,11 +85,11 @@ leaves-are : (c : Else-graph-ne0) → take c.find_leaves-graph.result.leaves.cou
 unfolding leaves_of
 leaves-are c = front (xs c) c.find_leaves-graph.result.leaves.list c.find_leaves-graph.result.leaves.count (listed c) (counted c)
 
-some : (c : Else-graph-ne0) → 0 < length (take (c.list_ids-count.result * 3) c.list_ids-count.last.ids) → 0 < length (take c.find_leaves-graph.result.leaves.count c.find_leaves-graph.result.leaves.list)
+some : (c : Else-graph-ne0) → 0 < length (take (c.list_ids-count.result * 3) c.list_ids-count.new.ids) → 0 < length (take c.find_leaves-graph.result.leaves.count c.find_leaves-graph.result.leaves.list)
 some c h =
     let few = (opens (start (goal.at.Else-graph-ne0 c).After-list_ids-count)).few in
     let k = c.list_ids-count in
-    omega (arith, some-leaf (ps (goal.at.Else-graph-ne0 c).After-find_leaves-graph) few (untangled c) (omega (arith, h, (lists (goal.at.Else-graph-ne0 c).After-list_ids-count).counts, length-take (k.result * 3) k.last.ids)), ap length (leaves-are c), (counted c), front-count (xs c) c.find_leaves-graph.result.leaves.list c.find_leaves-graph.result.leaves.count (listed c) (counted c))
+    omega (arith, some-leaf (ps (goal.at.Else-graph-ne0 c).After-find_leaves-graph) few (untangled c) (omega (arith, h, (lists (goal.at.Else-graph-ne0 c).After-list_ids-count).counts, length-take (k.result * 3) k.new.ids)), ap length (leaves-are c), (counted c), front-count (xs c) c.find_leaves-graph.result.leaves.list c.find_leaves-graph.result.leaves.count (listed c) (counted c))
 
 pub returns-then-not-is_in_form : goal.returns-then-not-is_in_form
 returns-then-not-is_in_form c =

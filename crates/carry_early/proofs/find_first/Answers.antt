@@ -10,16 +10,9 @@ use Rattle.accepted.proofs.Ahead.{ahead, ahead-one, ahead_none}
 use Rattle.carry_early.specs.Early.{early_from, early_of}
 use Rattle.carry_early.specs.First.{start_of}
 use Rattle.carry_early.proofs.Early.{early-within, early-kept, early-skipped}
+use Rattle.carry_early.proofs.find_first.Invariants.{Left}
 use Rattle.carry_early.proofs.find_first.Goals as goal
 use Rattle.carry_early.proofs.find_first.Goals.{After-judge_early-early}
-
--- what is known of the whole, by the lines still to come
-record Left (t : List ℕ) (at line : ℕ) (strict : Bool) : Type 0 where
-  pub inside : at ≤ length t
-  pub slow : line ≤ at
-  pub rest : (early_from strict (ahead t at)).rest ≡ (early_of t).rest
-  pub rule : (early_from strict (ahead t at)).strict ≡ (early_of t).strict
-  pub count : line + length (early_from strict (ahead t at)).refusals ≡ length (early_of t).refusals
 
 -- where the lines still to come start
 start : (t : List ℕ) (at : ℕ) → at < length t → at ≡ start_of (length t) (ahead t at)

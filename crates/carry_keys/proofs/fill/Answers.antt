@@ -28,7 +28,7 @@ returns c =
     let t = c.args.text.now in
     let keyed = ap (λ s. s.keyed) c.seed_of-keyed.ensures in
     let calm = no c.fill_by-second.result.busy (λ b. false≢true (sym (c.fill_by-second.ensures.busy b) ∙ keyed)) in
-    let long : length c.fill_by-first.new.area ≡ length a.area.now = c.fill_by-first.auto.1.1.1.0 in record {
+    let long : length c.fill_by-first.new.area ≡ length a.area.now = c.fill_by-first.auto.area in record {
       end = c.fill_by-second.ensures.end calm ∙ ap (λ n. after_keyed a.strict (n / 4 * 3) a.at t) long;
       wrote = c.fill_by-second.ensures.wrote calm ∙ ap (λ n. filled_for c.seed_of-keyed.result a.strict t n a.from a.at) long;
     }

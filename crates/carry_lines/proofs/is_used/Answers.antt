@@ -18,13 +18,13 @@ use Rattle.carry_lines.proofs.is_used.Goals as goal
 
 -- not a program: the area decides
 module _ (seed : Seed) (t area ids : List ℕ) (room : Bool) where
-  elsewhere : (x : Head) → OneOf (0 ∷ 1 ∷ 2 ∷ 3 ∷ 5 ∷ []) (tag_of the_type x) → (not (is_first_key seed t area x) ≡ used_by seed t area ids x) × (ids ≡ ids_after room t ids x)
+  elsewhere : (x : Head) → ((p : Stretch) (n : ℕ) → x ≡ head.Program p n → ⊥) → (not (is_first_key seed t area x) ≡ used_by seed t area ids x) × (ids ≡ ids_after room t ids x)
   unfolding used_by ids_after
   elsewhere (head.Refused n) k = (refl, refl)
   elsewhere (head.Header v n) k = (refl, refl)
   elsewhere (head.ReferenceSequence p l n) k = (refl, refl)
   elsewhere (head.ReadGroup p n) k = (refl, refl)
-  elsewhere (head.Program p n) k = absurd (miss (0 ∷ 1 ∷ 2 ∷ 3 ∷ 5 ∷ []) 4 tt k)
+  elsewhere (head.Program p n) k = absurd (k p n refl)
   elsewhere (head.Comment p) k = (refl, refl)
 
   -- a program: the kept ones decide
@@ -45,7 +45,7 @@ returns-in-Program c =
 pub returns-in_default : goal.returns-in_default
 returns-in_default c =
     let a = c.args in
-    let e = elsewhere a.seed a.text.now a.area.now a.ids.now (ltb a.programs 1024) a.head c.in_default.in_default-own.keys2 in record {
+    let e = elsewhere a.seed a.text.now a.area.now a.ids.now (ltb a.programs 1024) a.head (λ p n e. c.in_default.not-Program p n e) in record {
       used = ap not c.is_first_with_key.ensures.first ∙ e.0;
       wrote = e.1;
     }

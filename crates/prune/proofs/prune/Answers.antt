@@ -63,10 +63,10 @@ abbrev lent : (e : Else-found) → List ℕ
 lent e = take e.parents_of-found.result.count e.parents_of-found.result.list
 
 linked : (e : Else-found) → any is_dangling (ls (goal.at.Else-found e).After-parents_of-found) ≡ false
-linked e = dangles (goal.at.Else-found e).After-parents_of-found ∙ e.if-found.left
+linked e = dangles (goal.at.Else-found e).After-parents_of-found ∙ e.if-found.false
 
 says : (e : Else-found) → links_of (lent e) ≡ ls (goal.at.Else-found e).After-parents_of-found
-says e = lent-links (ps (goal.at.Else-found e).After-parents_of-found) (few (goal.at.Else-found e).After-parents_of-found) e.parents_of-found.result e.parents_of-found.ensures e.if-found.left
+says e = lent-links (ps (goal.at.Else-found e).After-parents_of-found) (few (goal.at.Else-found e).After-parents_of-found) e.parents_of-found.result e.parents_of-found.ensures e.if-found.false
 
 -- is there a cycle?
 loops : (e : Else-found) → loops_from (links_of (lent e)) 0 (links_of (lent e)) ≡ loops_from (ls (goal.at.Else-found e).After-parents_of-found) 0 (ls (goal.at.Else-found e).After-parents_of-found)

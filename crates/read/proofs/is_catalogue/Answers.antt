@@ -56,7 +56,7 @@ pub same_record-requires : goal.same_record-requires
 same_record-requires c =
     let a = c.args in record {
       src_value = (next (goal.at.same_record-requires c).After-first_line-cut).accepted;
-      src_bound = (next (goal.at.same_record-requires c).After-first_line-cut).ranges;
+      src_bound = (next (goal.at.same_record-requires c).After-first_line-cut).fits;
       o_in_bounds = reached-within a.kept.now c.loop-at.invariant.0.done c.loop-at.o c.loop-at.invariant.1;
     }
 

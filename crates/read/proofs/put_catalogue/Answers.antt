@@ -68,7 +68,7 @@ slice_bounds-put_record-end c = omega (arith, (next (goal.at.slice_bounds-put_re
 pub put_record-o-requires : goal.put_record-o-requires
 put_record-o-requires c = record {
   src_value = (next (goal.at.put_record-o-requires c).After-first_line-cut).accepted;
-  src_bound = (next (goal.at.put_record-o-requires c).After-first_line-cut).ranges;
+  src_bound = (next (goal.at.put_record-o-requires c).After-first_line-cut).fits;
   src_in_bounds = omega (arith, room (goal.at.put_record-o-requires c).After-first_line-cut, ap (λ x. length (record_bytes c.loop-at.line x)) (next (goal.at.put_record-o-requires c).After-first_line-cut).line-is);
 }
 
@@ -100,7 +100,7 @@ loop-at-preserved c =
           ∙ ap (λ n. over (over a.out.now 0 (catalogue w.done)) n (record_bytes count (read r))) place
           ∙ over-over a.out.now 0 (catalogue w.done) (record_bytes count (read r)) (omega (arith, room (goal.at.loop-at-preserved c).After-first_line-cut, ap length bytes, ap (λ x. length (record_bytes c.loop-at.line x)) (next (goal.at.loop-at-preserved c).After-first_line-cut).line-is, c.loop-at.invariant.1, c.loop-at.invariant.3))
           ∙ ap (over a.out.now 0) (sym (catalogue-more w.done r) ∙ ap catalogue (sym (next (goal.at.loop-at-preserved c).After-first_line-cut).turn.done-is)),
-      c.put_record-o.auto.0 ∙ c.loop-at.invariant.3,
+      c.put_record-o.auto.out ∙ c.loop-at.invariant.3,
       omega (arith, c.loop-at.invariant.4, (next (goal.at.loop-at-preserved c).After-first_line-cut).turn.count-is),
     )
 

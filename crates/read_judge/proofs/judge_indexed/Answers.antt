@@ -34,7 +34,7 @@ pub judge_along-second-requires : goal.judge_along-second-requires
 unfolding Seeded
 judge_along-second-requires c =
     let e = c.clear.ensures in
-    let long : length c.clear.new.area ≡ length c.args.area.now = ap length e ∙ length-replicate (length c.judge_along-first.new.area) 0 ∙ c.judge_along-first.auto.1.1.0 in record {
+    let long : length c.clear.new.area ≡ length c.args.area.now = ap length e ∙ length-replicate (length c.judge_along-first.new.area) 0 ∙ c.judge_along-first.auto.area in record {
       text_len_bound = c.requires.text_len_bound;
       in_bounds = omega (arith, long, c.requires.in_bounds);
       held = rw e (held_none (start _ _ _) (length c.judge_along-first.new.area));

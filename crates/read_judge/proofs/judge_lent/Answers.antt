@@ -1,7 +1,8 @@
 -- `read_judge::judge_lent` meets its contract: an area that has been emptied holds no key.
 use mathlib.Core.Path.{◌≡◌, sym, ap, ◌∙◌}
 use native.Mathlib.Omega.{arith}
-use lib.ListN.{length, take, replicate, length-take, length-replicate}
+use lib.ListN.{length, take, replicate, length-replicate}
+use lib.Seq.{length-take-le}
 use Rattle.format.proofs.Slots.{held_none}
 use Rattle.key_index.specs.KeySlots.{start}
 use Rattle.read_judge.proofs.Smaller.{least-left}
@@ -11,14 +12,14 @@ pub slice_bounds-front-end : goal.slice_bounds-front-end
 slice_bounds-front-end c = rw c.least-n.ensures (least-left _ _)
 
 pub slice_bounds-front-end-2 : goal.slice_bounds-front-end-2
-slice_bounds-front-end-2 c = sym (rw (length-take c.least-n.result c.args.area.now) (omega (arith, slice-relend-prefix-front c {-Else2-})))
+slice_bounds-front-end-2 c = sym (length-take-le _ _ (rw c.least-n.ensures (least-left _ _)))
 
 pub judge_indexed-requires : goal.judge_indexed-requires
 judge_indexed-requires c =
     let n = c.least-n.result in
     let area = c.args.area.now in
     let e : c.clear.new.area ≡ replicate (length (take n area)) 0 = c.clear.ensures in
-    let long : length c.clear.new.area ≡ n = ap length e ∙ length-replicate (length (take n area)) 0 ∙ sym (slice-aggregate-front c {-After_front-}) in record {
+    let long : length c.clear.new.area ≡ n = ap length e ∙ length-replicate (length (take n area)) 0 ∙ length-take-le n area (rw c.least-n.ensures (least-left _ _)) in record {
       text_len_bound = c.requires;
       in_bounds = omega (arith, long, c.if-n-le-OWN_SLOTS.false);
       held = rw e (held_none (start _ _ _) (length (take n area)));

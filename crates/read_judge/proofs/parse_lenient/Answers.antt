@@ -28,7 +28,7 @@ returns-then-not-once c =
 pub returns-in_default : goal.returns-in_default
 returns-in_default c =
     parsed-read c.args.once (piece (goal.at.returns-in_default c).Start) c.parse_record-head.result (not-false _ c.if-not-once.false-raw) c.parse_record-head.ensures
-    (head_read (line true (piece (goal.at.returns-in_default c).Start)) (subst (λ x. OneOf (1 ∷ 2 ∷ 3 ∷ 4 ∷ 5 ∷ []) (tag_of the_type x)) (strictly (goal.at.returns-in_default c).Else-not-once) c.in_default.in_default-own.keys2))
+    (head_read (line true (piece (goal.at.returns-in_default c).Start)) (λ n e. c.in_default.not-Refused n (strictly (goal.at.returns-in_default c).Else-not-once ∙ e)))
 
 pub returns : goal.returns
 returns c =

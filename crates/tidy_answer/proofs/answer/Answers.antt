@@ -43,7 +43,6 @@ returns-in-Count c =
 
 pub returns-in-Refused : goal.returns-in-Refused
 returns-in-Refused c =
-    let g = c.n-in-Refused-1.given in
     let a = c.args in
     let told = told-refused (tidying a.text.now (length a.out.now)) c.in-Refused.n c.in-Refused.line (sym c.tidy.ensures.answer ∙ c.in-Refused.is) in
     let e : refusal c.in-Refused.n c.in-Refused.line.0 ≡ program a.text.now = sym (taken (goal.at.returns-in-Refused c).After-tidy ∙ told.0) in

@@ -19,11 +19,11 @@ put_bytes-requires c = omega (arith, c.requires, size (goal.at.put_bytes-require
 
 pub write_u32-at-requires : goal.write_u32-at-requires
 write_u32-at-requires c =
-    omega (arith, c.requires, size (goal.at.write_u32-at-requires c).Start, c.put_bytes.auto.0)
+    omega (arith, c.requires, size (goal.at.write_u32-at-requires c).Start, c.put_bytes.auto.out)
 
 pub put_bytes-requires-2 : goal.put_bytes-requires-2
 put_bytes-requires-2 c =
-    omega (arith, c.requires, size (goal.at.put_bytes-requires-2 c).Start, c.put_bytes.auto.0, c.write_u32-at.auto.0, c.write_u32-at.ensures.next)
+    omega (arith, c.requires, size (goal.at.put_bytes-requires-2 c).Start, c.put_bytes.auto.out, c.write_u32-at.auto.out, c.write_u32-at.ensures.next)
 
 pub overflow_add-at : goal.overflow_add-at
 overflow_add-at c =
@@ -31,14 +31,14 @@ overflow_add-at c =
 
 pub write_u32-at-requires-2 : goal.write_u32-at-requires-2
 write_u32-at-requires-2 c =
-    omega (arith, c.requires, size (goal.at.write_u32-at-requires-2 c).Start, c.put_bytes.auto.0, c.write_u32-at.auto.0, c.write_u32-at.ensures.next, c.put_bytes-2.auto.0)
+    omega (arith, c.requires, size (goal.at.write_u32-at-requires-2 c).Start, c.put_bytes.auto.out, c.write_u32-at.auto.out, c.write_u32-at.ensures.next, c.put_bytes-2.auto.out)
 
 -- the four writes before the LF
 before : (c : After-write_u32-at-2)
     → ((c.write_u32-at-2.result + 1 ≡ length (refusal c.args.n c.args.line.0))
     × (length c.write_u32-at-2.new.out ≡ length c.args.out.now))
 before c =
-    (omega (arith, size (goal.at.After-write_u32-at-2 c).Start, c.write_u32-at.ensures.next, c.write_u32-at-2.ensures.next), c.write_u32-at-2.auto.0 ∙ c.put_bytes-2.auto.0 ∙ c.write_u32-at.auto.0 ∙ c.put_bytes.auto.0)
+    (omega (arith, size (goal.at.After-write_u32-at-2 c).Start, c.write_u32-at.ensures.next, c.write_u32-at-2.ensures.next), c.write_u32-at-2.auto.out ∙ c.put_bytes-2.auto.out ∙ c.write_u32-at.auto.out ∙ c.put_bytes.auto.out)
 
 pub bounds-out-at : goal.bounds-out-at
 bounds-out-at c =
@@ -57,7 +57,7 @@ returns c =
     let a = c.args in
     let whole =
     refusal-wrote a.out.now a.n a.line.0 c.requires c.put_bytes.new.out c.write_u32-at.new.out c.put_bytes-2.new.out c.write_u32-at-2.new.out c.write_u32-at.result c.write_u32-at-2.result
-    (refl, c.put_bytes.ensures) c.write_u32-at.ensures (refl, c.put_bytes-2.ensures) c.write_u32-at-2.ensures (before (goal.at.returns c).After-write_u32-at-2).1 in record {
+    (refl, c.put_bytes.ensures) (c.write_u32-at.ensures.next, c.write_u32-at.ensures.wrote) (refl, c.put_bytes-2.ensures) (c.write_u32-at-2.ensures.next, c.write_u32-at-2.ensures.wrote) (before (goal.at.returns c).After-write_u32-at-2).1 in record {
       next = (before (goal.at.returns c).After-write_u32-at-2).0;
       wrote = whole.1;
     }

@@ -132,7 +132,7 @@ slice_bounds-stay_of-end c = omega (arith, turned (goal.at.slice_bounds-stay_of-
 pub stay_of-s-requires : goal.stay_of-s-requires
 stay_of-s-requires c = record {
   in_bounds = three c.args.strict c.loop-at.at (bytes_of (goal.at.stay_of-s-requires c).After-first_line-cut) (turned (goal.at.stay_of-s-requires c).After-first_line-cut).read;
-  k_bound = omega (arith, c.loop-at.invariant.1.1, c.loop-at.invariant.0, (begun (goal.at.stay_of-s-requires c).Start).ranges);
+  k_bound = omega (arith, c.loop-at.invariant.1.1, c.loop-at.invariant.0, (begun (goal.at.stay_of-s-requires c).Start).fits);
 }
 
 pub overflow_add-at-in-loop-at : goal.overflow_add-at-in-loop-at

@@ -100,7 +100,7 @@ slice_bounds-stay_of-end c = omega (arith, turned (goal.at.slice_bounds-stay_of-
 pub stay_of-s-requires : goal.stay_of-s-requires
 stay_of-s-requires c = record {
   in_bounds = three c.args.strict c.loop-at.at (bytes_of (goal.at.stay_of-s-requires c).After-first_line-cut) (turned (goal.at.stay_of-s-requires c).After-first_line-cut).read;
-  k_bound = omega (arith, c.loop-at.invariant.1, c.loop-at.invariant.0, (begun (goal.at.stay_of-s-requires c).Start).ranges);
+  k_bound = omega (arith, c.loop-at.invariant.1, c.loop-at.invariant.0, (begun (goal.at.stay_of-s-requires c).Start).fits);
 }
 
 pub overflow_add-at-in-loop-at : goal.overflow_add-at-in-loop-at
@@ -138,13 +138,13 @@ loop-at-preserved c =
       t.within,
       omega (arith, c.loop-at.invariant.1, t.onward, next_le a.marks.now c.loop-at.k _ c.stay_of-s.result c.stay_of-s.ensures),
       t.rest,
-      subst (λ p. Apart (parts p rs) (length c.put_at_kind_if-next.new.out)) (sym c.put_at_kind_if-next.ensures.next) (subst (Apart _) (sym c.put_at_kind_if-next.auto.0)
+      subst (λ p. Apart (parts p rs) (length c.put_at_kind_if-next.new.out)) (sym c.put_at_kind_if-next.ensures.next) (subst (Apart _) (sym c.put_at_kind_if-next.auto.out)
           (stay-apart a.marks.now c.loop-at.k (kind_at (goal.at.loop-at-preserved c).After-first_line-cut) (line_of (goal.at.loop-at-preserved c).After-first_line-cut) (rest_of (goal.at.loop-at-preserved c).After-first_line-cut) t.read (goes (goal.at.loop-at-preserved c).After-first_line-cut) c.stay_of-s.result (steps (goal.at.loop-at-preserved c).After-stay_of-s) c.loop-at.out (length c.loop-at.out) c.loop-at.next (omega arith) (apart (goal.at.loop-at-preserved c).After-first_line-cut))),
       ap₂ (λ o p. with_parts o (parts p rs)) c.put_at_kind_if-next.ensures.wrote c.put_at_kind_if-next.ensures.next
           ∙ stay-same a.marks.now c.loop-at.k (kind_at (goal.at.loop-at-preserved c).After-first_line-cut) (line_of (goal.at.loop-at-preserved c).After-first_line-cut) (rest_of (goal.at.loop-at-preserved c).After-first_line-cut) t.read (goes (goal.at.loop-at-preserved c).After-first_line-cut) c.stay_of-s.result (steps (goal.at.loop-at-preserved c).After-stay_of-s) c.loop-at.out (length c.loop-at.out) c.loop-at.next (omega arith) (apart (goal.at.loop-at-preserved c).After-first_line-cut)
           ∙ ap (λ rs. with_parts c.loop-at.out (parts c.loop-at.next (sifted (p-of (goal.at.loop-at-preserved c).After-first_line-cut) c.loop-at.k rs))) (sym t.records)
           ∙ c.loop-at.invariant.4,
-      c.put_at_kind_if-next.auto.0 ∙ c.loop-at.invariant.5,
+      c.put_at_kind_if-next.auto.out ∙ c.loop-at.invariant.5,
     )
 
 pub shape_of-out : goal.shape_of-out
