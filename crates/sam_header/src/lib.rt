@@ -172,12 +172,7 @@ pub fn sam_header_key(text: &[u8], catalogue: &[u8], kind: u8, ordinal: u32) -> 
     sam_header_words::key_word(calls::key(text, catalogue, kind, ordinal))
 }
 
-pub fn sam_header_length(
-    text: &[u8],
-    catalogue: &[u8],
-    ordinal: u32,
-    ln: &mut u64,
-) -> u64
+pub fn sam_header_length(text: &[u8], catalogue: &[u8], ordinal: u32, ln: &mut u64) -> u64
     ensures answer { result ≡ length_word (length_answer_of (sizing text.now catalogue.now ordinal)) }
     ensures wrote { ln.new ≡ length_left (length_answer_of (sizing text.now catalogue.now ordinal)) ln.old }
 {
@@ -238,12 +233,7 @@ pub fn sam_header_add(
     sam_header_words::answer_word(add::add(text, catalogue, prefix, fields, out))
 }
 
-pub fn sam_header_prune(
-    text: &[u8],
-    catalogue: &[u8],
-    used: &[u32],
-    out: &mut [u8],
-) -> u64
+pub fn sam_header_prune(text: &[u8], catalogue: &[u8], used: &[u32], out: &mut [u8]) -> u64
     ensures answer { result ≡ answer_word
         (answer_of (pruning text.now catalogue.now used.now (length out.old))) }
     ensures wrote { out.new ≡ output_of

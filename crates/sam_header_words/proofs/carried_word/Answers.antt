@@ -7,7 +7,7 @@ use Rattle.sam_header_words.proofs.carried_word.Goals as goal
 use Rattle.sam_header_words.proofs.carried_word.Goals.{In-Written}
 
 -- what is written and skipped
-counts : (c : In-Written) → (let g = c.carried-in-Written-1.given in (c.in-Written.n < 2 ^ 32) × (c.in-Written.lines < 2 ^ 32))
+counts : (c : In-Written) → (c.in-Written.n < 2 ^ 32) × (c.in-Written.lines < 2 ^ 32)
 unfolding FitsHalves
 counts c = subst FitsHalves c.in-Written.is c.requires
 
