@@ -1,6 +1,6 @@
 -- The number of an answer is 2^63 or more exactly if the call refuses.
 use Prim.Native.Nat.{ℕ, ◌+◌, ◌*◌, ◌^◌, ◌≤◌, ◌<◌}
-use mathlib.Core.Path.{◌≡◌, refl, sym, ap, subst}
+use mathlib.Core.Path.{◌≡◌, refl, sym, ap, subst, ◌∙◌}
 use mathlib.Core.Bool.{cond}
 use mathlib.Core.List.{List}
 use native.Mathlib.Omega.{arith}
@@ -89,8 +89,11 @@ module _ (t c : List ℕ) where
   }
 
 pub verdict-tells : (a b m list_a list_b : List ℕ) → VerdictTells a b m list_a list_b
-verdict-tells a b m list_a list_b = record { accepted = λ e. unfold verdict_word verdict_of in ap (λ v. verdict_word (verdict_of v)) e; refused = large (judging_merge a b m list_a list_b) }
+verdict-tells a b m list_a list_b = record { accepted = none_of (judging_merge a b m list_a list_b); refused = large (judging_merge a b m list_a list_b) }
   where
+    none_of : (v : Verdict) → v ≡ merged → verdict_word (verdict_of v) ≡ 0
+    none_of v e = ap (λ w. verdict_word (verdict_of w)) e ∙ unfold verdict_word verdict_of in refl
+
     large : (v : Verdict) → (v ≡ merged → ⊥) → 2 ^ 63 ≤ verdict_word (verdict_of v)
     large merged n = absurd (n refl)
     large (unfit w n l) _ = unfold verdict_word verdict_of unfit_word in omega (arith, refusal-large n l)
