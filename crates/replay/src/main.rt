@@ -64,7 +64,7 @@
 // with `#` is a note.
 #![tactic(auto)]
 
-ghost use Rattle.std.specs.Prelude.{◌≡◌, ◌<◌, ◌≤◌, ◌+◌, length, IfOk};
+ghost use Rattle.std.specs.Prelude.{◌≡◌, ◌<◌, ◌≤◌, ◌+◌, length};
 
 use replay_asked::{
     ACCEPTED, ADDED, BINARY_IN, BINARY_LEN, BINARY_OUT, BY_TABLE, CARRIED, CHECK_SEALED, COUNT,
@@ -250,55 +250,58 @@ fn block(input: &[u8], tally: &mut [u32]) -> usize
 
 // Replays the whole lines of the part of a file that starts at `at`, and answers how many bytes they are: 0 at the end of the file. A last line
 // without LF, or a line that is longer than the buffer, is counted as wrong.
-fn next_block(file: &mut File, at: usize, tally: &mut [u32]) -> std::io::Result<usize>
+fn next_block(file: &mut File, at: usize, tally: &mut [u32]) -> usize
     requires { at < 16777216 }
-    ensures done { IfOk result (λ n. n ≤ 131072) }
-    ensures counts { length tally.new ≡ length tally.old }
+    ensures { (result ≤ 131072) × (length tally.new ≡ length tally.old) }
 {
     let mut input = replay_cases::space();
-    let n = case_files::read_full_at(file, at, &mut input)?;
+    let n = case_files::read_full_at(file, at, &mut input);
     if n == 0 {
-        return Ok(0);
+        return 0;
     }
     let done = block(&input[..n], tally);
     if done == 0 {
         replay_asked::tick(tally, WRONG);
     }
-    Ok(done)
+    done
 }
 
 // Replays all lines of a file of less than 16,777,216 bytes. Nothing guarantees that a file ends, and a proved loop has to.
-fn all_blocks(file: &mut File, tally: &mut [u32]) -> std::io::Result<()>
+fn all_blocks(file: &mut File, tally: &mut [u32])
     ensures { length tally.new ≡ length tally.old }
 {
     let mut at: usize = 0;
     while at < 16777216 {
-        let done = next_block(file, at, tally)?;
+        let done = next_block(file, at, tally);
         if done == 0 {
-            return Ok(());
+            return;
         }
         at += done;
     }
-    Ok(())
 }
 
 // Replays one file, which an argument names.
-fn replay(rt: &HostRuntime, name: &str) -> std::io::Result<()> {
-    let mut file = File::open(rt, name)?;
+fn replay(rt: &HostRuntime, name: &str) {
+    let mut file = match File::open(rt, name) {
+        Ok(file) => file,
+        Err(error) => {
+            case_files::fail(rt, name, &error);
+            return;
+        }
+    };
     let mut tally: [u32; 33] = [0; 33];
-    all_blocks(&mut file, &mut tally)?;
+    all_blocks(&mut file, &mut tally);
     io::write_all(STDOUT_FILENO, name.as_bytes());
     io::write_all(STDOUT_FILENO, b":");
     replay_asked::print_asked(&tally);
     replay_asked::print_judged(&tally);
     replay_asked::print_found(&tally);
-    Ok(())
 }
 
 // Replays the file that each argument names.
 fn main(rt: HostRuntime) -> std::io::Result<()> {
     for name in env::args(&rt)?.skip(1) {
-        replay(&rt, &name)?;
+        replay(&rt, &name);
     }
     Ok(())
 }

@@ -17,26 +17,27 @@ use std::fs::File;
 const STDOUT_FILENO: i32 = 1;
 
 // Answers what an open file holds, read as `tidy` reads its input.
-fn run(file: &mut File) -> std::io::Result<()> {
+fn run(file: &mut File) {
     let mut text = io::large_buffer();
     let mut out = io::large_buffer();
-    let n = case_files::read_full(file, &mut text)?;
+    let n = case_files::read_full(file, &mut text);
     let m = tidy_answer::answer(&text[..n], &mut out);
     io::write_all(STDOUT_FILENO, &out[..m]);
-    Ok(())
 }
 
 // The file that an argument names.
-fn case(rt: &HostRuntime, path: &str) -> std::io::Result<()> {
+fn case(rt: &HostRuntime, path: &str) {
     io::write_all(STDOUT_FILENO, path.as_bytes());
     io::write_all(STDOUT_FILENO, b"\n");
-    let mut file = File::open(rt, path)?;
-    run(&mut file)
+    match File::open(rt, path) {
+        Ok(mut file) => run(&mut file),
+        Err(error) => case_files::fail(rt, path, &error),
+    }
 }
 
 fn main(rt: HostRuntime) -> std::io::Result<()> {
     for path in env::args(&rt)?.skip(1) {
-        case(&rt, &path)?;
+        case(&rt, &path);
     }
     Ok(())
 }
