@@ -120,4 +120,5 @@ def main():
     print(f"{changed} files changed, {len(seen)} names")
 
 
-main()
+if __name__ == "__main__":
+    main()
