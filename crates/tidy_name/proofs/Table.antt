@@ -1,4 +1,4 @@
--- The table of classes: one test that antt computes over all of its entries, and the law that turns it into the rule at each byte.
+-- The table of classes: one test that antt computes over all of its entries, and what a class says. `Class` has the rule at each byte.
 use Prim.Native.Nat.{ℕ, zero, suc, ◌+◌, ◌<◌}
 use mathlib.Core.Path.{◌≡◌, refl, sym, subst, ◌∙◌}
 use mathlib.Core.Bool.{Bool, true, false, not, ◌&&◌, cond}
@@ -16,7 +16,7 @@ abbrev pub every : (ℕ → ℕ → Bool) → ℕ → List ℕ → Bool
 every f i [] = true
 every f i (x ∷ xs) = f i x && every f (suc i) xs
 
-from : (f : ℕ → ℕ → Bool) (xs : List ℕ) (i k : ℕ) → every f i xs ≡ true → k < length xs → f (i + k) (get_or xs k 0) ≡ true
+pub from : (f : ℕ → ℕ → Bool) (xs : List ℕ) (i k : ℕ) → every f i xs ≡ true → k < length xs → f (i + k) (get_or xs k 0) ≡ true
 from f [] i k e h = absurd (omega arith)
 from f (x ∷ xs) i k e h = go (f i x) refl e k h (from f xs (suc i))
   where
@@ -50,19 +50,14 @@ classes =
     ∷ []
 
 -- the entry at `b` is that byte's class
-is_class : ℕ → ℕ → Bool
+unfoldable pub is_class : ℕ → ℕ → Bool
 unfolding class_of
 is_class b x = eqb x (class_of b)
 
 -- the test over the whole table
-right : every is_class 0 classes ≡ true
+pub right : every is_class 0 classes ≡ true
 unfolding classes is_class
 right = refl
-
--- the rule at each byte
-pub class-at : (b : ℕ) → b < 256 → get_or classes b 0 ≡ class_of b
-unfolding classes is_class
-class-at b h = eqb-true (get_or classes b 0) (class_of b) (subst (λ m. is_class m (get_or classes b 0) ≡ true) (zero-add b) (from is_class classes 0 b right h))
 
 pub class-first : (b : ℕ) → eqb (class_of b) 2 ≡ name_first b
 unfolding class_of

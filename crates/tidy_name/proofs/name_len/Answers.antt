@@ -11,7 +11,8 @@ use lib.Dec.{eqb}
 use lib.Seq.{drop-cons}
 use Rattle.format.specs.Tidy.{name_first, name_later}
 use Rattle.tidy_name.specs.Runs.{later_run, name_run}
-use Rattle.tidy_name.proofs.Table.{classes, class-at, class-first, class-later}
+use Rattle.tidy_name.proofs.Class.{class-at}
+use Rattle.tidy_name.proofs.Table.{classes, class-first, class-later}
 use Rattle.tidy_name.proofs.name_len.Goals as goal
 
 empty : (s : List ℕ) → length s ≡ 0 → name_run s ≡ 0
