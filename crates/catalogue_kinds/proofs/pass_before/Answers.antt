@@ -2,8 +2,10 @@
 use Prim.Native.Nat.{ℕ, zero, suc, ◌+◌, ◌-◌, ◌≤◌}
 use mathlib.Core.Path.{◌≡◌, refl, sym, ap, ap₂, subst, ◌∙◌}
 use mathlib.Core.List.{List, [], ◌∷◌}
+use mathlib.Core.Bool.{Bool, true, false}
+use lib.Dec.{eqb}
 use native.Mathlib.Omega.{arith}
-use borrow.Author.Tests.{eq-eqb, ne_eqb}
+use borrow.Author.Tests.{eq-eqb, ne_eqb, eqb-true, eqb-false}
 use lib.ListN.{length, drop}
 use Rattle.catalogue_entries.specs.declared.Entry.{Entry}
 use Rattle.catalogue_entries.specs.Entries.{kind_byte, entry_size, entry_of, entries_in, counted, entries_before, sizes}
@@ -12,7 +14,7 @@ use Rattle.catalogue_kinds.specs.declared.Passed.{Passed}
 use Rattle.catalogue_kinds.specs.Passing.{passing}
 use Rattle.catalogue_kinds.proofs.pass_before.Invariants.{ahead, Onward}
 use Rattle.catalogue_kinds.proofs.pass_before.Goals as goal
-use Rattle.catalogue_kinds.proofs.pass_before.Goals.{Else-len-eq0, then-kind_of-kind+else-count-ordinal, else-kind_of-kind}
+use Rattle.catalogue_kinds.proofs.pass_before.Goals.{Else-len-eq0}
 
 -- the whole, where nothing is left to pass
 all-passed : (c : List ℕ) (k i at n : ℕ) → Onward c k i at n → ahead c k at (i - n) ≡ [] → ◌≡◌ {A = Passed} (record { at = at; count = n }) (passing k (entries_before k i (entries_in c)))
@@ -57,6 +59,14 @@ module _ (c : List ℕ) (k i at n len : ℕ) (e : Entry) (found : e ≡ entry_of
         passed zero = unfold entries_before in rw (ne_eqb (kind_byte e) k q) refl
         passed (suc j) = unfold entries_before in rw (ne_eqb (kind_byte e) k q) refl
 
+    -- what a turn leaves, by whether the record is of the kind
+    turned : (n' : ℕ) → (kind_byte e ≡ k → n ≡ i → ⊥) → (kind_byte e ≡ k → n' ≡ n + 1) → ((kind_byte e ≡ k → ⊥) → n' ≡ n) → Onward c k i (at + len) n'
+    turned n' z more same = go (eqb (kind_byte e) k) refl
+      where
+        go : (t : Bool) → eqb (kind_byte e) k ≡ t → Onward c k i (at + len) n'
+        go true q = let y = eqb-true (kind_byte e) k q in subst (Onward c k i (at + len)) (sym (more y)) (one y (z y))
+        go false q = let y = eqb-false (kind_byte e) k q in subst (Onward c k i (at + len)) (sym (same y)) (other y)
+
 -- ---- in a step of the loop
 
 -- the entry at `at` is within the catalogue
@@ -97,13 +107,5 @@ pub loop-e-preserved : goal.loop-e-preserved
 loop-e-preserved c =
     let l = c.loop-e in
     let a = c.args in
-    let is = c.kind_of.ensures in
-    let next = l.at + c.size-len.result in
-    elim c.if-kind_of-kind.branch [
-      | then-kind_of-kind+else-count-ordinal w ↦
-          subst (Onward a.catalogue.now a.kind a.ordinal next) (sym w.count-is)
-          (one a.catalogue.now a.kind a.ordinal l.at l.count c.size-len.result c.entry_at-e.result c.entry_at-e.ensures c.size-len.ensures l.invariant c.if-len-eq0.false (sym is ∙ w.if-kind_of-kind.true) w.if-count-ordinal.false)
-      | else-kind_of-kind w ↦
-          subst (Onward a.catalogue.now a.kind a.ordinal next) (sym w.count-is)
-          (other a.catalogue.now a.kind a.ordinal l.at l.count c.size-len.result c.entry_at-e.result c.entry_at-e.ensures c.size-len.ensures l.invariant c.if-len-eq0.false (λ q. w.if-kind_of-kind.false (is ∙ q)))
-    ]
+    turned a.catalogue.now a.kind a.ordinal l.at l.count c.size-len.result c.entry_at-e.result c.entry_at-e.ensures c.size-len.ensures l.invariant c.if-len-eq0.false _
+    (λ q z. grind arith) (λ q. grind arith) (λ q. grind arith)

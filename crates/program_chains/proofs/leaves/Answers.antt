@@ -3,12 +3,14 @@
 use Prim.Native.Nat.{ℕ, ◌+◌, ◌-◌, ◌≤◌, ◌<◌}
 use mathlib.Core.Path.{◌≡◌, refl, sym, ap, subst, ◌∙◌}
 use mathlib.Core.List.{List}
-use mathlib.Core.Logic.{⊎_elim}
+use mathlib.Core.Bool.{Bool, true, false}
+use mathlib.Core.Logic.{◌⊎◌, inl, inr}
 use native.Mathlib.Omega.{arith}
 use native.Mathlib.Numerals.{add-one}
 use lib.ListN.{length, get_or, set, length-set, take, drop, drop_of_length-le, replicate, length-map}
 use lib.Seq.{drop-cons, take_at}
-use borrow.Author.Tests.{le-ltb}
+use lib.Dec.{eqb, ltb}
+use borrow.Author.Tests.{le-ltb, eqb-true, eqb-false, ltb-true, ltb-false}
 use Rattle.format.specs.Programs.{leaves, leaves_from, numbers_from, swap_remove}
 use Rattle.program_chains.specs.Parents.{link_of, links_of, in_array, index_in, HasPlaces}
 use Rattle.program_chains.proofs.Arrays.{array-length, array_at}
@@ -19,7 +21,6 @@ use Rattle.program_chains.proofs.Times.{swap-none}
 use Rattle.program_chains.proofs.Walks.{link-none, link-some, within-at}
 use Rattle.program_chains.proofs.leaves.Invariants.{Listed}
 use Rattle.program_chains.proofs.leaves.Goals as goal
-use Rattle.program_chains.proofs.leaves.Goals.{then-k+then-at-count, then-k+else-at-count, else-k}
 use Rattle.program_chains.proofs.leaves.Goals.{Then-at-count}
 
 module _ (ps : List ℕ) (i : ℕ) (xs : List ℕ) where
@@ -189,32 +190,46 @@ overflow_add-i c = omega arith
 pub loop-i-smaller : goal.loop-i-smaller
 loop-i-smaller c = omega arith
 
+-- what a turn leaves, by whether the program has a parent `k`, and whether that is listed: `at` is its place
+module _ (ps list list' places places' : List ℕ) (count count' i k at : ℕ) (small : i < length ps) (few : count ≤ length ps) (short : length ps ≤ 1024)
+    (sized : length places ≡ 1024) (x : Listed ps list places count i) (p : k ≡ get_or ps i 0) (f : at ≡ index_in k (take count list)) where
+  turned : ((k ≡ 4294967295 → ⊥) → at < count → list' ≡ set (set list at (get_or list (count - 1) 0)) (count - 1) 0)
+      → ((k ≡ 4294967295 → ⊥) → at < count → places' ≡ set places (get_or list (count - 1) 0) at)
+      → ((k ≡ 4294967295 → ⊥) → at < count → count' ≡ count - 1)
+      → (k ≡ 4294967295 ⊎ count ≤ at → list' ≡ list) → (k ≡ 4294967295 ⊎ count ≤ at → places' ≡ places) → (k ≡ 4294967295 ⊎ count ≤ at → count' ≡ count)
+      → (i + 1 ≤ length ps) × (count' ≤ length ps) × (length places' ≡ 1024) × Listed ps list' places' count' (i + 1)
+  turned l₁ p₁ c₁ l₂ p₂ c₂ = go (eqb k 4294967295) refl (ltb at count) refl
+    where
+      go : (t : Bool) → eqb k 4294967295 ≡ t → (u : Bool) → ltb at count ≡ u
+          → (i + 1 ≤ length ps) × (count' ≤ length ps) × (length places' ≡ 1024) × Listed ps list' places' count' (i + 1)
+      go true q u r =
+          let e = eqb-true k 4294967295 q in
+          let n = c₂ (inl e) in
+          (omega arith, omega arith, rw (p₂ (inl e)) sized, rw (l₂ (inl e), p₂ (inl e), n) (skipped ps list places count i x small (sym p ∙ e)))
+      go false q true r =
+          let e = eqb-false k 4294967295 q in
+          let g = ltb-true at count r in
+          let n = c₁ e g in (
+            omega arith,
+            omega arith,
+            rw (p₁ e g) (length-set places (get_or list (count - 1) 0) at ∙ sized),
+            rw (l₁ e g, p₁ e g, n) (swapped ps list places count i x k at small e p f g (omega arith) sized),
+          )
+      go false q false r =
+          let e = eqb-false k 4294967295 q in
+          let g = ltb-false at count r in
+          let n = c₂ (inr g) in
+          (omega arith, omega arith, rw (p₂ (inr g)) sized, rw (l₂ (inr g), p₂ (inr g), n) (absent ps list places count i x k at small e p f g))
+
 pub loop-i-preserved : goal.loop-i-preserved
 loop-i-preserved c =
     let l = c.loop-i in
     let a = c.args.parents.now in
     let k = get_or a l.i 0 in
-    elim c.if-k.branch [
-      | then-k+then-at-count w ↦ (
-        omega arith,
-        omega (arith, w.count-is),
-        rw w.places-is (length-set l.places (get_or l.list (l.count - 1) 0) w.place-at.result ∙ l.invariant.2),
-        rw (w.list-is, w.places-is, w.count-is)
-            (swapped a l.list l.places l.count l.i l.invariant.3 k w.place-at.result (omega arith) w.if-k.true refl w.place-at.ensures w.if-at-count.true (omega arith) l.invariant.2),
-      )
-      | then-k+else-at-count w ↦ (
-        omega arith,
-        omega (arith, w.count-is),
-        rw w.places-is l.invariant.2,
-        rw (w.list-is, w.places-is, w.count-is) (absent a l.list l.places l.count l.i l.invariant.3 k w.place-at.result (omega arith) w.if-k.true refl w.place-at.ensures w.if-at-count.false),
-      )
-      | else-k w ↦ (
-        omega arith,
-        omega (arith, w.count-is),
-        rw w.places-is l.invariant.2,
-        rw (w.list-is, w.places-is, w.count-is) (skipped a l.list l.places l.count l.i l.invariant.3 (omega arith) w.if-k.false),
-      )
-    ]
+    turned a l.list _ l.places _ l.count _ l.i k (index_in k (take l.count l.list))
+    (omega arith) l.invariant.1 c.requires.parents_len_bound l.invariant.2 l.invariant.3 refl refl
+    (λ e g. grind arith) (λ e g. grind arith) (λ e g. grind arith)
+    (λ e. grind arith) (λ e. grind arith) (λ e. grind arith)
 
 pub returns : goal.returns
 returns c =

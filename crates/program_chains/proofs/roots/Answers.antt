@@ -2,18 +2,18 @@
 use Prim.Native.Nat.{ℕ, ◌+◌, ◌-◌, ◌≤◌, ◌<◌}
 use mathlib.Core.Path.{◌≡◌, refl, sym, ap, ◌∙◌}
 use mathlib.Core.List.{List, [], ◌∷◌, ◌++◌, append-nil}
-use mathlib.Core.Logic.{⊎_elim}
+use mathlib.Core.Bool.{Bool, true, false}
+use lib.Dec.{eqb}
 use native.Mathlib.Omega.{arith}
 use native.Mathlib.Numerals.{add-one}
 use lib.ListN.{length, get_or, drop, drop_of_length-le, length-append, set}
 use lib.Seq.{drop-cons, append_snoc}
-use borrow.Author.Tests.{eq-eqb, ne_eqb}
+use borrow.Author.Tests.{eq-eqb, ne_eqb, eqb-true, eqb-false}
 use Rattle.format.specs.Programs.{roots, roots_from}
 use Rattle.program_chains.specs.Parents.{nobody, link_of, links_of, in_array}
 use Rattle.program_chains.proofs.Arrays.{array-push}
 use Rattle.program_chains.proofs.roots.Invariants.{Listed}
 use Rattle.program_chains.proofs.roots.Goals as goal
-use Rattle.program_chains.proofs.roots.Goals.{then-parents-i, else-parents-i}
 
 module _ (ps : List ℕ) (i : ℕ) where
   one_more : i < length ps → get_or ps i 0 ≡ 4294967295 → roots_from i (links_of (drop i ps)) ≡ i ∷ roots_from (i + 1) (links_of (drop (i + 1) ps))
@@ -73,14 +73,28 @@ overflow_add-i c = omega arith
 pub loop-i-smaller : goal.loop-i-smaller
 loop-i-smaller c = omega arith
 
+-- what a turn leaves, by whether the program has a parent
+module _ (ps list list' : List ℕ) (count count' i : ℕ) (small : i < length ps) (few : length ps ≤ 1024) (most : count ≤ i) (x : Listed ps list count i) where
+  turned : (get_or ps i 0 ≡ 4294967295 → list' ≡ set list count i) → (get_or ps i 0 ≡ 4294967295 → count' ≡ count + 1)
+      → ((get_or ps i 0 ≡ 4294967295 → ⊥) → list' ≡ list) → ((get_or ps i 0 ≡ 4294967295 → ⊥) → count' ≡ count)
+      → (i + 1 ≤ length ps) × (count' ≤ i + 1) × Listed ps list' count' (i + 1)
+  turned more grown same left = go (eqb (get_or ps i 0) 4294967295) refl
+    where
+      go : (t : Bool) → eqb (get_or ps i 0) 4294967295 ≡ t → (i + 1 ≤ length ps) × (count' ≤ i + 1) × Listed ps list' count' (i + 1)
+      go true q =
+          let e = eqb-true (get_or ps i 0) 4294967295 q in
+          let n = grown e in
+          (omega arith, omega arith, rw (more e, n) (pushed ps list count i x small (omega arith) e))
+      go false q =
+          let e = eqb-false (get_or ps i 0) 4294967295 q in
+          let n = left e in
+          (omega arith, omega arith, rw (same e, n) (kept ps list count i x small e))
+
 pub loop-i-preserved : goal.loop-i-preserved
 loop-i-preserved c =
-    let a = c.args.parents.now in
     let l = c.loop-i in
-    elim c.if-parents-i.branch [
-      | then-parents-i w ↦ (omega arith, omega (arith, w), rw (w.list-is, w.count-is) (pushed a l.list l.count l.i l.invariant.2 (omega arith) (omega arith) w.if-parents-i.true))
-      | else-parents-i w ↦ (omega arith, omega (arith, w), rw (w.list-is, w.count-is) (kept a l.list l.count l.i l.invariant.2 (omega arith) w.if-parents-i.false))
-    ]
+    turned c.args.parents.now l.list _ l.count _ l.i (omega arith) (omega arith) l.invariant.1 l.invariant.2
+    (λ e. grind arith) (λ e. grind arith) (λ e. grind arith) (λ e. grind arith)
 
 pub returns : goal.returns
 returns c =
