@@ -52,6 +52,7 @@ fn place(list: &[u32], places: &[u32; 1024], x: u32) -> usize
 
 // The leaves in the order of noodles-sam: for each program that has a PP, in order, the last of the list takes the place of its parent. No list is
 // searched.
+#[inline(never)]
 pub fn leaves(parents: &[u32]) -> Ordinals
     requires parents_value { are_parents (length parents.now) parents.now ≡ true }
     requires parents_len_bound { length parents.now ≤ 1024 }

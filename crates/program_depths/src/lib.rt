@@ -107,6 +107,7 @@ pub struct Depths {
     pub cycle: bool,
 }
 
+#[inline(never)]
 pub fn find_depths(parents: &[u32]) -> Depths
     requires parents_value { are_parents (length parents.now) parents.now ≡ true }
     requires parents_len_bound { length parents.now ≤ 1024 }

@@ -330,6 +330,7 @@ fn judge_middle(text: &[u8], strict: bool) -> Judged
 
 // Any text, in blocks of 147,456 lines, judged `more` times again. Nobody asks for more than once. The function calls itself so that it is compiled
 // as a function of its own: its 768 KiB are on the stack only while it runs, and not in the frames of its callers, which serve short texts too.
+#[inline(never)]
 fn judge_long(text: &[u8], strict: bool, more: usize) -> Judged
     requires { length text.now ≤ 16777216 }
     ensures { result ≡ judged_by strict text.now }
